@@ -230,10 +230,17 @@ ots_fits W2 = omega arith
 ots_fits W4 = omega arith
 ots_fits W8 = omega arith
 
-pub signature_accepted : (t : Private) (q : ℕ) (randomizer message : List ℕ) → q < 2 ^ levels t.params.height → length randomizer ≡ 32
-    → Accepts (public_of t) message (signature t q randomizer message)
+-- the parts of a signature of a leaf
+record IsSigned (t : Private) (q : ℕ) (randomizer message : List ℕ) : Type 0 where
+  leaf : number_at (signature t q randomizer message) 0 ≡ q
+  whole : length (signature t q randomizer message) ≡ 12 + 32 * (chains t.params.ots + 1) + 32 * levels t.params.height
+  ots_type : number_at (signature t q randomizer message) 4 ≡ ots_type t.params.ots
+  lms_type : number_at (signature t q randomizer message) (40 + 32 * chains t.params.ots) ≡ lms_type t.params.height
+  root : candidate (public_of t) q message (signature t q randomizer message) ≡ root t
+
+is_signed : (t : Private) (q : ℕ) (randomizer message : List ℕ) → q < 2 ^ levels t.params.height → length randomizer ≡ 32 → IsSigned t q randomizer message
 unfolding signature
-signature_accepted t q randomizer message leaf long =
+is_signed t q randomizer message leaf long =
     let height = t.params.height in
     let ots = t.params.ots in
     let hash = message_hash t.ident q randomizer message in
@@ -243,11 +250,27 @@ signature_accepted t q randomizer message leaf long =
     let p = pieces (to_be_bytes w32 q) (to_be_bytes w32 (ots_type ots)) randomizer values (to_be_bytes w32 (lms_type height)) path (32 * chains ots)
     refl refl long (length-joined (signed_value t q hash) (chains ots) (length-signed_value t q hash)) refl
     in
-    let leaf_number : number_at sig 0 ≡ q = let leaves = (level_facts height).leaves in number_of q _ (omega arith) p.first in
     record {
-      length = omega (arith, p.whole, length-joined (sibling_at t q) (levels height) (length-sibling_at t q));
+      leaf = let leaves = (level_facts height).leaves in number_of q _ (omega arith) p.first;
+      whole = omega (arith, p.whole, length-joined (sibling_at t q) (levels height) (length-sibling_at t q));
       ots_type = number_of (ots_type ots) _ (ots_fits ots) p.second;
       lms_type = number_of (lms_type height) _ (lms_fits height) p.fourth;
-      leaf = rw leaf_number leaf;
-      root = rw leaf_number (candidate_is t q message sig randomizer (to_be_bytes w32 (lms_type height) ++ path) leaf p.third p.values p.path);
+      root = candidate_is t q message sig randomizer (to_be_bytes w32 (lms_type height) ++ path) leaf p.third p.values p.path;
+    }
+
+-- the leaf that a signature names
+pub signature_leaf : (t : Private) (q : ℕ) (randomizer message : List ℕ) → q < 2 ^ levels t.params.height → length randomizer ≡ 32
+    → number_at (signature t q randomizer message) 0 ≡ q
+signature_leaf t q randomizer message leaf long = (is_signed t q randomizer message leaf long).leaf
+
+pub signature_accepted : (t : Private) (q : ℕ) (randomizer message : List ℕ) → q < 2 ^ levels t.params.height → length randomizer ≡ 32
+    → Accepts (public_of t) message (signature t q randomizer message)
+signature_accepted t q randomizer message leaf long =
+    let s = is_signed t q randomizer message leaf long in
+    record {
+      length = s.whole;
+      ots_type = s.ots_type;
+      lms_type = s.lms_type;
+      leaf = rw s.leaf leaf;
+      root = rw s.leaf s.root;
     }

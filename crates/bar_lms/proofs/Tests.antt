@@ -8,11 +8,11 @@ use Rattle.std.specs.Prelude.{codes}
 use Rattle.std.specs.Int.{w32, to_be_bytes}
 use Rattle.bar_bytes.specs.Tag.{tagged}
 use Rattle.bar_lms.specs.declared.params.Params.{Params}
-use Rattle.bar_lms.specs.Params.{levels}
-use Rattle.bar_lms.specs.Signature.{Public, IsPublic, public_of, type_bytes, key_bytes, signature}
+use Rattle.bar_lms.specs.Params.{levels, signature_len}
+use Rattle.bar_lms.specs.Signature.{Public, IsPublic, public_of, type_bytes, key_bytes, number_at}
 use Rattle.bar_lms.specs.Acceptance.{Accepts, is_accepted, IsKeyOf, is_key_of, key_at, AcceptsUnder, is_accepted_under}
 use Rattle.bar_lms.specs.Secret.{Secret, private_of, randomizer_of, public_key, signed}
-use Rattle.bar_lms.proofs.Accepted.{length-sha256, length-node, signature_accepted}
+use Rattle.bar_lms.proofs.Accepted.{length-sha256, length-node, signature_accepted, signature_leaf}
 use Rattle.bar_lms.proofs.KeyLemmas.{spelled}
 
 pub accepted_test : (k : Public) (message sig : List ℕ) → Decides (is_accepted k message sig) (Accepts k message sig)
@@ -124,6 +124,17 @@ made_parts s = record {
 pub made_key : (s : Secret) → is_key_of s.params (public_key s) ≡ true
 unfolding public_key private_of
 made_key s = (key_test s.params (public_key s)).1 (record { key = public_of (private_of s); parts = made_parts s; params = refl; spelled = refl })
+
+-- the signature of a secret names its leaf and has its length
+pub made_leaf : (s : Secret) (leaf : ℕ) (message : List ℕ) → leaf < 2 ^ levels s.params.height → number_at (signed s leaf message) 0 ≡ leaf
+unfolding private_of signed
+made_leaf s leaf message below =
+    signature_leaf (private_of s) leaf (randomizer_of s leaf) message below (length-sha256 (codes "RND1" ++ s.id ++ (to_be_bytes w32 leaf ++ s.secret)))
+
+pub made_length : (s : Secret) (leaf : ℕ) (message : List ℕ) → leaf < 2 ^ levels s.params.height → length (signed s leaf message) ≡ signature_len s.params
+unfolding private_of signed
+made_length s leaf message below =
+    (signature_accepted (private_of s) leaf (randomizer_of s leaf) message below (length-sha256 (codes "RND1" ++ s.id ++ (to_be_bytes w32 leaf ++ s.secret)))).length
 
 pub made_accepted : (s : Secret) (leaf : ℕ) (message : List ℕ) → leaf < 2 ^ levels s.params.height → is_accepted_under s.params (public_key s) message (signed s leaf message) ≡ true
 unfolding public_key private_of signed

@@ -3,6 +3,7 @@
 
 pub use acceptance::{accepts, verify};
 pub use key::{KeyFault, PublicKey};
+pub use laws::{acceptance_is_tested, acceptance_under_types_is_tested, keys_are_tested, signed_is_accepted};
 pub use params::{BadType, Height, Ots, Params};
 pub use private::Private;
 pub use secret::SecretKey;
@@ -14,6 +15,7 @@ mod bytes;
 mod chains;
 mod digits;
 mod key;
+mod laws;
 mod params;
 mod private;
 mod secret;

@@ -1,6 +1,6 @@
 //! Secret keys.
 
-ghost use Rattle.std.specs.Prelude.{◌≡◌, ℕ, ◌+◌, ◌*◌, ◌^◌, ◌≤◌, ◌<◌, ◌++◌, true, IfOk, codes, length, take};
+ghost use Rattle.std.specs.Prelude.{◌≡◌, ℕ, ◌*◌, ◌^◌, ◌≤◌, ◌<◌, true, IfOk, length, take, drop};
 ghost use Rattle.bar_bytes.specs.Tag.{tagged};
 ghost use Rattle.bar_lms.specs.Params.{levels, signature_len};
 ghost use Rattle.bar_lms.specs.Tree.{root};
@@ -111,6 +111,7 @@ impl SecretKey {
         requires room { signature_len self.now.params ≤ length out.old }
         ensures length { result ≡ signature_len self.now.params }
         ensures value { take result out.new ≡ signed self.now leaf message.now }
+        ensures rest { drop result out.new ≡ drop result out.old }
         ensures accepted { Accepts (public_of (private_of self.now)) message.now (take result out.new) }
         ensures accepted_under { is_accepted_under self.now.params (public_key self.now) message.now (take result out.new) ≡ true }
     {

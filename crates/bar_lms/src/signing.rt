@@ -27,8 +27,9 @@ fn put_values<L: Ledger>(
     steps: &mut Steps<L>,
 )
     requires { 40 + 32 * chains key.now.params.ots ≤ length out.old }
-    ensures { take (40 + 32 * chains key.now.params.ots) out.new
+    ensures grown { take (40 + 32 * chains key.now.params.ots) out.new
         ≡ take 40 out.old ++ joined (signed_value key.now q hash.now) (chains key.now.params.ots) }
+    ensures rest { drop (40 + 32 * chains key.now.params.ots) out.new ≡ drop (40 + 32 * chains key.now.params.ots) out.old }
 {
     let ots = key.params.ots;
     let digits = with_checksum(hash, ots);
@@ -53,8 +54,9 @@ fn put_path(key: &Private, nodes: &[[u8; 32]], q: u32, out: &mut [u8], at: usize
     requires places { length nodes.now ≡ 2 * 2 ^ levels key.now.params.height }
     requires leaf { q < 2 ^ levels key.now.params.height }
     requires room { at + 32 * levels key.now.params.height ≤ length out.old }
-    ensures { take (at + 32 * levels key.now.params.height) out.new
+    ensures grown { take (at + 32 * levels key.now.params.height) out.new
         ≡ take at out.old ++ joined (sibling_at key.now q) (levels key.now.params.height) }
+    ensures rest { drop (at + 32 * levels key.now.params.height) out.new ≡ drop (at + 32 * levels key.now.params.height) out.old }
 {
     let mut r = key.params.height.leaves() + q as usize;
     'path: for level in 0..key.params.height.levels() as usize {
@@ -68,6 +70,7 @@ fn put_path(key: &Private, nodes: &[[u8; 32]], q: u32, out: &mut [u8], at: usize
 fn put_hash(out: &mut [u8], at: usize, hash: &[u8; 32])
     requires { at + 32 ≤ length out.old }
     ensures grown { take (at + 32) out.new ≡ take at out.old ++ hash.now }
+    ensures rest { drop (at + 32) out.new ≡ drop (at + 32) out.old }
     ensures length { length hash.now ≡ 32 }
 {
     put(out, at, hash);
@@ -76,7 +79,8 @@ fn put_hash(out: &mut [u8], at: usize, hash: &[u8; 32])
 // Writes a number at a place.
 fn put_number(out: &mut [u8], at: usize, number: u32)
     requires { at + 4 ≤ length out.old }
-    ensures { take (at + 4) out.new ≡ take at out.old ++ to_be_bytes w32 number }
+    ensures grown { take (at + 4) out.new ≡ take at out.old ++ to_be_bytes w32 number }
+    ensures rest { drop (at + 4) out.new ≡ drop (at + 4) out.old }
 {
     put(out, at, &number.to_be_bytes());
 }
@@ -99,6 +103,7 @@ fn sign_from<L: Ledger>(
     requires some { 0 < L.parts }
     ensures length { result ≡ signature_len key.now.params }
     ensures value { take result out.new ≡ signature key.now q randomizer.now message.now }
+    ensures rest { drop result out.new ≡ drop result out.old }
     ensures hash { length randomizer.now ≡ 32 }
 {
     let mut steps = Steps::<L>::new(blank);
@@ -129,6 +134,7 @@ pub fn sign(
     requires room { signature_len key.now.params ≤ length out.old }
     ensures length { result ≡ signature_len key.now.params }
     ensures value { take result out.new ≡ signature key.now q randomizer.now message.now }
+    ensures rest { drop result out.new ≡ drop result out.old }
     ensures accepted { Accepts (public_of key.now) message.now (take result out.new) }
 {
     sign_from::<Brand>(key, nodes, q, randomizer, message, out, Blank::new(1))
