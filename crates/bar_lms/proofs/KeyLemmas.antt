@@ -36,7 +36,6 @@ number_bytes bytes at n room fits is =
 
 pub read_spells : (bytes : List ℕ) (k : Public) → length bytes ≡ 56 → ((i : ℕ) → get_or bytes i 0 < 256) → number_at bytes 0 ≡ lms_type k.params.height → number_at bytes 4 ≡ ots_type k.params.ots
     → k.ident ≡ take 16 (drop 8 bytes) → k.root ≡ drop 24 bytes → bytes ≡ key_bytes k
-unfolding key_bytes
 read_spells bytes k long fits lms ots ident root =
     sym (in_parts bytes) ∙ rw (number_bytes bytes 0 _ (omega arith) fits lms, number_bytes bytes 4 _ (omega arith) fits ots, ← ident, ← root) refl
 
@@ -47,7 +46,6 @@ pub record Spelled (bytes : List ℕ) (k : Public) : Type 0 where
   pub root : drop 24 bytes ≡ k.root
 
 pub spelled : (bytes : List ℕ) (k : Public) → IsPublic k → bytes ≡ key_bytes k → Spelled bytes k
-unfolding key_bytes
 spelled bytes k is spells =
     let a = to_be_bytes w32 (lms_type k.params.height) in
     let b = to_be_bytes w32 (ots_type k.params.ots) in

@@ -6,4 +6,4 @@ pub mod TreeFill
 pub mod SignLemmas
 pub mod Accepted
 pub mod KeyLemmas
-pub mod Tests
+pub mod Decided

@@ -171,7 +171,9 @@ fn candidate<L: Ledger>(
     )
 }
 
-/// Whether a signature is accepted on a message under a key.
+/// Whether a signature is accepted on a message under a key (RFC 8554, 5.4.2).
+///
+/// It counts each hash, at most `Params::most` of them.
 pub fn verify<L: Ledger>(key: &PublicKey, message: &[u8], sig: &[u8], steps: &mut Steps<L>) -> bool
     ensures test { result ≡ is_accepted key.now message.now sig.now }
     ensures exact { IsTrue result ↔ Accepts key.now message.now sig.now }
@@ -203,7 +205,7 @@ fn accepts_under<L: Ledger>(key: &PublicKey, message: &[u8], sig: &[u8], blank: 
     verify(key, message, sig, &mut Steps::<L>::new(blank))
 }
 
-/// Whether a signature is accepted, for a caller that counts nothing.
+/// Whether a signature is accepted on a message under a key, for a caller that counts nothing.
 pub fn accepts(key: &PublicKey, message: &[u8], sig: &[u8]) -> bool
     ensures { IsTrue result ↔ Accepts key.now message.now sig.now }
 {

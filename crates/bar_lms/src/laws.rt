@@ -10,20 +10,17 @@ ghost use Rattle.bar_lms.specs.Secret.{Secret, public_key, signed};
 /// The test of acceptance is true exactly where its parts hold (RFC 8554, 5.4.2).
 pub fn acceptance_is_tested()
     ensures { (k : Public) (message sig : List ℕ) → IsTrue (is_accepted k message sig) ↔ Accepts k message sig }
-{
-}
+{}
 
 /// The test of a key is true exactly where the bytes spell a public key of these types (RFC 8554, 5.3).
 pub fn keys_are_tested()
     ensures { (p : Params) (bytes : List ℕ) → IsTrue (is_key_of p bytes) ↔ IsKeyOf p bytes }
-{
-}
+{}
 
 /// The test of acceptance under a key's bytes is true exactly where they spell a key of these types that accepts.
 pub fn acceptance_under_types_is_tested()
     ensures { (p : Params) (bytes message sig : List ℕ) → IsTrue (is_accepted_under p bytes message sig) ↔ AcceptsUnder p bytes message sig }
-{
-}
+{}
 
 /// What a secret signs is accepted under its public key, and is the signature of the leaf asked for.
 pub fn signed_is_accepted()
@@ -31,5 +28,4 @@ pub fn signed_is_accepted()
     ensures accepted { (s : Secret) (leaf : ℕ) (message : List ℕ) → leaf < 2 ^ levels s.params.height → IsTrue (is_accepted_under s.params (public_key s) message (signed s leaf message)) }
     ensures length { (s : Secret) (leaf : ℕ) (message : List ℕ) → leaf < 2 ^ levels s.params.height → length (signed s leaf message) ≡ signature_len s.params }
     ensures leaf { (s : Secret) (leaf : ℕ) (message : List ℕ) → leaf < 2 ^ levels s.params.height → number_at (signed s leaf message) 0 ≡ leaf }
-{
-}
+{}

@@ -3,7 +3,9 @@
 
 pub use acceptance::{accepts, verify};
 pub use key::{KeyFault, PublicKey};
-pub use laws::{acceptance_is_tested, acceptance_under_types_is_tested, keys_are_tested, signed_is_accepted};
+pub use laws::{
+    acceptance_is_tested, acceptance_under_types_is_tested, keys_are_tested, signed_is_accepted,
+};
 pub use params::{BadType, Height, Ots, Params};
 pub use private::Private;
 pub use secret::SecretKey;
@@ -20,4 +22,6 @@ mod params;
 mod private;
 mod secret;
 mod signing;
+#[cfg(test)]
+mod tests;
 mod tree;

@@ -8,12 +8,12 @@ ghost use Rattle.bar_lms.specs.Tree.{HoldsTree, sibling};
 ghost use Rattle.bar_lms.specs.Signature.{signed_value, sibling_at, signature, public_of};
 ghost use Rattle.bar_lms.specs.Acceptance.{Accepts};
 
+use crate::acceptance::message_hash;
 use crate::bytes::put;
 use crate::digits::{coef, with_checksum};
 use crate::params::Params;
 use crate::private::Private;
 use crate::tree::value;
-use crate::acceptance::message_hash;
 use bar_bytes::Steps;
 use std::marker::Brand;
 use std::sync::ledger::{Blank, Ledger};
@@ -119,7 +119,9 @@ fn sign_from<L: Ledger>(
     key.params.sig_len()
 }
 
-/// Writes the signature of a message under leaf q, and answers its length.
+/// Writes the signature of a message under leaf q with a randomizer (RFC 8554, 5.4.1), and answers its length.
+///
+/// `nodes` is the tree of the key, as `fill_tree` writes it.
 pub fn sign(
     key: &Private,
     nodes: &[[u8; 32]],

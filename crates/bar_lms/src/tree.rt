@@ -4,9 +4,9 @@ ghost use Rattle.std.specs.Prelude.{◌≡◌, ℕ, ◌+◌, ◌-◌, ◌*◌, �
 ghost use Rattle.bar_lms.specs.Params.{chains, last, levels};
 ghost use Rattle.bar_lms.specs.Tree.{value, leaf_key, node, HoldsLeaves, HoldsTree};
 
+use crate::acceptance::{head, leaf_node, parent_of};
 use crate::chains::chain;
 use crate::private::Private;
-use crate::acceptance::{head, leaf_node, parent_of};
 use bar_bytes::Steps;
 use sha2::Digest;
 use std::marker::Brand;
@@ -84,7 +84,7 @@ fn fill_from<L: Ledger>(key: &Private, nodes: &mut [[u8; 32]], blank: Blank)
     fill_parents(key, nodes);
 }
 
-/// Writes the nodes of a tree at the places of their numbers.
+/// Writes the nodes of a tree (RFC 8554, 5.3) at the places of their numbers: the root at 1, the leaves from 2 to the height on.
 pub fn fill_tree(key: &Private, nodes: &mut [[u8; 32]])
     requires { length nodes.old ≡ 2 * 2 ^ levels key.now.params.height }
     ensures { HoldsTree key.now nodes.new }

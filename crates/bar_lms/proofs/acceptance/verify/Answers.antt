@@ -1,7 +1,7 @@
 use Rattle.std.proofs.Common.{rules}
 use Rattle.std.specs.Bool.{Decides, one_answer}
-use Rattle.bar_lms.specs.Acceptance.{Accepts, is_accepted}
-use Rattle.bar_lms.proofs.Tests.{accepted_test, refused}
+use Rattle.bar_lms.specs.Acceptance.{Accepts}
+use Rattle.bar_lms.proofs.Decided.{accepted_test, refused}
 use Rattle.bar_lms.proofs.acceptance.verify.Goals as goal
 
 pub returns-then-sig-sig_len-clause-test : goal.returns-then-sig-sig_len-clause-test

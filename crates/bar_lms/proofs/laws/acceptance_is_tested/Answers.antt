@@ -1,4 +1,4 @@
-use Rattle.bar_lms.proofs.Tests.{accepted_test}
+use Rattle.bar_lms.proofs.Decided.{accepted_test}
 use Rattle.bar_lms.proofs.laws.acceptance_is_tested.Goals as goal
 
 pub returns : goal.returns

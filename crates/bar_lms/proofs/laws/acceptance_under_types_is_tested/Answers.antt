@@ -1,4 +1,4 @@
-use Rattle.bar_lms.proofs.Tests.{under_test}
+use Rattle.bar_lms.proofs.Decided.{under_test}
 use Rattle.bar_lms.proofs.laws.acceptance_under_types_is_tested.Goals as goal
 
 pub returns : goal.returns

@@ -1,4 +1,4 @@
-use Rattle.bar_lms.proofs.Tests.{key_test}
+use Rattle.bar_lms.proofs.Decided.{key_test}
 use Rattle.bar_lms.proofs.laws.keys_are_tested.Goals as goal
 
 pub returns : goal.returns

@@ -1,4 +1,4 @@
-use Rattle.bar_lms.proofs.Tests.{made_key, made_accepted, made_length, made_leaf}
+use Rattle.bar_lms.proofs.Decided.{made_key, made_accepted, made_length, made_leaf}
 use Rattle.bar_lms.proofs.laws.signed_is_accepted.Goals as goal
 
 pub returns-clause-key : goal.returns-clause-key

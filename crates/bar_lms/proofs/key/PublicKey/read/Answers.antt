@@ -1,9 +1,8 @@
 use Rattle.std.proofs.Common.{◌≡◌, take, drop, arith, refl, ap, sym, ◌∙◌, Ok}
-use Rattle.bar_lms.specs.declared.params.Params.{Params}
 use Rattle.bar_lms.specs.Signature.{Public, IsPublic, key_bytes}
 use Rattle.bar_lms.proofs.KeyLemmas.{read_spells, spelled}
 use Rattle.bar_lms.specs.Acceptance.{key_at}
-use Rattle.bar_lms.proofs.Tests.{passes, key_test, key_parts}
+use Rattle.bar_lms.proofs.Decided.{passes, key_test, key_parts}
 use Rattle.bar_lms.proofs.key.PublicKey.read.Goals as goal
 
 pub returns-in-Ok-clause-found : goal.returns-in-Ok-clause-found

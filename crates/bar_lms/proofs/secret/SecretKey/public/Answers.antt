@@ -1,8 +1,7 @@
-use Rattle.std.proofs.Common.{◌≡◌, true, arith}
+use Rattle.std.proofs.Common.{◌≡◌, arith}
 use Rattle.bar_lms.specs.Secret.{public_key}
-use Rattle.bar_lms.specs.Acceptance.{is_key_of}
 use Rattle.std.proofs.lemmas.Grind.{common_steps}
-use Rattle.bar_lms.proofs.Tests.{made_key}
+use Rattle.bar_lms.proofs.Decided.{made_key}
 use Rattle.bar_lms.proofs.secret.SecretKey.public.Goals as goal
 
 pub returns-clause-types : goal.returns-clause-types

@@ -1,7 +1,7 @@
 use Rattle.std.proofs.Common.{◌≡◌, take, arith}
 use Rattle.bar_lms.specs.Secret.{signed}
 use Rattle.std.proofs.lemmas.Grind.{common_steps}
-use Rattle.bar_lms.proofs.Tests.{made_accepted}
+use Rattle.bar_lms.proofs.Decided.{made_accepted}
 use Rattle.bar_lms.proofs.secret.SecretKey.sign.Goals as goal
 
 pub returns-clause-accepted_under : goal.returns-clause-accepted_under

@@ -1,5 +1,5 @@
 -- The tests of keys and signatures decide the facts.
-use Rattle.std.proofs.Common.{◌≡◌, ℕ, ◌+◌, ◌*◌, ◌<◌, ◌^◌, ◌++◌, Bool, true, false, length, take, drop, List, arith, ap, sym, refl, ◌∙◌, length-append, length-drop, subst}
+use Rattle.std.proofs.Common.{◌≡◌, ℕ, ◌<◌, ◌^◌, ◌++◌, true, false, length, take, drop, List, arith, ap, sym, refl, ◌∙◌, length-append, length-drop, subst}
 use Rattle.std.proofs.lemmas.Bool.{and_parts, and_from, eqb-true, eq-eqb, ltb-true, lt-ltb, false_from_ne_true}
 use Rattle.std.proofs.lemmas.List.{append_assoc, take_at, take-append-drop, drop-drop, length-take-le}
 use Rattle.std.proofs.lemmas.Slice.Eq.{bytes_eq-Decides}
@@ -19,20 +19,20 @@ pub accepted_test : (k : Public) (message sig : List ℕ) → Decides (is_accept
 unfolding is_accepted
 accepted_test k message sig = (
   λ t.
-    let whole = and_parts _ _ t in
-    let ots = and_parts _ _ whole.1 in
-    let lms = and_parts _ _ ots.1 in
-    let leaf = and_parts _ _ lms.1 in
-    record {
-      length = eqb-true _ _ whole.0;
-      ots_type = eqb-true _ _ ots.0;
-      lms_type = eqb-true _ _ lms.0;
-      leaf = ltb-true _ _ leaf.0;
-      root = (bytes_eq-Decides _ _).0 leaf.1;
-    },
+      let whole = and_parts _ _ t in
+      let ots = and_parts _ _ whole.1 in
+      let lms = and_parts _ _ ots.1 in
+      let leaf = and_parts _ _ lms.1 in
+      record {
+        length = eqb-true _ _ whole.0;
+        ots_type = eqb-true _ _ ots.0;
+        lms_type = eqb-true _ _ lms.0;
+        leaf = ltb-true _ _ leaf.0;
+        root = (bytes_eq-Decides _ _).0 leaf.1;
+      },
   λ a.
-    and_from _ _ (eq-eqb _ _ a.length) (and_from _ _ (eq-eqb _ _ a.ots_type) (and_from _ _ (eq-eqb _ _ a.lms_type)
-    (and_from _ _ (lt-ltb _ _ a.leaf) ((bytes_eq-Decides _ _).1 a.root)))),
+      and_from _ _ (eq-eqb _ _ a.length) (and_from _ _ (eq-eqb _ _ a.ots_type) (and_from _ _ (eq-eqb _ _ a.lms_type)
+      (and_from _ _ (lt-ltb _ _ a.leaf) ((bytes_eq-Decides _ _).1 a.root)))),
 )
 
 -- what isn't accepted fails the test
@@ -66,18 +66,18 @@ pub key_test : (p : Params) (bytes : List ℕ) → Decides (is_key_of p bytes) (
 unfolding is_key_of
 key_test p bytes = (
   λ t.
-    let both = and_parts _ _ t in
-    record {
-      key = key_at p bytes;
-      parts = key_parts p bytes (eqb-true _ _ both.0);
-      params = refl;
-      spelled = key_spelled p bytes ((bytes_eq-Decides _ _).0 both.1);
-    },
+      let both = and_parts _ _ t in
+      record {
+        key = key_at p bytes;
+        parts = key_parts p bytes (eqb-true _ _ both.0);
+        params = refl;
+        spelled = key_spelled p bytes ((bytes_eq-Decides _ _).0 both.1);
+      },
   λ k.
-    let whole : bytes ≡ type_bytes k.key.params ++ (k.key.ident ++ k.key.root) = k.spelled ∙ append_assoc (type_bytes k.key.params) k.key.ident k.key.root in
-    let long : length bytes ≡ 56 = ap length whole ∙ omega (arith, length-append k.key.ident k.key.root, k.parts.ident, k.parts.root) in
-    let types : take 8 bytes ≡ type_bytes p = ap (take 8) whole ∙ (take_at (type_bytes k.key.params) (k.key.ident ++ k.key.root) 8 refl ∙ ap type_bytes k.params) in
-    and_from _ _ (eq-eqb _ _ long) ((bytes_eq-Decides _ _).1 types),
+      let whole : bytes ≡ type_bytes k.key.params ++ (k.key.ident ++ k.key.root) = k.spelled ∙ append_assoc (type_bytes k.key.params) k.key.ident k.key.root in
+      let long : length bytes ≡ 56 = ap length whole ∙ omega (arith, length-append k.key.ident k.key.root, k.parts.ident, k.parts.root) in
+      let types : take 8 bytes ≡ type_bytes p = ap (take 8) whole ∙ (take_at (type_bytes k.key.params) (k.key.ident ++ k.key.root) 8 refl ∙ ap type_bytes k.params) in
+      and_from _ _ (eq-eqb _ _ long) ((bytes_eq-Decides _ _).1 types),
 )
 
 -- what passes the test of a key
@@ -97,20 +97,20 @@ pub under_test : (p : Params) (bytes message sig : List ℕ) → Decides (is_acc
 unfolding is_accepted_under
 under_test p bytes message sig = (
   λ t.
-    let both = and_parts _ _ t in
-    let k = (key_test p bytes).0 both.0 in
-    let same = key_is p bytes k.key k.parts k.params k.spelled in
-    record {
-      key = k.key;
-      parts = k.parts;
-      params = k.params;
-      spelled = k.spelled;
-      accepted = subst (λ (x : Public). Accepts x message sig) same ((accepted_test (key_at p bytes) message sig).0 both.1);
-    },
+      let both = and_parts _ _ t in
+      let k = (key_test p bytes).0 both.0 in
+      let same = key_is p bytes k.key k.parts k.params k.spelled in
+      record {
+        key = k.key;
+        parts = k.parts;
+        params = k.params;
+        spelled = k.spelled;
+        accepted = subst (λ (x : Public). Accepts x message sig) same ((accepted_test (key_at p bytes) message sig).0 both.1);
+      },
   λ a.
-    let same = key_is p bytes a.key a.parts a.params a.spelled in
-    let key = (key_test p bytes).1 (record { key = a.key; parts = a.parts; params = a.params; spelled = a.spelled }) in
-    and_from _ _ key ((accepted_test (key_at p bytes) message sig).1 (subst (λ (x : Public). Accepts x message sig) (sym same) a.accepted)),
+      let same = key_is p bytes a.key a.parts a.params a.spelled in
+      let key = (key_test p bytes).1 (record { key = a.key; parts = a.parts; params = a.params; spelled = a.spelled }) in
+      and_from _ _ key ((accepted_test (key_at p bytes) message sig).1 (subst (λ (x : Public). Accepts x message sig) (sym same) a.accepted)),
 )
 
 -- the public key of a secret has its lengths
