@@ -7,7 +7,7 @@ use Rattle.bar_window.specs.Places.{update_at}
 use Rattle.bar_window.specs.Updates.{first_round, has_update}
 
 -- the number of n bits whose bit i is 1 exactly where the test holds
-abbrev pub number_of_bits : (ℕ → Bool) → ℕ → ℕ
+unfoldable pub number_of_bits : (ℕ → Bool) → ℕ → ℕ
 number_of_bits test zero = 0
 number_of_bits test (suc n) = (if test n then 2 ^ n else 0) + number_of_bits test n
 
@@ -19,5 +19,9 @@ word_of base places us j = number_of_bits (λ i. has_update us (update_at base p
 abbrev pub window_words : ℕ → ℕ → ℕ → List UpdateId → List ℕ
 window_words words life round us = map (word_of (first_round life round) (64 * words) us) (range_with_len 0 (words * life))
 
+-- the bytes of words, one after another
+unfoldable pub words_bytes : List ℕ → List ℕ
+words_bytes ws = flat_map u64_bytes ws
+
 unfoldable pub window_bytes : ℕ → ℕ → ℕ → List UpdateId → List ℕ
-window_bytes words life round us = flat_map u64_bytes (window_words words life round us)
+window_bytes words life round us = words_bytes (window_words words life round us)

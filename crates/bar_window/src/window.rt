@@ -35,7 +35,8 @@ fn set(words: &mut [u64; WORDS], place: usize)
     requires { place < 1024 }
     ensures long { length words.new ≡ length words.old }
     ensures set { (q : ℕ) → is_set words.new q ≡ (is_set words.old q || (q == place)) }
-    ensures zeros { (j : ℕ) → j ≢ place / 64 → slice_index words.new j ≡ slice_index words.old j }
+    ensures others { (j : ℕ) → j ≢ place / 64 → slice_index words.new j ≡ slice_index words.old j }
+    ensures fit { ((j : ℕ) → slice_index words.old j < 2 ^ 64) → (j : ℕ) → slice_index words.new j < 2 ^ 64 }
 {
     words[place / 64] |= 1 << (place % 64);
 }
@@ -44,7 +45,7 @@ impl Window {
     ghost use Rattle.std.specs.Prelude.{◌≡◌, ℕ, ◌+◌, ◌-◌, ◌*◌, ◌<◌, ◌≤◌, ◌||◌, List, [], length, take};
     ghost use Rattle.bar_window.specs.declared.update.UpdateId.{UpdateId};
     ghost use Rattle.bar_window.specs.Updates.{same_update, has_update, minus, both, is_inside};
-    ghost use Rattle.bar_window.specs.Window.{members, HasRoom, IsAligned, IsWindowOf};
+    ghost use Rattle.bar_window.specs.Window.{members, round_words, HasRoom, IsAligned, IsWindowOf};
     ghost use Rattle.bar_window.specs.WindowBytes.{window_bytes};
 
     /// The empty set of updates in the window of a round, where updates live for 1 to 16 rounds.
@@ -161,7 +162,7 @@ impl Window {
     /// All words, one after another, eight bytes each, the highest byte first. Of the window of a round, where updates live for
     /// `life` rounds, the first `8 * life` bytes are its spelling.
     pub fn bytes(&self) -> [u8; 128]
-        ensures { (life round : ℕ) → IsWindowOf life round self.now → life ≤ 16 → take (8 * life) result ≡ window_bytes 1 life round (members self.now) }
+        ensures { (life round : ℕ) → IsWindowOf life round self.now → life ≤ 16 → take (8 * (round_words self.now * life)) result ≡ window_bytes (round_words self.now) life round (members self.now) }
     {
         let mut bytes = [0; 128];
         for j in 0..WORDS {
