@@ -11,9 +11,10 @@ use Rattle.bar_window.specs.Window.{HasRoom, IsAligned}
 use Rattle.bar_window.specs.Updates.{same_update, has_update}
 use Rattle.std.proofs.Math.Nat.{mul_comm}
 use Rattle.std.proofs.lemmas.Nat.{div-mul-add, mod-mul-add, mul-add-lt, div-add-mod', div_below, mod_below, same_from_place}
-use Rattle.std.proofs.lemmas.Bool.{cases_eq, eq-eqb, ne_eqb, eqb-true, and_parts, false_from_ne_true, or_cases, or_left, or_right}
+use Rattle.std.proofs.lemmas.Bool.{cases_eq, eq-eqb, ne_eqb, eqb-true, and_parts, false_from_ne_true, or_cases, or_left, or_right, false≢true}
 use Rattle.std.proofs.lemmas.List.{take-map, length-map}
 use Rattle.bar_window.proofs.Places.{is_early, filter-early, none_more, zero_not_set}
+use Rattle.bar_window.proofs.Sets.{one_update, same_is, same_self, same_tests, has_contains, contains_has}
 use Rattle.bar_window.proofs.Ranges.{image_is_in, in_is_image, any_image, filter-map, filter-filter, filter_agree_from}
 
 -- the update at a place is the one with that row and column
@@ -78,6 +79,15 @@ pub member_has_room : (w : Window) (u : UpdateId) → Contains (members w) u →
 unfolding members
 member_has_room w u h = let p = place_is_there w.words w.base w.used (round_places w) u (omega arith) h in record { after = p.after; before = p.before; index = p.index }
 
+-- the same of tests
+pub flag_has : (w : Window) (u : UpdateId) (place : ℕ) → place ≡ (u.round - w.base) * round_places w + u.index → HasRoom w u → is_set w.words place ≡ has_update (members w) u
+flag_has w u place at room =
+    let both = member_is_set w u place at room in
+    same_tests (is_set w.words place) (has_update (members w) u) (λ h. contains_has (members w) u (both.0 h)) (λ h. both.1 (has_contains (members w) u h))
+
+pub no_room : (w : Window) (u : UpdateId) → (HasRoom w u → ⊥) → has_update (members w) u ≡ false
+no_room w u none = same_tests (has_update (members w) u) false (λ h. absurd (none (member_has_room w u (has_contains (members w) u h)))) (λ h. absurd (false≢true h))
+
 -- ---- windows of the same rounds
 
 and_test : (test : Bool → Bool → Bool) (s t : Bool) → ((t : Bool) → test false t ≡ false) → test s t ≡ (s && test true t)
@@ -103,9 +113,6 @@ members_by_test a b r test same same_r flags off =
     moved ∙ ap (map at) (kept ∙ sym (filter-filter (λ q. keep (at q)) (is_set a.words) places)) ∙ sym (filter-map keep at (filter (is_set a.words) places))
 
 -- ---- one more
-
-one_update : (u v : UpdateId) → u.round ≡ v.round → u.index ≡ v.index → u ≡ v
-one_update u v row column = λ t. record { round = row t; index = column t }
 
 pub put_members : (w r : Window) (id : UpdateId) (place : ℕ) → HasRoom w id → IsAligned r w → place ≡ (id.round - w.base) * round_places w + id.index
     → ((q : ℕ) → is_set r.words q ≡ (is_set w.words q || eqb q place))
@@ -135,6 +142,21 @@ put_members w r id place room same at flags u =
             (member_is_set r u q q_r (room_r there)).0 (flags q ∙ or_right (is_set w.words q) (eqb q place) (eq-eqb q place here))
       ],
     )
+
+pub put_has : (w r : Window) (id : UpdateId) (place : ℕ) → HasRoom w id → IsAligned r w → place ≡ (id.round - w.base) * round_places w + id.index
+    → ((q : ℕ) → is_set r.words q ≡ (is_set w.words q || eqb q place))
+    → (u : UpdateId) → has_update (members r) u ≡ (has_update (members w) u || same_update u id)
+put_has w r id place room same at flags u =
+    let there = put_members w r id place room same at flags u in
+    same_tests (has_update (members r) u) (has_update (members w) u || same_update u id)
+        (λ h. elim (there.0 (has_contains (members r) u h)) [
+          | inl old ↦ or_left (has_update (members w) u) (same_update u id) (contains_has (members w) u old)
+          | inr e ↦ or_right (has_update (members w) u) (same_update u id) (ap (λ v. same_update v id) e ∙ same_self id)
+        ])
+        (λ h. contains_has (members r) u (there.1 (elim (or_cases (has_update (members w) u) (same_update u id) h) [
+          | inl old ↦ inl (has_contains (members w) u old)
+          | inr e ↦ inr (same_is u id e)
+        ])))
 
 -- ---- the first, none, and how many
 

@@ -19,7 +19,7 @@ update_at base places place = record { round = base + place / places; index = pl
 -- The rounds of a window are numbers of 32 bits, at most sixteen. Its words have 64 bits, and those past its rounds are zero.
 pub record IsShaped (base used : ℕ) (words : List ℕ) : Type 0 where
   pub long : length words ≡ 16
-  pub fits : base + used ≤ 2 ^ 32
+  pub in_range : base + used ≤ 2 ^ 32
   pub few : used ≤ 16
   pub fit : (j : ℕ) → slice_index words j < 2 ^ 64
   pub zeros : (j : ℕ) → used ≤ j → slice_index words j ≡ 0
