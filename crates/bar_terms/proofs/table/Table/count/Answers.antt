@@ -1,0 +1,1 @@
+use Rattle.bar_terms.proofs.table.Table.count.Goals as goal

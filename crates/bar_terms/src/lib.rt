@@ -1,0 +1,14 @@
+//! Tables of digests, and the terms of exchanges: what each side promises, and when terms are valid.
+#![tactic(auto)]
+
+mod items;
+mod promised;
+mod push;
+mod table;
+
+
+pub use items::{Item, Promise};
+pub use promised::{balanced_count, promise};
+pub use push::{PushAnswer, push_answer};
+pub use table::{Digest, Table};
+
