@@ -7,7 +7,7 @@ use Rattle.std.proofs.Math.ListN.{set}
 use Rattle.std.proofs.Math.Nat.{mul_comm}
 use Rattle.std.proofs.lemmas.Nat.{column_fits, mul-add-lt}
 use Rattle.std.proofs.lemmas.Bool.{cases_lt, cases_eq, eq-eqb, ne_eqb}
-use Rattle.std.proofs.lemmas.List.{length-take, length-set, get_or-set_same, get_or-set_other, get_or-replicate, length-replicate, get_or_past, get_or-take, get_or-drop}
+use Rattle.std.proofs.lemmas.List.{length-take, length-set, get_or-set_same, get_or-set_other, get_or-replicate, length-replicate, get_or_past, get_or_default, get_or-take, get_or-drop}
 use Rattle.std.proofs.lemmas.Option.{slice_get-get_or}
 use Rattle.bar_terms.specs.Table.{Table, digests_of, Digest, Known, PastEnd, digest_at, digest_in}
 use Rattle.bar_terms.specs.Room.{list_from, round_list, named_list, lists_of, HasRooms}
@@ -51,8 +51,8 @@ none_listed f a (suc n) none = rw (none a (omega arith) (omega arith)) (none_lis
 
 -- a new table has no lists
 pub no_lists : (n per_round : ℕ) (digests : List (List ℕ)) → lists_of (replicate n None) digests per_round ≡ []
-no_lists n per_round digests = none_listed (round_list (replicate n None) digests per_round) 0 (length (replicate n (None {T = ℕ}))) (λ r low high.
-    ap (λ o. list_from o digests (r * per_round)) (get_or-replicate n r None None (omega (arith, high, length-replicate n))))
+no_lists n per_round digests = none_listed (round_list (replicate n None) digests per_round) 0 (length {A = Option ℕ} (replicate n None)) (λ r low high.
+    ap (λ o. list_from o digests (r * per_round)) (get_or-replicate n r None None (omega (arith, high, length-replicate {A = Option ℕ} n None))))
 
 -- ---- counts and digests
 
@@ -151,3 +151,9 @@ has_list counts digests per_round round = elim (get_or counts round None) as (λ
   | None ↦ λ e. rw e (λ h. h, λ h. h)
   | Some count ↦ λ e. rw e (λ h. h, λ h. h)
 ] (lookup counts digests per_round round)
+
+-- and what is read of its count, whatever stands in for a missing one
+pub read_none : (counts : List (Option ℕ)) (digests : List (List ℕ)) (per_round round : ℕ) (item : Option ℕ) → round < length counts → item ≡ get_or counts round item → IsNone (digests_of (lists_of counts digests per_round) round) ↔ IsNone item
+read_none counts digests per_round round item lt is =
+    let e : get_or counts round None ≡ item = get_or_default counts round None item lt ∙ sym is in
+    rw e at (has_list counts digests per_round round)

@@ -2,13 +2,14 @@
 #![tactic(auto)]
 
 mod items;
+pub mod laws;
 mod promised;
 mod push;
 mod table;
-
+mod valid;
 
 pub use items::{Item, Promise};
 pub use promised::{balanced_count, promise};
 pub use push::{PushAnswer, push_answer};
 pub use table::{Digest, Table};
-
+pub use valid::terms_ok;
