@@ -1,6 +1,6 @@
 -- Sets of updates, and the ends of the lists of their rounds.
-use Rattle.std.proofs.Common.{◌≡◌, ℕ, zero, suc, ◌+◌, ◌<◌, ◌≤◌, Bool, true, false, not, ◌&&◌, ◌||◌, eqb, leb, ltb, List, [], ◌∷◌, length, get_or, Option, Some, None, refl, sym, ap, subst, ◌∙◌, inl, inr, ◌⊎◌, arith}
-use Rattle.std.specs.Prelude.{slice_get, nat_le, ◌==◌}
+use Rattle.std.proofs.Common.{◌≡◌, ℕ, ◌<◌, ◌≤◌, Bool, true, false, not, ◌&&◌, eqb, leb, List, [], ◌∷◌, length, Option, Some, None, refl, sym, ap, ◌∙◌, inl, inr, ◌⊎◌, arith}
+use Rattle.std.specs.Prelude.{unwrap_or, nat_le, ◌==◌}
 use Rattle.std.specs.List.{list_any, list_all, Contains, Any}
 use Rattle.std.specs.Option.{option_map}
 use Rattle.std.proofs.lemmas.Bool.{cases_lt, eq-eqb, eqb-true, le-leb, lt-leb, leb-true, and_parts, or_left, or_right, false≢true}
@@ -13,7 +13,7 @@ use Rattle.bar_window.specs.Window.{members}
 use Rattle.bar_window.proofs.Sets.{has_cases, one_update, same_self, contains_has}
 use Rattle.bar_window.proofs.Members.{member_has_room, count_members}
 use Rattle.bar_window.proofs.Places.{few_places}
-use Rattle.bar_terms.specs.Table.{Table, digests_of, digest_in, digest_of, is_past_end, none_past_end}
+use Rattle.bar_terms.specs.Table.{Table, digests_of, digest_in, digest_of, is_known, is_past_end, is_within, none_past_end}
 
 -- a window has at most as many updates as flags
 pub few_members : (w : Window) → length (members w) ≤ 1024
@@ -22,6 +22,14 @@ few_members w = omega (arith, count_members w, few_places w.words 1024)
 by_cases : (b : Bool) → (b ≡ true) ⊎ (b ≡ false)
 by_cases true = inl refl
 by_cases false = inr refl
+
+pub is_not : (b : Bool) → not b ≡ true → b ≡ false
+is_not true e = absurd (false≢true e)
+is_not false e = refl
+
+pub is_so : (b : Bool) → not b ≡ false → b ≡ true
+is_so true e = refl
+is_so false e = absurd (false≢true (sym e))
 
 -- ---- tests of each update
 
@@ -99,3 +107,28 @@ broken table us round count has some =
     let e : u.round ≡ round = eqb-true u.round round parts.0 in
     let past : is_past_end (digest_of table u) ≡ true = past_from (digests_of table u.round) count u.index (ap (λ r. option_map length (digests_of table r)) e ∙ has) ∙ parts.1 in
     all_fails (λ v. not (is_past_end (digest_of table v))) us u (contains_has us u (any.0, any.2, any.3)) (ap not past)
+
+-- ---- known digests
+
+pub known_from : (o : Option (List (List ℕ))) (index : ℕ) → is_known (digest_in o index) ≡ not (leb (unwrap_or (option_map length o) 0) index)
+known_from None index = rw (le-leb 0 index (omega arith)) refl
+known_from (Some ds) index = elim (cases_lt index (length ds)) [
+  | inl lt ↦ rw (slice_get-get_or ds index [] lt, lt-leb (length ds) index lt) refl
+  | inr ge ↦ rw (slice_get_past ds index ge, le-leb (length ds) index ge) refl
+]
+
+-- a round each of whose updates in a set has a digest
+pub known_each : (table : Table) (us : List UpdateId) (round count : ℕ) → count ≡ unwrap_or (option_map length (digests_of table round)) 0 → list_any (is_from round count) us ≡ false → (u : UpdateId) → has_update us u ≡ true → u.round ≡ round → is_known (digest_of table u) ≡ true
+known_each table us round count has none u there e =
+    let fails : is_from round count u ≡ false = any_fails (is_from round count) us u none there in
+    let past : leb count u.index ≡ false = sym (ap (λ b. b && leb count u.index) (eq-eqb u.round round e)) ∙ fails in
+    known_from (digests_of table u.round) u.index ∙ (λ i. not (leb (unwrap_or (option_map length (digests_of table (e i))) 0) u.index)) ∙ ap (λ n. not (leb n u.index)) (sym has) ∙ ap not past
+
+pub unknown_one : (table : Table) (us : List UpdateId) (round count : ℕ) → count ≡ unwrap_or (option_map length (digests_of table round)) 0 → list_any (is_from round count) us ≡ true → is_within table us ≡ false
+unknown_one table us round count has some =
+    let any : Any (λ u. is_from round count u ≡ true) us = Any-from_list_any (is_from round count) us some in
+    let u : UpdateId = any.1 in
+    let parts = and_parts (eqb u.round round) (leb count u.index) any.4 in
+    let e : u.round ≡ round = eqb-true u.round round parts.0 in
+    let unknown : is_known (digest_of table u) ≡ false = known_from (digests_of table u.round) u.index ∙ (λ i. not (leb (unwrap_or (option_map length (digests_of table (e i))) 0) u.index)) ∙ ap (λ n. not (leb n u.index)) (sym has) ∙ ap not parts.1 in
+    all_fails (λ v. is_known (digest_of table v)) us u (contains_has us u (any.0, any.2, any.3)) unknown

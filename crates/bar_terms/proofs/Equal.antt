@@ -1,9 +1,9 @@
 -- Both sides of valid terms promise equally many items.
-use Rattle.std.proofs.Common.{◌≡◌, ℕ, ◌+◌, ◌≤◌, Bool, true, false, ◌&&◌, eqb, leb, List, [], ◌∷◌, ◌++◌, length, take, drop, map, refl, sym, ap, ◌∙◌, arith, length-append, length-take}
-use Rattle.std.specs.Prelude.{nat_le, ◌==◌, not}
-use Rattle.std.specs.List.{list_all, concat, AllByRecursion, range_with_len}
+use Rattle.std.proofs.Common.{◌≡◌, ℕ, zero, suc, ◌+◌, ◌*◌, ◌/◌, ◌%◌, ◌≤◌, Bool, true, false, ◌&&◌, List, [], ◌∷◌, ◌++◌, length, take, drop, refl, sym, ap, ◌∙◌, arith, length-append, length-take, length-drop}
+use Rattle.std.specs.Prelude.{nat_le}
+use Rattle.std.specs.List.{concat, AllByRecursion}
 use Rattle.std.specs.Simd.{first_chunks}
-use Rattle.std.proofs.lemmas.List.{length-map, take_all, take-append-le, drop-append-le}
+use Rattle.std.proofs.lemmas.List.{length-map, take-append-drop}
 use Rattle.std.proofs.Math.Seq.{take-append_seam, drop-append_seam}
 use Rattle.std.proofs.lemmas.List.FromFn.{length-range_with_len}
 use Rattle.std.proofs.lemmas.Bool.{and_parts, eqb-true, leb-true}
@@ -12,8 +12,7 @@ use Rattle.bar_window.specs.declared.exchange.Role.{Role}
 use Rattle.bar_window.specs.declared.exchange.Role.TheVariants.{Initiator, Responder}
 use Rattle.bar_window.specs.Updates.{minus}
 use Rattle.bar_window.specs.Terms.{Terms, Trade, Offer}
-use Rattle.bar_terms.specs.declared.items.Item.TheVariants.{Update, Junk}
-use Rattle.bar_terms.specs.Table.{Table, digest_of, is_past_end, none_past_end}
+use Rattle.bar_terms.specs.Table.{Table, none_past_end}
 use Rattle.bar_terms.specs.Terms.{trade_count, promised_updates, promised_junk, promise, offer_rounds, offer_sizes, offer_ok, answer_ok, terms_ok, can_promise, rounds_ok}
 
 -- a promise has as many items as updates and junk
@@ -80,3 +79,11 @@ chunks_of (d ∷ list) all =
     let front : take 32 (d ++ concat list) ≡ d = ap (λ n. take n (d ++ concat list)) (sym all.0) ∙ take-append_seam d (concat list) in
     let rest : drop 32 (d ++ concat list) ≡ concat list = ap (λ n. drop n (d ++ concat list)) (sym all.0) ∙ drop-append_seam d (concat list) in
     λ i. front i ∷ (ap (first_chunks 32 (length list)) rest ∙ chunks_of list all.1) i
+
+chunks_join : (n : ℕ) (bytes : List ℕ) → length bytes ≡ 32 * n → concat (first_chunks 32 n bytes) ≡ bytes
+chunks_join zero [] e = refl
+chunks_join zero (b ∷ bytes) e = absurd (omega (arith, e))
+chunks_join (suc n) bytes e = ap (λ (xs : List ℕ). take 32 bytes ++ xs) (chunks_join n (drop 32 bytes) (omega (arith, length-drop 32 bytes, e))) ∙ take-append-drop 32 bytes
+
+pub bytes_of : (bytes : List ℕ) → length bytes % 32 ≡ 0 → concat (first_chunks 32 (length bytes / 32) bytes) ≡ bytes
+bytes_of bytes whole = chunks_join (length bytes / 32) bytes (omega (arith, whole))

@@ -1,15 +1,15 @@
 -- The lists of a table, looked up.
-use Rattle.std.proofs.Common.{◌≡◌, ◌≢◌, ℕ, zero, suc, ◌+◌, ◌-◌, ◌*◌, ◌<◌, ◌≤◌, Bool, true, false, cond, eqb, List, [], ◌∷◌, ◌++◌, length, take, drop, get_or, replicate, Option, Some, None, refl, sym, ap, ◌∙◌, inl, inr, ◌⊎◌, length-drop, arith}
-use Rattle.std.specs.Prelude.{slice_get, IsTrue, IsNone, ◌↔◌, if◌then◌else◌, ◌==◌}
+use Rattle.std.proofs.Common.{◌≡◌, ◌≢◌, ℕ, zero, suc, ◌+◌, ◌*◌, ◌<◌, ◌≤◌, Bool, eqb, List, [], ◌++◌, length, take, drop, get_or, replicate, Option, Some, None, refl, sym, ap, subst, ◌∙◌, inl, inr, ◌⊎◌, length-drop, arith}
+use Rattle.std.specs.Prelude.{IsNone, ◌↔◌, if◌then◌else◌}
 use Rattle.std.specs.List.{range_with_len, filter_map, cons_option}
 use Rattle.std.specs.Option.{option_map}
 use Rattle.std.proofs.Math.ListN.{set}
 use Rattle.std.proofs.Math.Nat.{mul_comm}
-use Rattle.std.proofs.lemmas.Nat.{column_fits, mul-add-lt}
+use Rattle.std.proofs.lemmas.Nat.{column_fits}
 use Rattle.std.proofs.lemmas.Bool.{cases_lt, cases_eq, eq-eqb, ne_eqb}
 use Rattle.std.proofs.lemmas.List.{length-take, length-set, get_or-set_same, get_or-set_other, get_or-replicate, length-replicate, get_or_past, get_or_default, get_or-take, get_or-drop}
 use Rattle.std.proofs.lemmas.Option.{slice_get-get_or}
-use Rattle.bar_terms.specs.Table.{Table, digests_of, Digest, Known, PastEnd, digest_at, digest_in}
+use Rattle.bar_terms.specs.Table.{Table, digests_of, Known, digest_at, digest_in, Extends}
 use Rattle.bar_terms.specs.Room.{list_from, round_list, named_list, lists_of, HasRooms}
 use Rattle.bar_terms.proofs.Segments.{written, written_len, beside}
 
@@ -157,3 +157,16 @@ pub read_none : (counts : List (Option ℕ)) (digests : List (List ℕ)) (per_ro
 read_none counts digests per_round round item lt is =
     let e : get_or counts round None ≡ item = get_or_default counts round None item lt ∙ sym is in
     rw e at (has_list counts digests per_round round)
+
+kept_list : (o : Option (List (List ℕ))) (list ds : List (List ℕ)) (b : Bool) → IsNone o → o ≡ Some ds → (if b then Some list else o) ≡ Some ds
+kept_list None list ds b none e = absurd cc
+kept_list (Some es) list ds b none e = absurd cc
+
+-- where a round had no list, a table that has one more has each list of the old one
+pub extends_after : (old new : Table) (round : ℕ) (list : List (List ℕ)) → IsNone (digests_of old round) → ((r : ℕ) → digests_of new r ≡ (if eqb r round then Some list else digests_of old r)) → Extends old new
+extends_after old new round list none after = record {
+  same = λ r ds e. after r ∙ elim (cases_eq r round) [
+    | inl here ↦ kept_list (digests_of old r) list ds (eqb r round) (subst (λ k. IsNone (digests_of old k)) (sym here) none) e
+    | inr other ↦ rw (ne_eqb r round other) e
+  ];
+}

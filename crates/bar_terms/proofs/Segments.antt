@@ -1,6 +1,6 @@
 -- A list written over a part of another.
-use Rattle.std.proofs.Common.{◌≡◌, ℕ, ◌+◌, ◌-◌, ◌≤◌, List, ◌++◌, length, take, drop, refl, sym, ap, ◌∙◌, inl, inr, ◌⊎◌, append_assoc, length-append, length-drop, arith}
-use Rattle.std.proofs.lemmas.List.{length-take, drop-append-le, take-append-le, drop-drop, take-take, drop-take, take_all, take-append-drop}
+use Rattle.std.proofs.Common.{◌≡◌, ℕ, ◌+◌, ◌-◌, ◌≤◌, List, ◌++◌, length, take, drop, sym, ap, ◌∙◌, inl, inr, ◌⊎◌, append_assoc, length-append, length-drop, arith}
+use Rattle.std.proofs.lemmas.List.{length-take, drop-append-le, take-append-le, drop-drop, take-take, drop-take}
 use Rattle.std.proofs.Math.Seq.{drop-append_seam, drop-append-add, take-append_seam}
 
 -- what is written

@@ -1,5 +1,4 @@
 -- What the code's digests stand for.
-use Rattle.std.specs.Prelude.{ℕ, List}
 use Rattle.bar_terms.specs.Table.{Digest, Known, PastEnd, NoManifest}
 use Rattle.bar_terms.specs.declared.table.Digest.{Digest as TableDigest}
 use Rattle.bar_terms.specs.declared.table.Digest.TheVariants as code

@@ -1,5 +1,5 @@
 -- What a contract sees of a table of the code: its lists, and how many rounds and digests a round it has room for.
-use Rattle.std.specs.Prelude.{◌≡◌, ℕ, ◌+◌, ◌*◌, ◌≤◌, ◌<◌, List, length, take, drop, Option, Some, None, slice_index_or}
+use Rattle.std.specs.Prelude.{◌≡◌, ℕ, ◌*◌, ◌≤◌, ◌<◌, List, length, take, drop, Option, Some, None, slice_index_or}
 use Rattle.std.specs.List.{range_with_len, filter_map}
 use Rattle.bar_terms.specs.Table.{Table}
 

@@ -12,4 +12,7 @@ pub use items::{Item, Promise};
 pub use promised::{balanced_count, promise};
 pub use push::{PushAnswer, push_answer};
 pub use table::{Digest, Table};
-pub use valid::terms_ok;
+pub use valid::{offer_ok, terms_ok, within};
+
+#[cfg(test)]
+mod tests;

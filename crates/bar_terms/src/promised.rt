@@ -70,7 +70,10 @@ pub fn promise(terms: &Terms, role: Role, cap: u8) -> Promise
             of_updates(&paid.first(balanced_count(ha, hb, cap)))
         }
         Terms::Push {
-            want, give, junk, ..
+            want,
+            give,
+            junk,
+            ..
         } => match role {
             Role::Initiator => of_updates(want),
             Role::Responder => with_junk(of_updates(give), *junk),

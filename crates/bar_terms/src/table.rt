@@ -52,7 +52,7 @@ impl Table {
     ghost use Rattle.std.specs.Bool.{OnTrue, OnFalse};
     ghost use Rattle.std.specs.Option.{option_map};
     ghost use Rattle.std.specs.Simd.{first_chunks};
-    ghost use Rattle.bar_terms.specs.Table.{digests_of, digest_of};
+    ghost use Rattle.bar_terms.specs.Table.{digests_of, digest_of, Extends};
     ghost use Rattle.bar_terms.specs.Known.{plain_digest};
 
     /// A table with no lists, which has room for those of rounds 1 to `rounds`, of at most `per_round` digests each.
@@ -79,6 +79,7 @@ impl Table {
         ensures new { IsTrue result ↔ IsNone (digests_of self.old.lists round) }
         ensures had { OnFalse result (self.new ≡ self.old) }
         ensures has { OnTrue result ((r : ℕ) → digests_of self.new.lists r ≡ (if r == round then Some (first_chunks 32 (length digests.now / 32) digests.now) else digests_of self.old.lists r)) }
+        ensures extends { Extends self.old.lists self.new.lists }
         ensures room { OnTrue result ((self.new.rounds ≡ self.old.rounds) × (self.new.per_round ≡ self.old.per_round)) }
     {
         let row = round as usize;

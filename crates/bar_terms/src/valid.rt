@@ -5,9 +5,9 @@ ghost use Rattle.bar_window.specs.Window.{members, IsAligned, IsWindowOf};
 ghost use Rattle.bar_window.specs.Terms.{plain_terms};
 ghost use Rattle.bar_window.specs.Updates.{has_update};
 ghost use Rattle.bar_terms.specs.Windows.{AreWindowsOf};
-ghost use Rattle.bar_terms.specs.Table.{digest_of, is_past_end, none_past_end};
+ghost use Rattle.bar_terms.specs.Table.{digest_of, is_known, is_past_end, is_within, none_past_end};
 ghost use Rattle.bar_terms.specs.Terms.{offer_rounds, offer_sizes, answer_ok};
-ghost use Rattle.bar_terms.specs.Terms.{terms_ok as valid_terms};
+ghost use Rattle.bar_terms.specs.Terms.{terms_ok as valid_terms, offer_ok as valid_offer};
 
 use crate::promised::balanced_count;
 use crate::table::Table;
@@ -48,6 +48,26 @@ fn within_lists(window: &Window, table: &Table) -> bool
     true
 }
 
+/// Whether each update of a round has a digest in a table.
+fn known_in(window: &Window, round: u32, table: &Table) -> bool
+    ensures kept { result ≡ true → (u : UpdateId) → has_update (members window.now) u ≡ true → u.round ≡ round → is_known (digest_of table.now.lists u) ≡ true }
+    ensures broken { result ≡ false → is_within table.now.lists (members window.now) ≡ false }
+{
+    !has_from(window, round, table.count(round).unwrap_or(0))
+}
+
+/// Whether each update has a digest in a table.
+pub fn within(window: &Window, table: &Table) -> bool
+    ensures { result ≡ is_within table.now.lists (members window.now) }
+{
+    for row in 0..window.used {
+        if !known_in(window, window.base + u32::from(row), table) {
+            return false;
+        }
+    }
+    true
+}
+
 /// Whether the updates of an offer are of their rounds, and at most `cap` each.
 fn offer_fits(young: &Window, aged: &Window, round: u32, cap: u8, life: u8) -> bool
     requires { IsWindowOf life round aged.now }
@@ -60,8 +80,26 @@ fn offer_fits(young: &Window, aged: &Window, round: u32, cap: u8, life: u8) -> b
         && aged.size() <= cap
 }
 
+/// Whether an offer of a round is valid under a table: its young updates are of this round or the one before and its aged ones of the window's
+/// rounds up to half a life before, at most `cap` of each, and none of a round that the table knows stands past the end of the round's list.
+pub fn offer_ok(young: &Window, aged: &Window, round: u32, cap: u8, life: u8, table: &Table) -> bool
+    requires { IsWindowOf life round aged.now }
+    ensures { result ≡ valid_offer cap life table.now.lists round (members young.now) (members aged.now) }
+{
+    offer_fits(young, aged, round, cap, life)
+        && within_lists(young, table)
+        && within_lists(aged, table)
+}
+
 /// Whether an answer takes and gives parts of the offer, as many items on both sides, 1 to `cap`.
-fn answer_fits(young: &Window, aged: &Window, want: &Window, give: &Window, junk: u8, cap: u8) -> bool
+fn answer_fits(
+    young: &Window,
+    aged: &Window,
+    want: &Window,
+    give: &Window,
+    junk: u8,
+    cap: u8,
+) -> bool
     requires want { IsAligned want.now young.now }
     requires give { IsAligned give.now aged.now }
     ensures { result ≡ answer_ok cap (members young.now) (members aged.now) (members want.now) (members give.now) junk }
@@ -95,9 +133,7 @@ pub fn terms_ok(terms: &Terms, x: Exchange, cap: u8, life: u8, table: &Table) ->
             give,
             junk,
         } => {
-            offer_fits(young, aged, x.round, cap, life)
-                && within_lists(young, table)
-                && within_lists(aged, table)
+            offer_ok(young, aged, x.round, cap, life, table)
                 && answer_fits(young, aged, want, give, *junk, cap)
         }
     }

@@ -1,18 +1,7 @@
-use Rattle.std.proofs.Common.{◌≡◌, Bool, true, false, not, length, Option, Some, refl, sym, ◌∙◌, ap}
-use Rattle.std.specs.Option.{option_map}
-use Rattle.std.proofs.lemmas.Bool.{false≢true}
+use Rattle.std.proofs.Common.{sym, ◌∙◌}
 use Rattle.bar_window.specs.Window.{members}
-use Rattle.bar_terms.specs.Table.{digests_of}
-use Rattle.bar_terms.proofs.Ends.{kept, broken}
+use Rattle.bar_terms.proofs.Ends.{is_not, is_so, kept, broken}
 use Rattle.bar_terms.proofs.valid.ends_in.Goals as goal
-
-is_not : (b : Bool) → not b ≡ true → b ≡ false
-is_not true e = absurd (false≢true e)
-is_not false e = refl
-
-is_so : (b : Bool) → not b ≡ false → b ≡ true
-is_so true e = refl
-is_so false e = absurd (false≢true (sym e))
 
 pub returns-in-Some-clause-kept : goal.returns-in-Some-clause-kept
 returns-in-Some-clause-kept c = λ e.

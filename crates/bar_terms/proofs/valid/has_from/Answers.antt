@@ -1,4 +1,4 @@
-use Rattle.std.proofs.Common.{◌≡◌, sym, ◌∙◌, arith}
+use Rattle.std.proofs.Common.{sym, ◌∙◌, arith}
 use Rattle.bar_window.specs.Window.{members}
 use Rattle.bar_terms.proofs.Ends.{has_one, has_none}
 use Rattle.bar_terms.proofs.valid.has_from.Goals as goal

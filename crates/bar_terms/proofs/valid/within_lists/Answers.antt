@@ -1,4 +1,4 @@
-use Rattle.std.proofs.Common.{◌≡◌, not, ap, sym, ◌∙◌, arith}
+use Rattle.std.proofs.Common.{not, ap, sym, arith}
 use Rattle.bar_window.specs.Window.{members}
 use Rattle.bar_window.proofs.Sets.{has_contains}
 use Rattle.bar_window.proofs.Members.{member_has_room}
@@ -13,5 +13,5 @@ pub returns : goal.returns
 returns c =
     let w = c.args.window.now in
     sym (all_from (λ u. not (is_past_end (digest_of c.args.table.now.lists u))) (members w) (λ u has.
-      let room = member_has_room w u (has_contains (members w) u has) in
-      ap not (c.loop-row.invariant u has (omega (arith, room.before, c.loop-row-test.false)))))
+    let room = member_has_room w u (has_contains (members w) u has) in
+    ap not (c.loop-row.invariant u has (omega (arith, room.before, c.loop-row-test.false)))))

@@ -1,11 +1,11 @@
-use Rattle.std.proofs.Common.{◌≡◌, ◌+◌, ◌*◌, ◌<◌, ◌≤◌, ◌++◌, refl, length, take, drop, get_or, Option, Some, None, ℕ, true, false, eqb, subst, sym, ap, ◌∙◌, arith}
+use Rattle.std.proofs.Common.{◌≡◌, ◌+◌, ◌*◌, ◌++◌, refl, length, take, drop, Option, Some, None, ℕ, true, false, eqb, subst, sym, ap, ◌∙◌, arith}
 use Rattle.std.proofs.Math.ListN.{set}
 use Rattle.std.specs.Prelude.{IsNone, IsTrue, if◌then◌else◌}
 use Rattle.std.specs.Option.{is_some}
 use Rattle.std.proofs.lemmas.Bool.{false≢true}
 use Rattle.bar_terms.specs.Table.{digests_of}
-use Rattle.bar_terms.specs.Room.{lists_of, HasRooms}
-use Rattle.bar_terms.proofs.Lookups.{IsAdded, read_none, rooms_after, lists_after}
+use Rattle.bar_terms.specs.Room.{lists_of}
+use Rattle.bar_terms.proofs.Lookups.{IsAdded, read_none, rooms_after, lists_after, extends_after}
 use Rattle.bar_terms.proofs.table.Table.extend.Goals as goal
 
 not_true : IsTrue false → ⊥
@@ -68,3 +68,6 @@ invariant_of-self c =
       few = omega (arith, c.as_chunks.ensures.front_len, c.requires.few, per_round);
     } in
     rw (c.put_list.ensures, c.from.ensures) (rooms_after t.counts.items t.digests.items list t.per_round c.args.round added)
+
+pub returns-clause-extends : goal.returns-clause-extends
+returns-clause-extends c = extends_after c.args.self.now.lists _ c.args.round _ ((returns-clause-new c).0 is_true) (returns-clause-has c)
