@@ -1,0 +1,4 @@
+pub mod Segments
+pub mod Lookups
+pub mod Ends
+pub mod Equal

@@ -1,0 +1,9 @@
+use Rattle.std.proofs.Common.{◌≡◌, ◌+◌, ◌<◌, true, false}
+use Rattle.bar_window.specs.declared.update.UpdateId.{UpdateId}
+use Rattle.bar_window.specs.Updates.{has_update}
+use Rattle.bar_window.specs.Window.{members}
+use Rattle.bar_terms.specs.Table.{digest_of, is_past_end}
+use Rattle.bar_terms.proofs.valid.within_lists.Given as goal
+
+abbrev pub invariant-loop-row : goal.invariant-loop-row
+invariant-loop-row l = (u : UpdateId) → has_update (members l.window) u ≡ true → u.round < l.window.base + l.row → is_past_end (digest_of l.table.lists u) ≡ false

@@ -1,0 +1,15 @@
+-- The windows of terms.
+use Rattle.std.specs.Prelude.{ℕ}
+use Rattle.bar_window.specs.declared.terms.Terms.{Terms}
+use Rattle.bar_window.specs.declared.terms.Terms.TheVariants.{Balanced, Push}
+use Rattle.bar_window.specs.Window.{IsAligned, IsWindowOf}
+
+-- they are of the same rounds
+abbrev pub AreAligned : Terms → Type 0
+AreAligned (Balanced nonce ha hb) = IsAligned ha hb
+AreAligned (Push young aged want give junk) = IsAligned aged young × IsAligned want young × IsAligned give young
+
+-- they are windows of a round, where updates live for so many rounds
+abbrev pub AreWindowsOf : ℕ → ℕ → Terms → Type 0
+AreWindowsOf life round (Balanced nonce ha hb) = IsWindowOf life round ha × IsWindowOf life round hb
+AreWindowsOf life round (Push young aged want give junk) = IsWindowOf life round young × IsWindowOf life round aged × IsWindowOf life round want × IsWindowOf life round give

@@ -1,0 +1,15 @@
+use bar_window::UpdateId;
+
+/// One item of a briefcase: the block of an update, or a piece of junk by its number in its exchange.
+#[derive(Clone, Copy, Debug, PartialEq, Eq)]
+pub enum Item {
+    Update(UpdateId),
+    Junk(u8),
+}
+
+/// What a side promises: the first `len` of `items`, updates in order and then junk from 0 on. The other items mean nothing.
+#[derive(Clone, Copy, Debug, PartialEq, Eq)]
+pub struct Promise {
+    pub items: [Item; 16],
+    pub len: u8,
+}

@@ -1,0 +1,18 @@
+//! Tables of digests, and the terms of exchanges: what each side promises, and when terms are valid.
+#![tactic(auto)]
+
+mod items;
+pub mod laws;
+mod promised;
+mod push;
+mod table;
+mod valid;
+
+pub use items::{Item, Promise};
+pub use promised::{balanced_count, promise};
+pub use push::{PushAnswer, push_answer};
+pub use table::{Digest, Table};
+pub use valid::{offer_ok, terms_ok, within};
+
+#[cfg(test)]
+mod tests;
