@@ -1,14 +1,17 @@
 -- The turns of a replay, one more, and what they leave.
-use Rattle.std.proofs.Common.{◌≡◌, ◌≢◌, ◌<◌, ℕ, ◌+◌, List, [], ◌∷◌, ◌++◌, Some, refl, sym, ap, ◌∙◌, map, length, take, drop, get_or, append-nil, append_assoc, IsSome, Vec}
+use Rattle.std.proofs.Common.{◌≡◌, ◌≢◌, ◌<◌, ℕ, ◌+◌, List, [], ◌∷◌, ◌++◌, Some, refl, sym, ap, ◌∙◌, map, length, take, drop, get_or, append-nil, append_assoc, IsSome, Vec, inl, inr, subst, min, ◌≤◌, arith}
+use Rattle.std.proofs.lemmas.List.{take-append-le, take_min}
+use Rattle.std.proofs.lemmas.List.Folds.{concat-append}
+use Rattle.std.proofs.Math.Seq.{take-append-add}
 use Rattle.std.specs.declared.alloc.Global.{Global}
-use Rattle.std.specs.List.{flat_map, concat}
+use Rattle.std.specs.List.{concat}
 use Rattle.std.proofs.lemmas.List.{take_more, take-append-drop}
 use Rattle.std.proofs.lemmas.Grind.{flat_map-append}
 use Rattle.bar_outside.specs.Disk.{Content, appended, created}
-use Rattle.bar_outside.specs.Plan.{Action, CanRun, content_after}
-use Rattle.bar_outside.specs.Plan.Action.{create, append}
+use Rattle.bar_outside.specs.Plan.{Action, Begun, CanRun, IsPartOf, content_after}
+use Rattle.bar_outside.specs.Plan.Action.{read, create, append, show}
 use Rattle.bar_outside.proofs.Contents.{put_at-same, put_at-other, put_at-there, appended-same, appended-other, appended-stays}
-use Rattle.bar_outside.proofs.ActionLists.{content_after-append}
+use Rattle.bar_outside.proofs.ActionLists.{content_after-append, Begun-cons, Begun-none}
 use Rattle.bar_cli.specs.Replay.{SessionRecord, played_at}
 use Rattle.bar_cli.specs.ReplayPlan.{ReplayFiles, contents_from, turn, turns, played_bytes, replay_actions}
 
@@ -116,3 +119,52 @@ pub final-other : (names : ReplayFiles) (contents : List (List (List ℕ))) (con
     content_after (replay_actions names contents) content q ≡ content q
 final-other names contents content q differs =
     turns-other names.played contents (created content names.played) q differs ∙ put_at-other content names.played [] q differs
+
+-- a front of what is there is a front of more
+take-more : (k : ℕ) (xs ys : List ℕ) → take (min k (length xs)) (xs ++ ys) ≡ take k xs
+take-more k xs ys = let h : min k (length xs) ≤ length xs = omega arith in rw (take-append-le (min k (length xs)) xs ys h) (take_min k xs)
+
+part-turn : (part : Action) (played x held : List ℕ) (content : Content) → content played ≡ Some held → IsPartOf part (append played x) →
+    (k : ℕ) × (content_after (part ∷ []) content played ≡ Some (held ++ take k x))
+part-turn (append path bytes) played x held content there h = (h.1.0, rw (h.0, h.1.1) (appended-same content played (take h.1.0 x) held there))
+part-turn (read path) played x held content there h = absurd h
+part-turn (create path) played x held content there h = absurd h
+part-turn (show bytes) played x held content there h = absurd h
+
+-- what was done of some contents
+front-turn : (played held : List ℕ) (contents : List (List ℕ)) (content : Content) (done : List Action) → content played ≡ Some held → Begun (turn played contents) done →
+    (k : ℕ) × (content_after done content played ≡ Some (held ++ take k (concat contents)))
+front-turn played held [] content done there b = (0, rw (Begun-none done b) (there ∙ ap Some (sym (append-nil held))))
+front-turn played held (x ∷ xs) content done there b =
+    elim (Begun-cons (append played x) (turn played xs) done b) [
+      | inl e ↦ (0, rw e (there ∙ ap Some (sym (append-nil held))))
+      | inr rest ↦ elim rest [
+        | inl part ↦
+            let p = part-turn part.0 played x held content there part.2 in
+            (min p.0 (length x), rw (part.1, take-more p.0 x (concat xs)) p.1)
+        | inr more ↦
+            let p = front-turn played (held ++ x) xs (appended content played x) more.0 (appended-same content played x held there) more.2 in
+            (length x + p.0, rw (more.1, take-append-add x (concat xs) p.0, ← append_assoc) p.1)
+      ]
+    ]
+
+joined : List (List (List ℕ)) → List (List ℕ)
+joined [] = []
+joined (x ∷ xs) = x ++ joined xs
+
+turns-joined : (played : List ℕ) (contents : List (List (List ℕ))) → turns played contents ≡ turn played (joined contents)
+unfolding joined
+turns-joined played [] = refl
+turns-joined played (x ∷ xs) = ap (λ ys. turn played x ++ ys) (turns-joined played xs) ∙ sym (turn-append played x (joined xs))
+
+concat-joined : (contents : List (List (List ℕ))) → concat (joined contents) ≡ played_bytes contents
+unfolding joined
+concat-joined [] = refl
+concat-joined (x ∷ xs) = concat-append x (joined xs) ∙ ap (λ ys. concat x ++ ys) (concat-joined xs)
+
+-- what was done of all turns
+pub front-turns : (played : List ℕ) (contents : List (List (List ℕ))) (content : Content) (done : List Action) → content played ≡ Some [] → Begun (turns played contents) done →
+    (k : ℕ) × (content_after done content played ≡ Some (take k (played_bytes contents)))
+front-turns played contents content done there b =
+    let p = front-turn played [] (joined contents) content done there (subst (λ plan. Begun plan done) (turns-joined played contents) b) in
+    (p.0, p.1 ∙ ap (λ bytes. Some (take p.0 bytes)) (concat-joined contents))

@@ -1,7 +1,8 @@
 -- What `replay` does.
-use Rattle.std.specs.Prelude.{◌≡◌, ◌≢◌, ℕ, List, [], ◌∷◌, ◌++◌, Some, map, codes}
+use Rattle.std.specs.Prelude.{◌≡◌, ◌≢◌, ◌⊎◌, ℕ, List, [], ◌∷◌, ◌++◌, Some, map, take, codes}
 use Rattle.std.specs.List.{flat_map, concat}
-use Rattle.bar_outside.specs.Disk.{Content, readable}
+use Rattle.bar_outside.specs.Disk.{Content, Failure, readable}
+use Rattle.bar_outside.specs.declared.files.CallKind.TheVariants.{Read, Create, Append}
 use Rattle.bar_outside.specs.Plan.{World, Action, Plan, reading, accepting, ending, doing}
 use Rattle.bar_outside.specs.Plan.Action.{create, append}
 use Rattle.bar_cli.specs.Replay.{SessionRecord, RecordingRecord, session_of, recording_of, played_at}
@@ -57,15 +58,35 @@ abbrev pub replay_plan : ReplayFiles → Content → Plan
 replay_plan names =
     reading names.session (λ text. accepting (session_of text) (recording_plan names) (ending 4 session_refused))
 
--- the session and the recording were accepted, and exactly what the recording's inputs play stands in the played file
-pub record Replayed (names : ReplayFiles) (old new : World) : Type 0 where
+-- the session and the recording are there and accepted
+pub record Accepted (names : ReplayFiles) (content : Content) : Type 0 where
   pub text : List ℕ
   pub session : SessionRecord
   pub bytes : List ℕ
   pub recording : RecordingRecord
-  pub session_read : readable old.files.content names.session ≡ Some text
-  pub session_accepted : session_of text ≡ Some session
-  pub recording_read : readable old.files.content names.recording ≡ Some bytes
-  pub recording_accepted : recording_of session bytes ≡ Some recording
-  pub played : new.files.content names.played ≡ Some (played_bytes (contents_of session recording))
+  pub session_read : readable content names.session ≡ Some text
+  pub session_is : session_of text ≡ Some session
+  pub recording_read : readable content names.recording ≡ Some bytes
+  pub recording_is : recording_of session bytes ≡ Some recording
+
+-- the bytes that the recording's inputs play
+abbrev pub bytes_of : (names : ReplayFiles) (content : Content) → Accepted names content → List ℕ
+bytes_of names content accepted = played_bytes (contents_of accepted.session accepted.recording)
+
+-- both were accepted, and the played file has exactly what the recording's inputs play
+pub record Replayed (names : ReplayFiles) (old new : World) : Type 0 where
+  pub accepted : Accepted names old.files.content
+  pub played : new.files.content names.played ≡ Some (bytes_of names old.files.content accepted)
   pub others : (path : List ℕ) → path ≢ names.played → new.files.content path ≡ old.files.content path
+
+-- both were accepted, and the played file has a front of what the recording's inputs play
+pub record PlayedFront (names : ReplayFiles) (old new : World) : Type 0 where
+  pub accepted : Accepted names old.files.content
+  pub count : ℕ
+  pub played : new.files.content names.played ≡ Some (take count (bytes_of names old.files.content accepted))
+
+-- a call that a replay makes: a read of a file that it reads, or a create or an append of the one that it writes
+abbrev pub IsReplayCall : ReplayFiles → Failure → Type 0
+IsReplayCall names call =
+    ((call ≡ record { kind = Read; path = names.session }) ⊎ (call ≡ record { kind = Read; path = names.recording }))
+    ⊎ ((call ≡ record { kind = Create; path = names.played }) ⊎ (call ≡ record { kind = Append; path = names.played }))

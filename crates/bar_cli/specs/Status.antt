@@ -1,5 +1,5 @@
 -- The exit statuses, and the line of each.
-use Rattle.std.specs.Prelude.{ℕ, List, [], Result, Ok, Err}
+use Rattle.std.specs.Prelude.{ℕ, Bool, ◌==◌, ◌||◌, List, [], Result, Ok, Err}
 use Rattle.bar_outside.specs.Plan as plan
 use Rattle.bar_outside.specs.Faults.{code_of_fault, line_of_fault}
 use Rattle.bar_outside.specs.declared.fault.Fault.{Fault}
@@ -35,3 +35,7 @@ code_of_run (Err fault) = code_of_fault fault
 abbrev pub said_by_run : Result Status Fault → List ℕ
 said_by_run (Ok status) = said_at status
 said_by_run (Err fault) = line_of_fault fault
+
+-- the statuses that the commands have
+abbrev pub is_status : ℕ → Bool
+is_status status = status == 0 || status == 2 || status == 3 || status == 4 || status == 8 || status == 70

@@ -10,4 +10,9 @@ mod stub;
 #[cfg(test)]
 mod tests;
 
+pub use laws::{
+    a_front_is_played, done_exactly, done_where_all_is_accepted, file_failed_only,
+    input_refused_exactly, lines_exactly, only_played_is_changed, refusals_change_nothing,
+    session_refused_exactly,
+};
 pub use run::bar_run;

@@ -5,7 +5,7 @@ ghost use Rattle.bar_outside.specs.Stream.{Stream};
 ghost use Rattle.bar_outside.specs.Ends.{Ends, EndsWith, Says, is_plain};
 ghost use Rattle.bar_cli.specs.Line.{line_of, plan_of};
 ghost use Rattle.bar_cli.specs.Line as line;
-ghost use Rattle.bar_cli.specs.Status.{code_of, said_at};
+ghost use Rattle.bar_cli.specs.Status.{code_of, said_at, is_status};
 ghost use Rattle.bar_cli.specs.Views.{line_view};
 ghost use Rattle.bar_cli.specs.ReplayPlan.{ReplayFiles, Replayed};
 
@@ -26,6 +26,9 @@ pub fn bar_run<F: Files, K: Sink>(
     // 2 exactly where the words aren't a line, but for want of memory
     ensures usage { result ≡ 2 → line_of (map string_bytes words.now) ≡ None }
     ensures no_line { line_of (map string_bytes words.now) ≡ None → (result ≡ 2) ⊎ (result ≡ 70) }
+
+    // no other status comes
+    ensures statuses { IsTrue (is_status result) }
 
     // what was done, and which status comes when
     ensures ends { Ends (plan_of (line_of (map string_bytes words.now)))

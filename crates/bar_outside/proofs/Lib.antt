@@ -3,4 +3,3 @@ pub mod ActionLists
 pub mod Following
 pub mod Ending
 pub mod Untouched
-pub mod Inverse

@@ -1,4 +1,3 @@
-use Rattle.std.proofs.Common.{◌≡◌}
 use Rattle.bar_outside.proofs.Ending.{EndsWith-reading, EndsWith-accepted}
 use Rattle.bar_cli.proofs.replay.replay.Goals as goal
 
