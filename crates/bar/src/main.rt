@@ -1,0 +1,43 @@
+//! The program: the commands over the real files and standard streams.
+#![tactic(auto)]
+
+mod outside;
+
+use bar_cli::bar_run;
+use bar_outside::Sink;
+use outside::{RealFiles, RealSink, Standard};
+use std::env::Env;
+use std::io::ErrorKind;
+use std::process::ExitCode;
+use std::{env, io};
+
+/// The exit status where memory is wanting.
+const NO_MEMORY: u8 = 70;
+
+// The words behind the program's name. A word that isn't UTF-8 is an error.
+fn words_of<R: Env + AllocGlobal>(rt: &R) -> io::Result<Vec<String>> {
+    let mut words = Vec::new(rt.alloc());
+    for word in env::args(rt)?.skip(1) {
+        words.push(word)?;
+    }
+    Ok(words)
+}
+
+fn main(rt: HostRuntime) -> ExitCode {
+    let alloc = rt.alloc();
+    let mut files = RealFiles::new(&rt);
+    let mut out = RealSink::new(Standard::Out(rt.stdout()));
+    let mut err = RealSink::new(Standard::Err(rt.stderr()));
+    let words = match words_of(&rt) {
+        Ok(words) => words,
+        Err(error) => {
+            if error.kind() == ErrorKind::OutOfMemory {
+                let _ = err.write(b"bar: no memory\n");
+                return ExitCode::from(NO_MEMORY);
+            }
+            // Words that aren't text are no line, just as no words are.
+            Vec::new(alloc)
+        }
+    };
+    ExitCode::from(bar_run(alloc, &words, &mut files, &mut out, &mut err))
+}

@@ -1,0 +1,6 @@
+pub mod Replay
+pub mod Core
+pub mod ReplayPlan
+pub mod Line
+pub mod Views
+pub mod Status

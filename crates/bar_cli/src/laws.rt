@@ -1,0 +1,86 @@
+//! What each exit status of a replay means, and what then stands.
+ghost use Rattle.std.specs.Prelude.{◌≡◌, ◌≢◌, ◌⊎◌, ℕ, List, Some, None, IsTrue, IsSomeAnd, IsSome, true, []};
+ghost use Rattle.bar_outside.specs.Causes.{Rose};
+ghost use Rattle.bar_outside.specs.Disk.{readable};
+ghost use Rattle.bar_outside.specs.Follows.{IsReliable};
+ghost use Rattle.bar_outside.specs.Plan.{World, is_stop, ending, line_at};
+ghost use Rattle.bar_outside.specs.Ends.{Ends};
+ghost use Rattle.bar_cli.specs.Line.{usage};
+ghost use Rattle.bar_cli.specs.Replay.{SessionRecord, session_of, recording_of};
+ghost use Rattle.bar_cli.specs.ReplayPlan.{ReplayFiles, Accepted, Replayed, PlayedFront, IsReplayCall, replay_plan, session_refused, input_refused};
+
+/// 0 comes exactly where both files are accepted, but for a fault or want of memory; then all inputs were played.
+pub fn done_exactly()
+    ensures only { (names : ReplayFiles) (old new : World) → Ends (replay_plan names) old new 0 → IsTrue old.files.told → Replayed names old new }
+    ensures then { (names : ReplayFiles) (old new : World) (status : ℕ) → Ends (replay_plan names) old new status → IsTrue old.files.told →
+        Accepted names old.files.content → (status ≡ 0) ⊎ (is_stop status ≡ true) }
+{}
+
+/// Where both files are accepted and no count rose, the status is 0, but for want of memory. So it is where nothing fails by itself.
+pub fn done_where_all_is_accepted()
+    ensures without_faults { (names : ReplayFiles) (old new : World) (status : ℕ) → Ends (replay_plan names) old new status → IsTrue old.files.told →
+        Accepted names old.files.content → (Rose old.files.faults new.files.faults → ⊥) → (Rose old.out.faults new.out.faults → ⊥) →
+        (status ≡ 0) ⊎ (status ≡ 70) }
+    ensures reliable { (names : ReplayFiles) (old new : World) (status : ℕ) → Ends (replay_plan names) old new status → IsReliable old →
+        Accepted names old.files.content → (status ≡ 0) ⊎ (status ≡ 70) }
+{}
+
+/// 3 comes only where the files' count rose, by a call that a replay makes. A file that isn't there or is too large stops it.
+pub fn file_failed_only()
+    ensures only { (names : ReplayFiles) (old new : World) → Ends (replay_plan names) old new 3 → IsTrue old.files.told →
+        Rose old.files.faults new.files.faults × IsSomeAnd new.files.failed (IsReplayCall names) }
+    ensures no_session { (names : ReplayFiles) (old new : World) (status : ℕ) → Ends (replay_plan names) old new status → IsTrue old.files.told →
+        readable old.files.content names.session ≡ None → is_stop status ≡ true }
+    ensures no_recording { (names : ReplayFiles) (old new : World) (status : ℕ) (text : List ℕ) (session : SessionRecord) →
+        Ends (replay_plan names) old new status → IsTrue old.files.told →
+        readable old.files.content names.session ≡ Some text → session_of text ≡ Some session →
+        readable old.files.content names.recording ≡ None → is_stop status ≡ true }
+{}
+
+/// 4 comes exactly where the session is there and refused, but for a fault or want of memory.
+pub fn session_refused_exactly()
+    ensures only { (names : ReplayFiles) (old new : World) → Ends (replay_plan names) old new 4 → IsTrue old.files.told →
+        (text : List ℕ) × (readable old.files.content names.session ≡ Some text) × (session_of text ≡ None) }
+    ensures then { (names : ReplayFiles) (old new : World) (status : ℕ) (text : List ℕ) → Ends (replay_plan names) old new status → IsTrue old.files.told →
+        readable old.files.content names.session ≡ Some text → session_of text ≡ None → (status ≡ 4) ⊎ (is_stop status ≡ true) }
+{}
+
+/// 8 comes exactly where the session is accepted, and the recording is there and refused, but for a fault or want of memory.
+pub fn input_refused_exactly()
+    ensures only { (names : ReplayFiles) (old new : World) → Ends (replay_plan names) old new 8 → IsTrue old.files.told →
+        (text : List ℕ) × (session : SessionRecord) × (bytes : List ℕ) × (readable old.files.content names.session ≡ Some text) × (session_of text ≡ Some session)
+        × (readable old.files.content names.recording ≡ Some bytes) × (recording_of session bytes ≡ None) }
+    ensures then { (names : ReplayFiles) (old new : World) (status : ℕ) (text : List ℕ) (session : SessionRecord) (bytes : List ℕ) →
+        Ends (replay_plan names) old new status → IsTrue old.files.told →
+        readable old.files.content names.session ≡ Some text → session_of text ≡ Some session →
+        readable old.files.content names.recording ≡ Some bytes → recording_of session bytes ≡ None → (status ≡ 8) ⊎ (is_stop status ≡ true) }
+{}
+
+/// The line of each status that is no stop.
+pub fn lines_exactly()
+    ensures done { (names : ReplayFiles) (old new : World) → Ends (replay_plan names) old new 0 → IsTrue old.files.told →
+        line_at (replay_plan names old.files.content) 0 ≡ [] }
+    ensures session { (names : ReplayFiles) (old new : World) → Ends (replay_plan names) old new 4 → IsTrue old.files.told →
+        line_at (replay_plan names old.files.content) 4 ≡ session_refused }
+    ensures input { (names : ReplayFiles) (old new : World) → Ends (replay_plan names) old new 8 → IsTrue old.files.told →
+        line_at (replay_plan names old.files.content) 8 ≡ input_refused }
+{}
+
+/// Whatever the status, only the played file is changed.
+pub fn only_played_is_changed()
+    ensures { (names : ReplayFiles) (old new : World) (status : ℕ) (path : List ℕ) → Ends (replay_plan names) old new status → IsTrue old.files.told →
+        path ≢ names.played → new.files.content path ≡ old.files.content path }
+{}
+
+/// After a refusal, and where the words aren't a line, every file is as it was.
+pub fn refusals_change_nothing()
+    ensures usage { (old new : World) (status : ℕ) → Ends (ending 2 usage) old new status → IsTrue old.files.told → new.files.content ≡ old.files.content }
+    ensures session { (names : ReplayFiles) (old new : World) → Ends (replay_plan names) old new 4 → IsTrue old.files.told → new.files.content ≡ old.files.content }
+    ensures input { (names : ReplayFiles) (old new : World) → Ends (replay_plan names) old new 8 → IsTrue old.files.told → new.files.content ≡ old.files.content }
+{}
+
+/// Whatever the status, all files are as they were, or the played file has a front of what the recording's inputs play.
+pub fn a_front_is_played()
+    ensures { (names : ReplayFiles) (old new : World) (status : ℕ) → Ends (replay_plan names) old new status → IsTrue old.files.told →
+        (new.files.content ≡ old.files.content) ⊎ PlayedFront names old new }
+{}

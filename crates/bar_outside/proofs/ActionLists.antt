@@ -1,0 +1,152 @@
+-- Laws of lists of actions.
+use Rattle.std.proofs.Common.{◌≡◌, ℕ, List, [], ◌∷◌, ◌++◌, refl, sym, ap, ◌∙◌, subst, append_assoc, append-nil, IsTrue, ◌⊎◌, inl, inr}
+use Rattle.bar_outside.specs.Disk.{Content, Failure, created}
+use Rattle.bar_outside.specs.Plan.{World, Action, Ran, Begun, Names, CanRun, IsPartOf, IsPartOfNext, content_after, content_by, shown, shown_by}
+use Rattle.bar_outside.specs.Plan.Action.{read, create, append, show}
+
+pub content_after-append : (xs ys : List Action) (content : Content) → content_after (xs ++ ys) content ≡ content_after ys (content_after xs content)
+content_after-append [] ys content = refl
+content_after-append (x ∷ xs) ys content = content_after-append xs ys (content_by x content)
+
+pub shown-append : (xs ys : List Action) → shown (xs ++ ys) ≡ shown xs ++ shown ys
+shown-append [] ys = refl
+shown-append (x ∷ xs) ys = ap (λ bytes. shown_by x ++ bytes) (shown-append xs ys) ∙ sym (append_assoc (shown_by x) (shown xs) (shown ys))
+
+-- one run behind another
+pub Ran-append : (xs ys : List Action) (old mid new : World) → mid.out.told ≡ old.out.told → Ran xs old mid → Ran ys mid new → Ran (xs ++ ys) old new
+Ran-append xs ys old mid new told first second = record {
+  files = second.files ∙ ap (content_after ys) first.files ∙ sym (content_after-append xs ys old.files.content);
+  out = λ tells.
+      second.out (subst IsTrue (sym told) tells)
+      ∙ ap (λ bytes. bytes ++ shown ys) (first.out tells)
+      ∙ append_assoc old.out.bytes (shown xs) (shown ys)
+      ∙ ap (λ bytes. old.out.bytes ++ bytes) (sym (shown-append xs ys));
+}
+
+pub Begun-behind : (front plan done : List Action) → Begun plan done → Begun (front ++ plan) (front ++ done)
+Begun-behind front plan done b = record {
+  front = front ++ b.front;
+  part = b.part;
+  rest = b.rest;
+  plan_is = ap (λ xs. front ++ xs) b.plan_is ∙ sym (append_assoc front b.front b.rest);
+  done_is = ap (λ xs. front ++ xs) b.done_is ∙ sym (append_assoc front b.front b.part);
+  part_is = b.part_is;
+}
+
+IsPartOfNext-longer : (part rest more : List Action) → IsPartOfNext part rest → IsPartOfNext part (rest ++ more)
+IsPartOfNext-longer [] rest more h = tt
+IsPartOfNext-longer (x ∷ []) [] more h = absurd h
+IsPartOfNext-longer (x ∷ []) (y ∷ ys) more h = h
+IsPartOfNext-longer (x ∷ z ∷ zs) rest more h = absurd h
+
+pub Begun-longer : (plan more done : List Action) → Begun plan done → Begun (plan ++ more) done
+Begun-longer plan more done b = record {
+  front = b.front;
+  part = b.part;
+  rest = b.rest ++ more;
+  plan_is = ap (λ xs. xs ++ more) b.plan_is ∙ append_assoc b.front b.rest more;
+  done_is = b.done_is;
+  part_is = IsPartOfNext-longer b.part b.rest more b.part_is;
+}
+
+-- the whole plan was done
+pub Begun-whole : (plan : List Action) → Begun plan plan
+Begun-whole plan = record {
+  front = plan;
+  part = [];
+  rest = [];
+  plan_is = sym (append-nil plan);
+  done_is = sym (append-nil plan);
+  part_is = tt;
+}
+
+pub Names-longer : (plan more : List Action) (call : Failure) → Names plan call → Names (plan ++ more) call
+Names-longer [] more call h = absurd h
+Names-longer (read path ∷ others) more call (inl e) = inl e
+Names-longer (read path ∷ others) more call (inr h) = inr (Names-longer others more call h)
+Names-longer (create path ∷ others) more call (inl e) = inl e
+Names-longer (create path ∷ others) more call (inr h) = inr (Names-longer others more call h)
+Names-longer (append path bytes ∷ others) more call (inl e) = inl e
+Names-longer (append path bytes ∷ others) more call (inr h) = inr (Names-longer others more call h)
+Names-longer (show bytes ∷ others) more call h = Names-longer others more call h
+
+pub Names-behind : (front plan : List Action) (call : Failure) → Names plan call → Names (front ++ plan) call
+Names-behind [] plan call h = h
+Names-behind (read path ∷ others) plan call h = inr (Names-behind others plan call h)
+Names-behind (create path ∷ others) plan call h = inr (Names-behind others plan call h)
+Names-behind (append path bytes ∷ others) plan call h = inr (Names-behind others plan call h)
+Names-behind (show bytes ∷ others) plan call h = Names-behind others plan call h
+
+pub CanRun-front : (front rest : List Action) (content : Content) → CanRun (front ++ rest) content → CanRun front content
+CanRun-front [] rest content h = tt
+CanRun-front (read path ∷ others) rest content h = CanRun-front others rest content h
+CanRun-front (create path ∷ others) rest content h = CanRun-front others rest (content_by (create path) content) h
+CanRun-front (append path bytes ∷ others) rest content h = (h.0, CanRun-front others rest (content_by (append path bytes) content) h.1)
+CanRun-front (show bytes ∷ others) rest content h = CanRun-front others rest content h
+
+pub CanRun-rest : (front rest : List Action) (content : Content) → CanRun (front ++ rest) content → CanRun rest (content_after front content)
+CanRun-rest [] rest content h = h
+CanRun-rest (read path ∷ others) rest content h = CanRun-rest others rest content h
+CanRun-rest (create path ∷ others) rest content h = CanRun-rest others rest (content_by (create path) content) h
+CanRun-rest (append path bytes ∷ others) rest content h = CanRun-rest others rest (content_by (append path bytes) content) h.1
+CanRun-rest (show bytes ∷ others) rest content h = CanRun-rest others rest content h
+
+-- what was done of a plan: nothing, a part of its first action, or the first action and then some of the rest
+pub Begun-cons : (first : Action) (plan done : List Action) → Begun (first ∷ plan) done →
+    (done ≡ []) ⊎ (((part : Action) × (done ≡ part ∷ []) × IsPartOf part first) ⊎ ((more : List Action) × (done ≡ first ∷ more) × Begun plan more))
+Begun-cons first plan done b = by_front first plan done b.front b.part b.rest b.plan_is b.done_is b.part_is
+  where
+    by_front : (first : Action) (plan done front part rest : List Action) → first ∷ plan ≡ front ++ rest → done ≡ front ++ part → IsPartOfNext part rest →
+        (done ≡ []) ⊎ (((part : Action) × (done ≡ part ∷ []) × IsPartOf part first) ⊎ ((more : List Action) × (done ≡ first ∷ more) × Begun plan more))
+    by_front first plan done [] [] rest p d h = inl d
+    by_front first plan done [] (x ∷ []) [] p d h = absurd h
+    by_front first plan done [] (x ∷ []) (y ∷ ys) p d h = let e : first ≡ y = cc in inr (inl (x, d, rw e h))
+    by_front first plan done [] (x ∷ z ∷ zs) rest p d h = absurd h
+    by_front first plan done (x ∷ xs) part rest p d h =
+        let e : first ≡ x = cc in
+        let q : plan ≡ xs ++ rest = cc in
+        inr (inr (xs ++ part, rw e d, record { front = xs; part = part; rest = rest; plan_is = q; done_is = refl; part_is = h }))
+
+nil-cons : (x : Action) (xs : List Action) → ◌≡◌ {A = List Action} [] (x ∷ xs) → ⊥
+nil-cons x xs e = cc
+
+no-part-read : (part : Action) (path : List ℕ) → IsPartOf part (read path) → ⊥
+no-part-read (read p) path h = h
+no-part-read (create p) path h = h
+no-part-read (append p bytes) path h = h
+no-part-read (show bytes) path h = h
+
+no-part-create : (part : Action) (path : List ℕ) → IsPartOf part (create path) → ⊥
+no-part-create (read p) path h = h
+no-part-create (create p) path h = h
+no-part-create (append p bytes) path h = h
+no-part-create (show bytes) path h = h
+
+-- nothing is done of an empty plan
+pub Begun-none : (done : List Action) → Begun [] done → done ≡ []
+Begun-none done b = by_front done b.front b.part b.rest b.plan_is b.done_is b.part_is
+  where
+    by_front : (done front part rest : List Action) → ◌≡◌ {A = List Action} [] (front ++ rest) → done ≡ front ++ part → IsPartOfNext part rest → done ≡ []
+    by_front done [] [] rest p d h = d
+    by_front done [] (x ∷ []) [] p d h = absurd h
+    by_front done [] (x ∷ []) (y ∷ ys) p d h = absurd (nil-cons y ys p)
+    by_front done [] (x ∷ z ∷ zs) rest p d h = absurd h
+    by_front done (x ∷ xs) part rest p d h = absurd (nil-cons x (xs ++ rest) p)
+
+-- a read leaves the files as they were
+pub Begun-read : (path : List ℕ) (plan done : List Action) (content : Content) → Begun (read path ∷ plan) done →
+    (content_after done content ≡ content) ⊎ ((more : List Action) × Begun plan more × (content_after done content ≡ content_after more content))
+Begun-read path plan done content b =
+    elim (Begun-cons (read path) plan done b) [
+      | inl e ↦ inl (ap (λ xs. content_after xs content) e)
+      | inr rest ↦ elim rest [ inl part ↦ absurd (no-part-read part.0 path part.2) | inr more ↦ inr (more.0, more.2, ap (λ xs. content_after xs content) more.1) ]
+    ]
+
+-- a create leaves an empty file, or the files as they were
+pub Begun-create : (path : List ℕ) (plan done : List Action) (content : Content) → Begun (create path ∷ plan) done →
+    (content_after done content ≡ content) ⊎ ((more : List Action) × Begun plan more × (content_after done content ≡ content_after more (created content path)))
+Begun-create path plan done content b =
+    elim (Begun-cons (create path) plan done b) [
+      | inl e ↦ inl (ap (λ xs. content_after xs content) e)
+      | inr rest ↦ elim rest [ inl part ↦ absurd (no-part-create part.0 path part.2) | inr more ↦ inr (more.0, more.2, ap (λ xs. content_after xs content) more.1) ]
+    ]

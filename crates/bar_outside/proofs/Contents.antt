@@ -1,0 +1,118 @@
+-- What files in memory hold after a change of their map.
+use Rattle.std.proofs.Common.{◌≡◌, ℕ, List, [], ◌++◌, ◌≢◌, Bool, true, false, Option, None, Some, IsSome, refl, sym, ◌∙◌, ap, cond, append-nil, Vec, String, Result, Ok, Err, OnOk, OnErr, take}
+use Rattle.std.specs.declared.alloc.AllocError.{AllocError}
+use Rattle.std.specs.Option.{option_map}
+use Rattle.std.specs.Map.{update}
+use Rattle.std.specs.Str.{bytes_eq}
+use Rattle.std.specs.BTreeMap.{BTreeMap, UpdatesBy, get_by_text}
+use Rattle.std.specs.String.{string_cmp, string_bytes}
+use Rattle.std.specs.Cmp.Lexicographic.{slice_cmp}
+use Rattle.std.specs.Ordering.{nat_cmp}
+use Rattle.std.specs.declared.alloc.Global.{Global}
+use Rattle.std.proofs.lemmas.Map.Text.{btree_map_updates_text}
+use Rattle.std.proofs.lemmas.Slice.Eq.{bytes_eq-Decides}
+use Rattle.std.proofs.lemmas.Bool.{false_from_ne_true}
+use mathlib.Core.Path.{fun_ext}
+use Rattle.bar_outside.specs.Disk.{Content, appended, put_at}
+use Rattle.bar_outside.specs.MemFiles.{content_of}
+
+option_map-cond : {A B : Type 0} (f : A → B) (b : Bool) (x y : Option A) → option_map f (cond b x y) ≡ cond b (option_map f x) (option_map f y)
+option_map-cond f true x y = refl
+option_map-cond f false x y = refl
+
+-- a change at one name
+pub content_of-updates : (bs : List ℕ) (old new : BTreeMap (String Global) (Vec ℕ Global)) (w : Option (Vec ℕ Global)) →
+    UpdatesBy string_cmp (λ k. slice_cmp nat_cmp bs (string_bytes k)) old new w →
+    content_of new ≡ update bytes_eq (content_of old) bs (option_map (λ v. v.items) w)
+content_of-updates bs old new w h =
+    fun_ext (λ cs. ap (option_map (λ v. v.items)) (btree_map_updates_text bs old new w h cs) ∙ option_map-cond (λ v. v.items) (bytes_eq bs cs) w (get_by_text old cs))
+
+cond-same : {A : Type 0} (b : Bool) (x y : A) → (b ≡ true → x ≡ y) → cond b x y ≡ y
+cond-same true x y h = h refl
+cond-same false x y h = refl
+
+-- a change to what stands there
+pub update-same : (content : Content) (bs : List ℕ) (w : Option (List ℕ)) → content bs ≡ w → update bytes_eq content bs w ≡ content
+update-same content bs w h = fun_ext (λ cs. cond-same (bytes_eq bs cs) w (content cs) (λ e. sym h ∙ ap content ((bytes_eq-Decides bs cs).0 e)))
+
+option_map-same : {A : Type 0} (f : A → A) (o : Option A) → ((a : A) → f a ≡ a) → option_map f o ≡ o
+option_map-same f None h = refl
+option_map-same f (Some a) h = ap Some (h a)
+
+-- nothing is added to a file
+pub appended-nothing : (content : Content) (bs : List ℕ) → appended content bs [] ≡ content
+unfolding appended
+appended-nothing content bs = update-same content bs _ (sym (option_map-same (λ held. held ++ []) (content bs) append-nil))
+
+-- bytes are added to a file that is there
+pub appended-there : (content : Content) (bs held : List ℕ) (piece : List ℕ) → content bs ≡ Some held → update bytes_eq content bs (Some (held ++ piece)) ≡ appended content bs piece
+unfolding appended
+appended-there content bs held piece h = ap (λ o. update bytes_eq content bs (option_map (λ xs. xs ++ piece) o)) (sym h)
+
+-- after bytes were added behind what stood there
+pub content_of-add : (bs piece : List ℕ) (old new : BTreeMap (String Global) (Vec ℕ Global)) (was now : Vec ℕ Global) →
+    UpdatesBy string_cmp (λ k. slice_cmp nat_cmp bs (string_bytes k)) old new (Some now) →
+    Some was ≡ get_by_text old bs → now.items ≡ was.items ++ piece →
+    content_of new ≡ appended (content_of old) bs piece
+content_of-add bs piece old new was now h there items =
+    let e : content_of old bs ≡ Some was.items = ap (option_map (λ v. v.items)) (sym there) in
+    content_of-updates bs old new (Some now) h ∙ ap (λ xs. update bytes_eq (content_of old) bs (Some xs)) items ∙ appended-there (content_of old) bs was.items piece e
+
+-- after a file of this name was put
+pub content_of-put : (name : String Global) (bs : List ℕ) (old new : BTreeMap (String Global) (Vec ℕ Global)) (now : Vec ℕ Global) (held : List ℕ) →
+    UpdatesBy string_cmp (string_cmp name) old new (Some now) →
+    string_bytes name ≡ bs → now.items ≡ held →
+    content_of new ≡ put_at (content_of old) bs held
+unfolding put_at
+content_of-put name bs old new now held h e items =
+    content_of-updates (string_bytes name) old new (Some now) h ∙ ap (λ xs. update bytes_eq (content_of old) (string_bytes name) (Some xs)) items
+    ∙ ap (λ path. update bytes_eq (content_of old) path (Some held)) e
+
+-- a part was added, or nothing
+pub appended-part : (r : Result Bool AllocError) (old new : Content) (path bytes : List ℕ) (m : ℕ) →
+    OnOk r (new ≡ appended old path (take m bytes)) → OnErr r (new ≡ appended old path []) →
+    (k : ℕ) × (new ≡ appended old path (take k bytes))
+appended-part (Ok there) old new path bytes m ok err = (m, ok)
+appended-part (Err e) old new path bytes m ok err = (0, err)
+
+at-name : (content : Content) (path : List ℕ) (w : Option (List ℕ)) → update bytes_eq content path w path ≡ w
+at-name content path w = let same = (bytes_eq-Decides path path).1 refl in rw same
+
+at-other : (content : Content) (path : List ℕ) (w : Option (List ℕ)) (q : List ℕ) → q ≢ path → update bytes_eq content path w q ≡ content q
+at-other content path w q differs = let other : bytes_eq path q ≡ false = false_from_ne_true (bytes_eq path q) (λ e. differs (sym ((bytes_eq-Decides path q).0 e))) in rw other
+
+-- a file that was put is there, with its bytes
+pub put_at-same : (content : Content) (path bytes : List ℕ) → put_at content path bytes path ≡ Some bytes
+unfolding put_at
+put_at-same content path bytes = at-name content path (Some bytes)
+
+-- the others are as they were
+pub put_at-other : (content : Content) (path bytes q : List ℕ) → q ≢ path → put_at content path bytes q ≡ content q
+unfolding put_at
+put_at-other content path bytes q differs = at-other content path (Some bytes) q differs
+
+-- a file that is there has the bytes added
+pub appended-same : (content : Content) (path bytes held : List ℕ) → content path ≡ Some held → appended content path bytes path ≡ Some (held ++ bytes)
+unfolding appended
+appended-same content path bytes held h = at-name content path _ ∙ ap (option_map (λ xs. xs ++ bytes)) h
+
+pub appended-other : (content : Content) (path bytes q : List ℕ) → q ≢ path → appended content path bytes q ≡ content q
+unfolding appended
+appended-other content path bytes q differs = at-other content path _ q differs
+
+map-some : (o : Option (List ℕ)) (f : List ℕ → List ℕ) → IsSome o → IsSome (option_map f o)
+map-some (Some x) f h = refl
+map-some None f h = h
+
+pub put_at-there : (content : Content) (path bytes : List ℕ) → IsSome (put_at content path bytes path)
+put_at-there content path bytes = let e = put_at-same content path bytes in rw e refl
+
+-- a file that is there stays there
+pub appended-stays : (content : Content) (path bytes : List ℕ) → IsSome (content path) → IsSome (appended content path bytes path)
+unfolding appended
+appended-stays content path bytes h = let e = at-name content path (option_map (λ xs. xs ++ bytes) (content path)) in rw e (map-some (content path) (λ xs. xs ++ bytes) h)
+
+-- nothing is added where there is no file
+pub appended-absent : (content : Content) (path bytes : List ℕ) → content path ≡ None → appended content path bytes ≡ content
+unfolding appended
+appended-absent content path bytes h = rw h (update-same content path None h)

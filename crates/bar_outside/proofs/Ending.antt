@@ -1,0 +1,310 @@
+-- How a command ends whose actions were followed.
+use Rattle.std.proofs.Common.{append-nil, Bool, ◌≡◌, ◌⊎◌, ℕ, List, [], ◌∷◌, ◌++◌, Option, Some, None, true, false, cond, refl, sym, ap, ◌∙◌, subst, IsTrue, IsSomeAnd, Vec, Result, Ok, Err, inl, inr, arith, take, ◌||◌, ◌==◌}
+use Rattle.bar_outside.specs.Disk.{Disk, Content, Failure, Reads, readable}
+use Rattle.bar_outside.specs.Stream.{Stream}
+use Rattle.std.specs.declared.alloc.Global.{Global}
+use Rattle.std.proofs.lemmas.Bool.{eqb-true}
+use Rattle.bar_outside.specs.declared.files.CallKind.TheVariants.{Read}
+use Rattle.bar_outside.specs.declared.files.FileFault.{FileFault}
+use Rattle.bar_outside.specs.declared.files.FileFault.TheVariants as file
+use Rattle.bar_outside.specs.Faults.{fault_of_file, code_of_fault, line_of_fault, code_after, line_after}
+use Rattle.bar_outside.specs.declared.fault.Fault.{Fault}
+use Rattle.bar_outside.specs.declared.fault.Fault.TheVariants.{File, Output, NoMemory}
+use Rattle.bar_outside.specs.Plan.{World, world, Action, Plan, reading, read_then, before, accepting, ending, doing, is_stop, line_at, no_memory, Ran, Begun, Names, CanRun}
+use Rattle.bar_outside.specs.Plan.Action.{read}
+use Rattle.bar_outside.specs.Follows.{IsLater, Follows}
+use Rattle.bar_outside.specs.Ends.{Ends, Carried, EndsWith, Prints, Says, is_plain}
+use Rattle.bar_outside.proofs.ActionLists.{Begun-whole, Begun-behind, Ran-append}
+use Rattle.bar_outside.proofs.Following.{true-not_false, Ran-nothing, IsLater-trans, later-files, named-behind}
+
+file-memory : {T : Type 0} → ◌≡◌ {A = Result T Fault} (Err File) (Err NoMemory) → ⊥
+file-memory e = cc
+
+output-memory : {T : Type 0} → ◌≡◌ {A = Result T Fault} (Err Output) (Err NoMemory) → ⊥
+output-memory e = cc
+
+nothing-done : (old : World) → IsLater old old
+nothing-done old = record { told = refl; reliable = refl; out_told = refl; out_reliable = refl; faults = omega arith; out_faults = omega arith }
+
+no_stop : (stop : ℕ) → is_stop stop ≡ true → (status : ℕ) → is_stop status ≡ false → status ≡ stop → ⊥
+no_stop stop t status f e = let h : is_stop stop ≡ false = subst (λ s. is_stop s ≡ false) e f in cc
+
+-- nothing more is done
+pub Ends-ending : (status : ℕ) (line : List ℕ) (old : World) → is_stop status ≡ false → Ends (ending status line) old old status
+Ends-ending status line old go = record {
+  later = nothing-done old;
+  file_rose = λ e. absurd (no_stop 3 refl status go e);
+  file_named = λ e told. absurd (no_stop 3 refl status go e);
+  output_rose = λ e. absurd (no_stop 7 refl status go e);
+  carried = λ told go. record { is = refl; ran = Ran-nothing old };
+  part = λ told. ([], Begun-whole [], Ran-nothing old);
+  complete = λ reliable. inl refl;
+}
+
+-- actions, and then the end
+module _ (actions : List Action) (final : ℕ) (line : List ℕ) (old new : World)
+    (can : IsTrue old.files.told → CanRun actions old.files.content) (go : is_stop final ≡ false) where
+  pub Ends-doing : {T : Type 0} (r : Result T Fault) → Follows actions old new r → Ends (doing actions final line) old new (code_after final r)
+  Ends-doing (Ok x) f = record {
+    later = f.later;
+    file_rose = λ e. absurd (no_stop 3 refl final go e);
+    file_named = λ e told. absurd (no_stop 3 refl final go e);
+    output_rose = λ e. absurd (no_stop 7 refl final go e);
+    carried = λ told go. record { is = refl; ran = f.done told };
+    part = λ told. (actions, Begun-whole actions, f.done told);
+    complete = λ reliable. inl refl;
+  }
+  Ends-doing {T} (Err File) f = record {
+    later = f.later;
+    file_rose = λ e. (f.file refl).rose;
+    file_named = λ e told. (f.file refl).named told;
+    output_rose = λ e. absurd (omega arith);
+    carried = λ told go. cc;
+    part = f.part;
+    complete = λ reliable. absurd (file-memory {T = T} (f.complete reliable (can reliable.told)));
+  }
+  Ends-doing {T} (Err Output) f = record {
+    later = f.later;
+    file_rose = λ e. absurd (omega arith);
+    file_named = λ e. absurd (omega arith);
+    output_rose = λ e. f.output refl;
+    carried = λ told go. cc;
+    part = f.part;
+    complete = λ reliable. absurd (output-memory {T = T} (f.complete reliable (can reliable.told)));
+  }
+  Ends-doing (Err NoMemory) f = record {
+    later = f.later;
+    file_rose = λ e. absurd (omega arith);
+    file_named = λ e. absurd (omega arith);
+    output_rose = λ e. absurd (omega arith);
+    carried = λ told go. cc;
+    part = f.part;
+    complete = λ reliable. inr refl;
+  }
+
+-- a file that was read, and what came after it
+module _ (path : List ℕ) (others : List ℕ → Content → Plan) (old mid : Disk) (out : Stream) (new : World) (bytes : Vec ℕ Global) (status : ℕ)
+    (reads : Reads path old mid (Ok bytes)) (ends : Ends (others bytes.items) (world mid out) new status) where
+  plan-is : IsTrue old.told → reading path others old.content ≡ before (read path) (others bytes.items mid.content)
+  plan-is told = ap (read_then path others old.content) (reads.found told) ∙ ap (λ c. before (read path) (others bytes.items c)) (sym reads.same)
+
+  told-mid : IsTrue old.told → IsTrue mid.told
+  told-mid told = subst IsTrue (sym reads.call.told) told
+
+  first : Ran (read path ∷ []) (world old out) (world mid out)
+  first = record { files = reads.same; out = λ tells. sym (append-nil out.bytes) }
+
+  either-same : {a b : ℕ} → a ≡ b → (status ≡ a) ⊎ (status ≡ 70) → (status ≡ b) ⊎ (status ≡ 70)
+  either-same e (inl h) = inl (h ∙ e)
+  either-same e (inr h) = inr h
+
+  pub Ends-reading : Ends (reading path others) (world old out) new status
+  Ends-reading = record {
+    later = IsLater-trans (world old out) (world mid out) new (later-files old mid out reads.call.told reads.call.reliable reads.call.cause.later) ends.later;
+    file_rose = λ e. let h = ends.file_rose e in let k = reads.call.cause.later in omega arith;
+    file_named = λ e told.
+        subst (λ (p : Plan). IsSomeAnd new.files.failed (Names p.actions)) (sym (plan-is told))
+        (named-behind (read path ∷ []) (others bytes.items mid.content).actions new.files.failed (ends.file_named e (told-mid told)));
+    output_rose = ends.output_rose;
+    carried = λ told go.
+        let c = ends.carried (told-mid told) go in
+        subst (λ (p : Plan). Carried p (world old out) new status) (sym (plan-is told))
+        (record { is = c.is; ran = Ran-append (read path ∷ []) (others bytes.items mid.content).actions (world old out) (world mid out) new refl first c.ran });
+    part = λ told.
+        let p = ends.part (told-mid told) in
+        subst (λ (q : Plan). (done : List Action) × Begun q.actions done × Ran done (world old out) new) (sym (plan-is told))
+        (read path ∷ p.0, Begun-behind (read path ∷ []) (others bytes.items mid.content).actions p.0 p.1, Ran-append (read path ∷ []) p.0 (world old out) (world mid out) new refl first p.2);
+    complete = λ reliable.
+        either-same (sym (ap (λ (q : Plan). q.status) (plan-is reliable.told)))
+        (ends.complete (record { told = told-mid reliable.told; files = subst IsTrue (sym reads.call.reliable) reliable.files; out = reliable.out }));
+  }
+
+begun-read : (path : List ℕ) (others : List ℕ → Content → Plan) (content : Content) (o : Option (List ℕ)) → (rest : List Action) × ((read_then path others content o).actions ≡ read path ∷ rest)
+begun-read path others content None = ([], refl)
+begun-read path others content (Some bytes) = ((others bytes content).actions, refl)
+
+-- a file that wasn't read
+module _ (path : List ℕ) (others : List ℕ → Content → Plan) (old mid : Disk) (out : Stream) where
+  unread-part : mid.content ≡ old.content → (done : List Action) × Begun (reading path others old.content).actions done × Ran done (world old out) (world mid out)
+  unread-part same = (
+    [],
+    record { front = []; part = []; rest = (reading path others old.content).actions; plan_is = refl; done_is = refl; part_is = tt },
+    record { files = same; out = λ tells. sym (append-nil out.bytes) },
+  )
+
+  unread-named : (call : Failure) → call ≡ record { kind = Read; path = path } → Names (reading path others old.content).actions call
+  unread-named call e = let b = begun-read path others old.content (readable old.content path) in subst (λ xs. Names xs call) (sym b.1) (inl e)
+
+  pub Ends-unread : (cause : FileFault) → Reads path old mid (Err cause) → Ends (reading path others) (world old out) (world mid out) (code_of_fault (fault_of_file cause))
+  Ends-unread file.Failed reads = record {
+    later = later-files old mid out reads.call.told reads.call.reliable reads.call.cause.later;
+    file_rose = λ e. reads.call.cause.rose refl;
+    file_named = λ e told. subst (λ o. IsSomeAnd o (Names (reading path others old.content).actions)) (sym (reads.call.failed told refl)) (unread-named _ refl);
+    output_rose = λ e. absurd (omega arith);
+    carried = λ told go. cc;
+    part = λ told. unread-part reads.same;
+    complete = λ reliable. inl (sym (ap (λ o. (read_then path others old.content o).status) (reads.refused reliable.told reliable.files refl)));
+  }
+  Ends-unread file.NoMemory reads = record {
+    later = later-files old mid out reads.call.told reads.call.reliable reads.call.cause.later;
+    file_rose = λ e. absurd (omega arith);
+    file_named = λ e. absurd (omega arith);
+    output_rose = λ e. absurd (omega arith);
+    carried = λ told go. cc;
+    part = λ told. unread-part reads.same;
+    complete = λ reliable. inr refl;
+  }
+
+-- want of memory may come in place of any status
+pub Ends-or_memory : (plan : Content → Plan) (old new : World) (status result : ℕ) → (result ≡ status) ⊎ (result ≡ 70) → Ends plan old new status → Ends plan old new result
+Ends-or_memory plan old new status result (inl e) h = subst (Ends plan old new) (sym e) h
+Ends-or_memory plan old new status result (inr e) h = record {
+  later = h.later;
+  file_rose = λ f. absurd (omega arith);
+  file_named = λ f. absurd (omega arith);
+  output_rose = λ f. absurd (omega arith);
+  carried = λ told go. absurd (no_stop 70 refl result go e);
+  part = h.part;
+  complete = λ reliable. inr e;
+}
+
+else-cases : (a b c : Bool) (x y z p : List ℕ) → (a || b || c) ≡ false → cond a x (cond b y (cond c z p)) ≡ p
+else-cases true b c x y z p h = absurd (true-not_false h)
+else-cases false true c x y z p h = absurd (true-not_false h)
+else-cases false false true x y z p h = absurd (true-not_false h)
+else-cases false false false x y z p h = refl
+
+-- any other line is the plan's
+pub line_at-else : (plan : Plan) (status : ℕ) → is_stop status ≡ false → line_at plan status ≡ plan.line
+line_at-else plan status h = else-cases (status == 3) (status == 7) (status == 70) _ _ _ plan.line h
+
+line-cases : (a b c : Bool) (x y z p q : List ℕ) → (a || b || c) ≡ true → cond a x (cond b y (cond c z p)) ≡ cond a x (cond b y (cond c z q))
+line-cases true b c x y z p q h = refl
+line-cases false true c x y z p q h = refl
+line-cases false false true x y z p q h = refl
+line-cases false false false x y z p q h = absurd (true-not_false (sym h))
+
+-- the line of a stop is that of any plan
+line_at-stop : (p q : Plan) (status : ℕ) → is_stop status ≡ true → line_at p status ≡ line_at q status
+line_at-stop p q status h = line-cases (status == 3) (status == 7) (status == 70) _ _ _ p.line q.line h
+
+-- nothing more is done
+pub EndsWith-ending : (status : ℕ) (line : List ℕ) (old : World) → is_stop status ≡ false → EndsWith (ending status line) old old status line
+EndsWith-ending status line old go = record { ends = Ends-ending status line old go; line_is = λ either. sym (line_at-else (ending status line old.files.content) status go) }
+
+-- actions, and then the end
+pub EndsWith-doing : {T : Type 0} (actions : List Action) (final : ℕ) (line : List ℕ) (old new : World) →
+    (IsTrue old.files.told → CanRun actions old.files.content) → is_stop final ≡ false → (r : Result T Fault) → Follows actions old new r →
+    EndsWith (doing actions final line) old new (code_after final r) (line_after line r)
+EndsWith-doing actions final line old new can go (Ok x) f = record {
+  ends = Ends-doing actions final line old new can go (Ok x) f;
+  line_is = λ either. sym (line_at-else (doing actions final line old.files.content) final go);
+}
+EndsWith-doing actions final line old new can go (Err File) f = record { ends = Ends-doing actions final line old new can go (Err File) f; line_is = λ either. refl }
+EndsWith-doing actions final line old new can go (Err Output) f = record { ends = Ends-doing actions final line old new can go (Err Output) f; line_is = λ either. refl }
+EndsWith-doing actions final line old new can go (Err NoMemory) f = record { ends = Ends-doing actions final line old new can go (Err NoMemory) f; line_is = λ either. refl }
+
+told-or : (told stop : Bool) → IsTrue (told || stop) → IsTrue told ⊎ (stop ≡ true)
+told-or true stop h = inl refl
+told-or false stop h = inr h
+
+or-told : (told stop : Bool) → IsTrue told → IsTrue (told || stop)
+or-told told stop h = rw h refl
+
+or-stop : (told stop : Bool) → stop ≡ true → IsTrue (told || stop)
+or-stop true stop h = refl
+or-stop false stop h = h
+
+-- a file that was read, and what came after it
+pub EndsWith-reading : (path : List ℕ) (others : List ℕ → Content → Plan) (old mid : Disk) (out : Stream) (new : World) (bytes : Vec ℕ Global) (status : ℕ) (line : List ℕ) →
+    Reads path old mid (Ok bytes) → EndsWith (others bytes.items) (world mid out) new status line → EndsWith (reading path others) (world old out) new status line
+EndsWith-reading path others old mid out new bytes status line reads h = record {
+  ends = Ends-reading path others old mid out new bytes status reads h.ends;
+  line_is = λ either.
+      elim (told-or old.told (is_stop status) either) [
+        | inl told ↦
+            h.line_is (or-told mid.told (is_stop status) (subst IsTrue (sym reads.call.told) told))
+            ∙ ap (λ (p : Plan). line_at p status) (sym (plan-is path others old mid out new bytes status reads h.ends told))
+        | inr stop ↦ h.line_is (or-stop mid.told (is_stop status) stop) ∙ line_at-stop (others bytes.items mid.content) (reading path others old.content) status stop
+      ];
+}
+
+-- a file that wasn't read
+pub EndsWith-unread : (path : List ℕ) (others : List ℕ → Content → Plan) (old mid : Disk) (out : Stream) (cause : FileFault) → Reads path old mid (Err cause) →
+    EndsWith (reading path others) (world old out) (world mid out) (code_of_fault (fault_of_file cause)) (line_of_fault (fault_of_file cause))
+EndsWith-unread path others old mid out file.Failed reads = record { ends = Ends-unread path others old mid out file.Failed reads; line_is = λ either. refl }
+EndsWith-unread path others old mid out file.NoMemory reads = record { ends = Ends-unread path others old mid out file.NoMemory reads; line_is = λ either. refl }
+
+-- what was read stands for something
+pub EndsWith-accepted : {A : Type 0} (o : Option A) (meant : A) (others : A → Content → Plan) (refused : Content → Plan) (old new : World) (status : ℕ) (line : List ℕ) →
+    o ≡ Some meant → EndsWith (others meant) old new status line → EndsWith (accepting o others refused) old new status line
+EndsWith-accepted o meant others refused old new status line e h = subst (λ x. EndsWith (accepting x others refused) old new status line) (sym e) h
+
+-- what was read is refused
+pub EndsWith-refused : {A : Type 0} (o : Option A) (others : A → Content → Plan) (refused : Content → Plan) (old new : World) (status : ℕ) (line : List ℕ) →
+    o ≡ None → EndsWith refused old new status line → EndsWith (accepting o others refused) old new status line
+EndsWith-refused o others refused old new status line e h = subst (λ x. EndsWith (accepting x others refused) old new status line) (sym e) h
+
+-- memory was wanting before anything more was done
+pub EndsWith-memory : (plan : Content → Plan) (old : World) → EndsWith plan old old 70 no_memory
+EndsWith-memory plan old = record {
+  ends = record {
+    later = nothing-done old;
+    file_rose = λ e. absurd (omega arith);
+    file_named = λ e. absurd (omega arith);
+    output_rose = λ e. absurd (omega arith);
+    carried = λ told go. cc;
+    part = λ told. ([], record { front = []; part = []; rest = (plan old.files.content).actions; plan_is = refl; done_is = refl; part_is = tt }, Ran-nothing old);
+    complete = λ reliable. inr refl;
+  };
+  line_is = λ either. refl;
+}
+
+plain-cases : (status : ℕ) → is_plain status ≡ true → (status ≡ 2) ⊎ (is_stop status ≡ true)
+plain-cases status h = by_tests (status == 2) (status == 3) (status == 7) (status == 70) refl h
+  where
+    by_tests : (a b c d : Bool) → (status == 2) ≡ a → (a || b || c) ≡ true → (status ≡ 2) ⊎ ((b || c || d) ≡ true)
+    by_tests true b c d e h = inl (eqb-true status 2 e)
+    by_tests false true c d e h = inr refl
+    by_tests false false true d e h = inr refl
+    by_tests false false false d e h = absurd (true-not_false (sym h))
+
+plain-memory : (status : ℕ) → is_plain status ≡ true → status ≡ 70 → ⊥
+plain-memory status h e = let k : is_plain 70 ≡ true = subst (λ n. is_plain n ≡ true) e h in cc
+
+-- what err has of it, where the line of the end was printed
+module _ (plan : Content → Plan) (old new : World) (status result : ℕ) (line : List ℕ) (before_err after_err : Stream)
+    (h : EndsWith plan old new status line) (prints : Prints line result before_err after_err) (usage : status ≡ 2 → line ≡ (plan old.files.content).line) where
+  said-same : result ≡ status → line ≡ line_at (plan old.files.content) result → Says (plan old.files.content) result before_err after_err
+  said-same e line_is = record {
+    later = prints.later;
+    whole = λ told other none. prints.whole told other none ∙ ap (λ xs. before_err.bytes ++ xs) line_is;
+    front = λ told other. let p = prints.front told in (p.0, p.1 ∙ ap (λ xs. before_err.bytes ++ take p.0 xs) line_is);
+    no_memory = λ told other. let p = prints.front told in (p.0, result, p.1 ∙ ap (λ xs. before_err.bytes ++ take p.0 xs) line_is);
+  }
+
+  said-memory : result ≡ 70 → IsTrue old.files.told → Says (plan old.files.content) result before_err after_err
+  said-memory e files_told = record {
+    later = prints.later;
+    whole = λ told other. absurd (other e);
+    front = λ told other. absurd (other e);
+    no_memory = λ told other.
+        let p = prints.front told in
+        (p.0, status, p.1 ∙ ap (λ xs. before_err.bytes ++ take p.0 xs) (h.line_is (or-told old.files.told (is_stop status) files_told)));
+  }
+
+  at-same : result ≡ status → IsTrue old.files.told ⊎ (is_plain result ≡ true) → line ≡ line_at (plan old.files.content) result
+  at-same e (inl told) = h.line_is (or-told old.files.told (is_stop status) told) ∙ ap (line_at (plan old.files.content)) (sym e)
+  at-same e (inr plain) =
+      elim (plain-cases result plain) [
+        | inl two ↦ usage (sym e ∙ two) ∙ rw two refl
+        | inr stop ↦ h.line_is (or-stop old.files.told (is_stop status) (ap is_stop (sym e) ∙ stop)) ∙ ap (line_at (plan old.files.content)) (sym e)
+      ]
+
+  pub said : (result ≡ status) ⊎ (result ≡ 70) → IsTrue (old.files.told || is_plain result) → Says (plan old.files.content) result before_err after_err
+  said (inl e) either = said-same e (at-same e (told-or old.files.told (is_plain result) either))
+  said (inr e) either =
+      elim (told-or old.files.told (is_plain result) either) [
+        | inl told ↦ said-memory e told
+        | inr plain ↦ absurd (plain-memory result plain e)
+      ]

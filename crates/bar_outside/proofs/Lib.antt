@@ -1,0 +1,5 @@
+pub mod Contents
+pub mod ActionLists
+pub mod Following
+pub mod Ending
+pub mod Untouched

@@ -1,0 +1,78 @@
+-- Files by name, and what each call does to them.
+use Rattle.std.specs.Prelude.{◌≡◌, ◌≢◌, ◌⊎◌, ℕ, Bool, List, [], ◌++◌, Option, Some, None, Result, take, length, nat_le, if◌then◌else◌, IsTrue, IfOk, OnOk, OnErr, IsErrOf, Vec, Err, IsSome, IsNone}
+use Rattle.std.specs.Option.{option_map, option_and_then}
+use Rattle.std.specs.Map.{update}
+use Rattle.std.specs.Str.{bytes_eq}
+use Rattle.std.specs.declared.alloc.Global.{Global}
+use Rattle.bar_outside.specs.declared.files.FileFault.{FileFault}
+use Rattle.bar_outside.specs.declared.files.FileFault.TheVariants.{Failed}
+use Rattle.bar_outside.specs.declared.files.CallKind.{CallKind}
+use Rattle.bar_outside.specs.declared.files.CallKind.TheVariants.{Read, Create, Append}
+use Rattle.bar_outside.specs.Causes.{HasCause}
+
+-- what a name stands for: the bytes of its file, or none
+abbrev pub Content : Type 0
+Content = List ℕ → Option (List ℕ)
+
+-- a call that failed
+pub record Failure : Type 0 where
+  pub kind : CallKind
+  pub path : List ℕ
+
+-- the files, as far as they are told
+pub record Disk : Type 0 where
+  -- content and failed are told
+  pub told : Bool
+  -- no call fails, but for a file that isn't there or is too large
+  pub reliable : Bool
+  pub content : Content
+  -- the last call that failed
+  pub failed : Option Failure
+  pub faults : ℕ
+
+-- the bytes that a read gives: none where the file isn't there or is too large
+abbrev pub readable : Content → List ℕ → Option (List ℕ)
+readable content path = option_and_then (λ bytes. if nat_le (length bytes) 1073741824 then Some bytes else None) (content path)
+
+-- the files with one of this name that has these bytes
+unfoldable pub put_at : Content → List ℕ → List ℕ → Content
+put_at content path bytes = update bytes_eq content path (Some bytes)
+
+-- the files with an empty one of this name
+abbrev pub created : Content → List ℕ → Content
+created content path = put_at content path []
+
+-- the files with these bytes added to one that is there
+unfoldable pub appended : Content → List ℕ → List ℕ → Content
+appended content path bytes = update bytes_eq content path (option_map (λ held. held ++ bytes) (content path))
+
+-- what every call says of faults
+pub record Calls {T : Type 0} (kind : CallKind) (path : List ℕ) (old new : Disk) (result : Result T FileFault) : Type 0 where
+  pub told : new.told ≡ old.told
+  pub reliable : new.reliable ≡ old.reliable
+  pub cause : HasCause Failed old.faults new.faults result
+  pub failed : IsTrue old.told → IsErrOf result Failed → new.failed ≡ Some (record { kind = kind; path = path })
+  pub no_fault : result ≢ Err Failed → new.failed ≡ old.failed
+
+-- a read of a file
+pub record Reads (path : List ℕ) (old new : Disk) (result : Result (Vec ℕ Global) FileFault) : Type 0 where
+  pub call : Calls Read path old new result
+  pub same : new.content ≡ old.content
+  pub found : IsTrue old.told → IfOk result (λ bytes. readable old.content path ≡ Some bytes.items)
+  pub refused : IsTrue old.told → IsTrue old.reliable → IsErrOf result Failed → readable old.content path ≡ None
+
+-- the making of an empty file
+pub record Creates {T : Type 0} (path : List ℕ) (old new : Disk) (result : Result T FileFault) : Type 0 where
+  pub call : Calls Create path old new result
+  pub made : IsTrue old.told → OnOk result (new.content ≡ created old.content path)
+  pub fault : IsTrue old.told → OnErr result ((new.content ≡ old.content) ⊎ (new.content ≡ created old.content path))
+  pub refused : IsTrue old.told → IsTrue old.reliable → result ≢ Err Failed
+
+-- the adding of bytes to a file
+pub record Appends {T : Type 0} (path bytes : List ℕ) (old new : Disk) (result : Result T FileFault) : Type 0 where
+  pub call : Calls Append path old new result
+  pub there : IsTrue old.told → OnOk result (IsSome (old.content path))
+  pub added : IsTrue old.told → OnOk result (new.content ≡ appended old.content path bytes)
+  -- a part of them may stand, from the front
+  pub fault : IsTrue old.told → OnErr result ((k : ℕ) × (new.content ≡ appended old.content path (take k bytes)))
+  pub refused : IsTrue old.told → IsTrue old.reliable → IsErrOf result Failed → IsNone (old.content path)

@@ -1,0 +1,50 @@
+-- How a command ends.
+use Rattle.std.specs.Prelude.{◌≡◌, ◌≢◌, ◌⊎◌, ◌≤◌, ◌==◌, ◌||◌, ◌++◌, ℕ, Bool, List, IsTrue, IsSomeAnd, take, false}
+use Rattle.bar_outside.specs.Causes.{Rose}
+use Rattle.bar_outside.specs.Disk.{Content}
+use Rattle.bar_outside.specs.Stream.{Stream}
+use Rattle.bar_outside.specs.Plan.{World, Action, Plan, Ran, Begun, Names, is_stop, line_at}
+use Rattle.bar_outside.specs.Follows.{IsLater, IsReliable}
+
+-- the plan was carried out to its end, with its status
+pub record Carried (plan : Plan) (old new : World) (status : ℕ) : Type 0 where
+  pub is : status ≡ plan.status
+  pub ran : Ran plan.actions old new
+
+-- a command with this plan, by what the files held, ended with this status
+pub record Ends (plan : Content → Plan) (old new : World) (status : ℕ) : Type 0 where
+  pub later : IsLater old new
+  -- 3 only where the files' count rose, and where they tell, by a call of the plan
+  pub file_rose : status ≡ 3 → Rose old.files.faults new.files.faults
+  pub file_named : status ≡ 3 → IsTrue old.files.told → IsSomeAnd new.files.failed (Names (plan old.files.content).actions)
+  -- 7 only where the count of out rose
+  pub output_rose : status ≡ 7 → Rose old.out.faults new.out.faults
+  -- any status but 3, 7 and 70 is the plan's, and all of it was done
+  pub carried : IsTrue old.files.told → is_stop status ≡ false → Carried (plan old.files.content) old new status
+  -- at every status a front of it was done, and maybe a part of the next action
+  pub part : IsTrue old.files.told → (done : List Action) × Begun (plan old.files.content).actions done × Ran done old new
+  -- where nothing fails by itself, it is the plan's status or 70
+  pub complete : IsReliable old → (status ≡ (plan old.files.content).status) ⊎ (status ≡ 70)
+
+-- it ended so, and this is the line of its end
+pub record EndsWith (plan : Content → Plan) (old new : World) (status : ℕ) (line : List ℕ) : Type 0 where
+  pub ends : Ends plan old new status
+  pub line_is : IsTrue (old.files.told || is_stop status) → line ≡ line_at (plan old.files.content) status
+
+-- a line was printed, or a front of it where the count rose or memory was wanting
+pub record Prints (line : List ℕ) (status : ℕ) (old new : Stream) : Type 0 where
+  pub later : old.faults ≤ new.faults
+  pub whole : IsTrue old.told → status ≢ 70 → (Rose old.faults new.faults → ⊥) → new.bytes ≡ old.bytes ++ line
+  pub front : IsTrue old.told → (k : ℕ) × (new.bytes ≡ old.bytes ++ take k line)
+
+-- what stands on standard error after a command with this plan: the line of its status, or a front of it where
+-- the count rose; at 70 a front of the line of some status
+pub record Says (plan : Plan) (status : ℕ) (old new : Stream) : Type 0 where
+  pub later : old.faults ≤ new.faults
+  pub whole : IsTrue old.told → status ≢ 70 → (Rose old.faults new.faults → ⊥) → new.bytes ≡ old.bytes ++ line_at plan status
+  pub front : IsTrue old.told → status ≢ 70 → (k : ℕ) × (new.bytes ≡ old.bytes ++ take k (line_at plan status))
+  pub no_memory : IsTrue old.told → status ≡ 70 → (k some : ℕ) × (new.bytes ≡ old.bytes ++ take k (line_at plan some))
+
+-- the statuses that tell their line whatever the files hold
+abbrev pub is_plain : ℕ → Bool
+is_plain status = status == 2 || status == 3 || status == 7

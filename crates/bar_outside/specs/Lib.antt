@@ -1,0 +1,10 @@
+pub mod Causes
+pub mod Disk
+pub mod Stream
+pub mod Schedule
+pub mod MemSink
+pub mod MemFiles
+pub mod Faults
+pub mod Plan
+pub mod Follows
+pub mod Ends

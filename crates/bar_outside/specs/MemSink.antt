@@ -1,0 +1,14 @@
+-- What a sink in memory tells.
+use Rattle.std.specs.Prelude.{true}
+use Rattle.bar_outside.specs.Stream.{Stream}
+use Rattle.bar_outside.specs.Schedule.{fails_never}
+use Rattle.bar_outside.specs.declared.schedule.Schedule.{Schedule}
+use Rattle.bar_outside.specs.declared.mem_sink.MemSink.{MemSink}
+
+-- which of its writes are to fail
+abbrev pub schedule_of : MemSink → Schedule
+schedule_of sink = sink.schedule
+
+-- what it holds; it tells, and is reliable where no write is to fail
+abbrev pub stream_of : MemSink → Stream
+stream_of sink = record { told = true; reliable = fails_never sink.schedule; bytes = sink.bytes.items; faults = sink.faults }

@@ -1,0 +1,144 @@
+-- What a command does to the outside: a list of actions, in order.
+use Rattle.std.specs.Prelude.{◌≡◌, ◌⊎◌, ℕ, List, [], ◌∷◌, ◌++◌, IsTrue, IsSome, take, Bool, Option, None, Some, ◌==◌, ◌||◌, if◌then◌else◌, codes}
+use Rattle.bar_outside.specs.Disk.{Disk, Content, Failure, readable, created, appended}
+use Rattle.bar_outside.specs.Stream.{Stream}
+use Rattle.bar_outside.specs.declared.files.CallKind.TheVariants.{Read, Create, Append}
+
+-- the files, and what is printed
+pub record World : Type 0 where
+  pub files : Disk
+  pub out : Stream
+
+abbrev pub world : Disk → Stream → World
+world files out = record { files = files; out = out }
+
+pub data Action : Type 0 where
+  read : (path : List ℕ) → Action
+  create : (path : List ℕ) → Action
+  append : (path bytes : List ℕ) → Action
+  show : (bytes : List ℕ) → Action
+
+-- what the files hold after an action
+abbrev pub content_by : Action → Content → Content
+content_by (read path) content = content
+content_by (create path) content = created content path
+content_by (append path bytes) content = appended content path bytes
+content_by (show bytes) content = content
+
+abbrev pub content_after : List Action → Content → Content
+content_after [] content = content
+content_after (a ∷ others) content = content_after others (content_by a content)
+
+-- what an action prints
+abbrev pub shown_by : Action → List ℕ
+shown_by (read path) = []
+shown_by (create path) = []
+shown_by (append path bytes) = []
+shown_by (show bytes) = bytes
+
+abbrev pub shown : List Action → List ℕ
+shown [] = []
+shown (a ∷ others) = shown_by a ++ shown others
+
+-- these actions, and nothing else, were done between old and new
+pub record Ran (done : List Action) (old new : World) : Type 0 where
+  pub files : new.files.content ≡ content_after done old.files.content
+  pub out : IsTrue old.out.told → new.out.bytes ≡ old.out.bytes ++ shown done
+
+-- the action was done in part: a front of its bytes stands
+abbrev pub IsPartOf : Action → Action → Type 0
+IsPartOf (append path part) (append same whole) = (path ≡ same) × ((k : ℕ) × (part ≡ take k whole))
+IsPartOf (show part) (show whole) = (k : ℕ) × (part ≡ take k whole)
+IsPartOf _ _ = ⊥
+
+-- nothing more was done, or a part of the next action
+abbrev pub IsPartOfNext : List Action → List Action → Type 0
+IsPartOfNext [] next = Unit {0}
+IsPartOfNext (part ∷ []) (whole ∷ others) = IsPartOf part whole
+IsPartOfNext _ _ = ⊥
+
+-- what was done is a front of the plan, and maybe a part of the action behind it
+pub record Begun (plan done : List Action) : Type 0 where
+  pub front : List Action
+  pub part : List Action
+  pub rest : List Action
+  pub plan_is : plan ≡ front ++ rest
+  pub done_is : done ≡ front ++ part
+  pub part_is : IsPartOfNext part rest
+
+-- the failed call is one of the plan
+abbrev pub Names : List Action → Failure → Type 0
+Names [] call = ⊥
+Names (read path ∷ others) call = (call ≡ record { kind = Read; path = path }) ⊎ Names others call
+Names (create path ∷ others) call = (call ≡ record { kind = Create; path = path }) ⊎ Names others call
+Names (append path bytes ∷ others) call = (call ≡ record { kind = Append; path = path }) ⊎ Names others call
+Names (show bytes ∷ others) call = Names others call
+
+-- each append is to a file that is there then
+abbrev pub CanRun : List Action → Content → Type 0
+CanRun [] content = Unit {0}
+CanRun (append path bytes ∷ others) content = IsSome (content path) × CanRun others (content_by (append path bytes) content)
+CanRun (a ∷ others) content = CanRun others (content_by a content)
+
+-- the lines that are printed at a stop
+
+abbrev pub file_failed : List ℕ
+file_failed = codes "bar: file failed" ++ 10 ∷ []
+
+abbrev pub output_failed : List ℕ
+output_failed = codes "bar: output failed" ++ 10 ∷ []
+
+abbrev pub no_memory : List ℕ
+no_memory = codes "bar: no memory" ++ 10 ∷ []
+
+-- the actions of a command in order, the status after them, and the line that is printed at this status
+pub record Plan : Type 0 where
+  pub actions : List Action
+  pub status : ℕ
+  pub line : List ℕ
+
+abbrev pub before : Action → Plan → Plan
+before action plan = record { actions = action ∷ plan.actions; status = plan.status; line = plan.line }
+
+-- A command is a plan by what the files hold. It is made of four parts.
+
+-- this file is read, and the rest goes by its bytes; 3 where it isn't there or is too large
+abbrev pub read_then : List ℕ → (List ℕ → Content → Plan) → Content → Option (List ℕ) → Plan
+read_then path others content None = record { actions = read path ∷ []; status = 3; line = file_failed }
+read_then path others content (Some bytes) = before (read path) (others bytes content)
+
+abbrev pub reading : List ℕ → (List ℕ → Content → Plan) → Content → Plan
+reading path others content = read_then path others content (readable content path)
+
+-- what was read stands for something, and the rest goes by it; or it is refused
+abbrev pub accepting : {A : Type 0} → Option A → (A → Content → Plan) → (Content → Plan) → Content → Plan
+accepting None others refused = refused
+accepting (Some meant) others refused = others meant
+
+-- nothing more is done
+abbrev pub ending : ℕ → List ℕ → Content → Plan
+ending status line content = record { actions = []; status = status; line = line }
+
+-- these actions, and then the end
+abbrev pub doing : List Action → ℕ → List ℕ → Content → Plan
+doing actions status line content = record { actions = actions; status = status; line = line }
+
+-- the statuses that a fault has, or want of memory
+abbrev pub is_stop : ℕ → Bool
+is_stop status = status == 3 || status == 7 || status == 70
+
+-- the line that is printed at a status: that of the stop, or else the plan's
+abbrev pub line_at : Plan → ℕ → List ℕ
+line_at plan status =
+    if status == 3 then file_failed
+    else if status == 7 then output_failed
+    else if status == 70 then no_memory
+    else plan.line
+
+-- one of the actions creates this file or adds to it
+abbrev pub Touches : List Action → List ℕ → Type 0
+Touches [] path = ⊥
+Touches (create name ∷ others) path = (path ≡ name) ⊎ Touches others path
+Touches (append name bytes ∷ others) path = (path ≡ name) ⊎ Touches others path
+Touches (read name ∷ others) path = Touches others path
+Touches (show bytes ∷ others) path = Touches others path

@@ -1,0 +1,52 @@
+//! What may stop a command.
+use crate::{FileFault, SinkFault};
+use std::alloc::AllocError;
+
+/// What may stop a command.
+#[derive(Clone, Copy, Debug, PartialEq, Eq)]
+pub enum Fault {
+    /// A call of the files failed.
+    File,
+    /// A write to the output failed.
+    Output,
+    NoMemory,
+}
+
+impl From<FileFault> for Fault {
+    ghost use Rattle.std.specs.Prelude.{◌≡◌};
+    ghost use Rattle.bar_outside.specs.Faults.{fault_of_file};
+
+    ghost from_gives = { λ cause fault. fault ≡ fault_of_file cause };
+
+    fn from(cause: FileFault) -> Self {
+        match cause {
+            FileFault::Failed => Fault::File,
+            FileFault::NoMemory => Fault::NoMemory,
+        }
+    }
+}
+
+impl From<SinkFault> for Fault {
+    ghost use Rattle.std.specs.Prelude.{◌≡◌};
+    ghost use Rattle.bar_outside.specs.Faults.{fault_of_sink};
+
+    ghost from_gives = { λ cause fault. fault ≡ fault_of_sink cause };
+
+    fn from(cause: SinkFault) -> Self {
+        match cause {
+            SinkFault::Failed => Fault::Output,
+            SinkFault::NoMemory => Fault::NoMemory,
+        }
+    }
+}
+
+impl From<AllocError> for Fault {
+    ghost use Rattle.std.specs.Prelude.{◌≡◌};
+    ghost use Rattle.bar_outside.specs.declared.fault.Fault.TheVariants.{NoMemory};
+
+    ghost from_gives = { λ _ fault. fault ≡ NoMemory };
+
+    fn from(_: AllocError) -> Self {
+        Fault::NoMemory
+    }
+}

@@ -1,0 +1,59 @@
+//! Files by name.
+use std::alloc::{AllocError, AllocFailed};
+
+/// Why a call of the files failed.
+#[derive(Clone, Copy, Debug, PartialEq, Eq)]
+pub enum FileFault {
+    /// The file system refused the call. The count of faults rose.
+    Failed,
+    NoMemory,
+}
+
+/// Which call of the files it was.
+#[derive(Clone, Copy, Debug, PartialEq, Eq)]
+pub enum CallKind {
+    Read,
+    Create,
+    Append,
+}
+
+impl From<AllocError> for FileFault {
+    ghost use Rattle.std.specs.Prelude.{◌≡◌};
+    ghost use Rattle.bar_outside.specs.declared.files.FileFault.TheVariants.{NoMemory};
+
+    ghost from_gives = { λ _ fault. fault ≡ NoMemory };
+
+    fn from(_: AllocError) -> Self {
+        FileFault::NoMemory
+    }
+}
+
+impl<T: Drop> From<AllocFailed<T>> for FileFault {
+    ghost use Rattle.std.specs.Prelude.{◌≡◌};
+    ghost use Rattle.bar_outside.specs.declared.files.FileFault.TheVariants.{NoMemory};
+
+    ghost from_gives = { λ _ fault. fault ≡ NoMemory };
+
+    fn from(_: AllocFailed<T>) -> Self {
+        FileFault::NoMemory
+    }
+}
+
+/// Files by name. What they hold is told where `disk` says so.
+pub trait Files {
+    ghost use Rattle.bar_outside.specs.Disk.{Disk, Reads, Creates, Appends};
+
+    ghost disk: { Self → Disk };
+
+    /// All the bytes of a file. A file that isn't there, or that has more than 1,073,741,824 bytes, is `Failed`.
+    fn read(&mut self, path: &str) -> Result<Vec<u8>, FileFault>
+        ensures { Reads path.now (disk self.old) (disk self.new) result };
+
+    /// Leaves an empty file of this name. After a fault the file is as it was, or empty.
+    fn create(&mut self, path: &str) -> Result<(), FileFault>
+        ensures { Creates path.now (disk self.old) (disk self.new) result };
+
+    /// Adds the bytes to a file that was created. After a fault a part of them, from the front, may stand.
+    fn append(&mut self, path: &str, bytes: &[u8]) -> Result<(), FileFault>
+        ensures { Appends path.now bytes.now (disk self.old) (disk self.new) result };
+}

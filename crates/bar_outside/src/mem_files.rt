@@ -1,0 +1,172 @@
+//! Files in memory.
+ghost use Rattle.std.specs.Prelude.{◌≡◌, ◌⊎◌, ℕ, [], List, true, IfOk, OnOk, OnErr, IsErr, IsNone, IsTrue, None, Some, Err, is_some};
+ghost use Rattle.std.specs.Option.{option_copied};
+ghost use Rattle.bar_outside.specs.Disk.{created, appended, put_at, readable};
+ghost use Rattle.bar_outside.specs.Schedule.{failing, next_call, fails_next, fails_never};
+ghost use Rattle.bar_outside.specs.MemFiles.{content_of};
+
+use crate::schedule::{Schedule, is_listed, new_schedule};
+use crate::{CallKind, FileFault, Files, NoMemory};
+use std::alloc::Global;
+use std::collections::BTreeMap;
+
+/// The largest file that can be read.
+const MOST_BYTES: usize = 1_073_741_824;
+
+/// A call that failed.
+#[derive(Drop)]
+pub struct FailedCall {
+    pub kind: CallKind,
+    pub path: String,
+}
+
+/// Files in memory. The calls with the numbers given, counted from 1, fail: such an append may add the first half of its bytes.
+#[derive(Drop)]
+pub struct MemFiles {
+    alloc: Global,
+    files: BTreeMap<String, Vec<u8>>,
+    schedule: Schedule,
+    faults: u64,
+    failed: Option<FailedCall>,
+}
+
+impl MemFiles {
+    ghost use Rattle.bar_outside.specs.MemFiles.{disk_of, schedule_of};
+    ghost use Rattle.bar_outside.specs.Disk.{Calls};
+    ghost use Rattle.std.specs.Prelude.{⊤};
+
+    /// No files. `fail` has the numbers of the calls that are to fail.
+    pub fn make(alloc: Global, fail: Vec<u64>) -> MemFiles
+        ensures disk { disk_of result ≡ record { told = true; reliable = fails_never (failing fail); content = λ path. None; failed = None; faults = 0 } }
+        ensures schedule { schedule_of result ≡ failing fail }
+    {
+        MemFiles {
+            alloc,
+            files: BTreeMap::new(alloc),
+            schedule: new_schedule(fail),
+            faults: 0,
+            failed: None,
+        }
+    }
+
+    /// Prepares a file. It counts as no call.
+    pub fn put(&mut self, path: &str, bytes: &[u8]) -> Result<(), NoMemory>
+        ensures put { OnOk result (disk_of self.new ≡ record (disk_of self.old) { content = put_at (disk_of self.old).content path.now bytes.now }) }
+        ensures err { OnErr result (disk_of self.new ≡ disk_of self.old) }
+        ensures uncounted { schedule_of self.new ≡ schedule_of self.old }
+    {
+        let name = String::from_str(self.alloc, path)?;
+        self.files.insert(name, bytes.to_vec(self.alloc)?)?;
+        Ok(())
+    }
+
+    /// The bytes of a file, if it is there. It counts as no call.
+    pub fn get(&self, path: &str) -> Option<&[u8]>
+        ensures { option_copied result ≡ (disk_of self.now).content path.now }
+    {
+        match self.files.get(path) {
+            Some(bytes) => Some(bytes.as_slice()),
+            None => None,
+        }
+    }
+
+    // Counts a fault of this call, and keeps its kind and path.
+    fn note_fault(&mut self, kind: CallKind, path: &str) -> FileFault
+        ensures call { Calls {T = ⊤} kind path.now (disk_of self.old) (disk_of self.new) (Err result) }
+        ensures files { self.new.files ≡ self.old.files }
+        ensures schedule { self.new.schedule ≡ self.old.schedule }
+    {
+        match String::from_str(self.alloc, path) {
+            Ok(path) => {
+                self.faults = self.faults.saturating_add(1);
+                self.failed = Some(FailedCall { kind, path });
+                FileFault::Failed
+            }
+            Err(_) => FileFault::NoMemory,
+        }
+    }
+}
+
+impl Files for MemFiles {
+    ghost use Rattle.bar_outside.specs.Disk.{Reads, Creates, Appends};
+    ghost use Rattle.bar_outside.specs.MemFiles.{disk_of, schedule_of};
+
+    ghost disk = { disk_of };
+
+    fn read(&mut self, path: &str) -> Result<Vec<u8>, FileFault>
+        ensures reads { Reads path.now (disk_of self.old) (disk_of self.new) result }
+        ensures counted { schedule_of self.new ≡ next_call (schedule_of self.old) }
+        ensures listed { IsTrue (fails_next (schedule_of self.old)) → IsErr result }
+        ensures only_listed { result ≡ Err FileFault.Failed → IsTrue (fails_next (schedule_of self.old)) ⊎ IsNone (readable (disk_of self.old).content path.now) }
+    {
+        if is_listed(&mut self.schedule) {
+            return Err(self.note_fault(CallKind::Read, path));
+        }
+        match self.files.get(path) {
+            Some(bytes) if bytes.len() <= MOST_BYTES => Ok(bytes.to_vec(self.alloc)?),
+            _ => Err(self.note_fault(CallKind::Read, path)),
+        }
+    }
+
+    fn create(&mut self, path: &str) -> Result<(), FileFault>
+        ensures creates { Creates path.now (disk_of self.old) (disk_of self.new) result }
+        ensures counted { schedule_of self.new ≡ next_call (schedule_of self.old) }
+        ensures listed { IsTrue (fails_next (schedule_of self.old)) → IsErr result }
+        ensures only_listed { result ≡ Err FileFault.Failed → IsTrue (fails_next (schedule_of self.old)) }
+    {
+        if is_listed(&mut self.schedule) {
+            return Err(self.note_fault(CallKind::Create, path));
+        }
+        put_empty(self.alloc, &mut self.files, path)?;
+        Ok(())
+    }
+
+    fn append(&mut self, path: &str, bytes: &[u8]) -> Result<(), FileFault>
+        ensures appends { Appends path.now bytes.now (disk_of self.old) (disk_of self.new) result }
+        ensures counted { schedule_of self.new ≡ next_call (schedule_of self.old) }
+        ensures listed { IsTrue (fails_next (schedule_of self.old)) → IsErr result }
+        ensures only_listed { result ≡ Err FileFault.Failed → IsTrue (fails_next (schedule_of self.old)) ⊎ IsNone ((disk_of self.old).content path.now) }
+    {
+        if is_listed(&mut self.schedule) {
+            let _ = add_bytes(&mut self.files, path, &bytes[..bytes.len() / 2]);
+            return Err(self.note_fault(CallKind::Append, path));
+        }
+        if add_bytes(&mut self.files, path, bytes)? {
+            return Ok(());
+        }
+        Err(self.note_fault(CallKind::Append, path))
+    }
+}
+
+// Leaves an empty file of this name.
+fn put_empty(
+    alloc: Global,
+    files: &mut BTreeMap<String, Vec<u8>>,
+    path: &str,
+) -> Result<(), NoMemory>
+    ensures made { OnOk result (content_of files.new ≡ created (content_of files.old) path.now) }
+    ensures err { OnErr result (content_of files.new ≡ content_of files.old) }
+{
+    let name = String::from_str(alloc, path)?;
+    files.insert(name, Vec::new(alloc))?;
+    Ok(())
+}
+
+// Adds the bytes to the file of this name, and says whether there is one.
+fn add_bytes(
+    files: &mut BTreeMap<String, Vec<u8>>,
+    path: &str,
+    bytes: &[u8],
+) -> Result<bool, NoMemory>
+    ensures there { IfOk result (λ there. there ≡ is_some (content_of files.old path.now)) }
+    ensures added { OnOk result (content_of files.new ≡ appended (content_of files.old) path.now bytes.now) }
+    ensures err { OnErr result (content_of files.new ≡ appended (content_of files.old) path.now []) }
+{
+    match files.get_mut(path) {
+        Some(held) => {
+            held.extend_from_slice(bytes)?;
+            Ok(true)
+        }
+        None => Ok(false),
+    }
+}
