@@ -4,7 +4,7 @@ use Rattle.std.specs.declared.alloc.Global.{Global}
 use Rattle.bar_cli.specs.declared.stub.Session.{Session}
 use Rattle.bar_cli.specs.declared.stub.Recording.{Recording}
 use Rattle.bar_cli.specs.declared.stub.Core.{Core}
-use Rattle.bar_cli.specs.Replay.{SessionRecord, RecordingRecord}
+use Rattle.bar_cli.specs.Replay.{Input, SessionRecord, RecordingRecord}
 
 abbrev pub session_view : Session → SessionRecord
 session_view session = record { peers = session.peers }
@@ -17,5 +17,5 @@ abbrev pub contents : Vec (Vec ℕ Global) Global → List (List ℕ)
 contents played = map (λ content. content.items) played.items
 
 -- this party's core has taken these inputs
-pub record IsAfter (session : SessionRecord) (party : ℕ) (before : List ℕ) (core : Core) : Type 0 where
+pub record IsAfter (session : SessionRecord) (party : ℕ) (before : List Input) (core : Core) : Type 0 where
   pub party_is : core.party ≡ party

@@ -5,7 +5,7 @@ use Rattle.bar_outside.specs.Disk.{Content, Failure, readable}
 use Rattle.bar_outside.specs.declared.files.CallKind.TheVariants.{Read, Create, Append}
 use Rattle.bar_outside.specs.Plan.{World, Action, Plan, reading, accepting, ending, doing}
 use Rattle.bar_outside.specs.Plan.Action.{create, append}
-use Rattle.bar_cli.specs.Replay.{SessionRecord, RecordingRecord, session_of, recording_of, played_at}
+use Rattle.bar_cli.specs.Replay.{Input, SessionRecord, RecordingRecord, session_of, recording_of, played_at}
 
 -- the files of a replay
 pub record ReplayFiles : Type 0 where
@@ -16,7 +16,7 @@ pub record ReplayFiles : Type 0 where
   pub found : List ℕ
 
 -- the contents that each input plays, after those before it
-abbrev pub contents_from : SessionRecord → ℕ → List ℕ → List ℕ → List (List (List ℕ))
+abbrev pub contents_from : SessionRecord → ℕ → List Input → List Input → List (List (List ℕ))
 contents_from session party before [] = []
 contents_from session party before (input ∷ others) =
     played_at session party before input ∷ contents_from session party (before ++ input ∷ []) others

@@ -5,7 +5,7 @@ ghost use Rattle.bar_outside.specs.Plan.{world};
 ghost use Rattle.bar_outside.specs.Plan.Action.{create};
 ghost use Rattle.bar_outside.specs.Follows.{Follows};
 ghost use Rattle.bar_outside.specs.Ends.{EndsWith};
-ghost use Rattle.bar_cli.specs.Replay.{SessionRecord, played_at};
+ghost use Rattle.bar_cli.specs.Replay.{Input, SessionRecord, played_at};
 ghost use Rattle.bar_cli.specs.ReplayPlan.{turn, turns, contents_from, contents_of, replay_actions, recording_plan, replay_plan};
 ghost use Rattle.bar_cli.specs.Core.{session_view, recording_view, contents, IsAfter};
 ghost use Rattle.bar_cli.specs.Status.{code_of_run, said_by_run};
@@ -98,9 +98,9 @@ fn play_input<F: Files>(
     files: &mut F,
     played: &str,
 ) -> Result<(), Fault>
-    ensures follows { (session : SessionRecord) (party : ℕ) (before : List ℕ) → IsAfter session party before core.old → (out : Stream) →
+    ensures follows { (session : SessionRecord) (party : ℕ) (before : List Input) → IsAfter session party before core.old → (out : Stream) →
         Follows (turn played.now (played_at session party before input)) (world (F.disk files.old) out) (world (F.disk files.new) out) result }
-    ensures after { (session : SessionRecord) (party : ℕ) (before : List ℕ) → IsAfter session party before core.old →
+    ensures after { (session : SessionRecord) (party : ℕ) (before : List Input) → IsAfter session party before core.old →
         OnOk result (IsAfter session party (before ++ input ∷ []) core.new) }
 {
     let pieces = core.step(alloc, input)?;

@@ -1,6 +1,6 @@
 //! Stand-ins for the session's text, the recording and the peer's core.
 ghost use Rattle.std.specs.Prelude.{◌≡◌, ◌∷◌, ◌++◌, [], ℕ, List, None, Some, Err, IfOk, OnOk};
-ghost use Rattle.bar_cli.specs.Replay.{SessionRecord, session_of, recording_of, played_at};
+ghost use Rattle.bar_cli.specs.Replay.{Input, SessionRecord, session_of, recording_of, played_at};
 ghost use Rattle.bar_cli.specs.Core.{session_view, recording_view, IsAfter, contents};
 
 use std::alloc::{AllocError, Global};
@@ -87,9 +87,9 @@ impl Core {
     /// Takes an input, and answers the contents that it plays.
     #[tactic(auto, unfolding(crate::specs::Replay::played_at))]
     pub fn step(&mut self, alloc: Global, input: u8) -> Result<Vec<Vec<u8>>, AllocError>
-        ensures played { (session : SessionRecord) (party : ℕ) (before : List ℕ) → IsAfter session party before self.old →
+        ensures played { (session : SessionRecord) (party : ℕ) (before : List Input) → IsAfter session party before self.old →
             IfOk result (λ played. contents played ≡ played_at session party before input) }
-        ensures after { (session : SessionRecord) (party : ℕ) (before : List ℕ) → IsAfter session party before self.old →
+        ensures after { (session : SessionRecord) (party : ℕ) (before : List Input) → IsAfter session party before self.old →
             OnOk result (IsAfter session party (before ++ input ∷ []) self.new) }
     {
         self.steps = self.steps.saturating_add(1);

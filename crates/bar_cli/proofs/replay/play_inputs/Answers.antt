@@ -9,7 +9,7 @@ pub returns-in_err-play_input : goal.returns-in_err-play_input
 returns-in_err-play_input g c = λ session party start out.
     let p = err_from_is_err_and c.from_residual.result c.from_residual.ensures.1 in
     let before = c.loop-input.invariant session party start in
-    rw (p.1, p.2, turns-split session party c.args.played.now c.args.inputs.now c.loop-input.input-index c.loop-input-test.true)
+    rw (p.1, p.2, turns-split session party c.args.played.now c.args.inputs.now c.loop-input.input-index 0 c.loop-input-test.true)
     (stopped _ _ _ _ _ (followed _ _ _ _ _ _ (before.played out) _
     (c.in_err-play_input.ensures.follows session party (take c.loop-input.input-index c.args.inputs.now) before.taken out)))
 
@@ -20,7 +20,7 @@ loop-input-preserved g c = λ session party start.
     record {
       taken = rw more (c.in_ok-play_input.ensures.after session party (take c.loop-input.input-index c.args.inputs.now) before.taken);
       played = λ out.
-          rw (turns-next session party c.args.played.now c.args.inputs.now c.loop-input.input-index c.loop-input-test.true)
+          rw (turns-next session party c.args.played.now c.args.inputs.now c.loop-input.input-index 0 c.loop-input-test.true)
           (followed _ _ _ _ _ _ (before.played out) _
           (c.in_ok-play_input.ensures.follows session party (take c.loop-input.input-index c.args.inputs.now) before.taken out));
     }
