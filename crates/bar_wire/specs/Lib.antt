@@ -6,3 +6,10 @@ pub mod Ranges
 pub mod Places
 pub mod Faults
 pub mod Views
+pub mod Evidence
+pub mod Words
+pub mod Windows
+pub mod Reading
+pub mod Terms
+pub mod Headers
+pub mod Writing
