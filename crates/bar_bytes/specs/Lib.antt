@@ -1,0 +1,5 @@
+pub mod Bytes
+pub mod Tag
+pub mod Held
+pub mod Written
+pub use Rattle.sha2.specs.Sha256
