@@ -52,8 +52,8 @@ place_is_there words base used m u some h =
     let below : i.place / m < used = div_below i.place m used some (omega (arith, i.high, mul_comm m used)) in
     record { after = omega (arith, row); before = omega (arith, row, below); index = omega (arith, column, mod_below i.place m some) }
 
-is_same_at : (base m j k : ℕ) → same_update (update_at base m j) (update_at base m k) ≡ eqb j k
-is_same_at base m j k =
+pub same_update_at : (base m j k : ℕ) → same_update (update_at base m j) (update_at base m k) ≡ eqb j k
+same_update_at base m j k =
     elim (cases_eq j k) [
       | inl e ↦ rw (e, eq-eqb (base + k / m) (base + k / m) refl, eq-eqb (k % m) (k % m) refl, eq-eqb k k refl) refl
       | inr ne ↦ rw (ne_eqb j k ne) (false_from_ne_true (eqb (base + j / m) (base + k / m) && eqb (j % m) (k % m)) (λ h.
@@ -106,7 +106,7 @@ members_by_test a b r test same same_r flags off =
     let keep : UpdateId → Bool = λ u. test true (has_update (members b) u) in
     let moved : members r ≡ map at (filter (is_set r.words) places) = λ t. map (update_at (same_r.base t) (round_places a)) (filter (is_set r.words) (range_with_len 0 (round_places a * same_r.used t))) in
     let flag : (q : ℕ) → q < round_places a * a.used → has_update (members b) (at q) ≡ is_set b.words q = λ q lt.
-    let found : list_any (same_update (update_at b.base (round_places a) q)) (members b) ≡ is_set b.words q = any_image same_update (update_at b.base (round_places a)) (is_same_at b.base (round_places a)) (is_set b.words) 0 (round_places a * b.used) q (omega arith) (omega (arith, lt, same.used)) in
+    let found : list_any (same_update (update_at b.base (round_places a) q)) (members b) ≡ is_set b.words q = any_image same_update (update_at b.base (round_places a)) (same_update_at b.base (round_places a)) (is_set b.words) 0 (round_places a * b.used) q (omega arith) (omega (arith, lt, same.used)) in
     ap (λ n. list_any (same_update (update_at n (round_places a) q)) (members b)) same.base ∙ found in
     let kept : filter (is_set r.words) places ≡ filter (λ q. is_set a.words q && keep (at q)) places = filter_agree_from (is_set r.words) (λ q. is_set a.words q && keep (at q)) 0 (round_places a * a.used) (λ q low high.
     flags q ∙ and_test test (is_set a.words q) (is_set b.words q) off ∙ ap (λ t. is_set a.words q && test true t) (sym (flag q (omega (arith, high))))) in
