@@ -2,18 +2,15 @@
 use Rattle.std.specs.Prelude.{◌≡◌, ◌≢◌, ℕ, suc, ◌+◌, List, [], ◌∷◌, length, drop, slice_index, Option, Some, None}
 use Rattle.std.specs.List.{concat}
 use Rattle.std.specs.Borrow.{Bor}
-use Rattle.bar_wire.specs.declared.shape.Shape.{Shape}
 use Rattle.bar_wire.specs.declared.evidence.EvidenceView.{EvidenceView}
 use Rattle.bar_wire.specs.declared.fault.WireFault.{WireFault}
 use Rattle.bar_wire.specs.declared.fault.WireFault.TheVariants.{BadLength, BadField}
-use Rattle.bar_wire.specs.Datagram.{Evidence}
-use Rattle.bar_wire.specs.Grammar.{entry, AreDatagramsInRange}
+use Rattle.bar_wire.specs.Grammar.{evidence_pieces, AreDatagramsInRange}
 use Rattle.bar_wire.specs.Places.{entries, entries_len}
-use Rattle.std.specs.List.{flat_map}
 
 -- the bytes of the body of an EVIDENCE
 abbrev pub evidence_bytes : List (List ℕ) → List ℕ
-evidence_bytes ds = length ds ∷ flat_map entry ds
+evidence_bytes ds = concat (evidence_pieces ds)
 
 abbrev pub other : Option (Bor (List ℕ)) → List (List ℕ)
 other None = []

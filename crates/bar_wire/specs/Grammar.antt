@@ -13,7 +13,7 @@ use Rattle.bar_wire.specs.declared.shape.Shape.{Shape}
 use Rattle.bar_wire.specs.declared.kind.Kind.{Kind}
 use Rattle.bar_wire.specs.declared.kind.Kind.TheVariants as kinds
 use Rattle.bar_wire.specs.Kinds.{code_of, is_signed_kind}
-use Rattle.bar_wire.specs.Datagram.{Datagram, Message, Body, Briefcase, KeyGiven, Manifest, Block, Request, Response, Divulge, Query, Reply, Case, KeyRequest, Key, Evidence, Evict, kind_of}
+use Rattle.bar_wire.specs.Datagram.{Datagram, Message, Body, Manifest, Block, Request, Response, Divulge, Query, Reply, Case, KeyRequest, Key, Evidence, Evict, kind_of}
 
 -- how many words of 64 flags a window has for each round
 abbrev pub words_of : Shape → ℕ
@@ -33,6 +33,10 @@ term_pieces s r (Offer young aged want give junk) = set_bytes s r young ∷ set_
 abbrev pub entry : List ℕ → List ℕ
 entry datagram = u16_bytes (length datagram) ++ datagram
 
+-- the number of datagrams, and each of them
+abbrev pub evidence_pieces : List (List ℕ) → List (List ℕ)
+evidence_pieces datagrams = u8_bytes (length datagrams) ∷ flat_map entry datagrams ∷ []
+
 -- the bytes of each field, in order
 abbrev pub pieces : Shape → Body → List (List ℕ)
 pieces s (Manifest r digests) = u32_bytes r ∷ u8_bytes (length digests) ∷ concat digests ∷ []
@@ -47,7 +51,7 @@ pieces s (Case c) =
     ∷ concat (term_pieces s c.round c.terms) ∷ c.cipher ∷ []
 pieces s (KeyRequest r kind role) = u32_bytes r ∷ u8_bytes (kind_code kind) ∷ u8_bytes (role_code role) ∷ []
 pieces s (Key k) = u32_bytes k.round ∷ u8_bytes (kind_code k.kind) ∷ u8_bytes (role_code k.role) ∷ k.key ∷ []
-pieces s (Evidence datagrams) = u8_bytes (length datagrams) ∷ flat_map entry datagrams ∷ []
+pieces s (Evidence datagrams) = evidence_pieces datagrams
 pieces s (Evict r parties) = u32_bytes r ∷ u8_bytes (length parties) ∷ flat_map u16_bytes parties ∷ []
 
 abbrev pub magic : List ℕ

@@ -1,9 +1,8 @@
 -- Views and bodies without where they lie in memory.
-use Rattle.std.specs.Prelude.{IsSome, IsTrue, ◌↔◌, ◌≡◌, ℕ, ◌+◌, ◌*◌, ◌<◌, List, [], length, Option, Some, None}
+use Rattle.std.specs.Prelude.{IsSome, IsTrue, ◌↔◌, ◌≡◌, ℕ, ◌*◌, ◌<◌, List, [], length, Option, Some, None}
 use Rattle.std.specs.Borrow.{Bor}
 use Rattle.bar_window.specs.declared.terms.Terms.{Terms as RawTerms}
 use Rattle.bar_window.specs.declared.terms.Terms.TheVariants as terms
-use Rattle.bar_window.specs.declared.window.Window.{Window}
 use Rattle.bar_window.specs.Terms.{plain_terms}
 use Rattle.bar_window.specs.Window.{members, IsWindowOf}
 use Rattle.bar_wire.specs.declared.shape.Shape.{Shape}

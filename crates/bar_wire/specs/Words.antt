@@ -1,11 +1,6 @@
 -- Words of 64 bits as they are read.
 use Rattle.std.specs.Prelude.{◌≡◌, ℕ, ◌<◌, ◌≤◌, ◌^◌, List, length, take, slice_index}
-use Rattle.std.specs.List.{flat_map, AllByRecursion}
-use Rattle.bar_bytes.specs.Bytes.{u64_bytes}
-
--- words, one after another
-unfoldable pub words_bytes : List ℕ → List ℕ
-words_bytes ws = flat_map u64_bytes ws
+use Rattle.std.specs.List.{AllByRecursion}
 
 -- an array of count words, and zeros after them
 pub record AreWords (count : ℕ) (words : List ℕ) : Type 0 where

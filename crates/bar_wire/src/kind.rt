@@ -1,5 +1,5 @@
 ghost use Rattle.std.specs.Prelude.{◌≡◌, Some, None, IfSome};
-ghost use Rattle.bar_wire.specs.Kinds.{code_of, kind_at};
+ghost use Rattle.bar_wire.specs.Kinds.{code_of, kind_at, is_signed_kind};
 
 /// The kinds of datagrams.
 #[derive(Clone, Copy, Debug, PartialEq, Eq)]
@@ -19,6 +19,24 @@ pub enum Kind {
 }
 
 impl Kind {
+    /// Whether datagrams of this kind bear a signature.
+    pub fn is_signed(self) -> bool
+        ensures { result ≡ is_signed_kind self }
+    {
+        match self {
+            Kind::Manifest
+            | Kind::Request
+            | Kind::Response
+            | Kind::Query
+            | Kind::Reply
+            | Kind::Case
+            | Kind::Key
+            | Kind::Evict => true,
+            Kind::Block | Kind::Divulge | Kind::KeyRequest | Kind::Evidence => false,
+        }
+    }
+
+    /// The code of the kind, 1 to 12.
     pub fn code(self) -> u8
         ensures { result ≡ code_of self }
     {
@@ -38,6 +56,7 @@ impl Kind {
         }
     }
 
+    /// The kind of a code, or None where no kind has it.
     pub fn at(code: u8) -> Option<Kind>
         ensures kind { result ≡ kind_at code }
         ensures code { IfSome result (λ kind. code ≡ code_of kind) }

@@ -1,0 +1,13 @@
+pub mod WindowLaws
+pub mod Codes
+pub mod Peel
+pub mod Head
+pub mod Steps
+pub mod Lists
+pub mod One
+pub mod FieldLengths
+pub mod WindowReads
+pub mod TermReads
+pub mod CaseReads
+pub mod Nones
+pub mod Whole
