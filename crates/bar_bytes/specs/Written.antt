@@ -1,5 +1,5 @@
 -- What a contract sees of a slice that is written from its front.
-use Rattle.std.specs.Prelude.{ℕ, List, ◌-◌, length, take, drop}
+use Rattle.std.specs.Prelude.{ℕ, List, take, drop}
 use Rattle.bar_bytes.specs.declared.write.Writer.{Writer}
 
 -- the bytes that were put, one after another

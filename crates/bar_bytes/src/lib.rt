@@ -6,7 +6,9 @@ pub use steps::Steps;
 pub use tagged::Tagged;
 pub use write::{Full, Writer};
 
-pub mod read;
-pub mod steps;
-pub mod tagged;
-pub mod write;
+mod read;
+mod steps;
+mod tagged;
+#[cfg(test)]
+mod tests;
+mod write;

@@ -149,14 +149,14 @@ pub put_has : (w r : Window) (id : UpdateId) (place : ℕ) → HasRoom w id → 
 put_has w r id place room same at flags u =
     let there = put_members w r id place room same at flags u in
     same_tests (has_update (members r) u) (has_update (members w) u || same_update u id)
-        (λ h. elim (there.0 (has_contains (members r) u h)) [
-          | inl old ↦ or_left (has_update (members w) u) (same_update u id) (contains_has (members w) u old)
-          | inr e ↦ or_right (has_update (members w) u) (same_update u id) (ap (λ v. same_update v id) e ∙ same_self id)
-        ])
-        (λ h. contains_has (members r) u (there.1 (elim (or_cases (has_update (members w) u) (same_update u id) h) [
-          | inl old ↦ inl (has_contains (members w) u old)
-          | inr e ↦ inr (same_is u id e)
-        ])))
+    (λ h. elim (there.0 (has_contains (members r) u h)) [
+      | inl old ↦ or_left (has_update (members w) u) (same_update u id) (contains_has (members w) u old)
+      | inr e ↦ or_right (has_update (members w) u) (same_update u id) (ap (λ v. same_update v id) e ∙ same_self id)
+    ])
+    (λ h. contains_has (members r) u (there.1 (elim (or_cases (has_update (members w) u) (same_update u id) h) [
+      | inl old ↦ inl (has_contains (members w) u old)
+      | inr e ↦ inr (same_is u id e)
+    ])))
 
 -- ---- the first, none, and how many
 

@@ -1,7 +1,7 @@
 -- A set of updates of a window, its words and its bytes.
 use Rattle.std.proofs.Common.{◌≡◌, ℕ, zero, suc, ◌+◌, ◌-◌, ◌*◌, ◌/◌, ◌%◌, ◌^◌, ◌<◌, ◌≤◌, Bool, true, false, ◌&&◌, eqb, List, [], ◌∷◌, ◌++◌, length, take, map, refl, sym, ap, subst, ◌∙◌, inl, inr, arith}
-use Rattle.std.specs.Prelude.{slice_index, IsTrue}
-use Rattle.std.specs.List.{filter, range_with_len, list_any, Contains, AllByRecursion}
+use Rattle.std.specs.Prelude.{slice_index}
+use Rattle.std.specs.List.{filter, range_with_len, AllByRecursion}
 use Rattle.std.specs.Int.{bit_at}
 use Rattle.std.proofs.Math.Nat.{mul_assoc, mul-le-mul_left}
 use Rattle.std.proofs.lemmas.Bool.{cases_lt, false≢true}
@@ -9,10 +9,10 @@ use Rattle.std.proofs.lemmas.List.{ext_get_or, get_or-take, get_or_past, length-
 use Rattle.std.proofs.lemmas.List.FromFn.{length-map-range_with_len, get_or-map-range_with_len}
 use Rattle.bar_window.specs.declared.update.UpdateId.{UpdateId}
 use Rattle.bar_window.specs.declared.window.Window.{Window}
-use Rattle.bar_window.specs.Places.{is_set, set_places, update_at}
+use Rattle.bar_window.specs.Places.{is_set, update_at}
 use Rattle.bar_window.specs.Updates.{same_update, has_update, is_rising, is_inside, is_set_of, window_of, first_round, IsSetOf}
 use Rattle.bar_window.specs.Window.{members, round_words, round_places, IsAligned, IsWindowOf}
-use Rattle.bar_window.specs.WindowBytes.{number_of_bits, word_of, window_words, words_bytes, window_bytes}
+use Rattle.bar_window.specs.WindowBytes.{word_of, window_words, words_bytes, window_bytes}
 use Rattle.bar_window.proofs.Ranges.{any_image, past_image, filter-map, filter_agree_from}
 use Rattle.bar_window.proofs.Sets.{has_contains, contains_has, has_filter, inside_each, inside_from, set_is_filter, same_tests}
 use Rattle.bar_window.proofs.Rounds.{rising_places, window_places}
@@ -75,10 +75,10 @@ words_of_members w life round h few =
     let n = round_words w * life in
     let word = word_of (first_round life round) (round_places w) (members w) in
     ext_get_or 0 (map word (range_with_len 0 n)) (take n w.words)
-        (length-map-range_with_len word 0 n ∙ omega (arith, length-take n w.words, w.shaped.long, few))
-        (λ j lt.
-          let lt_n : j < n = omega (arith, lt, length-map-range_with_len word 0 n) in
-          get_or-map-range_with_len word 0 n j j 0 lt_n (omega arith) ∙ ap (λ base. word_of base (round_places w) (members w) j) (sym h.base) ∙ word_is w j ∙ sym (get_or-take n w.words j 0 lt_n))
+    (length-map-range_with_len word 0 n ∙ omega (arith, length-take n w.words, w.shaped.long, few))
+    (λ j lt.
+    let lt_n : j < n = omega (arith, lt, length-map-range_with_len word 0 n) in
+    get_or-map-range_with_len word 0 n j j 0 lt_n (omega arith) ∙ ap (λ base. word_of base (round_places w) (members w) j) (sym h.base) ∙ word_is w j ∙ sym (get_or-take n w.words j 0 lt_n))
 
 -- and their bytes
 pub bytes_of_members : (w : Window) (life round : ℕ) → IsWindowOf life round w → life ≤ 16 → window_bytes (round_words w) life round (members w) ≡ words_bytes (take (round_words w * life) w.words)
@@ -137,12 +137,12 @@ past_round words life round us j some set past =
     elim (cases_lt j (words * life)) [
       | inl lt ↦ word_at words life round us j lt ∙ number_none (λ i. has_update us (at (64 * j + i))) 64 (λ i low.
           same_tests (has_update us (at (64 * j + i))) false
-              (λ h.
-                let there : has_update (window_of words life round) (at (64 * j + i)) ≡ true = contains_has (window_of words life round) (at (64 * j + i)) (set.inside (at (64 * j + i)) (has_contains us (at (64 * j + i)) h)) in
-                let run : has_update (map at (filter (λ q. true) (range_with_len 0 n))) (at (64 * j + i)) ≡ false = past_image same_update at (same_update_at (first_round life round) (64 * words)) (λ q. true) 0 n (64 * j + i) (omega (arith, ends, past)) in
-                let same : window_of words life round ≡ map at (filter (λ q. true) (range_with_len 0 n)) = window_run words life round ∙ ap (map at) (sym (all_kept (range_with_len 0 n))) in
-                sym run ∙ ap (λ vs. has_update vs (at (64 * j + i))) (sym same) ∙ there)
-              (λ h. absurd (false≢true h)))
+          (λ h.
+          let there : has_update (window_of words life round) (at (64 * j + i)) ≡ true = contains_has (window_of words life round) (at (64 * j + i)) (set.inside (at (64 * j + i)) (has_contains us (at (64 * j + i)) h)) in
+          let run : has_update (map at (filter (λ q. true) (range_with_len 0 n))) (at (64 * j + i)) ≡ false = past_image same_update at (same_update_at (first_round life round) (64 * words)) (λ q. true) 0 n (64 * j + i) (omega (arith, ends, past)) in
+          let same : window_of words life round ≡ map at (filter (λ q. true) (range_with_len 0 n)) = window_run words life round ∙ ap (map at) (sym (all_kept (range_with_len 0 n))) in
+          sym run ∙ ap (λ vs. has_update vs (at (64 * j + i))) (sym same) ∙ there)
+          (λ h. absurd (false≢true h)))
       | inr ge ↦ get_or_past (window_words words life round us) j 0 (omega (arith, ge, length_window_words words life round us))
     ]
 
@@ -189,7 +189,7 @@ words_of_set words life round ws us x y len fit e = words_told ws (window_words 
 pub same_members : (w v : Window) → IsAligned w v → members w ≡ members v → w.words ≡ v.words
 same_members w v same e =
     ext_get_or 0 w.words v.words (w.shaped.long ∙ sym v.shaped.long) (λ j lt.
-      sym (word_is w j) ∙ (λ t. word_of (same.base t) (round_places w) (e t) j) ∙ word_is v j)
+    sym (word_is w j) ∙ (λ t. word_of (same.base t) (round_places w) (e t) j) ∙ word_is v j)
 
 -- ---- the test
 

@@ -1,8 +1,23 @@
+ghost use Rattle.std.specs.Prelude.{◌≡◌};
+ghost use Rattle.bar_window.specs.Exchange.{kind_code, role_code, other_role, party_on, exchange_bytes};
+
 /// The two kinds of exchange: balanced, of equally many updates, and push, of young updates for old ones or junk.
 #[derive(Clone, Copy, Debug, PartialEq, Eq, PartialOrd, Ord, Hash)]
 pub enum XKind {
     Balanced,
     Push,
+}
+
+impl XKind {
+    /// The kind's number in datagrams and hashes: 0 for balanced, 1 for push.
+    pub fn code(self) -> u8
+        ensures { result ≡ kind_code self }
+    {
+        match self {
+            XKind::Balanced => 0,
+            XKind::Push => 1,
+        }
+    }
 }
 
 /// The two sides of an exchange.
@@ -12,6 +27,27 @@ pub enum Role {
     Responder,
 }
 
+impl Role {
+    /// The role's number in datagrams and hashes: 0 for the initiator, 1 for the responder.
+    pub fn code(self) -> u8
+        ensures { result ≡ role_code self }
+    {
+        match self {
+            Role::Initiator => 0,
+            Role::Responder => 1,
+        }
+    }
+
+    pub fn other(self) -> Role
+        ensures { result ≡ other_role self }
+    {
+        match self {
+            Role::Initiator => Role::Responder,
+            Role::Responder => Role::Initiator,
+        }
+    }
+}
+
 /// An exchange of a round between two peers. Exchanges are ordered by round, kind, initiator and responder in turn.
 #[derive(Clone, Copy, Debug, PartialEq, Eq, PartialOrd, Ord, Hash)]
 pub struct Exchange {
@@ -19,4 +55,26 @@ pub struct Exchange {
     pub kind: XKind,
     pub initiator: u16,
     pub responder: u16,
+}
+
+impl Exchange {
+    /// The party on one side.
+    pub fn party(&self, role: Role) -> u16
+        ensures { result ≡ party_on self.now role }
+    {
+        match role {
+            Role::Initiator => self.initiator,
+            Role::Responder => self.responder,
+        }
+    }
+
+    /// The bytes that name the exchange: round, kind, initiator and responder, the highest byte of each first.
+    pub fn bytes(&self) -> [u8; 9]
+        ensures { result ≡ exchange_bytes self.now }
+    {
+        let [a, b, c, d] = self.round.to_be_bytes();
+        let [e, f] = self.initiator.to_be_bytes();
+        let [g, h] = self.responder.to_be_bytes();
+        [a, b, c, d, self.kind.code(), e, f, g, h]
+    }
 }

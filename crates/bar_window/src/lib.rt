@@ -3,6 +3,7 @@
 
 mod blocks;
 mod exchange;
+pub mod laws;
 mod terms;
 mod update;
 mod window;
@@ -12,3 +13,6 @@ pub use exchange::{Exchange, Role, XKind};
 pub use terms::Terms;
 pub use update::UpdateId;
 pub use window::Window;
+
+#[cfg(test)]
+mod tests;

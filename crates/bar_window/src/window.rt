@@ -20,7 +20,7 @@ const ROUND_PLACES: usize = 64;
 pub struct Window {
     pub base: u32,
     pub used: u8,
-    pub words: [u64; 16],
+    pub words: [u64; WORDS],
     ghost shaped: { IsShaped base used words },
 }
 

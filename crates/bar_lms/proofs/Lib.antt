@@ -1,0 +1,9 @@
+pub mod ChainLemmas
+pub mod DigitLemmas
+pub mod ListLemmas
+pub mod TreeLemmas
+pub mod TreeFill
+pub mod SignLemmas
+pub mod Accepted
+pub mod KeyLemmas
+pub mod Tests

@@ -1,0 +1,28 @@
+use Rattle.std.proofs.Common.{◌≡◌, ◌+◌, ◌*◌, ◌^◌, ◌%◌, take, drop, arith}
+use Rattle.std.proofs.lemmas.List.{take_rest}
+use Rattle.bar_lms.specs.Params.{levels, chains}
+use Rattle.bar_lms.specs.Chains.{joined, message_hash, one_time_key}
+use Rattle.bar_lms.specs.Tree.{climb, leaf_node}
+use Rattle.bar_lms.specs.Signature.{candidate, hash_at, end_at}
+use Rattle.bar_lms.proofs.DigitLemmas.{level_facts}
+use Rattle.bar_lms.proofs.acceptance.candidate.Goals as goal
+
+pub returns-clause-value : goal.returns-clause-value
+unfolding candidate
+returns-clause-value g c =
+    let ident = c.key.inside.ident in
+    let height = c.key.inside.params.height in
+    let ots = c.key.inside.params.ots in
+    let sig = c.args.sig.now in
+    let hash : c.message_hash-hash.result ≡ message_hash ident c.args.q (take 32 (drop 8 sig)) c.args.message.now = c.message_hash-hash.ensures in
+    let key : c.key_of_ends-one_time_key.result ≡ one_time_key ident c.args.q (joined (end_at ident c.args.q ots c.message_hash-hash.result (drop 40 sig)) (chains ots))
+    = rw (take_rest sig 40) at c.key_of_ends-one_time_key.ensures.value
+    in
+    let number : 1 * 2 ^ c.levels.result % 2 ^ 32 + c.args.q ≡ 2 ^ levels height + c.args.q = let leaves = (level_facts height).leaves in rw c.levels.ensures (omega arith) in
+    let leaf : c.leaf_node-leaf.result ≡ leaf_node ident (2 ^ levels height + c.args.q) c.key_of_ends-one_time_key.result
+    = rw number at c.leaf_node-leaf.ensures
+    in
+    let top : c.top.result ≡ climb ident (hash_at (drop (44 + 32 * chains ots) sig)) (2 ^ levels height + c.args.q) c.leaf_node-leaf.result (levels height)
+    = rw (take_rest sig (44 + 32 * c.chains.result), c.chains.ensures) at c.top.ensures.value
+    in
+    rw (← c.key.view_is) (rw (leaf, key, hash) at top)

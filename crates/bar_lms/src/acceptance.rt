@@ -1,0 +1,211 @@
+//! Acceptance of a signature.
+
+ghost use Rattle.std.specs.Prelude.{◌≡◌, ℕ, ◌+◌, ◌-◌, ◌*◌, ◌/◌, ◌%◌, ◌^◌, ◌≤◌, ◌<◌, ◌++◌, ◌↔◌, ◌∷◌, [], List, IsTrue, length, take, drop};
+ghost use Rattle.std.specs.Int.{w16, w32, to_be_bytes};
+ghost use Rattle.sha2.specs.Hashers.{Holds256};
+ghost use Rattle.bar_lms.specs.Params.{chains, last, levels, signature_len, most_steps};
+ghost use Rattle.bar_lms.specs.Chains.{place, chain, digit, joined, message_hash, one_time_key};
+ghost use Rattle.bar_lms.specs.Tree.{leaf_node, parent, climb};
+ghost use Rattle.bar_lms.specs.Signature.{Public, hash_at, number_at, end_at, candidate};
+ghost use Rattle.bar_lms.specs.Acceptance.{Accepts, is_accepted};
+
+use crate::chains::chain;
+use crate::digits::{coef, with_checksum};
+use crate::key::PublicKey;
+use crate::params::{Height, Ots, Params};
+use bar_bytes::Steps;
+use sha2::{Digest, Sha256};
+use std::marker::Brand;
+use std::sync::ledger::{Blank, Ledger};
+
+// What each hash but a chain's begins with: the key's name, the number of a leaf or node, and the kind.
+pub(crate) fn head(ident: &[u8; 16], number: u32, kind: u16) -> Sha256
+    ensures { Holds256 result (ident.now ++ to_be_bytes w32 number ++ to_be_bytes w16 kind) }
+{
+    let mut hasher = Sha256::new();
+    hasher.update(ident.as_slice());
+    hasher.update(number.to_be_bytes());
+    hasher.update(kind.to_be_bytes());
+    hasher
+}
+
+// Hash i of a row of hashes.
+#[tactic(auto, unfolding(crate::specs::Signature::hash_at))]
+pub(crate) fn hash_at(row: &[u8], i: usize) -> &[u8]
+    requires { 32 * i + 32 ≤ length row.now }
+    ensures value { result.now ≡ hash_at row.now i }
+    ensures length { length result.now ≡ 32 }
+{
+    &row[32 * i..32 * i + 32]
+}
+
+// Node r from its children.
+#[tactic(auto, unfolding(crate::specs::Tree::parent))]
+pub(crate) fn parent(ident: &[u8; 16], r: u32, left: &[u8], right: &[u8]) -> [u8; 32]
+    ensures { result ≡ parent ident.now r left.now right.now }
+{
+    let mut hasher = head(ident, r, 0x8383);
+    hasher.update(left);
+    hasher.update(right);
+    hasher.finalize()
+}
+
+// The same from two arrays.
+pub(crate) fn parent_of(ident: &[u8; 16], r: u32, left: &[u8; 32], right: &[u8; 32]) -> [u8; 32]
+    ensures { result ≡ parent ident.now r left.now right.now }
+{
+    parent(ident, r, left, right)
+}
+
+// A leaf, as node r, from its one-time key.
+#[tactic(auto, unfolding(crate::specs::Tree::leaf_node))]
+pub(crate) fn leaf_node(ident: &[u8; 16], r: u32, key: &[u8; 32]) -> [u8; 32]
+    ensures { result ≡ leaf_node ident.now r key.now }
+{
+    let mut hasher = head(ident, r, 0x8282);
+    hasher.update(key.as_slice());
+    hasher.finalize()
+}
+
+// The node at the top, from a leaf and the siblings on the way.
+fn top<L: Ledger>(
+    ident: &[u8; 16],
+    q: u32,
+    leaf: [u8; 32],
+    path: &[u8],
+    height: Height,
+    steps: &mut Steps<L>,
+) -> [u8; 32]
+    requires leaf { q < 2 ^ levels height }
+    requires whole { 32 * levels height ≤ length path.now }
+    ensures value { result ≡ climb ident.now (hash_at path.now) (2 ^ levels height + q) leaf (levels height) }
+    ensures cost { steps.new ≡ steps.old + levels height }
+{
+    let levels = height.levels();
+    let mut r = (1 << levels) + q;
+    let mut below = leaf;
+    'path: for level in 0..levels {
+        let beside = hash_at(path, level as usize);
+        let above = r / 2;
+        below = if r % 2 == 0 {
+            parent(ident, above, &below, beside)
+        } else {
+            parent(ident, above, beside, &below)
+        };
+        r = above;
+        steps.tick();
+    }
+    below
+}
+
+// The one-time key that a signature's values lead to.
+fn key_of_ends<L: Ledger>(
+    ident: &[u8; 16],
+    q: u32,
+    hash: &[u8; 32],
+    values: &[u8],
+    ots: Ots,
+    steps: &mut Steps<L>,
+) -> [u8; 32]
+    requires whole { 32 * chains ots ≤ length values.now }
+    ensures value { result ≡ one_time_key ident.now q (joined (end_at ident.now q ots hash.now values.now) (chains ots)) }
+    ensures cost { steps.new ≤ steps.old + (chains ots * last ots + 1) }
+{
+    let digits = with_checksum(hash, ots);
+    let last = ots.last();
+    let mut hasher = head(ident, q, 0x8080);
+    'chains: for i in 0..ots.chains() {
+        let digit = coef(&digits, i, ots);
+        let end = chain(ident, q, i as u16, hash_at(values, i), digit, last, steps);
+        hasher.update(end.as_slice());
+    }
+    steps.tick();
+    hasher.finalize()
+}
+
+// The number of four bytes at a place.
+pub(crate) fn number_at(bytes: &[u8], at: usize) -> u32
+    requires { at + 4 ≤ length bytes.now }
+    ensures { result ≡ number_at bytes.now at }
+{
+    u32::from_be_bytes([bytes[at], bytes[at + 1], bytes[at + 2], bytes[at + 3]])
+}
+
+// The hash that is signed.
+pub(crate) fn message_hash(ident: &[u8; 16], q: u32, randomizer: &[u8], message: &[u8]) -> [u8; 32]
+    ensures { result ≡ message_hash ident.now q randomizer.now message.now }
+{
+    let mut hasher = head(ident, q, 0x8181);
+    hasher.update(randomizer);
+    hasher.update(message);
+    hasher.finalize()
+}
+
+// The root that a signature of leaf q on a message leads to.
+#[tactic(auto, unfolding(crate::specs::Signature::candidate))]
+fn candidate<L: Ledger>(
+    key: &PublicKey,
+    q: u32,
+    message: &[u8],
+    sig: &[u8],
+    steps: &mut Steps<L>,
+) -> [u8; 32]
+    requires leaf { q < 2 ^ levels key.now.params.height }
+    requires length { length sig.now ≡ signature_len key.now.params }
+    ensures value { result ≡ candidate key.now q message.now sig.now }
+    ensures cost { steps.new ≤ steps.old + most_steps key.now.params }
+{
+    let Params { height, ots } = key.params;
+    let hash = message_hash(&key.ident, q, &sig[8..40], message);
+    steps.tick();
+    let one_time_key = key_of_ends(&key.ident, q, &hash, &sig[40..], ots, steps);
+    let leaf = leaf_node(&key.ident, (1 << height.levels()) + q, &one_time_key);
+    steps.tick();
+    top(
+        &key.ident,
+        q,
+        leaf,
+        &sig[44 + 32 * ots.chains()..],
+        height,
+        steps,
+    )
+}
+
+/// Whether a signature is accepted on a message under a key.
+pub fn verify<L: Ledger>(key: &PublicKey, message: &[u8], sig: &[u8], steps: &mut Steps<L>) -> bool
+    ensures test { result ≡ is_accepted key.now message.now sig.now }
+    ensures exact { IsTrue result ↔ Accepts key.now message.now sig.now }
+    ensures cost { steps.new ≤ steps.old + most_steps key.now.params }
+{
+    let Params { height, ots } = key.params;
+    if sig.len() != key.params.sig_len() {
+        return false;
+    }
+    if number_at(sig, 4) != ots.number()
+        || number_at(sig, 40 + 32 * ots.chains()) != height.number()
+    {
+        return false;
+    }
+    let q = number_at(sig, 0);
+    if q >= 1 << height.levels() {
+        return false;
+    }
+    let root = candidate(key, q, message, sig, steps);
+    root.as_slice() == key.root.as_slice()
+}
+
+fn accepts_under<L: Ledger>(key: &PublicKey, message: &[u8], sig: &[u8], blank: Blank) -> bool
+    requires name { blank.name ≡ L.name }
+    requires parts { blank.parts ≡ L.parts }
+    requires some { 0 < L.parts }
+    ensures { IsTrue result ↔ Accepts key.now message.now sig.now }
+{
+    verify(key, message, sig, &mut Steps::<L>::new(blank))
+}
+
+/// Whether a signature is accepted, for a caller that counts nothing.
+pub fn accepts(key: &PublicKey, message: &[u8], sig: &[u8]) -> bool
+    ensures { IsTrue result ↔ Accepts key.now message.now sig.now }
+{
+    accepts_under::<Brand>(key, message, sig, Blank::new(1))
+}

@@ -1,0 +1,141 @@
+//! Signing.
+
+ghost use Rattle.std.specs.Prelude.{◌≡◌, ℕ, ◌+◌, ◌*◌, ◌^◌, ◌≤◌, ◌<◌, ◌++◌, length, take, drop};
+ghost use Rattle.std.specs.Int.{w32, to_be_bytes};
+ghost use Rattle.bar_lms.specs.Params.{chains, levels, signature_len};
+ghost use Rattle.bar_lms.specs.Chains.{joined};
+ghost use Rattle.bar_lms.specs.Tree.{HoldsTree, sibling};
+ghost use Rattle.bar_lms.specs.Signature.{signed_value, sibling_at, signature, public_of};
+ghost use Rattle.bar_lms.specs.Acceptance.{Accepts};
+
+use crate::bytes::put;
+use crate::digits::{coef, with_checksum};
+use crate::params::Params;
+use crate::private::Private;
+use crate::tree::value;
+use crate::acceptance::message_hash;
+use bar_bytes::Steps;
+use std::marker::Brand;
+use std::sync::ledger::{Blank, Ledger};
+
+// Writes the values of the chains, from byte 40 on.
+fn put_values<L: Ledger>(
+    key: &Private,
+    q: u32,
+    hash: &[u8; 32],
+    out: &mut [u8],
+    steps: &mut Steps<L>,
+)
+    requires { 40 + 32 * chains key.now.params.ots ≤ length out.old }
+    ensures grown { take (40 + 32 * chains key.now.params.ots) out.new
+        ≡ take 40 out.old ++ joined (signed_value key.now q hash.now) (chains key.now.params.ots) }
+    ensures rest { drop (40 + 32 * chains key.now.params.ots) out.new ≡ drop (40 + 32 * chains key.now.params.ots) out.old }
+{
+    let ots = key.params.ots;
+    let digits = with_checksum(hash, ots);
+    'chains: for i in 0..ots.chains() {
+        let digit = coef(&digits, i, ots);
+        let value = value(key, q, i as u16, digit, steps);
+        put_hash(out, 40 + 32 * i, &value);
+    }
+}
+
+// The node that has the same parent.
+fn sibling(r: usize) -> usize
+    requires { (0 < r) × (r < 2 ^ 63) }
+    ensures { result ≡ sibling r }
+{
+    if r % 2 == 0 { r + 1 } else { r - 1 }
+}
+
+// Writes the siblings on the way to the root, from a place on.
+fn put_path(key: &Private, nodes: &[[u8; 32]], q: u32, out: &mut [u8], at: usize)
+    requires tree { HoldsTree key.now nodes.now }
+    requires places { length nodes.now ≡ 2 * 2 ^ levels key.now.params.height }
+    requires leaf { q < 2 ^ levels key.now.params.height }
+    requires room { at + 32 * levels key.now.params.height ≤ length out.old }
+    ensures grown { take (at + 32 * levels key.now.params.height) out.new
+        ≡ take at out.old ++ joined (sibling_at key.now q) (levels key.now.params.height) }
+    ensures rest { drop (at + 32 * levels key.now.params.height) out.new ≡ drop (at + 32 * levels key.now.params.height) out.old }
+{
+    let mut r = key.params.height.leaves() + q as usize;
+    'path: for level in 0..key.params.height.levels() as usize {
+        let node = nodes[sibling(r)];
+        put_hash(out, at + 32 * level, &node);
+        r /= 2;
+    }
+}
+
+// Writes a hash at a place.
+fn put_hash(out: &mut [u8], at: usize, hash: &[u8; 32])
+    requires { at + 32 ≤ length out.old }
+    ensures grown { take (at + 32) out.new ≡ take at out.old ++ hash.now }
+    ensures rest { drop (at + 32) out.new ≡ drop (at + 32) out.old }
+    ensures length { length hash.now ≡ 32 }
+{
+    put(out, at, hash);
+}
+
+// Writes a number at a place.
+fn put_number(out: &mut [u8], at: usize, number: u32)
+    requires { at + 4 ≤ length out.old }
+    ensures grown { take (at + 4) out.new ≡ take at out.old ++ to_be_bytes w32 number }
+    ensures rest { drop (at + 4) out.new ≡ drop (at + 4) out.old }
+{
+    put(out, at, &number.to_be_bytes());
+}
+
+fn sign_from<L: Ledger>(
+    key: &Private,
+    nodes: &[[u8; 32]],
+    q: u32,
+    randomizer: &[u8; 32],
+    message: &[u8],
+    out: &mut [u8],
+    blank: Blank,
+) -> usize
+    requires tree { HoldsTree key.now nodes.now }
+    requires places { length nodes.now ≡ 2 * 2 ^ levels key.now.params.height }
+    requires leaf { q < 2 ^ levels key.now.params.height }
+    requires room { signature_len key.now.params ≤ length out.old }
+    requires name { blank.name ≡ L.name }
+    requires parts { blank.parts ≡ L.parts }
+    requires some { 0 < L.parts }
+    ensures length { result ≡ signature_len key.now.params }
+    ensures value { take result out.new ≡ signature key.now q randomizer.now message.now }
+    ensures rest { drop result out.new ≡ drop result out.old }
+    ensures hash { length randomizer.now ≡ 32 }
+{
+    let mut steps = Steps::<L>::new(blank);
+    let Params { height, ots } = key.params;
+    put_number(out, 0, q);
+    put_number(out, 4, ots.number());
+    put_hash(out, 8, randomizer);
+    let hash = message_hash(&key.ident, q, randomizer, message);
+    put_values(key, q, &hash, out, &mut steps);
+    let at = 40 + 32 * ots.chains();
+    put_number(out, at, height.number());
+    put_path(key, nodes, q, out, at + 4);
+    key.params.sig_len()
+}
+
+/// Writes the signature of a message under leaf q, and answers its length.
+pub fn sign(
+    key: &Private,
+    nodes: &[[u8; 32]],
+    q: u32,
+    randomizer: &[u8; 32],
+    message: &[u8],
+    out: &mut [u8],
+) -> usize
+    requires tree { HoldsTree key.now nodes.now }
+    requires places { length nodes.now ≡ 2 * 2 ^ levels key.now.params.height }
+    requires leaf { q < 2 ^ levels key.now.params.height }
+    requires room { signature_len key.now.params ≤ length out.old }
+    ensures length { result ≡ signature_len key.now.params }
+    ensures value { take result out.new ≡ signature key.now q randomizer.now message.now }
+    ensures rest { drop result out.new ≡ drop result out.old }
+    ensures accepted { Accepts (public_of key.now) message.now (take result out.new) }
+{
+    sign_from::<Brand>(key, nodes, q, randomizer, message, out, Blank::new(1))
+}

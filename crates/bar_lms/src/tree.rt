@@ -1,0 +1,93 @@
+//! The tree over the one-time keys.
+
+ghost use Rattle.std.specs.Prelude.{◌≡◌, ℕ, ◌+◌, ◌-◌, ◌*◌, ◌^◌, ◌≤◌, ◌<◌, length};
+ghost use Rattle.bar_lms.specs.Params.{chains, last, levels};
+ghost use Rattle.bar_lms.specs.Tree.{value, leaf_key, node, HoldsLeaves, HoldsTree};
+
+use crate::chains::chain;
+use crate::private::Private;
+use crate::acceptance::{head, leaf_node, parent_of};
+use bar_bytes::Steps;
+use sha2::Digest;
+use std::marker::Brand;
+use std::sync::ledger::{Blank, Ledger};
+
+/// The value of chain i of leaf q after n steps.
+#[tactic(auto, unfolding(crate::specs::Tree::value))]
+pub(crate) fn value<L: Ledger>(
+    key: &Private,
+    q: u32,
+    i: u16,
+    n: u32,
+    steps: &mut Steps<L>,
+) -> [u8; 32]
+    requires { n ≤ 255 }
+    ensures { result ≡ value key.now q n i }
+{
+    let start = chain(&key.ident, q, i, &key.seed, 255, 256, steps);
+    chain(&key.ident, q, i, &start, 0, n, steps)
+}
+
+/// The one-time public key of leaf q.
+#[tactic(auto, unfolding(crate::specs::Tree::leaf_key))]
+fn leaf_key<L: Ledger>(key: &Private, q: u32, steps: &mut Steps<L>) -> [u8; 32]
+    ensures { result ≡ leaf_key key.now q }
+{
+    let ots = key.params.ots;
+    let mut hasher = head(&key.ident, q, 0x8080);
+    'chains: for i in 0..ots.chains() {
+        let end = value(key, q, i as u16, ots.last(), steps);
+        hasher.update(end.as_slice());
+    }
+    hasher.finalize()
+}
+
+// Writes the leaves of a tree at their places.
+fn fill_leaves<L: Ledger>(key: &Private, nodes: &mut [[u8; 32]], steps: &mut Steps<L>)
+    requires { length nodes.old ≡ 2 * 2 ^ levels key.now.params.height }
+    ensures { HoldsLeaves key.now nodes.new }
+{
+    let leaves = key.params.height.leaves();
+    'leaves: for q in 0..leaves {
+        let one_time_key = leaf_key(key, q as u32, steps);
+        let node = leaf_node(&key.ident, (leaves + q) as u32, &one_time_key);
+        nodes[leaves + q] = node;
+    }
+}
+
+// Writes the nodes above the leaves at their places.
+fn fill_parents(key: &Private, nodes: &mut [[u8; 32]])
+    requires places { length nodes.old ≡ 2 * 2 ^ levels key.now.params.height }
+    requires leaves { HoldsLeaves key.now nodes.old }
+    ensures { HoldsTree key.now nodes.new }
+{
+    let leaves = key.params.height.leaves();
+    'parents: for k in 1..leaves {
+        let r = leaves - k;
+        let left = nodes[2 * r];
+        let right = nodes[2 * r + 1];
+        let node = parent_of(&key.ident, r as u32, &left, &right);
+        nodes[r] = node;
+    }
+}
+
+// Writes the nodes of a tree at their places.
+fn fill_from<L: Ledger>(key: &Private, nodes: &mut [[u8; 32]], blank: Blank)
+    requires places { length nodes.old ≡ 2 * 2 ^ levels key.now.params.height }
+    requires name { blank.name ≡ L.name }
+    requires parts { blank.parts ≡ L.parts }
+    requires some { 0 < L.parts }
+    ensures { HoldsTree key.now nodes.new }
+{
+    let mut steps = Steps::<L>::new(blank);
+    fill_leaves(key, nodes, &mut steps);
+    fill_parents(key, nodes);
+}
+
+/// Writes the nodes of a tree at the places of their numbers.
+pub fn fill_tree(key: &Private, nodes: &mut [[u8; 32]])
+    requires { length nodes.old ≡ 2 * 2 ^ levels key.now.params.height }
+    ensures { HoldsTree key.now nodes.new }
+{
+    fill_from::<Brand>(key, nodes, Blank::new(1));
+}
