@@ -11,3 +11,5 @@ pub mod TermReads
 pub mod CaseReads
 pub mod Nones
 pub mod Whole
+pub mod SetBack
+pub mod RangeTests
