@@ -13,3 +13,6 @@ pub mod Nones
 pub mod Whole
 pub mod SetBack
 pub mod RangeTests
+pub mod ReadBack
+pub mod Told
+pub mod EvidenceReads

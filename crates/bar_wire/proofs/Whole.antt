@@ -99,7 +99,7 @@ cut_not_sent s bytes kind from to fields sig cut not d spelled =
 
 -- ---- lengths
 
-start_len : (s : Shape) (kind : Kind) (from to : ℕ) → length (concat (start s kind from to [])) ≡ 16
+pub start_len : (s : Shape) (kind : Kind) (from to : ℕ) → length (concat (start s kind from to [])) ≡ 16
 start_len s kind from to =
     omega (arith, s.shaped.id_long, length_u16 from, length_u16 to, length-append s.id (u16_bytes from ++ (u16_bytes to ++ [])), length-append (u16_bytes from) (u16_bytes to ++ []), length-append (u16_bytes to) [])
 

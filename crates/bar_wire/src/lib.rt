@@ -8,6 +8,7 @@ mod fields;
 mod header;
 mod input;
 mod kind;
+mod laws;
 mod lengths;
 mod ranges;
 mod reading;
@@ -17,10 +18,14 @@ mod terms;
 mod view;
 mod windows;
 
-pub use evidence::EvidenceView;
+pub use evidence::{EvidenceView, split_evidence};
 pub use fault::WireFault;
 pub use input::Input;
 pub use kind::Kind;
+pub use laws::{
+    a_datagram_has_one_spelling, bytes_spell_one, no_spelling_begins_another,
+    the_datagram_is_spelled, the_test_tells_a_datagram,
+};
 pub use reading::decode;
 pub use shape::Shape;
 pub use view::{Body, View};

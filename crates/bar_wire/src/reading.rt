@@ -1,7 +1,10 @@
 ghost use Rattle.std.specs.Prelude.{◌≡◌, ◌↔◌, IsTrue, length, IsSome, MatchResult, IfOk, IfErr, IsOkAnd};
+ghost use Rattle.std.specs.Option.{option_map};
+ghost use Rattle.std.specs.Result.{result_ok};
 ghost use Rattle.bar_wire.specs.Kinds.{is_signed_kind};
 ghost use Rattle.bar_wire.specs.Datagram.{Datagram};
 ghost use Rattle.bar_wire.specs.Grammar.{SpellsDatagram, signature_len};
+ghost use Rattle.bar_wire.specs.Places.{datagram_of};
 ghost use Rattle.bar_wire.specs.Faults.{IsFirstFault};
 ghost use Rattle.bar_wire.specs.Views.{datagram, signature_bytes, IsView};
 
@@ -51,6 +54,8 @@ pub fn decode<'a>(bytes: &'a [u8], shape: &Shape) -> Result<View<'a>, WireFault>
     ensures only { (d : Datagram) → SpellsDatagram shape.now d bytes.now → IsOkAnd result (λ v. datagram shape.now v ≡ d) }
     // A fault is the first that holds.
     ensures fault { IfErr result (IsFirstFault shape.now bytes.now) }
+    // So the answer is the datagram of the bytes.
+    ensures told { option_map (datagram shape.now) (result_ok result) ≡ datagram_of shape.now bytes.now }
 {
     read(bytes, shape)
 }
