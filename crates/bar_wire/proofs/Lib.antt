@@ -16,3 +16,5 @@ pub mod RangeTests
 pub mod ReadBack
 pub mod Told
 pub mod EvidenceReads
+pub mod Writes
+pub mod Written

@@ -1,21 +1,19 @@
 -- The fields of a body are read back from their parts.
-use Rattle.std.proofs.Common.{◌≡◌, ℕ, zero, suc, ◌+◌, ◌*◌, ◌<◌, ◌≤◌, ◌^◌, List, [], ◌∷◌, ◌++◌, length, take, drop, map, refl, sym, ap, subst, ◌∙◌, append_assoc, length-append, arith}
-use Rattle.std.specs.Prelude.{slice_index, sum}
+use Rattle.std.proofs.Common.{◌≡◌, ℕ, suc, ◌<◌, ◌^◌, List, [], ◌∷◌, ◌++◌, length, take, drop, map, refl, sym, ap, ◌∙◌, append_assoc}
+use Rattle.std.specs.Prelude.{sum}
 use Rattle.std.specs.List.{concat, flat_map, AllByRecursion}
 use Rattle.std.specs.Int.{w16, w32, from_be_bytes}
 use Rattle.std.proofs.lemmas.Nat.{from_be_bytes-to_be_bytes_2, from_be_bytes-to_be_bytes_4}
 use Rattle.std.proofs.lemmas.List.{take_at, drop_at, append-nil}
-use Rattle.bar_bytes.specs.Bytes.{u8_bytes, u16_bytes, u32_bytes}
-use Rattle.bar_bytes.proofs.Lengths.{length_u16, length_u32}
+use Rattle.bar_bytes.specs.Bytes.{u16_bytes, u32_bytes}
 use Rattle.bar_window.specs.declared.update.UpdateId.{UpdateId}
 use Rattle.bar_window.specs.declared.exchange.XKind.{XKind}
-use Rattle.bar_window.specs.declared.exchange.XKind.TheVariants as exchanges
-use Rattle.bar_window.specs.Exchange.{kind_code, role_code}
+use Rattle.bar_window.specs.Exchange.{kind_code}
 use Rattle.bar_window.specs.Terms.{Terms, Trade, Offer}
 use Rattle.bar_wire.specs.declared.shape.Shape.{Shape}
-use Rattle.bar_wire.specs.Datagram.{Body, Briefcase, KeyGiven, Manifest, Block, Request, Response, Divulge, Query, Reply, Case, KeyRequest, Key, Evidence, Evict, kind_of}
+use Rattle.bar_wire.specs.Datagram.{Body, Briefcase, Manifest, Block, Request, Response, Divulge, Query, Reply, Case, KeyRequest, Key, Evidence, Evict, kind_of}
 use Rattle.bar_wire.specs.Grammar.{set_bytes, pieces, term_pieces, entry, HasForm, HasTermForm, IsWindowSet}
-use Rattle.bar_wire.specs.Places.{widths, fields_len, window_len, cut, chunks, entries, pairs, kind_from, role_from, set_at, part, number, terms_at, round_body, body_at}
+use Rattle.bar_wire.specs.Places.{widths, fields_len, window_len, cut, chunks, entries, pairs, kind_from, set_at, part, number, terms_at, round_body, body_at}
 use Rattle.bar_wire.proofs.Codes.{kind_back, role_back}
 use Rattle.bar_wire.proofs.Steps.{entries_step, pairs_step}
 use Rattle.bar_wire.proofs.WindowLaws.{length_set}

@@ -1,6 +1,6 @@
 -- The datagram that bytes spell.
-use Rattle.std.proofs.Common.{◌≡◌, ◌↔◌, ℕ, ◌+◌, ◌<◌, ◌^◌, Bool, true, false, ◌&&◌, List, [], ◌∷◌, ◌++◌, length, take, drop, refl, sym, ap, subst, ◌∙◌, append_assoc, length-append, arith}
-use Rattle.std.specs.Prelude.{slice_index, slice_range, bytes_eq, Option, Some, None, Result, Ok, Err, MatchResult, IsOkAnd, IsTrue}
+use Rattle.std.proofs.Common.{◌≡◌, ℕ, ◌+◌, Bool, true, false, ◌&&◌, List, [], ◌∷◌, ◌++◌, length, take, drop, refl, sym, ap, subst, ◌∙◌, append_assoc, length-append, arith}
+use Rattle.std.specs.Prelude.{slice_index, slice_range, bytes_eq, Option, Some, None, Result, Ok, Err, MatchResult}
 use Rattle.std.specs.Bool.{then_some}
 use Rattle.std.specs.Option.{option_and_then, option_map}
 use Rattle.std.specs.Result.{result_ok}
@@ -16,12 +16,11 @@ use Rattle.bar_wire.specs.declared.kind.Kind.{Kind}
 use Rattle.bar_wire.specs.declared.fault.WireFault.{WireFault}
 use Rattle.bar_wire.specs.declared.view.View.{View}
 use Rattle.bar_wire.specs.Kinds.{code_of, kind_at}
-use Rattle.bar_wire.specs.Datagram.{Datagram, Message, Body, kind_of}
-use Rattle.bar_wire.specs.Grammar.{pieces, start, message_bytes, spelling, IsDatagram, SpellsDatagram}
+use Rattle.bar_wire.specs.Datagram.{Datagram, kind_of}
+use Rattle.bar_wire.specs.Grammar.{pieces, start, spelling, SpellsDatagram}
 use Rattle.bar_wire.specs.Ranges.{is_datagram}
 use Rattle.bar_wire.specs.Places.{fields_len, body_at, datagram_at, datagram_of}
 use Rattle.bar_wire.specs.Faults.{IsFirstFault}
-use Rattle.bar_wire.specs.Headers.{IsCut}
 use Rattle.bar_wire.specs.Views.{IsView, datagram}
 use Rattle.bar_wire.proofs.RangeTests.{datagram_tells}
 use Rattle.bar_wire.proofs.ReadBack.{u16_back, body_back, len_back}

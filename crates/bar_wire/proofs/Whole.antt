@@ -133,7 +133,7 @@ cut_of s bytes kind from to rest n has f t is len = record {
 
 -- ---- what is read
 
-start_then : (s : Shape) (kind : Kind) (from to : ℕ) (ps : List (List ℕ)) → concat (start s kind from to ps) ≡ concat (start s kind from to []) ++ concat ps
+pub start_then : (s : Shape) (kind : Kind) (from to : ℕ) (ps : List (List ℕ)) → concat (start s kind from to ps) ≡ concat (start s kind from to []) ++ concat ps
 start_then s kind from to ps = ap (λ (x : List ℕ). 0xba ∷ 0x47 ∷ s.version ∷ code_of kind ∷ x) (three_joined s.id (u16_bytes from) (u16_bytes to) (concat ps))
 
 pub cut_view : (s : Shape) (bytes : List ℕ) (kind : Kind) (from to : ℕ) (fields sig : List ℕ) (f : Body) → IsCut s bytes kind from to fields sig → kind_of f ≡ kind → SpellsBody s f fields → MaySend s kind from to

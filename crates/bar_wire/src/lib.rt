@@ -10,6 +10,7 @@ mod input;
 mod kind;
 mod laws;
 mod lengths;
+mod put;
 mod ranges;
 mod reading;
 mod shape;
@@ -17,6 +18,7 @@ mod split;
 mod terms;
 mod view;
 mod windows;
+mod writing;
 
 pub use evidence::{EvidenceView, split_evidence};
 pub use fault::WireFault;
@@ -29,3 +31,4 @@ pub use laws::{
 pub use reading::decode;
 pub use shape::Shape;
 pub use view::{Body, View};
+pub use writing::encode;
