@@ -32,3 +32,6 @@ pub use reading::decode;
 pub use shape::Shape;
 pub use view::{Body, View};
 pub use writing::encode;
+
+#[cfg(test)]
+mod tests;

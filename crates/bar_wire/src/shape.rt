@@ -16,7 +16,7 @@ pub struct Shape {
     pub life: u8,
     /// How many updates a round has at most.
     pub per_round: u8,
-    /// How many bytes a signature has, at most 65,536.
+    /// How many bytes a signature has.
     pub sig_len: usize,
-    ghost shaped: { IsShape id life sig_len },
+    ghost shaped: { IsShape id life },
 }
