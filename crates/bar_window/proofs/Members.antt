@@ -171,9 +171,17 @@ pub no_members : (w : Window) → ((q : ℕ) → is_set w.words q ≡ false) →
 unfolding members
 no_members w off = ap (map (update_at w.base (round_places w))) (ap (set_places w.words) (omega arith) ∙ none_more w.words 0 (round_places w * w.used) (λ q low. off q))
 
-pub count_members : (w : Window) → length (members w) ≡ length (set_places w.words 1024)
+-- the members by all places: past the rounds none is set
+pub members_run : (w : Window) → members w ≡ map (update_at w.base (round_places w)) (set_places w.words 1024)
 unfolding members
-count_members w =
+members_run w =
     let e : round_places w * w.used + (1024 - round_places w * w.used) ≡ 1024 = omega (arith, w.shaped.few) in
     let off : (q : ℕ) → round_places w * w.used ≤ q → is_set w.words q ≡ false = λ q low. zero_not_set w.words q (w.shaped.zeros (q / 64) (omega (arith, low))) in
-    length-map (set_places w.words (round_places w * w.used)) (update_at w.base (round_places w)) ∙ ap length (sym (none_more w.words (round_places w * w.used) (1024 - round_places w * w.used) off) ∙ ap (set_places w.words) e)
+    ap (map (update_at w.base (round_places w))) (sym (none_more w.words (round_places w * w.used) (1024 - round_places w * w.used) off) ∙ ap (set_places w.words) e)
+
+pub members_used : (w : Window) → members w ≡ map (update_at w.base (round_places w)) (set_places w.words (round_places w * w.used))
+unfolding members
+members_used w = refl
+
+pub count_members : (w : Window) → length (members w) ≡ length (set_places w.words 1024)
+count_members w = ap length (members_run w) ∙ length-map (set_places w.words 1024) (update_at w.base (round_places w))

@@ -54,7 +54,7 @@ rising_places base m p a (suc n) some =
 
 -- ---- round after round
 
-range_join : (a n k : ℕ) → range_with_len a (n + k) ≡ range_with_len a n ++ range_with_len (a + n) k
+pub range_join : (a n k : ℕ) → range_with_len a (n + k) ≡ range_with_len a n ++ range_with_len (a + n) k
 range_join a zero k = let e : a + 0 ≡ a = omega arith in let f : 0 + k ≡ k = omega arith in rw (e, f) refl
 range_join a (suc n) k =
     let e : (a + 1) + n ≡ a + suc n = omega arith in

@@ -12,7 +12,7 @@ pub use blocks::Blocks;
 pub use exchange::{Exchange, Role, XKind};
 pub use terms::Terms;
 pub use update::UpdateId;
-pub use window::Window;
+pub use window::{Listed, Window};
 
 #[cfg(test)]
 mod tests;

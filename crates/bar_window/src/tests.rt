@@ -50,6 +50,12 @@ fn windows_are_sets(rt: HostRuntime) {
     assert!(rt; !ha.has(update(7, 0)));
     assert!(rt; ha.both(&hb).inside(&hb));
     assert!(rt; !ha.inside(&hb));
+    assert!(rt; ha.lies_in(3, 5));
+    assert!(rt; !ha.lies_in(4, 6));
+    let listed = ha.list();
+    assert_eq!(rt; listed.len, 4);
+    let ids = [update(3, 0), update(3, 2), update(5, 1), update(5, 3)];
+    assert_eq!(rt; &listed.ids[..4], ids.as_slice());
 }
 
 #[test]

@@ -1,4 +1,4 @@
-ghost use Rattle.std.specs.Prelude.{◌≡◌, ℕ, ◌+◌, ◌-◌, ◌*◌, ◌/◌, ◌%◌, ◌^◌, ◌<◌, ◌≤◌, List, [], ◌==◌, ◌||◌, ◌≢◌, length, slice_index};
+ghost use Rattle.std.specs.Prelude.{◌≡◌, ℕ, ◌+◌, ◌-◌, ◌*◌, ◌/◌, ◌%◌, ◌^◌, ◌<◌, ◌≤◌, List, [], ◌==◌, ◌&&◌, ◌||◌, ◌≢◌, nat_le, length, slice_index};
 ghost use Rattle.bar_window.specs.Places.{IsShaped, is_set};
 
 use crate::update::UpdateId;
@@ -24,6 +24,13 @@ pub struct Window {
     ghost shaped: { IsShaped base used words },
 }
 
+/// Some updates in order: the first `len` of `ids`. The others mean nothing.
+#[derive(Clone, Copy, Debug)]
+pub struct Listed {
+    pub ids: [UpdateId; 16],
+    pub len: u8,
+}
+
 fn is_set(words: &[u64; WORDS], place: usize) -> bool
     requires { place < 1024 }
     ensures { result ≡ is_set words.now place }
@@ -41,10 +48,16 @@ fn set(words: &mut [u64; WORDS], place: usize)
     words[place / 64] |= 1 << (place % 64);
 }
 
+fn is_between(round: u32, first: u32, last: u32) -> bool
+    ensures { result ≡ (nat_le first round && nat_le round last) }
+{
+    first <= round && round <= last
+}
+
 impl Window {
-    ghost use Rattle.std.specs.Prelude.{◌≡◌, ℕ, ◌+◌, ◌-◌, ◌*◌, ◌<◌, ◌≤◌, ◌||◌, List, [], length, take};
+    ghost use Rattle.std.specs.Prelude.{◌≡◌, ℕ, ◌+◌, ◌-◌, ◌*◌, ◌<◌, ◌≤◌, ◌||◌, List, [], min, length, take};
     ghost use Rattle.bar_window.specs.declared.update.UpdateId.{UpdateId};
-    ghost use Rattle.bar_window.specs.Updates.{same_update, has_update, minus, both, is_inside};
+    ghost use Rattle.bar_window.specs.Updates.{same_update, has_update, minus, both, is_inside, is_of_rounds};
     ghost use Rattle.bar_window.specs.Window.{members, round_words, HasRoom, IsAligned, IsWindowOf};
     ghost use Rattle.bar_window.specs.WindowBytes.{window_bytes};
 
@@ -146,6 +159,37 @@ impl Window {
             used: self.used,
             words,
         }
+    }
+
+    /// The first sixteen updates in order, or all where there are fewer.
+    pub fn list(&self) -> Listed
+        ensures len { result.len ≡ min 16 (length (members self.now)) }
+        ensures ids { take result.len result.ids ≡ take 16 (members self.now) }
+    {
+        let mut ids = [UpdateId { round: 0, index: 0 }; 16];
+        let mut len = 0;
+        for place in 0..PLACES {
+            if len < 16 && is_set(&self.words, place) {
+                ids[usize::from(len)] = UpdateId {
+                    round: self.base + (place / ROUND_PLACES) as u32,
+                    index: (place % ROUND_PLACES) as u8,
+                };
+                len += 1;
+            }
+        }
+        Listed { ids, len }
+    }
+
+    /// Whether each update is of one of the rounds `first` to `last`.
+    pub fn lies_in(&self, first: u32, last: u32) -> bool
+        ensures { result ≡ is_of_rounds first last (members self.now) }
+    {
+        for row in 0..usize::from(self.used) {
+            if self.words[row] != 0 && !is_between(self.base + row as u32, first, last) {
+                return false;
+            }
+        }
+        true
     }
 
     /// How many updates are in the set, at most 1,024.
