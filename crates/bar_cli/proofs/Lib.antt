@@ -1,2 +1,9 @@
 pub mod ReplayLemmas
 pub mod Rows
+pub mod KeyLemmas
+pub mod KeepLemmas
+pub mod AdmitLemmas
+pub mod PlayLemmas
+pub mod TakeLemmas
+pub mod ReadingLemmas
+pub mod PlayedSoFar

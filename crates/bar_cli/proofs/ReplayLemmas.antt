@@ -12,8 +12,7 @@ use Rattle.bar_outside.specs.Plan.{Action, Begun, CanRun, IsPartOf, content_afte
 use Rattle.bar_outside.specs.Plan.Action.{read, create, append, show}
 use Rattle.bar_outside.proofs.Contents.{put_at-same, put_at-other, put_at-there, appended-same, appended-other, appended-stays}
 use Rattle.bar_outside.proofs.ActionLists.{content_after-append, Begun-cons, Begun-none}
-use Rattle.bar_cli.specs.Replay.{Input, SessionRecord, played_at}
-use Rattle.bar_cli.specs.ReplayPlan.{ReplayFiles, contents_from, turn, turns, played_bytes, replay_actions}
+use Rattle.bar_cli.specs.ReplayPlan.{ReplayFiles, turn, turns, played_bytes, replay_actions}
 
 map-append : {A B : Type 0} (f : A → B) (xs ys : List A) → map f (xs ++ ys) ≡ map f xs ++ map f ys
 map-append f [] ys = refl
@@ -41,37 +40,8 @@ turn-split played pieces i piece h is =
     ∙ turn-append played (map (λ content. content.items) (take (i + 1) pieces)) (map (λ content. content.items) (drop (i + 1) pieces))
     ∙ ap (λ xs. xs ++ turn played (map (λ content. content.items) (drop (i + 1) pieces))) (turn-next played pieces i piece h is)
 
--- what one input more plays
-pub contents_from-append : (session : SessionRecord) (party : ℕ) (before xs ys : List Input) →
-    contents_from session party before (xs ++ ys) ≡ contents_from session party before xs ++ contents_from session party (before ++ xs) ys
-contents_from-append session party before [] ys = ap (λ zs. contents_from session party zs ys) (sym (append-nil before))
-contents_from-append session party before (x ∷ xs) ys =
-    ap (λ zs. played_at session party before x ∷ zs)
-    (contents_from-append session party (before ++ x ∷ []) xs ys ∙ ap (λ zs. contents_from session party (before ++ x ∷ []) xs ++ contents_from session party zs ys) (append_assoc before (x ∷ []) xs))
-
 pub turns-append : (played : List ℕ) (xs ys : List (List (List ℕ))) → turns played (xs ++ ys) ≡ turns played xs ++ turns played ys
 turns-append played xs ys = flat_map-append (turn played) xs ys
-
--- the turns of the inputs so far, and of the next one
-pub turns-next : (session : SessionRecord) (party : ℕ) (played : List ℕ) (inputs : List Input) (i : ℕ) (any : Input) → i < length inputs →
-    turns played (contents_from session party [] (take (i + 1) inputs)) ≡
-    turns played (contents_from session party [] (take i inputs)) ++ turn played (played_at session party (take i inputs) (get_or inputs i any))
-turns-next session party played inputs i any h =
-    ap (λ xs. turns played (contents_from session party [] xs)) (take_more inputs i any h)
-    ∙ ap (turns played) (contents_from-append session party [] (take i inputs) (get_or inputs i any ∷ []))
-    ∙ turns-append played (contents_from session party [] (take i inputs)) (played_at session party (take i inputs) (get_or inputs i any) ∷ [])
-    ∙ ap (λ xs. turns played (contents_from session party [] (take i inputs)) ++ xs) (append-nil (turn played (played_at session party (take i inputs) (get_or inputs i any))))
-
--- all turns: those before, this one, and those behind it
-pub turns-split : (session : SessionRecord) (party : ℕ) (played : List ℕ) (inputs : List Input) (i : ℕ) (any : Input) → i < length inputs →
-    turns played (contents_from session party [] inputs) ≡
-    (turns played (contents_from session party [] (take i inputs)) ++ turn played (played_at session party (take i inputs) (get_or inputs i any)))
-    ++ turns played (contents_from session party (take (i + 1) inputs) (drop (i + 1) inputs))
-turns-split session party played inputs i any h =
-    ap (λ xs. turns played (contents_from session party [] xs)) (sym (take-append-drop (i + 1) inputs))
-    ∙ ap (turns played) (contents_from-append session party [] (take (i + 1) inputs) (drop (i + 1) inputs))
-    ∙ turns-append played (contents_from session party [] (take (i + 1) inputs)) (contents_from session party (take (i + 1) inputs) (drop (i + 1) inputs))
-    ∙ ap (λ xs. xs ++ turns played (contents_from session party (take (i + 1) inputs) (drop (i + 1) inputs))) (turns-next session party played inputs i any h)
 
 can-turn : (played : List ℕ) (contents : List (List ℕ)) (rest : List Action) (content : Content) → IsSome (content played) →
     ((c : Content) → IsSome (c played) → CanRun rest c) → CanRun (turn played contents ++ rest) content

@@ -9,8 +9,9 @@ use Rattle.bar_outside.specs.Ends.{Ends, EndsWith, Carried}
 use Rattle.bar_cli.specs.Status.{code_of, is_status}
 use Rattle.bar_cli.specs.declared.status.Status.{Status}
 use Rattle.bar_cli.specs.declared.status.Status.TheVariants.{Done, Usage, FileFailed, SessionRefused, OutputFailed, InputRefused, NoMemory}
-use Rattle.bar_cli.specs.Replay.{SessionRecord, RecordingRecord, session_of, recording_of}
-use Rattle.bar_cli.specs.ReplayPlan.{ReplayFiles, Accepted, Replayed, PlayedFront, IsReplayCall, turn, turns, played_bytes, replay_plan, recording_plan, run_plan, replay_actions, contents_of, session_refused, input_refused}
+use Rattle.bar_roster.specs.SessionText.{SessionData}
+use Rattle.bar_cli.specs.Replay.{Recorded, session_of, recording_of, contents_of}
+use Rattle.bar_cli.specs.ReplayPlan.{ReplayFiles, Accepted, Replayed, PlayedFront, IsReplayCall, turn, turns, played_bytes, replay_plan, recording_plan, run_plan, replay_actions, session_refused, input_refused}
 use Rattle.bar_cli.proofs.ReplayLemmas.{final-played, final-other, front-turns}
 use Rattle.bar_outside.proofs.Contents.{put_at-same}
 use Rattle.bar_outside.proofs.ActionLists.{Begun-none, Begun-read, Begun-create}
@@ -29,7 +30,7 @@ not-usage NoMemory other e = absurd (omega arith)
 abbrev session_then : ReplayFiles → List ℕ → Content → Plan
 session_then names text = accepting (session_of text) (recording_plan names) (ending 4 session_refused)
 
-abbrev recording_then : ReplayFiles → SessionRecord → List ℕ → Content → Plan
+abbrev recording_then : ReplayFiles → SessionData → List ℕ → Content → Plan
 recording_then names session bytes = accepting (recording_of session bytes) (run_plan names session) (ending 8 input_refused)
 
 -- the plan of a replay, in each of its five cases
@@ -52,9 +53,9 @@ accepted_plan names content a = before (read names.session) (before (read names.
 pub data Case (names : ReplayFiles) (content : Content) : Type 0 where
   no_session : readable content names.session ≡ None → replay_plan names content ≡ no_session_plan names → Case names content
   refused_session : (text : List ℕ) → readable content names.session ≡ Some text → session_of text ≡ None → replay_plan names content ≡ refused_session_plan names content → Case names content
-  no_recording : (text : List ℕ) (session : SessionRecord) → readable content names.session ≡ Some text → session_of text ≡ Some session → readable content names.recording ≡ None →
+  no_recording : (text : List ℕ) (session : SessionData) → readable content names.session ≡ Some text → session_of text ≡ Some session → readable content names.recording ≡ None →
       replay_plan names content ≡ no_recording_plan names → Case names content
-  refused_recording : (text : List ℕ) (session : SessionRecord) (bytes : List ℕ) → readable content names.session ≡ Some text → session_of text ≡ Some session →
+  refused_recording : (text : List ℕ) (session : SessionData) (bytes : List ℕ) → readable content names.session ≡ Some text → session_of text ≡ Some session →
       readable content names.recording ≡ Some bytes → recording_of session bytes ≡ None → replay_plan names content ≡ refused_recording_plan names content → Case names content
   all_accepted : (a : Accepted names content) → replay_plan names content ≡ accepted_plan names content a → Case names content
 
@@ -62,33 +63,33 @@ module _ (names : ReplayFiles) (content : Content) where
   at-session : (o : Option (List ℕ)) → readable content names.session ≡ o → replay_plan names content ≡ read_then names.session (session_then names) content o
   at-session o e = ap (read_then names.session (session_then names) content) e
 
-  at-text : (text : List ℕ) (o : Option SessionRecord) → readable content names.session ≡ Some text → session_of text ≡ o →
+  at-text : (text : List ℕ) (o : Option SessionData) → readable content names.session ≡ Some text → session_of text ≡ o →
       replay_plan names content ≡ before (read names.session) (accepting o (recording_plan names) (ending 4 session_refused) content)
   at-text text o e f = at-session (Some text) e ∙ ap (λ x. before (read names.session) (accepting x (recording_plan names) (ending 4 session_refused) content)) f
 
-  at-recording : (text : List ℕ) (session : SessionRecord) (o : Option (List ℕ)) → readable content names.session ≡ Some text → session_of text ≡ Some session → readable content names.recording ≡ o →
+  at-recording : (text : List ℕ) (session : SessionData) (o : Option (List ℕ)) → readable content names.session ≡ Some text → session_of text ≡ Some session → readable content names.recording ≡ o →
       replay_plan names content ≡ before (read names.session) (read_then names.recording (recording_then names session) content o)
   at-recording text session o e f g = at-text text (Some session) e f ∙ ap (λ x. before (read names.session) (read_then names.recording (recording_then names session) content x)) g
 
-  at-bytes : (text : List ℕ) (session : SessionRecord) (bytes : List ℕ) (o : Option RecordingRecord) → readable content names.session ≡ Some text → session_of text ≡ Some session →
+  at-bytes : (text : List ℕ) (session : SessionData) (bytes : List ℕ) (o : Option Recorded) → readable content names.session ≡ Some text → session_of text ≡ Some session →
       readable content names.recording ≡ Some bytes → recording_of session bytes ≡ o →
       replay_plan names content ≡ before (read names.session) (before (read names.recording) (accepting o (run_plan names session) (ending 8 input_refused) content))
   at-bytes text session bytes o e f g h =
       at-recording text session (Some bytes) e f g ∙ ap (λ x. before (read names.session) (before (read names.recording) (accepting x (run_plan names session) (ending 8 input_refused) content))) h
 
-  case-bytes : (text : List ℕ) (session : SessionRecord) (bytes : List ℕ) (o : Option RecordingRecord) → readable content names.session ≡ Some text → session_of text ≡ Some session →
+  case-bytes : (text : List ℕ) (session : SessionData) (bytes : List ℕ) (o : Option Recorded) → readable content names.session ≡ Some text → session_of text ≡ Some session →
       readable content names.recording ≡ Some bytes → recording_of session bytes ≡ o → Case names content
   case-bytes text session bytes None e f g h = refused_recording text session bytes e f g h (at-bytes text session bytes None e f g h)
   case-bytes text session bytes (Some recording) e f g h =
       all_accepted (record { text = text; session = session; bytes = bytes; recording = recording; session_read = e; session_is = f; recording_read = g; recording_is = h })
       (at-bytes text session bytes (Some recording) e f g h)
 
-  case-recording : (text : List ℕ) (session : SessionRecord) (o : Option (List ℕ)) → readable content names.session ≡ Some text → session_of text ≡ Some session →
+  case-recording : (text : List ℕ) (session : SessionData) (o : Option (List ℕ)) → readable content names.session ≡ Some text → session_of text ≡ Some session →
       readable content names.recording ≡ o → Case names content
   case-recording text session None e f g = no_recording text session e f g (at-recording text session None e f g)
   case-recording text session (Some bytes) e f g = case-bytes text session bytes (recording_of session bytes) e f g refl
 
-  case-text : (text : List ℕ) (o : Option SessionRecord) → readable content names.session ≡ Some text → session_of text ≡ o → Case names content
+  case-text : (text : List ℕ) (o : Option SessionData) → readable content names.session ≡ Some text → session_of text ≡ o → Case names content
   case-text text None e f = refused_session text e f (at-text text None e f)
   case-text text (Some session) e f = case-recording text session (readable content names.recording) e f refl
 
@@ -124,6 +125,30 @@ replayed names old new ends told = by_case (case_of names old.files.content) (en
           played = ap (λ holds. holds names.played) ran.files ∙ final-played names (contents_of a.session a.recording) old.files.content;
           others = λ q differs. ap (λ holds. holds q) ran.files ∙ final-other names (contents_of a.session a.recording) old.files.content q differs;
         }
+
+four-8 : ◌≡◌ {A = ℕ} 8 4 → ⊥
+four-8 e = absurd (omega arith)
+
+three-8 : ◌≡◌ {A = ℕ} 8 3 → ⊥
+three-8 e = absurd (omega arith)
+
+none-8 : ◌≡◌ {A = ℕ} 8 0 → ⊥
+none-8 e = absurd (omega arith)
+
+-- 8 comes only where the session is accepted, and the recording is refused
+pub refused-input : (names : ReplayFiles) (old new : World) → Ends (replay_plan names) old new 8 → IsTrue old.files.told →
+    (text : List ℕ) × (session : SessionData) × (bytes : List ℕ) × (readable old.files.content names.session ≡ Some text) × (session_of text ≡ Some session)
+    × (readable old.files.content names.recording ≡ Some bytes) × (recording_of session bytes ≡ None)
+refused-input names old new ends told = by_case (case_of names old.files.content) (ends.carried told refl)
+  where
+    by_case : Case names old.files.content → Carried (replay_plan names old.files.content) old new 8 →
+        (text : List ℕ) × (session : SessionData) × (bytes : List ℕ) × (readable old.files.content names.session ≡ Some text) × (session_of text ≡ Some session)
+        × (readable old.files.content names.recording ≡ Some bytes) × (recording_of session bytes ≡ None)
+    by_case (no_session e plan) c = absurd (three-8 (c.is ∙ ap (λ (p : Plan). p.status) plan))
+    by_case (refused_session text e f plan) c = absurd (four-8 (c.is ∙ ap (λ (p : Plan). p.status) plan))
+    by_case (no_recording text session e f k plan) c = absurd (three-8 (c.is ∙ ap (λ (p : Plan). p.status) plan))
+    by_case (refused_recording text session bytes e f k l plan) c = (text, session, bytes, e, f, k, l)
+    by_case (all_accepted a plan) c = absurd (none-8 (c.is ∙ ap (λ (p : Plan). p.status) plan))
 
 named-turn : (names : ReplayFiles) (contents : List (List ℕ)) (rest : List Action) (call : Failure) → Names (turn names.played contents ++ rest) call →
     (IsReplayCall names call) ⊎ Names rest call

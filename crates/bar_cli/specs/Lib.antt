@@ -1,6 +1,7 @@
 pub mod Replay
-pub mod Core
 pub mod ReplayPlan
 pub mod Line
 pub mod Views
 pub mod Status
+pub mod Represents
+pub mod Recordings

@@ -1,28 +1,48 @@
--- What a session's text and a recording spell, and what a peer plays (stand-ins).
-use Rattle.std.specs.Prelude.{ℕ, List, [], ◌∷◌, Option, None, Some, nat_le, if◌then◌else◌, slice_get}
-use Rattle.std.specs.Option.{option_and_then}
-
--- what a peer takes
-abbrev pub Input : Type 0
-Input = ℕ
-
-pub record SessionRecord : Type 0 where
-  pub peers : ℕ
+-- What a session's text and a recording spell, and what a listening peer plays.
+use Rattle.std.specs.Prelude.{ℕ, ◌+◌, List, [], ◌∷◌, Bool, true, ◌&&◌, nat_le, nat_lt, drop, Option, Some, None, option_and_then, if◌then◌else◌}
+use Rattle.std.specs.Result.{result_ok}
+use Rattle.bar_wire.specs.Inputs.{Input, Tick, Came}
+use Rattle.bar_roster.specs.SessionText.{SessionData}
+use Rattle.bar_roster.specs.SessionText as text
+use Rattle.bar_record.specs.Recording.{len_at}
+use Rattle.bar_record.specs.Recording as entries
+use Rattle.bar_rules.specs.Member.{Member, last_tick}
+use Rattle.bar_rules.specs.Run as run
 
 -- whose recording it is, and its inputs in order
-pub record RecordingRecord : Type 0 where
+pub record Recorded : Type 0 where
   pub party : ℕ
   pub inputs : List Input
 
 -- the session that a text spells, if it spells one
-unfoldable pub session_of : List ℕ → Option SessionRecord
-session_of text = option_and_then (λ peers. if nat_le 2 peers then Some (record { peers = peers }) else None) (slice_get text 0)
+unfoldable pub session_of : List ℕ → Option SessionData
+session_of bytes = result_ok (text.session_of bytes)
 
--- the recording that bytes spell under a session, if they spell one
-unfoldable pub recording_of : SessionRecord → List ℕ → Option RecordingRecord
-recording_of session bytes =
-    option_and_then (λ party. if nat_le party session.peers then Some (record { party = party; inputs = bytes }) else None) (slice_get bytes 0)
+-- no more than 65,536 datagrams stand in a row, where so many stand before these inputs
+abbrev pub runs_fit : ℕ → List Input → Bool
+runs_fit before [] = true
+runs_fit before (Tick ∷ inputs) = runs_fit 0 inputs
+runs_fit before (Came bytes ∷ inputs) = nat_lt before 65536 && runs_fit (before + 1) inputs
 
--- the contents that a party plays at an input, after the inputs before it
-unfoldable pub played_at : SessionRecord → ℕ → List Input → Input → List (List ℕ)
-played_at session party before input = (input ∷ party ∷ []) ∷ []
+-- the party that the head of a recording names
+abbrev pub party_at : List ℕ → ℕ
+party_at bytes = len_at (drop 13 bytes)
+
+abbrev pub paced : ℕ → List Input → Option Recorded
+paced party inputs = if runs_fit 0 inputs then Some (record { party = party; inputs = inputs }) else None
+
+abbrev pub recorded_by : SessionData → List ℕ → ℕ → Option Recorded
+recorded_by s bytes party =
+    if nat_le 1 party && nat_le party s.shape.peers
+    then option_and_then (paced party) (result_ok (entries.recording_of s.shape.id party (last_tick s) bytes)) else None
+
+-- the recording that bytes spell under a session, if they spell one: that of the peer whom its head names
+unfoldable pub recording_of : SessionData → List ℕ → Option Recorded
+recording_of s bytes = recorded_by s bytes (party_at bytes)
+
+abbrev pub member_of : SessionData → ℕ → Member
+member_of s party = record { session = s; party = party }
+
+-- the contents that each input plays
+abbrev pub contents_of : SessionData → Recorded → List (List (List ℕ))
+contents_of s recording = run.contents_of (member_of s recording.party) [] recording.inputs

@@ -5,7 +5,8 @@ use Rattle.bar_outside.specs.Disk.{Content, Failure, readable}
 use Rattle.bar_outside.specs.declared.files.CallKind.TheVariants.{Read, Create, Append}
 use Rattle.bar_outside.specs.Plan.{World, Action, Plan, reading, accepting, ending, doing}
 use Rattle.bar_outside.specs.Plan.Action.{create, append}
-use Rattle.bar_cli.specs.Replay.{Input, SessionRecord, RecordingRecord, session_of, recording_of, played_at}
+use Rattle.bar_roster.specs.SessionText.{SessionData}
+use Rattle.bar_cli.specs.Replay.{Recorded, session_of, recording_of, contents_of}
 
 -- the files of a replay
 pub record ReplayFiles : Type 0 where
@@ -14,15 +15,6 @@ pub record ReplayFiles : Type 0 where
   pub recording : List ℕ
   pub played : List ℕ
   pub found : List ℕ
-
--- the contents that each input plays, after those before it
-abbrev pub contents_from : SessionRecord → ℕ → List Input → List Input → List (List (List ℕ))
-contents_from session party before [] = []
-contents_from session party before (input ∷ others) =
-    played_at session party before input ∷ contents_from session party (before ++ input ∷ []) others
-
-abbrev pub contents_of : SessionRecord → RecordingRecord → List (List (List ℕ))
-contents_of session recording = contents_from session recording.party [] recording.inputs
 
 -- the contents of one input are appended in order, and so those of all inputs
 abbrev pub turn : List ℕ → List (List ℕ) → List Action
@@ -45,11 +37,11 @@ input_refused = codes "bar: input refused" ++ 10 ∷ []
 abbrev pub replay_actions : ReplayFiles → List (List (List ℕ)) → List Action
 replay_actions names contents = create names.played ∷ turns names.played contents
 
-abbrev pub run_plan : ReplayFiles → SessionRecord → RecordingRecord → Content → Plan
+abbrev pub run_plan : ReplayFiles → SessionData → Recorded → Content → Plan
 run_plan names session recording = doing (replay_actions names (contents_of session recording)) 0 []
 
 -- the recording is read, and accepted or refused
-abbrev pub recording_plan : ReplayFiles → SessionRecord → Content → Plan
+abbrev pub recording_plan : ReplayFiles → SessionData → Content → Plan
 recording_plan names session =
     reading names.recording (λ bytes. accepting (recording_of session bytes) (run_plan names session) (ending 8 input_refused))
 
@@ -61,9 +53,9 @@ replay_plan names =
 -- the session and the recording are there and accepted
 pub record Accepted (names : ReplayFiles) (content : Content) : Type 0 where
   pub text : List ℕ
-  pub session : SessionRecord
+  pub session : SessionData
   pub bytes : List ℕ
-  pub recording : RecordingRecord
+  pub recording : Recorded
   pub session_read : readable content names.session ≡ Some text
   pub session_is : session_of text ≡ Some session
   pub recording_read : readable content names.recording ≡ Some bytes

@@ -6,7 +6,8 @@ ghost use Rattle.bar_outside.specs.Follows.{IsReliable};
 ghost use Rattle.bar_outside.specs.Plan.{World, is_stop, ending, line_at};
 ghost use Rattle.bar_outside.specs.Ends.{Ends};
 ghost use Rattle.bar_cli.specs.Line.{usage};
-ghost use Rattle.bar_cli.specs.Replay.{SessionRecord, session_of, recording_of};
+ghost use Rattle.bar_roster.specs.SessionText.{SessionData};
+ghost use Rattle.bar_cli.specs.Replay.{session_of, recording_of};
 ghost use Rattle.bar_cli.specs.ReplayPlan.{ReplayFiles, Accepted, Replayed, PlayedFront, IsReplayCall, replay_plan, session_refused, input_refused};
 
 /// 0 comes exactly where both files are accepted, but for a fault or want of memory; then all inputs were played.
@@ -31,7 +32,7 @@ pub fn file_failed_only()
         Rose old.files.faults new.files.faults × IsSomeAnd new.files.failed (IsReplayCall names) }
     ensures no_session { (names : ReplayFiles) (old new : World) (status : ℕ) → Ends (replay_plan names) old new status → IsTrue old.files.told →
         readable old.files.content names.session ≡ None → is_stop status ≡ true }
-    ensures no_recording { (names : ReplayFiles) (old new : World) (status : ℕ) (text : List ℕ) (session : SessionRecord) →
+    ensures no_recording { (names : ReplayFiles) (old new : World) (status : ℕ) (text : List ℕ) (session : SessionData) →
         Ends (replay_plan names) old new status → IsTrue old.files.told →
         readable old.files.content names.session ≡ Some text → session_of text ≡ Some session →
         readable old.files.content names.recording ≡ None → is_stop status ≡ true }
@@ -48,9 +49,9 @@ pub fn session_refused_exactly()
 /// 8 comes exactly where the session is accepted, and the recording is there and refused, but for a fault or want of memory.
 pub fn input_refused_exactly()
     ensures only { (names : ReplayFiles) (old new : World) → Ends (replay_plan names) old new 8 → IsTrue old.files.told →
-        (text : List ℕ) × (session : SessionRecord) × (bytes : List ℕ) × (readable old.files.content names.session ≡ Some text) × (session_of text ≡ Some session)
+        (text : List ℕ) × (session : SessionData) × (bytes : List ℕ) × (readable old.files.content names.session ≡ Some text) × (session_of text ≡ Some session)
         × (readable old.files.content names.recording ≡ Some bytes) × (recording_of session bytes ≡ None) }
-    ensures then { (names : ReplayFiles) (old new : World) (status : ℕ) (text : List ℕ) (session : SessionRecord) (bytes : List ℕ) →
+    ensures then { (names : ReplayFiles) (old new : World) (status : ℕ) (text : List ℕ) (session : SessionData) (bytes : List ℕ) →
         Ends (replay_plan names) old new status → IsTrue old.files.told →
         readable old.files.content names.session ≡ Some text → session_of text ≡ Some session →
         readable old.files.content names.recording ≡ Some bytes → recording_of session bytes ≡ None → (status ≡ 8) ⊎ (is_stop status ≡ true) }

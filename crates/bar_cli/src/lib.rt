@@ -1,12 +1,18 @@
 //! The commands of the program, over an outside that is handed in.
 #![tactic(auto)]
 
+mod admits;
+mod genuine;
+mod keeps;
 mod laws;
 mod line;
+mod listener;
+mod plays;
+mod reading;
 mod replay;
 mod run;
 mod status;
-mod stub;
+mod takes;
 #[cfg(test)]
 mod tests;
 

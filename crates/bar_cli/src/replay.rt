@@ -5,16 +5,27 @@ ghost use Rattle.bar_outside.specs.Plan.{world};
 ghost use Rattle.bar_outside.specs.Plan.Action.{create};
 ghost use Rattle.bar_outside.specs.Follows.{Follows};
 ghost use Rattle.bar_outside.specs.Ends.{EndsWith};
-ghost use Rattle.bar_cli.specs.Replay.{Input, SessionRecord, played_at};
-ghost use Rattle.bar_cli.specs.ReplayPlan.{turn, turns, contents_from, contents_of, replay_actions, recording_plan, replay_plan};
-ghost use Rattle.bar_cli.specs.Core.{session_view, recording_view, contents, IsAfter};
+ghost use Rattle.bar_record.specs.Inputs.{inputs_left};
+ghost use Rattle.bar_wire.specs.Inputs.{plain_input};
+ghost use Rattle.bar_rules.specs.Member.{Member};
+ghost use Rattle.bar_rules.specs.Log.{Log};
+ghost use Rattle.bar_rules.specs.Run.{step};
+ghost use Rattle.bar_rules.specs.Run as run;
+ghost use Rattle.bar_cli.specs.Represents.{Represents};
+ghost use Rattle.bar_cli.specs.Recordings.{recording_view};
+ghost use Rattle.bar_cli.specs.Replay.{contents_of};
+ghost use Rattle.bar_cli.specs.ReplayPlan.{turn, turns, recording_plan, replay_plan};
 ghost use Rattle.bar_cli.specs.Status.{code_of_run, said_by_run};
 ghost use Rattle.bar_cli.specs.Views.{names_view};
 
 use crate::line::ReplayNames;
+use crate::listener::Listener;
+use crate::reading::{ReadFault, Recording, read_recording, read_session};
 use crate::status::Status;
-use crate::stub::{Core, ReadFault, Recording, Session, read_recording, read_session};
 use bar_outside::{Fault, Files, append_file, create_file, read_file};
+use bar_record::Items;
+use bar_roster::Session;
+use bar_wire::Input;
 use std::alloc::Global;
 
 /// Reads the session and goes on, if it is accepted.
@@ -28,8 +39,8 @@ pub fn replay<F: Files>(
     ensures no_usage { IfOk result (λ status. status ≢ Status.Usage) }
 {
     let text = read_file(files, names.session)?;
-    match read_session(&text) {
-        Ok(session) => replay_session(alloc, &session, names, files),
+    match read_session(alloc, &text) {
+        Ok(session) => replay_session(alloc, session, names, files),
         Err(ReadFault::Refused) => Ok(Status::SessionRefused),
         Err(ReadFault::NoMemory) => Err(Fault::NoMemory),
     }
@@ -38,54 +49,52 @@ pub fn replay<F: Files>(
 // Reads the recording and goes on, if it is accepted.
 fn replay_session<F: Files>(
     alloc: Global,
-    session: &Session,
+    session: Session,
     names: &ReplayNames<'_>,
     files: &mut F,
 ) -> Result<Status, Fault>
-    ensures ends { (out : Stream) → EndsWith (recording_plan (names_view names.now) (session_view session.now))
+    ensures ends { (out : Stream) → EndsWith (recording_plan (names_view names.now) session)
         (world (F.disk files.old) out) (world (F.disk files.new) out) (code_of_run result) (said_by_run result) }
     ensures no_usage { IfOk result (λ status. status ≢ Status.Usage) }
 {
     let bytes = read_file(files, names.recording)?;
-    match read_recording(alloc, session, &bytes) {
-        Ok(recording) => {
-            replay_recording(alloc, session, &recording, files, names.played)?;
-            Ok(Status::Done)
-        }
-        Err(ReadFault::Refused) => Ok(Status::InputRefused),
-        Err(ReadFault::NoMemory) => Err(Fault::NoMemory),
-    }
+    let Some(recording) = read_recording(&session, &bytes) else {
+        return Ok(Status::InputRefused);
+    };
+    replay_recording(alloc, session, recording, files, names.played)?;
+    Ok(Status::Done)
 }
 
 // Creates the played file, and plays all inputs.
 fn replay_recording<F: Files>(
     alloc: Global,
-    session: &Session,
-    recording: &Recording,
+    session: Session,
+    recording: Recording<'_>,
     files: &mut F,
     played: &str,
 ) -> Result<(), Fault>
-    ensures { (out : Stream) → Follows (create played.now ∷ turns played.now (contents_of (session_view session.now) (recording_view recording.now)))
+    ensures { (out : Stream) → Follows (create played.now ∷ turns played.now (contents_of session (recording_view recording.entry)))
         (world (F.disk files.old) out) (world (F.disk files.new) out) result }
 {
     create_file(files, played)?;
-    let mut core = Core::start(session, recording.party);
-    play_inputs(alloc, &mut core, &recording.inputs, files, played)
+    let mut listener = Listener::start(alloc, session, recording.party);
+    play_inputs(alloc, &mut listener, recording.items, files, played)
 }
 
 // Plays inputs, in order.
 fn play_inputs<F: Files>(
     alloc: Global,
-    core: &mut Core,
-    inputs: &[u8],
+    listener: &mut Listener,
+    items: Items<'_>,
     files: &mut F,
     played: &str,
 ) -> Result<(), Fault>
-    ensures { (session : SessionRecord) (party : ℕ) → IsAfter session party [] core.old → (out : Stream) → Follows (turns played.now (contents_from session party [] inputs.now))
-        (world (F.disk files.old) out) (world (F.disk files.new) out) result }
+    ensures { (me : Member) (log : Log) → Represents me log listener.old → (out : Stream)
+        → Follows (turns played.now (run.contents_of me log (inputs_left items.entry)))
+            (world (F.disk files.old) out) (world (F.disk files.new) out) result }
 {
-    for input in inputs {
-        play_input(alloc, core, *input, files, played)?;
+    for input in items {
+        play_input(alloc, listener, input, files, played)?;
     }
     Ok(())
 }
@@ -93,18 +102,19 @@ fn play_inputs<F: Files>(
 // Takes an input, and appends the contents that it plays.
 fn play_input<F: Files>(
     alloc: Global,
-    core: &mut Core,
-    input: u8,
+    listener: &mut Listener,
+    input: Input<'_>,
     files: &mut F,
     played: &str,
 ) -> Result<(), Fault>
-    ensures follows { (session : SessionRecord) (party : ℕ) (before : List Input) → IsAfter session party before core.old → (out : Stream) →
-        Follows (turn played.now (played_at session party before input)) (world (F.disk files.old) out) (world (F.disk files.new) out) result }
-    ensures after { (session : SessionRecord) (party : ℕ) (before : List Input) → IsAfter session party before core.old →
-        OnOk result (IsAfter session party (before ++ input ∷ []) core.new) }
+    ensures follows { (me : Member) (log : Log) → Represents me log listener.old → (out : Stream)
+        → Follows (turn played.now (step me log (plain_input input.entry)).contents)
+            (world (F.disk files.old) out) (world (F.disk files.new) out) result }
+    ensures after { (me : Member) (log : Log) → Represents me log listener.old
+        → OnOk result (Represents me (step me log (plain_input input.entry)).log listener.new) }
 {
-    let pieces = core.step(alloc, input)?;
-    append_all(files, played, &pieces)
+    let contents = listener.take(alloc, input)?;
+    append_all(files, played, &contents)
 }
 
 // Appends contents, in order.

@@ -1,4 +1,4 @@
-use Rattle.std.proofs.Common.{Result, Ok, Err, OnOk}
+use Rattle.std.proofs.Common.{Result, Ok, Err, OnOk, ◌≡◌, sym}
 use Rattle.bar_cli.proofs.replay.play_input.Goals as goal
 
 -- what holds at all, holds at Ok
@@ -7,7 +7,7 @@ on_ok (Ok x) P p = p
 on_ok (Err e) P p = tt
 
 pub returns-clause-follows : goal.returns-clause-follows
-returns-clause-follows g c = λ session party before after out. rw (← c.in_ok-pieces.ensures.played session party before after, ← c.deref.ensures.value) (c.append_all.ensures out)
+returns-clause-follows g c = λ me log stands out. rw (← c.in_ok-contents.ensures.contents me log stands, ← c.deref.ensures.value) (c.append_all.ensures out)
 
 pub returns-clause-after : goal.returns-clause-after
-returns-clause-after g c = λ session party before after. on_ok c.append_all.result _ (c.in_ok-pieces.ensures.after session party before after)
+returns-clause-after g c = λ me log stands. on_ok c.append_all.result _ (c.in_ok-contents.ensures.after me log stands)

@@ -1,0 +1,15 @@
+use Rattle.std.proofs.Common.{◌≡◌, ◌∙◌, ◌+◌, refl, sym, ap, true, false, nat_lt}
+use Rattle.bar_rules.specs.Member.{is_alive}
+use Rattle.bar_rules.specs.Log.{round_now}
+use Rattle.bar_cli.proofs.listener.Listener.may_hold.Goals as goal
+
+pub returns-then-not-has_digest : goal.returns-then-not-has_digest
+returns-then-not-has_digest c me log from to h = rw (sym (c.has_digest.ensures me log h) ∙ c.if-not-has_digest.true) refl
+
+pub returns-then-is_held : goal.returns-then-is_held
+returns-then-is_held c me log from to h =
+    rw (sym (c.has_digest.ensures me log h) ∙ c.if-not-has_digest.false, sym (c.is_held.ensures me log h) ∙ c.if-is_held.true) refl
+
+pub returns : goal.returns
+returns c me log from to h =
+    rw (sym (c.has_digest.ensures me log h) ∙ c.if-not-has_digest.false, sym (c.is_held.ensures me log h) ∙ c.if-is_held.false) (c.is_alive.ensures me log h)

@@ -1,0 +1,81 @@
+-- Recordings: a head, an entry for each input, and an end.
+use Rattle.std.specs.Prelude.{ℕ, zero, suc, ◌+◌, ◌*◌, nat_le, ◌==◌, List, [], ◌∷◌, ◌++◌, codes, length, take, drop, slice_index, bytes_eq, Result, Ok, Err, if◌then◌else◌}
+use Rattle.std.specs.List.{flat_map}
+use Rattle.bar_bytes.specs.Bytes.{u16_bytes}
+use Rattle.bar_wire.specs.Inputs.{Input, Tick, Came}
+use Rattle.bar_record.specs.declared.fault.RecordFault.{RecordFault}
+use Rattle.bar_record.specs.declared.fault.RecordFault.TheVariants.{BadHead, BadEntry, NoEnd, AfterEnd, AfterLast}
+
+-- ---- writing
+
+-- the head: the letters BARL, the version, the session's id and the party
+abbrev pub head_bytes : List ℕ → ℕ → List ℕ
+head_bytes id party = codes "BARL" ++ (1 ∷ (id ++ u16_bytes party))
+
+-- the entry of an input
+abbrev pub entry_bytes : Input → List ℕ
+entry_bytes Tick = 1 ∷ []
+entry_bytes (Came bytes) = 2 ∷ (u16_bytes (length bytes) ++ bytes)
+
+-- the recording of a list of inputs
+abbrev pub recording_bytes : List ℕ → ℕ → List Input → List ℕ
+recording_bytes id party inputs = head_bytes id party ++ (flat_map entry_bytes inputs ++ 0 ∷ [])
+
+-- ---- reading
+
+-- what bytes begin with, and what follows it
+pub data First : Type 0 where
+  NoByte : First
+  End : (rest : List ℕ) → First
+  Entry : (input : Input) → (rest : List ℕ) → First
+  NoEntry : First
+
+-- the number of two bytes
+abbrev pub len_at : List ℕ → ℕ
+len_at bytes = 256 * slice_index bytes 0 + slice_index bytes 1
+
+-- so many bytes, and what follows them, where they are all there and not too many
+abbrev pub datagram_first : ℕ → List ℕ → First
+datagram_first len rest =
+    if nat_le len 65507 then (if nat_le len (length rest) then Entry (Came (take len rest)) (drop len rest) else NoEntry) else NoEntry
+
+-- what stands behind the mark of a datagram: its length in two bytes, and its bytes
+abbrev pub sized_first : List ℕ → First
+sized_first rest = if nat_le 2 (length rest) then datagram_first (len_at rest) (drop 2 rest) else NoEntry
+
+abbrev pub marked_first : ℕ → List ℕ → First
+marked_first mark rest =
+    if mark == 0 then End rest else if mark == 1 then Entry Tick rest else if mark == 2 then sized_first rest else NoEntry
+
+unfoldable pub first_of : List ℕ → First
+first_of [] = NoByte
+first_of (mark ∷ rest) = marked_first mark rest
+
+abbrev pub ticks_in : Input → ℕ
+ticks_in Tick = 1
+ticks_in (Came bytes) = 0
+
+-- an input before others
+abbrev pub before : Input → Result (List Input) RecordFault → Result (List Input) RecordFault
+before input (Ok inputs) = Ok (input ∷ inputs)
+before input (Err fault) = Err fault
+
+-- The inputs by what some bytes begin with, where these bytes begin at a place; nothing but the end may follow the last tick.
+abbrev pub inputs_by : (ℕ → ℕ → List ℕ → Result (List Input) RecordFault) → ℕ → ℕ → ℕ → First → Result (List Input) RecordFault
+inputs_by rest_of last ticks at NoByte = Err NoEnd
+inputs_by rest_of last ticks at (End rest) = if length rest == 0 then Ok [] else Err AfterEnd
+inputs_by rest_of last ticks at NoEntry = Err (BadEntry at)
+inputs_by rest_of last ticks at (Entry input rest) =
+    if nat_le last ticks then Err (AfterLast at)
+    else before input (rest_of (ticks + ticks_in input) (at + length (entry_bytes input)) rest)
+
+-- the inputs whose entries and end stand in the bytes, of which so many at most are read
+unfoldable pub inputs_from : ℕ → ℕ → ℕ → ℕ → List ℕ → Result (List Input) RecordFault
+inputs_from zero last ticks at bytes = Err NoEnd
+inputs_from (suc most) last ticks at bytes = inputs_by (inputs_from most last) last ticks at (first_of bytes)
+
+-- The inputs of a recording, or its first fault from the left. Each entry has a byte at least, so no more entries are read than there are bytes.
+abbrev pub recording_of : List ℕ → ℕ → ℕ → List ℕ → Result (List Input) RecordFault
+recording_of id party last bytes =
+    if bytes_eq (take 15 bytes) (head_bytes id party)
+    then inputs_from (suc (length (drop 15 bytes))) last 0 15 (drop 15 bytes) else Err BadHead

@@ -1,0 +1,60 @@
+//! The first entry of some bytes.
+ghost use Rattle.std.specs.Prelude.{◌≡◌, ◌≤◌, length};
+ghost use Rattle.bar_record.specs.Items.{plain_first};
+ghost use Rattle.bar_record.specs.Recording.{datagram_first, first_of, sized_first};
+
+use bar_wire::Input;
+
+/// The most bytes of a datagram.
+const MOST_BYTES: usize = 65_507;
+
+/// What some bytes begin with, and what follows it.
+#[derive(Clone, Copy)]
+pub enum First<'a> {
+    NoByte,
+    End(&'a [u8]),
+    Entry(Input<'a>, &'a [u8]),
+    NoEntry,
+}
+
+/// A datagram of this length, and what follows it.
+fn datagram_first(len: usize, rest: &[u8]) -> First<'_>
+    ensures { plain_first result ≡ datagram_first len rest.now }
+{
+    if len > MOST_BYTES {
+        return First::NoEntry;
+    }
+    if len > rest.len() {
+        return First::NoEntry;
+    }
+    let (bytes, rest) = rest.split_at(len);
+    First::Entry(Input::Datagram(bytes), rest)
+}
+
+/// What stands behind the mark of a datagram.
+fn sized_first(rest: &[u8]) -> First<'_>
+    ensures { plain_first result ≡ sized_first rest.now }
+{
+    if rest.len() < 2 {
+        return First::NoEntry;
+    }
+    let len = 256 * usize::from(rest[0]) + usize::from(rest[1]);
+    let (_, bytes) = rest.split_at(2);
+    datagram_first(len, bytes)
+}
+
+/// What some bytes begin with.
+#[tactic(auto, unfolding(crate::specs::Recording::first_of))]
+pub fn first_of(bytes: &[u8]) -> First<'_>
+    ensures { plain_first result ≡ first_of bytes.now }
+{
+    let Some((mark, rest)) = bytes.split_first() else {
+        return First::NoByte;
+    };
+    match *mark {
+        0 => First::End(rest),
+        1 => First::Entry(Input::Tick, rest),
+        2 => sized_first(rest),
+        _ => First::NoEntry,
+    }
+}

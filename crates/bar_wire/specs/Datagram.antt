@@ -1,0 +1,135 @@
+-- Datagrams as values, of twelve kinds. A set of updates is a list in strictly increasing order.
+use Rattle.std.specs.Prelude.{ℕ, ◌==◌, ◌&&◌, Bool, false, List, [], ◌∷◌, Option, Some, None}
+use Rattle.std.specs.Option.{option_map, option_map_or}
+use Rattle.bar_window.specs.declared.update.UpdateId.{UpdateId}
+use Rattle.bar_window.specs.declared.exchange.Exchange.{Exchange}
+use Rattle.bar_window.specs.declared.exchange.Role.{Role}
+use Rattle.bar_window.specs.declared.exchange.Role.TheVariants.{Initiator, Responder}
+use Rattle.bar_window.specs.declared.exchange.XKind.{XKind}
+use Rattle.bar_window.specs.declared.exchange.XKind.TheVariants.{Balanced, Push}
+use Rattle.bar_window.specs.Terms.{Terms}
+use Rattle.bar_window.specs.Exchange.{kind_code, role_code, same_exchange, same_role}
+use Rattle.bar_wire.specs.declared.kind.Kind.{Kind}
+use Rattle.bar_wire.specs.declared.kind.Kind.TheVariants as kinds
+use Rattle.bar_wire.specs.Kinds.{code_of, is_signed_kind}
+
+-- what a CASE says
+pub record Briefcase : Type 0 where
+  pub round : ℕ
+  pub kind : XKind
+  pub role : Role
+  pub updates : ℕ
+  pub junk : ℕ
+  pub terms : Terms
+  pub cipher : List ℕ
+
+-- what a KEY says
+pub record KeyGiven : Type 0 where
+  pub round : ℕ
+  pub kind : XKind
+  pub role : Role
+  pub key : List ℕ
+
+pub data Body : Type 0 where
+  Manifest : (round : ℕ) → (digests : List (List ℕ)) → Body
+  Block : (update : UpdateId) → (block : List ℕ) → Body
+  Request : (round : ℕ) → (seed commitment : List ℕ) → Body
+  Response : (round : ℕ) → (hb : List UpdateId) → Body
+  Divulge : (round : ℕ) → (nonce : List ℕ) → (ha : List UpdateId) → Body
+  Query : (round : ℕ) → (seed : List ℕ) → (young aged : List UpdateId) → Body
+  Reply : (round : ℕ) → (want give : List UpdateId) → (junk : ℕ) → Body
+  Case : Briefcase → Body
+  KeyRequest : (round : ℕ) → (kind : XKind) → (role : Role) → Body
+  Key : KeyGiven → Body
+  Evidence : (datagrams : List (List ℕ)) → Body
+  Evict : (round : ℕ) → (parties : List ℕ) → Body
+
+pub record Message : Type 0 where
+  pub from : ℕ
+  pub to : ℕ
+  pub body : Body
+
+-- a message with its signature, which is empty where the kind isn't signed
+pub record Datagram : Type 0 where
+  pub message : Message
+  pub signature : List ℕ
+
+-- ---- functions of a message
+
+abbrev pub kind_of : Body → Kind
+kind_of (Manifest r ds) = kinds.Manifest
+kind_of (Block u b) = kinds.Block
+kind_of (Request r s c) = kinds.Request
+kind_of (Response r hb) = kinds.Response
+kind_of (Divulge r n ha) = kinds.Divulge
+kind_of (Query r s y o) = kinds.Query
+kind_of (Reply r w g z) = kinds.Reply
+kind_of (Case c) = kinds.Case
+kind_of (KeyRequest r k role) = kinds.KeyRequest
+kind_of (Key k) = kinds.Key
+kind_of (Evidence ds) = kinds.Evidence
+kind_of (Evict r ps) = kinds.Evict
+
+abbrev pub kind_number : Body → ℕ
+kind_number b = code_of (kind_of b)
+
+abbrev pub is_signed : Body → Bool
+is_signed b = is_signed_kind (kind_of b)
+
+-- the round of a body, which an EVIDENCE has not
+abbrev pub round_of : Body → ℕ
+round_of (Manifest r ds) = r
+round_of (Block u b) = u.round
+round_of (Request r s c) = r
+round_of (Response r hb) = r
+round_of (Divulge r n ha) = r
+round_of (Query r s y o) = r
+round_of (Reply r w g z) = r
+round_of (Case c) = c.round
+round_of (KeyRequest r k role) = r
+round_of (Key k) = k.round
+round_of (Evidence ds) = 0
+round_of (Evict r ps) = r
+
+-- the exchange of the round and kind whose side this party took against that one
+abbrev pub exchange_by : ℕ → XKind → Role → ℕ → ℕ → Exchange
+exchange_by r k Initiator from to = record { round = r; kind = k; initiator = from; responder = to }
+exchange_by r k Responder from to = record { round = r; kind = k; initiator = to; responder = from }
+
+-- the round, kind and side of the sender that a body speaks of, where it belongs to an exchange
+abbrev pub part_of : Body → Option (ℕ × XKind × Role)
+part_of (Request r s c) = Some (r, Balanced, Initiator)
+part_of (Response r hb) = Some (r, Balanced, Responder)
+part_of (Divulge r n ha) = Some (r, Balanced, Initiator)
+part_of (Query r s y o) = Some (r, Push, Initiator)
+part_of (Reply r w g z) = Some (r, Push, Responder)
+part_of (Case c) = Some (c.round, c.kind, c.role)
+part_of (KeyRequest r k role) = Some (r, k, role)
+part_of (Key k) = Some (k.round, k.kind, k.role)
+part_of _ = None
+
+-- the exchange that a message is of
+abbrev pub exchange_of : Message → Option Exchange
+exchange_of m = option_map (λ p. exchange_by p.0 p.1 p.2 m.from m.to) (part_of m.body)
+
+-- whether a message is of this kind and exchange, and of this side
+abbrev pub is_of : ℕ → Exchange → Role → Message → Bool
+is_of kind x role m =
+    (kind_number m.body == kind)
+    && option_map_or (λ p. same_exchange (exchange_by p.0 p.1 p.2 m.from m.to) x && same_role p.2 role) (part_of m.body) false
+
+-- the fields of a kind's identity
+abbrev pub named : Body → ℕ → ℕ → List ℕ
+named (Manifest r ds) from to = r ∷ []
+named (Evict r ps) from to = r ∷ []
+named (Request r s c) from to = from ∷ r ∷ []
+named (Query r s y o) from to = from ∷ r ∷ []
+named (Response r hb) from to = from ∷ to ∷ r ∷ []
+named (Reply r w g z) from to = from ∷ to ∷ r ∷ []
+named (Case c) from to = from ∷ to ∷ c.round ∷ kind_code c.kind ∷ role_code c.role ∷ []
+named (Key k) from to = from ∷ to ∷ k.round ∷ kind_code k.kind ∷ role_code k.role ∷ []
+named _ from to = []
+
+-- What may not be said twice: the kind and, each as far as the kind has it in its name, the sender, receiver, round, exchange kind and role.
+abbrev pub identity_of : Message → List ℕ
+identity_of m = kind_number m.body ∷ named m.body m.from m.to

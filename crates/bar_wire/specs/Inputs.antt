@@ -1,0 +1,13 @@
+-- What a core takes in one step, without where it lies in memory.
+use Rattle.std.specs.Prelude.{ℕ, List}
+use Rattle.bar_wire.specs.declared.input.Input.{Input as RawInput}
+use Rattle.bar_wire.specs.declared.input.Input.TheVariants as raw
+
+pub data Input : Type 0 where
+  Tick : Input
+  Came : (bytes : List ℕ) → Input
+
+-- the value that an input stands for
+abbrev pub plain_input : RawInput → Input
+plain_input raw.Tick = Tick
+plain_input (raw.Datagram bytes) = Came bytes.now

@@ -1,0 +1,16 @@
+pub mod Limits
+pub mod Kinds
+pub mod Datagram
+pub mod Grammar
+pub mod Ranges
+pub mod Places
+pub mod Faults
+pub mod Views
+pub mod Evidence
+pub mod Inputs
+pub mod Words
+pub mod Windows
+pub mod Reading
+pub mod Terms
+pub mod Headers
+pub mod Writing

@@ -1,0 +1,27 @@
+use thiserror::Error;
+
+/// What is wrong with the bytes of a datagram: the first that holds, in this order. Each is shown by its name.
+#[derive(Clone, Copy, Debug, PartialEq, Eq, Error)]
+pub enum WireFault {
+    /// There are fewer than 16 bytes.
+    #[error("Short")]
+    Short,
+    /// The first two bytes are no magic.
+    #[error("BadMagic")]
+    BadMagic,
+    /// The version isn't the session's.
+    #[error("BadVersion")]
+    BadVersion,
+    /// The kind isn't 1 to 12.
+    #[error("BadKind")]
+    BadKind,
+    /// The session id is another.
+    #[error("BadSession")]
+    BadSession,
+    /// The number of bytes isn't the one that the kind and its raw counts give, or a count or length isn't there.
+    #[error("BadLength")]
+    BadLength,
+    /// A field is out of its range.
+    #[error("BadField")]
+    BadField,
+}

@@ -1,0 +1,37 @@
+//! The datagrams of a session, as bytes.
+#![tactic(auto)]
+
+mod entries;
+mod evidence;
+mod fault;
+mod fields;
+mod header;
+mod input;
+mod kind;
+mod laws;
+mod lengths;
+mod put;
+mod ranges;
+mod reading;
+mod shape;
+mod split;
+mod terms;
+mod view;
+mod windows;
+mod writing;
+
+pub use evidence::{EvidenceView, split_evidence};
+pub use fault::WireFault;
+pub use input::Input;
+pub use kind::Kind;
+pub use laws::{
+    a_datagram_has_one_spelling, bytes_spell_one, no_spelling_begins_another,
+    the_datagram_is_spelled, the_test_tells_a_datagram,
+};
+pub use reading::decode;
+pub use shape::Shape;
+pub use view::{Body, View};
+pub use writing::encode;
+
+#[cfg(test)]
+mod tests;

@@ -1,0 +1,80 @@
+ghost use Rattle.std.specs.Prelude.{◌≡◌, ℕ, ◌+◌, ◌*◌, ◌<◌, ◌≤◌, ◌↔◌, IsTrue, length};
+ghost use Rattle.bar_window.specs.Terms.{plain_terms};
+ghost use Rattle.bar_wire.specs.Grammar.{InRange, HasFewJunk, IsPeer, MaySend};
+ghost use Rattle.bar_wire.specs.Views.{plain, AreWhole};
+
+use crate::entries::{are_datagrams_in_range, are_parties_in_range};
+use crate::kind::Kind;
+use crate::shape::Shape;
+use crate::view::Body;
+use crate::windows::is_round;
+use bar_window::Terms;
+
+fn has_few_junk(terms: &Terms) -> bool
+    ensures { IsTrue result ↔ HasFewJunk (plain_terms terms.now) }
+{
+    match terms {
+        Terms::Balanced { .. } => true,
+        Terms::Push { junk, .. } => *junk <= 16,
+    }
+}
+
+/// Whether each field is in its range.
+#[tactic(auto, using(crate::proofs::Steps::length_chunks))]
+pub(crate) fn is_in_range(body: &Body<'_>, shape: &Shape) -> bool
+    requires { AreWhole body.now }
+    ensures { IsTrue result ↔ InRange shape.now (plain body.now) }
+{
+    match body {
+        Body::Manifest { round, count, .. } => is_round(*round, shape) && *count <= shape.per_round,
+        Body::Block { round, index, .. } => is_round(*round, shape) && *index < shape.per_round,
+        Body::Request { round, .. } => is_round(*round, shape),
+        Body::Response { round, .. } => is_round(*round, shape),
+        Body::Divulge { round, .. } => is_round(*round, shape),
+        Body::Query { round, .. } => is_round(*round, shape),
+        Body::Reply { round, junk, .. } => is_round(*round, shape) && *junk <= 16,
+        Body::Case {
+            round,
+            updates,
+            junk,
+            terms,
+            ..
+        } => {
+            let items = u16::from(*updates) + u16::from(*junk);
+            is_round(*round, shape) && 0 < items && items <= 16 && has_few_junk(terms)
+        }
+        Body::KeyReq { round, .. } => is_round(*round, shape),
+        Body::Key { round, .. } => is_round(*round, shape),
+        Body::Evidence { count, datagrams } => are_datagrams_in_range(*count, datagrams),
+        Body::Evict {
+            round,
+            count,
+            parties,
+        } => is_round(*round, shape) && are_parties_in_range(shape.peers, *count, parties),
+    }
+}
+
+fn is_peer(party: u16, shape: &Shape) -> bool
+    ensures { IsTrue result ↔ IsPeer shape.now party }
+{
+    0 < party && party <= shape.peers
+}
+
+/// Whether a party sends a kind to another.
+pub(crate) fn may_send(kind: Kind, from: u16, to: u16, shape: &Shape) -> bool
+    ensures { IsTrue result ↔ MaySend shape.now kind from to }
+{
+    match kind {
+        Kind::Manifest | Kind::Evict => from == 0 && to == 0xffff,
+        Kind::Block => from == 0 && is_peer(to, shape),
+        Kind::Evidence => is_peer(from, shape) && to == 0,
+        Kind::Request
+        | Kind::Response
+        | Kind::Divulge
+        | Kind::Query
+        | Kind::Reply
+        | Kind::Case
+        | Kind::KeyRequest
+        | Kind::Key => is_peer(from, shape) && is_peer(to, shape) && from != to,
+    }
+}
