@@ -1,0 +1,40 @@
+-- The items of a briefcase as bytes.
+use Rattle.std.specs.Prelude.{ℕ, ◌+◌, ◌*◌, List, [], drop, sum_by, length, codes, Option, unwrap_or, flat_map}
+use Rattle.bar_bytes.specs.Tag.{tagged}
+use Rattle.bar_window.specs.declared.update.UpdateId.{UpdateId}
+use Rattle.bar_window.specs.declared.exchange.Exchange.{Exchange}
+use Rattle.bar_window.specs.declared.exchange.Role.{Role}
+use Rattle.bar_window.specs.Exchange.{exchange_bytes}
+use Rattle.bar_window.specs.Terms.{Terms}
+use Rattle.bar_terms.specs.declared.items.Item.{Item}
+use Rattle.bar_terms.specs.declared.items.Item.TheVariants.{Update, Junk}
+use Rattle.bar_terms.specs.Terms.{promised_updates, promised_junk}
+use Rattle.bar_case.specs.Keystream.{keystream}
+
+abbrev pub item_len : Item → ℕ
+item_len (Update u) = 1024
+item_len (Junk t) = 1280
+
+abbrev pub items_len : List Item → ℕ
+items_len items = sum_by item_len items
+
+-- how many bytes a side's promise has
+abbrev pub promised_len : ℕ → Terms → Role → ℕ
+promised_len cap terms role = 1024 * length (promised_updates cap terms role) + 1280 * promised_junk terms role
+
+-- the key of the junk of an exchange
+unfoldable pub junk_key : List ℕ → Exchange → List ℕ
+junk_key id x = tagged (codes "JNK1") id (exchange_bytes x)
+
+-- a piece of junk by its number, where the key of the junk is given
+abbrev pub junk_item : List ℕ → ℕ → List ℕ
+junk_item key t = drop (1280 * t) (keystream key (1280 * t + 1280))
+
+-- an item's bytes, where the key of the junk and the blocks of held updates are given
+abbrev pub item_bytes : List ℕ → (UpdateId → Option (List ℕ)) → Item → List ℕ
+item_bytes junk blocks (Update u) = unwrap_or (blocks u) []
+item_bytes junk blocks (Junk t) = junk_item junk t
+
+-- the bytes of items, one after another
+abbrev pub plaintext : List ℕ → (UpdateId → Option (List ℕ)) → List Item → List ℕ
+plaintext junk blocks items = flat_map (item_bytes junk blocks) items

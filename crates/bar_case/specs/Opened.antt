@@ -1,0 +1,83 @@
+-- What a key shows of a briefcase.
+use Rattle.std.specs.Prelude.{ℕ, ◌+◌, Bool, true, false, List, [], ◌∷◌, length, take, drop, position, Option, Some, None, if◌then◌else◌, bytes_eq}
+use Rattle.std.specs.Simd.{first_chunks}
+use Rattle.sha2.specs.Sha256.{sha256}
+use Rattle.bar_window.specs.declared.exchange.Exchange.{Exchange}
+use Rattle.bar_window.specs.declared.exchange.Role.{Role}
+use Rattle.bar_window.specs.Terms.{Terms}
+use Rattle.bar_terms.specs.declared.items.Item.{Item}
+use Rattle.bar_terms.specs.declared.items.Item.TheVariants.{Update, Junk}
+use Rattle.bar_terms.specs.Table.{Table, Digest, Known, PastEnd, NoManifest, digest_of}
+use Rattle.bar_terms.specs.Terms.{promise, promised_updates}
+use Rattle.bar_case.specs.declared.findings.Finding.{Finding}
+use Rattle.bar_case.specs.declared.findings.Finding.TheVariants.{Sound, Broken, Untold}
+use Rattle.bar_case.specs.declared.findings.Opening.{Opening}
+use Rattle.bar_case.specs.declared.findings.Opening.TheVariants.{Good, Bad, Unknown}
+use Rattle.bar_case.specs.Keystream.{keystream, xor_bytes}
+use Rattle.bar_case.specs.Items.{item_len, junk_key, junk_item}
+
+-- ---- one item
+
+abbrev pub sound_if : Bool → Finding
+sound_if ok = if ok then Sound else Broken
+
+-- what a digest says of a block
+abbrev pub digest_finding : Digest → List ℕ → Finding
+digest_finding (Known d) block = sound_if (bytes_eq (sha256 block) d)
+digest_finding PastEnd block = Broken
+digest_finding NoManifest block = Untold
+
+-- what a table, and the key of the junk, say of an opened item
+abbrev pub item_finding : Table → List ℕ → Item → List ℕ → Finding
+item_finding table junk (Update u) bytes = digest_finding (digest_of table u) bytes
+item_finding table junk (Junk t) bytes = sound_if (bytes_eq bytes (junk_item junk t))
+
+-- ---- all items
+
+-- the findings of items that stand one after another in some bytes
+abbrev pub findings : Table → List ℕ → List Item → List ℕ → List Finding
+findings table junk [] bytes = []
+findings table junk (item ∷ items) bytes =
+    item_finding table junk item (take (item_len item) bytes) ∷ findings table junk items (drop (item_len item) bytes)
+
+abbrev pub is_broken : Finding → Bool
+is_broken Sound = false
+is_broken Broken = true
+is_broken Untold = false
+
+abbrev pub is_untold : Finding → Bool
+is_untold Sound = false
+is_untold Broken = false
+is_untold Untold = true
+
+abbrev pub opening_by : Option ℕ → Option ℕ → ℕ → Opening
+opening_by (Some item) untold count = Bad item
+opening_by None (Some item) count = Unknown item
+opening_by None None count = Good count
+
+-- the first broken item, else the first untold one, else the number of the items
+abbrev pub opening_of : List Finding → Opening
+opening_of fs = opening_by (position is_broken fs) (position is_untold fs) (length fs)
+
+-- the opening once the finding of the next item is known, which has this number
+abbrev pub next_opening : Opening → Finding → ℕ → Opening
+next_opening (Bad i) f n = Bad i
+next_opening (Unknown i) f n = if is_broken f then Bad n else Unknown i
+next_opening (Good i) Sound n = Good (n + 1)
+next_opening (Good i) Broken n = Bad n
+next_opening (Good i) Untold n = Unknown n
+
+-- ---- a briefcase
+
+-- the plaintext of a cipher under a key
+abbrev pub opened : List ℕ → List ℕ → List ℕ
+opened key cipher = xor_bytes cipher (keystream key (length cipher))
+
+-- what a key shows of the cipher of a side's promise
+unfoldable pub opening : List ℕ → Exchange → ℕ → Terms → Role → List ℕ → List ℕ → Table → Opening
+opening id x cap terms role cipher key table =
+    opening_of (findings table (junk_key id x) (promise cap terms role) (opened key cipher))
+
+-- the opened blocks of the promised updates, in order
+unfoldable pub opened_blocks : ℕ → Terms → Role → List ℕ → List ℕ → List (List ℕ)
+opened_blocks cap terms role cipher key = first_chunks 1024 (length (promised_updates cap terms role)) (opened key cipher)

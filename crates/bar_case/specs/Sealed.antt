@@ -1,0 +1,22 @@
+-- What a side of an exchange seals.
+use Rattle.std.specs.Prelude.{ℕ, List, length, Option, IsSome}
+use Rattle.bar_window.specs.declared.update.UpdateId.{UpdateId}
+use Rattle.bar_window.specs.declared.exchange.Exchange.{Exchange}
+use Rattle.bar_window.specs.declared.exchange.Role.{Role}
+use Rattle.bar_window.specs.Terms.{Terms}
+use Rattle.bar_terms.specs.declared.items.Item.{Item}
+use Rattle.bar_terms.specs.declared.items.Item.TheVariants.{Update, Junk}
+use Rattle.bar_terms.specs.Terms.{promise}
+use Rattle.bar_case.specs.Keystream.{keystream, xor_bytes}
+use Rattle.bar_case.specs.Items.{junk_key, plaintext}
+
+-- the cipher of a side's promise under a key, where the blocks of held updates are given
+unfoldable pub sealed : List ℕ → Exchange → ℕ → Terms → Role → List ℕ → (UpdateId → Option (List ℕ)) → List ℕ
+sealed id x cap terms role key blocks =
+    let plain = plaintext (junk_key id x) blocks (promise cap terms role) in
+    xor_bytes plain (keystream key (length plain))
+
+-- an item's block is held, where it is an update
+abbrev pub IsHeldItem : (UpdateId → Option (List ℕ)) → Item → Type 0
+IsHeldItem blocks (Update u) = IsSome (blocks u)
+IsHeldItem blocks (Junk t) = Unit {0}

@@ -1,0 +1,41 @@
+//! The items of a briefcase as bytes.
+
+ghost use Rattle.std.specs.Prelude.{◌≡◌, ℕ};
+ghost use Rattle.bar_case.specs.Items.{item_len, junk_key, junk_item};
+
+use crate::cipher::keystream;
+use bar_bytes::Tagged;
+use bar_terms::Item;
+use bar_window::Exchange;
+
+/// The bytes of a piece of junk.
+pub(crate) const JUNK: usize = 1280;
+
+/// How many bytes an item has.
+pub(crate) fn item_len(item: &Item) -> usize
+    ensures { result ≡ item_len item.now }
+{
+    match item {
+        Item::Update(_) => 1024,
+        Item::Junk(_) => JUNK,
+    }
+}
+
+/// The key of the junk of an exchange.
+#[tactic(auto, unfolding(crate::specs::Items::junk_key))]
+pub(crate) fn junk_key(id: &[u8; 8], x: &Exchange) -> [u8; 32]
+    ensures { result ≡ junk_key id.now x.now }
+{
+    let mut hash = Tagged::new(b"JNK1", id);
+    hash.add(&x.bytes());
+    hash.finish()
+}
+
+/// A piece of junk by its number.
+pub(crate) fn junk_item(key: &[u8; 32], number: u8) -> [u8; JUNK]
+    ensures { result ≡ junk_item key.now number }
+{
+    let mut junk = [0; JUNK];
+    keystream(key, JUNK / 4 * usize::from(number), &mut junk);
+    junk
+}

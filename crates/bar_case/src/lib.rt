@@ -1,0 +1,10 @@
+//! Briefcases: what a side of an exchange promises, sealed under a key, and what a key shows of it.
+#![tactic(auto)]
+
+mod cipher;
+mod findings;
+mod items;
+mod sealing;
+
+pub use findings::{Finding, Opening};
+pub use sealing::seal;
