@@ -1,2 +1,3 @@
 pub mod Stream
 pub mod Xor
+pub mod Laid

@@ -1,5 +1,5 @@
 -- The items of a briefcase as bytes.
-use Rattle.std.specs.Prelude.{ℕ, ◌+◌, ◌*◌, List, [], drop, sum_by, length, codes, Option, unwrap_or, flat_map}
+use Rattle.std.specs.Prelude.{ℕ, ◌+◌, ◌*◌, List, [], ◌∷◌, drop, length, codes, Option, unwrap_or, flat_map}
 use Rattle.bar_bytes.specs.Tag.{tagged}
 use Rattle.bar_window.specs.declared.update.UpdateId.{UpdateId}
 use Rattle.bar_window.specs.declared.exchange.Exchange.{Exchange}
@@ -16,7 +16,8 @@ item_len (Update u) = 1024
 item_len (Junk t) = 1280
 
 abbrev pub items_len : List Item → ℕ
-items_len items = sum_by item_len items
+items_len [] = 0
+items_len (item ∷ items) = item_len item + items_len items
 
 -- how many bytes a side's promise has
 abbrev pub promised_len : ℕ → Terms → Role → ℕ

@@ -67,6 +67,18 @@ next_opening (Good i) Sound n = Good (n + 1)
 next_opening (Good i) Broken n = Bad n
 next_opening (Good i) Untold n = Unknown n
 
+-- a block once an item was opened: the item's bytes where it is an update, else what it was
+abbrev pub block_after : Item → List ℕ → List ℕ → List ℕ
+block_after (Update u) bytes block = bytes
+block_after (Junk t) bytes block = block
+
+-- the blocks once items were opened that stand one after another in some bytes
+abbrev pub blocks_after : List Item → List ℕ → List (List ℕ) → List (List ℕ)
+blocks_after [] bytes blocks = blocks
+blocks_after (item ∷ items) bytes [] = []
+blocks_after (item ∷ items) bytes (block ∷ blocks) =
+    block_after item (take (item_len item) bytes) block ∷ blocks_after items (drop (item_len item) bytes) blocks
+
 -- ---- a briefcase
 
 -- the plaintext of a cipher under a key

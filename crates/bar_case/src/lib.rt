@@ -5,6 +5,8 @@ mod cipher;
 mod findings;
 mod items;
 mod sealing;
+mod unsealing;
 
 pub use findings::{Finding, Opening};
 pub use sealing::seal;
+pub use unsealing::unseal;

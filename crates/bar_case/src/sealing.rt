@@ -5,7 +5,7 @@ ghost use Rattle.bar_window.specs.Terms.{plain_terms};
 ghost use Rattle.bar_terms.specs.Windows.{AreAligned};
 ghost use Rattle.bar_terms.specs.Terms.{can_promise, promised_updates};
 ghost use Rattle.bar_case.specs.Keystream.{keystream, xor_bytes};
-ghost use Rattle.bar_case.specs.Items.{items_len, item_bytes, plaintext, promised_len};
+ghost use Rattle.bar_case.specs.Items.{item_len, items_len, item_bytes, plaintext, promised_len};
 ghost use Rattle.bar_case.specs.Sealed.{sealed, IsHeldItem};
 
 use crate::cipher::crypt;
@@ -26,6 +26,29 @@ fn seal_bytes(key: &[u8; 32], at: usize, bytes: &[u8], out: &mut [u8]) -> usize
     end
 }
 
+/// Seals an item at a place, and answers the place after it.
+fn seal_item<B: Blocks>(
+    item: &Item,
+    junk: &[u8; 32],
+    key: &[u8; 32],
+    blocks: &B,
+    at: usize,
+    out: &mut [u8],
+) -> usize
+    requires held { IsHeldItem (B.block_of blocks.now) item.now }
+    requires word { at % 4 ≡ 0 }
+    requires room { at + item_len item.now ≤ length out.old }
+    ensures end { result ≡ at + item_len item.now }
+    ensures long { length (item_bytes junk.now (B.block_of blocks.now) item.now) ≡ item_len item.now }
+    ensures value { take result out.new ≡ take at out.old ++ xor_bytes (item_bytes junk.now (B.block_of blocks.now) item.now) (drop at (keystream key.now result)) }
+    ensures rest { drop result out.new ≡ drop result out.old }
+{
+    match item {
+        Item::Update(update) => seal_bytes(key, at, blocks.block(*update), out),
+        Item::Junk(number) => seal_bytes(key, at, &junk_item(junk, *number), out),
+    }
+}
+
 /// Seals items, one after another from the front, and answers their length.
 fn seal_items<B: Blocks>(
     items: &[Item],
@@ -43,10 +66,7 @@ fn seal_items<B: Blocks>(
 {
     let mut at = 0;
     for item in items {
-        at = match item {
-            Item::Update(update) => seal_bytes(key, at, blocks.block(*update), out),
-            Item::Junk(number) => seal_bytes(key, at, &junk_item(junk, *number), out),
-        };
+        at = seal_item(item, junk, key, blocks, at, out);
     }
     at
 }
