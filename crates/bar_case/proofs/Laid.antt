@@ -14,7 +14,7 @@ use Rattle.bar_window.specs.Terms.{Terms}
 use Rattle.bar_terms.specs.declared.items.Item.{Item}
 use Rattle.bar_terms.specs.declared.items.Item.TheVariants.{Update, Junk}
 use Rattle.bar_terms.specs.Terms.{promise, promised_updates, promised_junk, can_promise}
-use Rattle.bar_terms.proofs.Equal.{promises_equal, promises_few}
+use Rattle.bar_terms.proofs.Equal.{length_promise, promises_equal, promises_few}
 use Rattle.bar_case.specs.Keystream.{keystream, xor_bytes}
 use Rattle.bar_case.specs.Items.{item_len, items_len, item_bytes, plaintext, promised_len, junk_key}
 use Rattle.bar_case.specs.Sealed.{IsHeldItem, sealed}
@@ -52,7 +52,7 @@ items_more items k d below =
 pub items_room : (items : List Item) (k : ℕ) (d : Item) → k < length items → items_len (take k items) + item_len (slice_index_or items k d) ≤ items_len items
 items_room items k d below =
     let both : items_len items ≡ items_len (take (k + 1) items) + items_len (drop (k + 1) items) =
-        ap items_len (sym (take-append-drop (k + 1) items)) ∙ items_append (take (k + 1) items) (drop (k + 1) items)
+    ap items_len (sym (take-append-drop (k + 1) items)) ∙ items_append (take (k + 1) items) (drop (k + 1) items)
     in
     omega (arith, items_more items k d below)
 
@@ -71,7 +71,7 @@ pub sealed_more : (key plain bytes front : List ℕ) (at end : ℕ) → length p
 sealed_more key plain bytes front at end long is after =
     let before : take at (keystream key end) ≡ keystream key at = rw after (front_stream key at (length bytes)) in
     let whole : keystream key at ++ drop at (keystream key end) ≡ keystream key end =
-        ap (λ (x : List ℕ). x ++ drop at (keystream key end)) (sym before) ∙ take-append-drop at (keystream key end)
+    ap (λ (x : List ℕ). x ++ drop at (keystream key end)) (sym before) ∙ take-append-drop at (keystream key end)
     in
     let joined = xor_append plain bytes (keystream key at) (drop at (keystream key end)) (omega (arith, length_keystream key at, long)) in
     ap (λ (x : List ℕ). x ++ xor_bytes bytes (drop at (keystream key end))) is ∙ (sym joined ∙ ap (xor_bytes (plain ++ bytes)) whole)
@@ -86,6 +86,9 @@ drop_later a b xs ys le same =
 pub promise_few : (cap : ℕ) (terms : Terms) (role : Role) → can_promise cap terms ≡ true → length (promise cap terms role) ≤ cap
 promise_few cap terms Initiator ok = promises_few cap terms ok
 promise_few cap terms Responder ok = omega (arith, promises_few cap terms ok, promises_equal cap terms ok)
+
+pub updates_few : (cap : ℕ) (terms : Terms) (role : Role) → can_promise cap terms ≡ true → length (promised_updates cap terms role) ≤ cap
+updates_few cap terms role ok = omega (arith, promise_few cap terms role ok, length_promise cap terms role)
 
 updates_len : (us : List UpdateId) → items_len (map Update us) ≡ 1024 * length us
 updates_len [] = refl

@@ -1,3 +1,5 @@
 pub mod Stream
 pub mod Xor
 pub mod Laid
+pub mod Opens
+pub mod OwnKey

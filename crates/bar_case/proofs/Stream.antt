@@ -32,7 +32,7 @@ words_from key place (suc n) below =
     let next : (place + n + 1) % 2 ^ 68 ≡ suc (place + n) = omega arith in
     let more : place + suc n ≡ suc (place + n) = omega arith in
     let front : drop (4 * place) (keystream_words key (suc (place + n))) ≡ drop (4 * place) (keystream_words key (place + n)) ++ to_le_bytes w32 (word_at 10 (key_of key) 0 (place + n)) =
-        drop-append-le (4 * place) (keystream_words key (place + n)) _ (omega (arith, length_words key (place + n)))
+    drop-append-le (4 * place) (keystream_words key (place + n)) _ (omega (arith, length_words key (place + n)))
     in
     rw (words_from key place n (omega arith), next, more, front) refl
 

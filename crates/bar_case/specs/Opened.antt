@@ -59,6 +59,11 @@ opening_by None None count = Good count
 abbrev pub opening_of : List Finding → Opening
 opening_of fs = opening_by (position is_broken fs) (position is_untold fs) (length fs)
 
+abbrev pub is_bad : Opening → Bool
+is_bad (Bad item) = true
+is_bad (Good count) = false
+is_bad (Unknown item) = false
+
 -- the opening once the finding of the next item is known, which has this number
 abbrev pub next_opening : Opening → Finding → ℕ → Opening
 next_opening (Bad i) f n = Bad i

@@ -4,9 +4,13 @@
 mod cipher;
 mod findings;
 mod items;
+pub mod laws;
 mod sealing;
 mod unsealing;
 
 pub use findings::{Finding, Opening};
 pub use sealing::seal;
 pub use unsealing::unseal;
+
+#[cfg(test)]
+mod tests;

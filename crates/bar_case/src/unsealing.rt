@@ -24,7 +24,7 @@ fn sound_if(ok: bool) -> Finding
 
 /// What the digest of an update says of its block.
 fn block_finding(digest: KnownDigest<'_>, block: &[u8; 1024]) -> Finding
-    ensures { result ≡ digest_finding (plain_digest digest) block.now }
+    ensures { result ≡ digest_finding (plain_digest digest.entry) block.now }
 {
     match digest {
         KnownDigest::Known(digest) => {
@@ -76,7 +76,8 @@ fn unseal_items(
     requires few { length items.now ≤ 16 }
     requires whole { length cipher.now ≡ items_len items.now }
     ensures opening { result ≡ opening_of (findings table.now.lists junk.now items.now (opened key.now cipher.now)) }
-    ensures blocks { out.new ≡ blocks_after items.now (opened key.now cipher.now) out.old }
+    ensures places { length out.old ≡ 16 }
+    ensures placed { out.new ≡ blocks_after items.now (opened key.now cipher.now) out.old }
 {
     let mut opening = Opening::Good(0);
     let mut at = 0;
@@ -111,7 +112,7 @@ pub fn unseal(
     requires cap { cap ≤ 16 }
     requires whole { length cipher.now ≡ promised_len cap (plain_terms terms.now) role }
     ensures opening { result ≡ opening id.now x cap (plain_terms terms.now) role cipher.now key.now table.now.lists }
-    ensures blocks { out.new ≡ opened_blocks cap (plain_terms terms.now) role cipher.now key.now ++ drop (length (promised_updates cap (plain_terms terms.now) role)) out.old }
+    ensures placed { out.new ≡ opened_blocks cap (plain_terms terms.now) role cipher.now key.now ++ drop (length (promised_updates cap (plain_terms terms.now) role)) out.old }
 {
     let promise = promise(terms, role, cap);
     let items = &promise.items[..usize::from(promise.len)];

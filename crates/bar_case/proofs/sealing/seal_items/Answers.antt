@@ -6,7 +6,6 @@ use Rattle.bar_case.specs.Items.{item_len}
 use Rattle.bar_case.proofs.Laid.{items_whole, items_more, items_room, plain_more, sealed_more, drop_later}
 use Rattle.bar_case.proofs.sealing.seal_items.Goals as goal
 
-
 pub seal_item-at-requires-clause-word : goal.seal_item-at-requires-clause-word
 seal_item-at-requires-clause-word g c = rw c.loop-item.invariant.at_is (items_whole _)
 

@@ -9,4 +9,5 @@ invariant-loop-k l = record {
   opening : l.opening ≡ opening_of (findings l.table.lists l.junk (take l.k l.items) (opened l.key l.cipher));
   blocks : l.out ≡ blocks_after (take l.k l.items) (opened l.key l.cipher) l.initial.out;
   long : length l.out ≡ 16;
+  places : length l.initial.out ≡ 16;
 }
