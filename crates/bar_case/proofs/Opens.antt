@@ -1,12 +1,12 @@
 -- Items that are opened one after another.
-use Rattle.std.proofs.Common.{◌≡◌, ℕ, zero, suc, ◌+◌, ◌-◌, ◌*◌, ◌%◌, ◌<◌, ◌≤◌, Bool, true, false, List, [], ◌∷◌, ◌++◌, length, take, drop, map, slice_set, slice_index_or, refl, sym, ap, ◌∙◌, arith, length-append, length-take, length-drop, cond, nat_lt, eqb, not, ◌⊎◌}
-use Rattle.std.specs.Prelude.{Option, Some, None, position, min}
+use Rattle.std.proofs.Common.{◌≡◌, ℕ, suc, ◌+◌, ◌-◌, ◌<◌, ◌≤◌, Bool, true, false, List, [], ◌∷◌, ◌++◌, length, take, drop, map, slice_set, slice_index_or, refl, sym, ap, ◌∙◌, arith, length-append, length-take, length-drop, cond, nat_lt, eqb, not}
+use Rattle.std.specs.Prelude.{Option, Some, None, position}
 use Rattle.std.specs.List.{position_or_len, range_with_len}
 use Rattle.std.specs.Simd.{first_chunks}
-use Rattle.std.proofs.lemmas.List.{take_more, take-append-drop, drop-drop, drop-take, length-map, length-take-le}
+use Rattle.std.proofs.lemmas.List.{take_more, drop-drop, drop-take, length-take-le}
 use Rattle.std.proofs.lemmas.List.Sums.{prefix_len-le-length}
 use Rattle.std.proofs.lemmas.List.Folds.{position_or_len_push}
-use Rattle.std.proofs.lemmas.Bool.{eqb-true, eq-eqb, ne_eqb, ltb-true, lt-ltb, false_from_ne_true}
+use Rattle.std.proofs.lemmas.Bool.{eq-eqb, ne_eqb, ltb-true, lt-ltb, false_from_ne_true}
 use Rattle.bar_window.specs.declared.update.UpdateId.{UpdateId}
 use Rattle.bar_window.specs.declared.exchange.Exchange.{Exchange}
 use Rattle.bar_window.specs.declared.exchange.Role.{Role}
@@ -18,7 +18,6 @@ use Rattle.bar_terms.specs.Terms.{promise, promised_updates, promised_junk}
 use Rattle.bar_case.specs.declared.findings.Finding.{Finding}
 use Rattle.bar_case.specs.declared.findings.Finding.TheVariants.{Sound, Broken, Untold}
 use Rattle.bar_case.specs.declared.findings.Opening.{Opening}
-use Rattle.bar_case.specs.declared.findings.Opening.TheVariants.{Good, Bad, Unknown}
 use Rattle.bar_case.specs.Keystream.{keystream, xor_bytes}
 use Rattle.bar_case.specs.Items.{item_len, items_len, junk_key}
 use Rattle.bar_case.specs.Opened.{item_finding, findings, is_broken, is_untold, opening_by, opening_of, next_opening, opened, block_after, blocks_after, opening, opened_blocks}

@@ -1,6 +1,6 @@
 -- What was sealed opens with its own key to what it was, and so shows nothing broken.
-use Rattle.std.proofs.Common.{◌≡◌, ℕ, zero, suc, ◌+◌, ◌*◌, Bool, true, false, List, [], ◌∷◌, ◌++◌, length, take, drop, map, refl, sym, ap, ◌∙◌, subst, inl, inr, arith, length-append, length-drop}
-use Rattle.std.specs.Prelude.{Option, Some, None, ◌⊎◌, ◌&&◌, not, flat_map, bytes_eq, unwrap_or, position}
+use Rattle.std.proofs.Common.{◌≡◌, ℕ, ◌+◌, ◌*◌, true, false, List, [], ◌∷◌, ◌++◌, length, take, drop, map, refl, sym, ap, ◌∙◌, subst, inl, inr, arith, length-append, length-drop}
+use Rattle.std.specs.Prelude.{Option, Some, None, ◌⊎◌, bytes_eq, unwrap_or, position}
 use Rattle.std.specs.List.{AllByRecursion, range_with_len, position_or_len}
 use Rattle.std.proofs.Math.Seq.{take-append_seam, drop-append_seam}
 use Rattle.std.proofs.lemmas.Slice.Eq.{bytes_eq-Decides}
@@ -11,10 +11,9 @@ use Rattle.bar_window.specs.declared.exchange.Role.{Role}
 use Rattle.bar_window.specs.Terms.{Terms}
 use Rattle.bar_terms.specs.declared.items.Item.{Item}
 use Rattle.bar_terms.specs.declared.items.Item.TheVariants.{Update, Junk}
-use Rattle.bar_terms.specs.Table.{Table, Digest, Known, NoManifest, digest_of}
+use Rattle.bar_terms.specs.Table.{Table, Known, NoManifest, digest_of}
 use Rattle.bar_terms.specs.Terms.{promise, promised_updates, promised_junk}
 use Rattle.bar_case.specs.declared.findings.Finding.{Finding}
-use Rattle.bar_case.specs.declared.findings.Finding.TheVariants.{Sound, Broken, Untold}
 use Rattle.bar_case.specs.Keystream.{keystream, xor_bytes}
 use Rattle.bar_case.specs.Items.{item_len, items_len, item_bytes, plaintext, junk_key, junk_item, promised_len}
 use Rattle.bar_case.specs.Sealed.{sealed, IsTold}

@@ -92,6 +92,7 @@ pub fn seal<B: Blocks>(
     requires held { All (λ u. IsSome (B.block_of blocks.now u)) (promised_updates cap (plain_terms terms.now) role) }
     requires room { 20480 ≤ length out.old }
     ensures len { result ≡ promised_len cap (plain_terms terms.now) role }
+    ensures fits { result ≤ 20480 }
     ensures value { take result out.new ≡ sealed id.now x cap (plain_terms terms.now) role key.now (B.block_of blocks.now) }
     ensures rest { drop result out.new ≡ drop result out.old }
 {

@@ -1,5 +1,9 @@
-ghost use Rattle.std.specs.Prelude.{◌≡◌, ◌≤◌, Some};
+ghost use Rattle.std.specs.Prelude.{◌≡◌, ◌≤◌, Some, true, length, IfOk};
 ghost use Rattle.bar_window.specs.Window.{IsWindowOf};
+ghost use Rattle.bar_window.specs.Terms.{plain_terms};
+ghost use Rattle.bar_terms.specs.Windows.{AreAligned};
+ghost use Rattle.bar_terms.specs.Terms.{can_promise};
+ghost use Rattle.bar_case.specs.Items.{promised_len};
 
 use crate::cipher::keystream;
 use crate::findings::Opening;
@@ -8,6 +12,7 @@ use crate::unsealing::unseal;
 use bar_terms::{Table, terms_ok};
 use bar_window::{Blocks, Exchange, Role, Terms, UpdateId, Window, XKind};
 use sha2::{Digest, Sha256};
+use std::alloc::{AllocError, Global};
 use std::process::Abort;
 use std::test::Fail;
 
@@ -67,6 +72,45 @@ const TRADE: Exchange = Exchange {
     responder: 2,
 };
 
+/// The briefcase of a side, in which each update has the block of the content `hi`.
+fn sealed(alloc: Global, x: Exchange, terms: &Terms, role: Role) -> Result<Vec<u8>, AllocError>
+    requires windows { AreAligned terms.now }
+    requires valid { can_promise 4 (plain_terms terms.now) ≡ true }
+    ensures { IfOk result (λ v. length v.items ≡ promised_len 4 (plain_terms terms.now) role) }
+{
+    let mut out = vec![in alloc; 0; 20480]?;
+    let len = seal(&ID, x, terms, role, 4, &KEY, &hi(), &mut out);
+    out.truncate(len);
+    Ok(out)
+}
+
+/// What a key shows of a briefcase, and the first block that it opens.
+fn opened(
+    x: Exchange,
+    terms: &Terms,
+    role: Role,
+    cipher: &[u8],
+    key: &[u8; 32],
+    table: &Table,
+) -> (Opening, [u8; 1024])
+    requires windows { AreAligned terms.now }
+    requires valid { can_promise 4 (plain_terms terms.now) ≡ true }
+    requires whole { length cipher.now ≡ promised_len 4 (plain_terms terms.now) role }
+{
+    let mut blocks = [[0; 1024]; 16];
+    let opening = unseal(&ID, x, terms, role, 4, cipher, key, table, &mut blocks);
+    (opening, blocks[0])
+}
+
+/// Whether some bytes stand from a place on.
+fn stands_at(bytes: &[u8], at: u16, part: &[u8]) -> bool {
+    bytes
+        .iter()
+        .skip(usize::from(at))
+        .zip(part)
+        .all(|(a, b)| *a == *b)
+}
+
 #[test]
 fn the_keystream_is_that_of_the_standard(rt: HostRuntime) {
     // RFC 8439, A.1, the first vector.
@@ -77,9 +121,9 @@ fn the_keystream_is_that_of_the_standard(rt: HostRuntime) {
         0x28,
     ];
     assert_eq!(rt; out, first);
-    let mut part = [0; 8];
-    keystream(&[0; 32], 2, &mut part);
-    assert_eq!(rt; part.as_slice(), &first[8..]);
+    let mut part = [0; 4];
+    keystream(&[0; 32], 3, &mut part);
+    assert_eq!(rt; part, [0x53, 0x86, 0xbd, 0x28]);
 }
 
 #[test]
@@ -95,41 +139,15 @@ fn junk_opens_with_its_own_key_alone(rt: HostRuntime) -> Result<(), Fail> {
     };
     let table = Table::make(rt.alloc(), 10, 8)?;
     assert!(rt; terms_ok(&terms, PUSH, 4, 4, &table));
-    let mut out = [0; 20480];
-    let len = seal(&ID, PUSH, &terms, Role::Responder, 4, &KEY, &hi(), &mut out);
-    assert_eq!(rt; len, 2560);
-    let cipher = &out[..2560];
-    assert_eq!(rt; &cipher[..8], [189, 171, 16, 215, 5, 128, 5, 0].as_slice());
-    assert_eq!(rt;
-        &cipher[1280..1288],
-        [176, 172, 206, 6, 208, 141, 58, 160].as_slice()
-    );
-    let mut blocks = [[0; 1024]; 16];
-    let good = unseal(
-        &ID,
-        PUSH,
-        &terms,
-        Role::Responder,
-        4,
-        cipher,
-        &KEY,
-        &table,
-        &mut blocks,
-    );
+    let cipher = sealed(rt.alloc(), PUSH, &terms, Role::Responder)?;
+    assert_eq!(rt; cipher.len(), 2560);
+    assert!(rt; stands_at(&cipher, 0, &[189, 171, 16, 215, 5, 128, 5, 0]));
+    assert!(rt; stands_at(&cipher, 1280, &[176, 172, 206, 6, 208, 141, 58, 160]));
+    let (good, _) = opened(PUSH, &terms, Role::Responder, &cipher, &KEY, &table);
     assert_eq!(rt; good, Opening::Good(2));
     let mut other = KEY;
     other[0] ^= 1;
-    let bad = unseal(
-        &ID,
-        PUSH,
-        &terms,
-        Role::Responder,
-        4,
-        cipher,
-        &other,
-        &table,
-        &mut blocks,
-    );
+    let (bad, _) = opened(PUSH, &terms, Role::Responder, &cipher, &other, &table);
     assert_eq!(rt; bad, Opening::Bad { item: 0 });
     Ok(())
 }
@@ -144,50 +162,15 @@ fn an_update_is_told_by_its_digest(rt: HostRuntime) -> Result<(), Fail> {
     };
     let mut table = Table::make(rt.alloc(), 10, 8)?;
     assert!(rt; terms_ok(&terms, TRADE, 4, 4, &table));
-    let mut out = [0; 20480];
-    let len = seal(
-        &ID,
-        TRADE,
-        &terms,
-        Role::Initiator,
-        4,
-        &KEY,
-        &hi(),
-        &mut out,
-    );
-    assert_eq!(rt; len, 1024);
-    let cipher = &out[..1024];
-    assert_eq!(rt;
-        &cipher[..8],
-        [244, 2, 250, 17, 87, 170, 246, 65].as_slice()
-    );
-    let mut blocks = [[0; 1024]; 16];
-    let unknown = unseal(
-        &ID,
-        TRADE,
-        &terms,
-        Role::Initiator,
-        4,
-        cipher,
-        &KEY,
-        &table,
-        &mut blocks,
-    );
+    let cipher = sealed(rt.alloc(), TRADE, &terms, Role::Initiator)?;
+    assert_eq!(rt; cipher.len(), 1024);
+    assert!(rt; stands_at(&cipher, 0, &[244, 2, 250, 17, 87, 170, 246, 65]));
+    let (unknown, block) = opened(TRADE, &terms, Role::Initiator, &cipher, &KEY, &table);
     assert_eq!(rt; unknown, Opening::Unknown { item: 0 });
-    assert_eq!(rt; &blocks[0][..6], [0, 2, b'h', b'i', 0, 0].as_slice());
+    assert!(rt; stands_at(&block, 0, &[0, 2, b'h', b'i', 0, 0]));
     let digest = Sha256::digest(hi().block.as_slice());
     assert!(rt; table.extend(3, &digest));
-    let good = unseal(
-        &ID,
-        TRADE,
-        &terms,
-        Role::Initiator,
-        4,
-        cipher,
-        &KEY,
-        &table,
-        &mut blocks,
-    );
+    let (good, _) = opened(TRADE, &terms, Role::Initiator, &cipher, &KEY, &table);
     assert_eq!(rt; good, Opening::Good(1));
     Ok(())
 }

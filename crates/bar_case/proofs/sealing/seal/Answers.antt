@@ -1,7 +1,6 @@
-use Rattle.std.proofs.Common.{◌≡◌, ◌+◌, ◌∙◌, List, All, length, take, drop, ap, sym, arith, subst}
+use Rattle.std.proofs.Common.{◌∙◌, List, All, length, take, ap, sym, arith, subst}
 use Rattle.bar_window.specs.Terms.{plain_terms}
 use Rattle.bar_terms.specs.declared.items.Item.{Item}
-use Rattle.bar_terms.specs.Terms.{promise}
 use Rattle.bar_case.specs.Items.{items_len}
 use Rattle.bar_case.specs.Sealed.{IsHeldItem}
 use Rattle.bar_case.proofs.Laid.{promise_len, promise_held, promise_few, items_short, sealed_is}
@@ -27,3 +26,8 @@ pub returns-clause-value : goal.returns-clause-value
 returns-clause-value g c =
     let same = ap (λ n. take n c.promise-promise.result.items) c.from.ensures ∙ c.promise-promise.ensures.items in
     sealed_is _ _ _ _ _ _ _ _ _ _ _ c.junk_key.ensures same c.seal_items.ensures.plain c.seal_items.ensures.value
+
+pub returns-clause-fits : goal.returns-clause-fits
+returns-clause-fits g c =
+    let same = ap (λ n. take n c.promise-promise.result.items) c.from.ensures ∙ c.promise-promise.ensures.items in
+    omega (arith, c.seal_items.ensures.len, items_short (take c.from.result c.promise-promise.result.items), ap length same, c.requires.cap, promise_few c.args.cap (plain_terms c.args.terms.now) c.args.role c.requires.valid)

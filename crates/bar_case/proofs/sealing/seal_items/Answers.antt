@@ -1,8 +1,7 @@
-use Rattle.std.proofs.Common.{◌≡◌, ℕ, ◌+◌, ◌<◌, ◌∙◌, length, ap, sym, arith, length-append}
+use Rattle.std.proofs.Common.{ℕ, ◌<◌, ◌∙◌, length, ap, sym, arith, length-append}
 use Rattle.bar_terms.specs.declared.items.Item.{Item}
 use Rattle.bar_terms.specs.declared.items.Item.TheVariants.{Update}
 use Rattle.bar_case.specs.Keystream.{keystream, xor_bytes}
-use Rattle.bar_case.specs.Items.{item_len}
 use Rattle.bar_case.proofs.Laid.{items_whole, items_more, items_room, plain_more, sealed_more, drop_later}
 use Rattle.bar_case.proofs.sealing.seal_items.Goals as goal
 

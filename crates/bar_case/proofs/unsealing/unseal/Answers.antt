@@ -1,4 +1,4 @@
-use Rattle.std.proofs.Common.{◌≡◌, ◌+◌, ◌∙◌, List, All, length, take, drop, ap, sym, arith, subst}
+use Rattle.std.proofs.Common.{◌∙◌, length, take, ap, sym, arith}
 use Rattle.bar_window.specs.Terms.{plain_terms}
 use Rattle.bar_case.specs.Items.{items_len}
 use Rattle.bar_case.proofs.Laid.{promise_len, promise_few, updates_few}

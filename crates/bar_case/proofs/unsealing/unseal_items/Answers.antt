@@ -1,4 +1,4 @@
-use Rattle.std.proofs.Common.{◌≡◌, ℕ, ◌+◌, ◌<◌, ◌≤◌, ◌∙◌, List, [], slice_set, length, take, ap, sym, arith, slice_index_or}
+use Rattle.std.proofs.Common.{◌+◌, ◌<◌, ◌∙◌, [], slice_set, length, take, ap, sym, arith, slice_index_or}
 use Rattle.bar_terms.specs.declared.items.Item.{Item}
 use Rattle.bar_terms.specs.declared.items.Item.TheVariants.{Update}
 use Rattle.bar_case.specs.Items.{item_len, items_len}
