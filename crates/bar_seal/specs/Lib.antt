@@ -1,0 +1,3 @@
+pub mod LmsLaws
+pub mod Identities
+pub mod Leaves

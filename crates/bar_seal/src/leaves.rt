@@ -1,0 +1,78 @@
+//! The leaf that signs a message.
+
+ghost use Rattle.std.specs.Prelude.{◌≡◌, ℕ, ◌*◌, ◌≤◌, ◌<◌, ◌^◌, true};
+ghost use Rattle.bar_wire.specs.Datagram.{is_signed, round_of};
+ghost use Rattle.bar_wire.specs.Views.{plain};
+ghost use Rattle.bar_seal.specs.Leaves.{leaf_of, first_slot, leaf_at};
+
+use crate::codes::{kind_from, role_from};
+use bar_window::{Role, XKind};
+use bar_wire::Body;
+
+/// The steps of a side of an exchange: its first message, its briefcase and its key.
+const FIRST: u32 = 0;
+
+const CASE: u32 = 1;
+
+const KEY: u32 = 2;
+
+/// The slot of the first message of a side, where the responder has a seat.
+fn first_slot(kind: XKind, role: Role, seat: u8) -> u32
+    ensures { result ≡ first_slot kind role seat }
+{
+    match (kind, role) {
+        (XKind::Balanced, Role::Initiator) => 0,
+        (XKind::Push, Role::Initiator) => 3,
+        (XKind::Balanced, Role::Responder) => 6 + 3 * u32::from(seat),
+        (XKind::Push, Role::Responder) => 12 + 3 * u32::from(seat),
+    }
+}
+
+/// The leaf of a step of a side.
+fn leaf_at(round: u32, kind: XKind, role: Role, step: u32, seat: u8) -> u32
+    requires first { 1 ≤ round }
+    requires fits { 18 * round < 2 ^ 32 }
+    requires seat { seat < 2 }
+    requires step { step < 3 }
+    ensures { result ≡ leaf_at round kind role step seat }
+{
+    18 * (round - 1) + (first_slot(kind, role, seat) + step)
+}
+
+/// The leaf that signs a message of a signed kind, where its sender has the seat 0 or 1 if it is the responder.
+///
+/// A peer has 18 leaves for each round, one for each message that it may sign there: request, briefcase and key as balanced initiator, then
+/// as push initiator, then response, briefcase and key in each seat as balanced responder, then in each seat as push responder. The
+/// broadcaster has two, for the manifest and the notice of evictions.
+pub fn leaf_of(body: &Body<'_>, seat: u8) -> u32
+    requires signed { is_signed (plain body.now) ≡ true }
+    requires first { 1 ≤ round_of (plain body.now) }
+    requires fits { 18 * round_of (plain body.now) < 2 ^ 32 }
+    requires seat { seat < 2 }
+    ensures { result ≡ leaf_of (plain body.now) seat }
+{
+    let (balanced, push) = (XKind::Balanced, XKind::Push);
+    match body {
+        Body::Manifest { round, .. } => 2 * (*round - 1),
+        Body::Evict { round, .. } => 2 * (*round - 1) + 1,
+        Body::Request { round, .. } => leaf_at(*round, balanced, Role::Initiator, FIRST, seat),
+        Body::Query { round, .. } => leaf_at(*round, push, Role::Initiator, FIRST, seat),
+        Body::Response { round, .. } => leaf_at(*round, balanced, Role::Responder, FIRST, seat),
+        Body::Reply { round, .. } => leaf_at(*round, push, Role::Responder, FIRST, seat),
+        Body::Case {
+            round,
+            xkind,
+            role,
+            ..
+        } => leaf_at(*round, kind_from(*xkind), role_from(*role), CASE, seat),
+        Body::Key {
+            round,
+            xkind,
+            role,
+            ..
+        } => leaf_at(*round, kind_from(*xkind), role_from(*role), KEY, seat),
+        Body::Block { .. } | Body::Divulge { .. } | Body::KeyReq { .. } | Body::Evidence { .. } => {
+            0
+        }
+    }
+}

@@ -1,0 +1,18 @@
+//! Signatures of datagrams: schemes, the identity of a message, and the leaf that signs it.
+#![tactic(auto)]
+
+mod checker;
+mod codes;
+mod identities;
+pub mod laws;
+mod leaves;
+mod lms;
+mod naming;
+mod scheme;
+
+pub use checker::Checker;
+pub use identities::Identity;
+pub use leaves::leaf_of;
+pub use lms::{LmsScheme, LmsVerifier};
+pub use naming::identity;
+pub use scheme::{Scheme, Verifier};
