@@ -16,3 +16,6 @@ pub use leaves::leaf_of;
 pub use lms::{LmsScheme, LmsVerifier};
 pub use naming::identity;
 pub use scheme::{Scheme, Verifier};
+
+#[cfg(test)]
+mod tests;

@@ -1,0 +1,167 @@
+ghost use Rattle.std.specs.Prelude.{◌≡◌, ◌<◌, true, IsSome};
+ghost use Rattle.bar_wire.specs.Datagram.{is_signed, round_of};
+ghost use Rattle.bar_wire.specs.Views.{plain};
+
+use crate::checker::Checker;
+use crate::identities::Identity;
+use crate::leaves::leaf_of;
+use crate::lms::{LmsScheme, LmsVerifier};
+use crate::naming::identity;
+use crate::scheme::{Scheme, Verifier};
+use bar_bytes::Steps;
+use bar_lms::{Height, Ots, Params, SecretKey};
+use bar_window::Window;
+use bar_wire::{Body, View};
+use std::marker::Brand;
+use std::sync::ledger::{Blank, Ledger};
+use std::test::Fail;
+
+const PARAMS: Params = Params {
+    height: Height::H5,
+    ots: Ots::W8,
+};
+
+const ID: [u8; 8] = [0x00, 0x11, 0x22, 0x33, 0x44, 0x55, 0x66, 0x77];
+
+/// A key of a peer, as a datagram.
+fn key_of(xkind: u8, role: u8) -> Body<'static>
+    ensures signed { is_signed (plain result) ≡ true }
+    ensures round { round_of (plain result) ≡ 3 }
+{
+    Body::Key {
+        round: 3,
+        xkind,
+        role,
+        key: &[7; 32],
+    }
+}
+
+/// The datagram with a body that party 1 sends party 2.
+fn from_one<'a>(body: Body<'a>, message: &'a [u8], sig: &'a [u8]) -> View<'a>
+    ensures { IsSome result.sig }
+{
+    View {
+        from: 1,
+        to: 2,
+        body,
+        message,
+        sig: Some(sig),
+    }
+}
+
+fn is_counted<V: Verifier, L: Ledger>(
+    verifier: &V,
+    key: &[u8],
+    message: &[u8],
+    sig: &[u8],
+    blank: Blank,
+) -> bool
+    requires name { blank.name ≡ L.name }
+    requires parts { blank.parts ≡ L.parts }
+    requires some { 0 < L.parts }
+{
+    let mut steps = Steps::<L>::new(blank);
+    let accepted = verifier.accepts(key, message, sig, &mut steps);
+    let Ok(mut checker) = Checker::make(4) else {
+        return false;
+    };
+    let view = from_one(key_of(0, 0), message, sig);
+    accepted == checker.check(verifier, key, &view, &mut steps) && accepted
+}
+
+/// Whether a verifier and a checker both accept a signature.
+fn is_accepted<V: Verifier>(verifier: &V, key: &[u8], message: &[u8], sig: &[u8]) -> bool {
+    is_counted::<V, Brand>(verifier, key, message, sig, Blank::new(1))
+}
+
+#[test]
+fn what_is_signed_is_accepted_under_its_key_alone(rt: HostRuntime) -> Result<(), Fail> {
+    let secret = SecretKey::make(rt.alloc(), PARAMS, &ID, &[1; 32])?;
+    let key = secret.public();
+    let scheme = LmsScheme::new(secret);
+    assert_eq!(rt; scheme.leaves(), 32);
+    assert_eq!(rt; scheme.sig_len(), 1292);
+    let mut sig = [0; 1292];
+    assert_eq!(rt; scheme.sign(3, b"a message", &mut sig), 1292);
+    let verifier = LmsVerifier::new(PARAMS);
+    let other = LmsVerifier::new(Params {
+        height: Height::H10,
+        ots: Ots::W8,
+    });
+    assert!(rt; is_accepted(&scheme, &key, b"a message", &sig));
+    assert!(rt; is_accepted(&verifier, &key, b"a message", &sig));
+    assert!(rt; !is_accepted(&verifier, &key, b"another", &sig));
+    assert!(rt; !is_accepted(&other, &key, b"a message", &sig));
+    assert!(rt; !is_accepted(&verifier, b"no key", b"a message", &sig));
+    Ok(())
+}
+
+#[test]
+fn an_identity_has_the_fields_of_its_kind(rt: HostRuntime) {
+    let window = Window::empty(3, 4);
+    let key = identity(&from_one(key_of(1, 1), &[], &[]));
+    let all = Identity {
+        kind: 10,
+        from: 1,
+        to: 2,
+        round: 3,
+        xkind: 1,
+        role: 1,
+    };
+    assert_eq!(rt; key, Some(all));
+    let request = Body::Request {
+        round: 3,
+        seed: &[0; 32],
+        commitment: &[0; 32],
+    };
+    let asked = Identity {
+        kind: 3,
+        from: 1,
+        ..Identity::of_round(bar_wire::Kind::Request, 3)
+    };
+    assert_eq!(rt; identity(&from_one(request, &[], &[])), Some(asked));
+    let response = Body::Response {
+        round: 3,
+        hb: window,
+    };
+    let answered = Identity {
+        kind: 4,
+        to: 2,
+        ..asked
+    };
+    assert_eq!(rt; identity(&from_one(response, &[], &[])), Some(answered));
+    let divulge = Body::Divulge {
+        round: 3,
+        nonce: &[0; 32],
+        ha: window,
+    };
+    assert_eq!(rt; identity(&from_one(divulge, &[], &[])), None);
+}
+
+#[test]
+fn each_message_of_a_round_has_its_leaf(rt: HostRuntime) {
+    let window = Window::empty(3, 4);
+    let response = Body::Response {
+        round: 3,
+        hb: window,
+    };
+    let reply = Body::Reply {
+        round: 3,
+        want: window,
+        give: window,
+        junk: 0,
+    };
+    let notice = Body::Evict {
+        round: 3,
+        count: 1,
+        parties: &[0, 2],
+    };
+    assert_eq!(rt; leaf_of(&key_of(0, 0), 0), 38);
+    assert_eq!(rt; leaf_of(&key_of(1, 0), 0), 41);
+    assert_eq!(rt; leaf_of(&response, 0), 42);
+    assert_eq!(rt; leaf_of(&response, 1), 45);
+    assert_eq!(rt; leaf_of(&key_of(0, 1), 1), 47);
+    assert_eq!(rt; leaf_of(&reply, 0), 48);
+    assert_eq!(rt; leaf_of(&key_of(1, 1), 1), 53);
+    assert_eq!(rt; leaf_of(&notice, 0), 5);
+}
