@@ -18,8 +18,8 @@ returns c me log d h none body =
       party = h.party;
       time = let same : ticks log + 0 ≡ c.args.self.now.ticks = omega (arith, h.time) in same;
       manifests = λ r.
-      manifest_listed log d c.args.round r c.args.digests.items body
-      ∙ found_more (λ (digests : Vec (List ℕ) Global). digests.items) (digests_of (table log) r) (get eqb c.args.self.now.manifests r) (get eqb c.insert.new.self r) c.args.digests (c.args.round == r) (h.manifests r) (free r) (new r);
+          manifest_listed log d c.args.round r c.args.digests.items body
+          ∙ found_more (λ (digests : Vec (List ℕ) Global). digests.items) (digests_of (table log) r) (get eqb c.args.self.now.manifests r) (get eqb c.insert.new.self r) c.args.digests (c.args.round == r) (h.manifests r) (free r) (new r);
       listed = λ r. manifest_heard log d c.args.round r c.args.digests.items body ∙ told_more (first_heard (has_kind_and_round 1 r) log) (get eqb c.args.self.now.manifests r) (get eqb c.insert.new.self r) c.args.digests d (c.args.round == r) (h.listed r) (free r) (new r);
       blocks = λ u. rw body (or_none (block_of log u) ∙ h.blocks u);
     }
