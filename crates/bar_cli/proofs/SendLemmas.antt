@@ -19,5 +19,5 @@ pub nothing-sent : (me : Member) (log : Log) (number : ℕ) (inputs : List Input
 nothing-sent me log number [] = refl
 nothing-sent me log number (input ∷ inputs) =
     ap (λ (sends : List (ℕ × Datagram)). map (λ send. (number, send.0, send.1)) sends ++ sends_from me (step me log input).log (number + 1) inputs)
-        (nothing-at me log input)
+    (nothing-at me log input)
     ∙ nothing-sent me (step me log input).log (number + 1) inputs

@@ -67,17 +67,17 @@ fn head_of(alloc: Global, kind: u8, to: [u8; 2]) -> Result<Vec<u8>, AllocError> 
 }
 
 // The manifest of round 1 with these digests.
-fn manifest(
+fn manifest_of(
     alloc: Global,
     signer: &SecretKey,
     blocks: &[[u8; 1024]],
 ) -> Result<Vec<u8>, AllocError> {
     let mut bytes = head_of(alloc, 1, [0xff, 0xff])?;
-    bytes.extend_from_slice(&[0, 0, 0, 1, blocks.len() as u8])?;
+    bytes.extend_from_slice(&[0, 0, 0, 1, u8::try_from(blocks.len()).unwrap_or(0)])?;
     for block in blocks {
         bytes.extend_from_slice(&Sha256::digest(block.as_slice()))?;
     }
-    let mut sig = [0u8; 8688];
+    let mut sig = vec![in alloc; 0u8; signer.params().sig_len()]?;
     let len = signer.sign(3, &bytes, &mut sig);
     bytes.extend_from_slice(&sig[..len])?;
     Ok(bytes)
@@ -94,18 +94,57 @@ fn block_of(alloc: Global, index: u8, block: &[u8; 1024]) -> Result<Vec<u8>, All
 // A block whose content has two bytes, where its length is not said to be another.
 fn block_with(len: u16, content: [u8; 2]) -> [u8; 1024] {
     let mut block = [0u8; 1024];
-    block[0] = (len / 256) as u8;
-    block[1] = (len % 256) as u8;
-    block[2] = content[0];
-    block[3] = content[1];
+    block[..2].copy_from_slice(&len.to_be_bytes());
+    block[2..4].copy_from_slice(&content);
     block
 }
 
-/// Entries of a recording.
+/// An entry of a recording, or so many ticks.
 #[derive(Clone, Copy)]
-enum Entry<'a> {
+enum Entry {
     Ticks(u8),
-    Came(&'a [u8]),
+    Manifest,
+    Changed,
+    Other,
+    Block,
+    OtherBlock,
+    LongBlock,
+}
+
+/// A signed stream of one round, and another one.
+#[derive(Drop)]
+struct Streams {
+    session: String,
+    /// The manifest of a block that holds `hi`.
+    manifest: Vec<u8>,
+    /// The same with one bit of its signature changed.
+    changed: Vec<u8>,
+    /// The manifest of a block that holds `ho`, and of one whose length is above the most.
+    other: Vec<u8>,
+    block: Vec<u8>,
+    other_block: Vec<u8>,
+    long_block: Vec<u8>,
+}
+
+fn signed_streams(alloc: Global) -> Result<Streams, AllocError> {
+    let signer = signer(alloc)?;
+    let hi = block_with(2, *b"hi");
+    let ho = block_with(2, *b"ho");
+    let long = block_with(1023, *b"no");
+    let manifest = manifest_of(alloc, &signer, &[hi])?;
+    let mut changed = manifest.to_vec(alloc)?;
+    if let Some(byte) = changed.last_mut() {
+        *byte ^= 1;
+    }
+    Ok(Streams {
+        session: session_text(alloc, &signer)?,
+        manifest,
+        changed,
+        other: manifest_of(alloc, &signer, &[ho, long])?,
+        block: block_of(alloc, 0, &hi)?,
+        other_block: block_of(alloc, 0, &ho)?,
+        long_block: block_of(alloc, 1, &long)?,
+    })
 }
 
 fn put_ticks(bytes: &mut Vec<u8>, count: u8) -> Result<(), AllocError> {
@@ -116,21 +155,31 @@ fn put_ticks(bytes: &mut Vec<u8>, count: u8) -> Result<(), AllocError> {
 }
 
 fn put_datagram(bytes: &mut Vec<u8>, datagram: &[u8]) -> Result<(), AllocError> {
-    let len = datagram.len();
-    bytes.extend_from_slice(&[2, (len / 256) as u8, (len % 256) as u8])?;
+    let len = u16::try_from(datagram.len()).unwrap_or(0);
+    bytes.push(2)?;
+    bytes.extend_from_slice(&len.to_be_bytes())?;
     bytes.extend_from_slice(datagram)
 }
 
+fn put_entry(bytes: &mut Vec<u8>, streams: &Streams, entry: Entry) -> Result<(), AllocError> {
+    match entry {
+        Entry::Ticks(count) => put_ticks(bytes, count),
+        Entry::Manifest => put_datagram(bytes, &streams.manifest),
+        Entry::Changed => put_datagram(bytes, &streams.changed),
+        Entry::Other => put_datagram(bytes, &streams.other),
+        Entry::Block => put_datagram(bytes, &streams.block),
+        Entry::OtherBlock => put_datagram(bytes, &streams.other_block),
+        Entry::LongBlock => put_datagram(bytes, &streams.long_block),
+    }
+}
+
 // The recording of party 2 with these entries.
-fn recording(alloc: Global, entries: &[Entry<'_>]) -> Result<Vec<u8>, AllocError> {
+fn recording(alloc: Global, streams: &Streams, entries: &[Entry]) -> Result<Vec<u8>, AllocError> {
     let mut bytes = b"BARL\x01".to_vec(alloc)?;
     bytes.extend_from_slice(&ID)?;
     bytes.extend_from_slice(&[0, 2])?;
     for entry in entries {
-        match entry {
-            Entry::Ticks(count) => put_ticks(&mut bytes, *count)?,
-            Entry::Came(datagram) => put_datagram(&mut bytes, datagram)?,
-        }
+        put_entry(&mut bytes, streams, *entry)?;
     }
     bytes.push(0)?;
     Ok(bytes)
@@ -168,51 +217,79 @@ fn run(
     })
 }
 
+// At the first tick of round 5, which is the 33rd, the blocks of round 1 are played.
+const START: Entry = Entry::Ticks(1);
+
+const END: Entry = Entry::Ticks(32);
+
+const PLAYED: [(&[Entry], &[u8]); 11] = [
+    (&[START, Entry::Manifest, Entry::Block, END], b"hi"),
+    (
+        &[START, Entry::Manifest, Entry::Block, Entry::Ticks(31)],
+        b"",
+    ),
+    (&[], b""),
+    (&[START, Entry::Changed, Entry::Block, END], b""),
+    // the first of two manifests of a round counts
+    (
+        &[
+            START,
+            Entry::Manifest,
+            Entry::Other,
+            Entry::Block,
+            Entry::OtherBlock,
+            END,
+        ],
+        b"hi",
+    ),
+    (
+        &[
+            START,
+            Entry::Other,
+            Entry::Manifest,
+            Entry::Block,
+            Entry::OtherBlock,
+            END,
+        ],
+        b"ho",
+    ),
+    // a block is taken once its manifest is there, and once only
+    (&[START, Entry::Block, Entry::Manifest, END], b""),
+    (
+        &[START, Entry::Block, Entry::Manifest, Entry::Block, END],
+        b"hi",
+    ),
+    (
+        &[
+            START,
+            Entry::Block,
+            Entry::Manifest,
+            Entry::Block,
+            Entry::Block,
+            END,
+        ],
+        b"hi",
+    ),
+    (&[START, Entry::Manifest, END, Entry::Block], b""),
+    (
+        &[
+            START,
+            Entry::Other,
+            Entry::OtherBlock,
+            Entry::LongBlock,
+            END,
+        ],
+        b"ho",
+    ),
+];
+
 #[test]
 fn streams_are_played(rt: HostRuntime) -> Result<(), Fail> {
     let alloc = rt.alloc();
-    let signer = signer(alloc)?;
-    let session = session_text(alloc, &signer)?;
-    let hi = block_with(2, *b"hi");
-    let ho = block_with(2, *b"ho");
-    let long = block_with(1023, *b"no");
-    let first = manifest(alloc, &signer, &[hi])?;
-    let other = manifest(alloc, &signer, &[ho, long])?;
-    let mut changed = manifest(alloc, &signer, &[hi])?;
-    if let Some(byte) = changed.last_mut() {
-        *byte ^= 1;
-    }
-    let block = block_of(alloc, 0, &hi)?;
-    let other_block = block_of(alloc, 0, &ho)?;
-    let long_block = block_of(alloc, 1, &long)?;
-    // at the first tick of round 5 the blocks of round 1 are played
-    let (start, end) = (Entry::Ticks(1), Entry::Ticks(32));
-    let (first, other, changed) = (
-        Entry::Came(&first),
-        Entry::Came(&other),
-        Entry::Came(&changed),
-    );
-    let (block, other_block, long_block) = (
-        Entry::Came(&block),
-        Entry::Came(&other_block),
-        Entry::Came(&long_block),
-    );
-    let cases: [(&[Entry<'_>], &[u8]); 11] = [
-        (&[start, first, block, end], b"hi"),
-        (&[start, first, block, Entry::Ticks(31)], b""),
-        (&[], b""),
-        (&[start, changed, block, end], b""),
-        (&[start, first, other, block, other_block, end], b"hi"),
-        (&[start, other, first, block, other_block, end], b"ho"),
-        (&[start, block, first, end], b""),
-        (&[start, block, first, block, end], b"hi"),
-        (&[start, block, first, block, block, end], b"hi"),
-        (&[start, first, end, block], b""),
-        (&[start, other, other_block, long_block, end], b"ho"),
-    ];
-    for (entries, played) in cases {
-        let recording = recording(alloc, entries)?;
-        let left = run(alloc, session.as_bytes(), &recording, &[], &[])?;
+    let streams = signed_streams(alloc)?;
+    for (entries, played) in PLAYED {
+        let bytes = recording(alloc, &streams, entries)?;
+        let left = run(alloc, streams.session.as_bytes(), &bytes, &[], &[])?;
         assert_eq!(rt; left.status, 0);
         assert_eq!(rt; left.files.get("p").unwrap_or(b"none".as_slice()), played);
         assert_eq!(rt;
@@ -225,60 +302,41 @@ fn streams_are_played(rt: HostRuntime) -> Result<(), Fail> {
     Ok(())
 }
 
+// Whether the session's text and the recording are right, the failing calls of the files and of err, and the status, what err
+// has and what was played.
+const ENDS: [(bool, bool, &[u64], &[u64], u8, &str, &[u8]); 8] = [
+    (true, true, &[], &[], 0, "", b"hi"),
+    (false, true, &[], &[], 4, "bar: session refused\n", b"none"),
+    (true, false, &[], &[], 8, "bar: input refused\n", b"none"),
+    (true, true, &[1], &[], 3, "bar: file failed\n", b"none"),
+    (true, true, &[2], &[], 3, "bar: file failed\n", b"none"),
+    (true, true, &[3], &[], 3, "bar: file failed\n", b"none"),
+    (true, true, &[4], &[], 3, "bar: file failed\n", b"h"),
+    (false, true, &[], &[1], 4, "bar: sessi", b"none"),
+];
+
+fn either<'a>(first: bool, one: &'a [u8], other: &'a [u8]) -> &'a [u8] {
+    if first { one } else { other }
+}
+
 #[test]
 fn statuses_and_lines(rt: HostRuntime) -> Result<(), Fail> {
     let alloc = rt.alloc();
-    let signer = signer(alloc)?;
-    let text = session_text(alloc, &signer)?;
-    let session = text.as_bytes();
-    let hi = block_with(2, *b"hi");
-    let first = manifest(alloc, &signer, &[hi])?;
-    let block = block_of(alloc, 0, &hi)?;
-    let entries = [
-        Entry::Ticks(1),
-        Entry::Came(&first),
-        Entry::Came(&block),
-        Entry::Ticks(32),
-    ];
-    let whole = recording(alloc, &entries)?;
-    let stream = whole.as_slice();
-    // session, recording, failing calls of the files and of err, status, what err has, what was played
-    let cases: [(&[u8], &[u8], &[u64], &[u64], u8, &str, &[u8]); 8] = [
-        (session, stream, &[], &[], 0, "", b"hi"),
-        (
-            b"version = 2",
-            stream,
-            &[],
-            &[],
-            4,
-            "bar: session refused\n",
-            b"none",
-        ),
-        (
-            session,
-            b"BARL",
-            &[],
-            &[],
-            8,
-            "bar: input refused\n",
-            b"none",
-        ),
-        (session, stream, &[1], &[], 3, "bar: file failed\n", b"none"),
-        (session, stream, &[2], &[], 3, "bar: file failed\n", b"none"),
-        (session, stream, &[3], &[], 3, "bar: file failed\n", b"none"),
-        (session, stream, &[4], &[], 3, "bar: file failed\n", b"h"),
-        (b"version = 2", stream, &[], &[1], 4, "bar: sessi", b"none"),
-    ];
-    for (session, recording, fail_files, fail_err, status, said, played) in cases {
-        let left = run(alloc, session, recording, fail_files, fail_err)?;
+    let streams = signed_streams(alloc)?;
+    let whole = recording(
+        alloc,
+        &streams,
+        &[START, Entry::Manifest, Entry::Block, END],
+    )?;
+    for (session_right, recording_right, fail_files, fail_err, status, said, played) in ENDS {
+        let session = either(session_right, streams.session.as_bytes(), b"version = 2");
+        let bytes = either(recording_right, &whole, b"BARL");
+        let left = run(alloc, session, bytes, fail_files, fail_err)?;
         assert_eq!(rt; left.status, status);
         assert_eq!(rt; left.err.bytes(), said.as_bytes());
         assert_eq!(rt; left.files.get("p").unwrap_or(b"none".as_slice()), played);
         assert_eq!(rt; left.out.bytes(), b"".as_slice());
-        assert_eq!(rt;
-            left.files.get("rec").unwrap_or(b"none".as_slice()),
-            recording
-        );
+        assert_eq!(rt; left.files.get("rec").unwrap_or(b"none".as_slice()), bytes);
     }
     Ok(())
 }
