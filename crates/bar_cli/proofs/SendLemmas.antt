@@ -4,7 +4,7 @@ use Rattle.bar_wire.specs.Datagram.{Datagram}
 use Rattle.bar_wire.specs.Inputs.{Input, Tick, Came}
 use Rattle.bar_rules.specs.Member.{Member, last_tick}
 use Rattle.bar_rules.specs.Log.{Log, ticks}
-use Rattle.bar_rules.specs.Run.{Out, idle, take_input, step, sends_from}
+use Rattle.bar_rules.specs.Run.{idle, take_input, step, sends_from}
 
 by-time : (late : Bool) (me : Member) (log : Log) (input : Input) → (if late then idle log else take_input me log input).sends ≡ []
 by-time true me log input = refl

@@ -1,5 +1,5 @@
 -- What a listener keeps of its log.
-use Rattle.std.specs.Prelude.{◌≡◌, ℕ, List, map, Option, Vec, nat_eq, is_some, option_map}
+use Rattle.std.specs.Prelude.{◌≡◌, ℕ, List, map, Vec, nat_eq, is_some, option_map}
 use Rattle.std.specs.declared.alloc.Global.{Global}
 use Rattle.std.specs.HashMap as hashed
 use Rattle.bar_window.specs.declared.update.UpdateId.{UpdateId}

@@ -1,4 +1,4 @@
-use Rattle.std.proofs.Common.{ℕ, List, Ok}
+use Rattle.std.proofs.Common.{Ok}
 use Rattle.bar_outside.specs.Plan.{world}
 use Rattle.bar_outside.specs.Stream.{Stream}
 use Rattle.bar_outside.specs.Follows.{Follows}
