@@ -9,3 +9,6 @@ mod secrets;
 pub use chain::{SeedChain, seed_ok};
 pub use choice::partner;
 pub use secrets::{Secrets, commitment};
+
+#[cfg(test)]
+mod tests;

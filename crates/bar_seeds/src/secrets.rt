@@ -1,6 +1,8 @@
 //! What a party derives from its secret for one exchange.
 
-ghost use Rattle.std.specs.Prelude.{◌≡◌, ℕ, ◌≤◌};
+ghost use Rattle.std.specs.Prelude.{◌≡◌, ℕ, ◌≤◌, ◌++◌};
+ghost use Rattle.bar_bytes.specs.Held.{Holds};
+ghost use Rattle.bar_window.specs.Exchange.{exchange_bytes};
 ghost use Rattle.bar_window.specs.Window.{members, round_words, IsWindowOf};
 ghost use Rattle.bar_seeds.specs.Derived.{nonce_of, briefcase_key, commitment_of};
 
@@ -18,14 +20,22 @@ pub struct Secrets {
     pub secret: [u8; 32],
 }
 
+// A hash that begins with an exchange.
+fn exchange_hash(tag: &[u8; 4], id: &[u8; 8], x: Exchange) -> Tagged
+    ensures { Holds result (tag.now ++ id.now ++ exchange_bytes x) }
+{
+    let mut hash = Tagged::new(tag, id);
+    hash.add(&x.bytes());
+    hash
+}
+
 impl Secrets {
     /// The nonce of an exchange that the party initiates.
     #[tactic(auto, unfolding(crate::specs::Derived::nonce_of))]
     pub fn nonce(&self, x: Exchange) -> [u8; 32]
         ensures { result ≡ nonce_of self.now x }
     {
-        let mut hash = Tagged::new(b"NON1", &self.id);
-        hash.add(&x.bytes());
+        let mut hash = exchange_hash(b"NON1", &self.id, x);
         hash.add(&self.secret);
         hash.finish()
     }
@@ -35,8 +45,7 @@ impl Secrets {
     pub fn key(&self, x: Exchange, role: Role) -> [u8; 32]
         ensures { result ≡ briefcase_key self.now x role }
     {
-        let mut hash = Tagged::new(b"KEY1", &self.id);
-        hash.add(&x.bytes());
+        let mut hash = exchange_hash(b"KEY1", &self.id, x);
         hash.add(&[role.code()]);
         hash.add(&self.secret);
         hash.finish()
@@ -51,10 +60,8 @@ pub fn commitment(id: &[u8; 8], x: Exchange, nonce: &[u8; 32], ha: &Window, life
     requires window { IsWindowOf life x.round ha.now }
     ensures { result ≡ commitment_of (round_words ha.now) life id.now x nonce.now (members ha.now) }
 {
-    let bytes = ha.bytes();
-    let mut hash = Tagged::new(b"CMT1", id);
-    hash.add(&x.bytes());
+    let mut hash = exchange_hash(b"CMT1", id, x);
     hash.add(nonce);
-    hash.add(&bytes[..8 * usize::from(life)]);
+    hash.add(&ha.bytes()[..8 * usize::from(life)]);
     hash.finish()
 }

@@ -1,7 +1,6 @@
-use Rattle.std.proofs.Common.{◌≡◌, ◌++◌, ◌∷◌, [], ◌+◌, length, refl, rules, arith}
+use Rattle.std.proofs.Common.{◌≡◌, ◌++◌, ◌∷◌, [], ◌+◌, refl, arith}
 use Rattle.std.proofs.lemmas.Grind.{common_steps}
 use Rattle.bar_seeds.specs.declared.secrets.Secrets.{Secrets}
-use Rattle.bar_seeds.specs.Seeds.{chain_back}
 use Rattle.bar_seeds.proofs.SeedLemmas.{chain_back-first, chain_back-more, values_more}
 use Rattle.bar_seeds.proofs.chain.SeedChain.make.Goals as goal
 
