@@ -42,11 +42,7 @@ pub(crate) fn bytes<const N: usize>(value: &Value) -> Option<[u8; N]>
 }
 
 /// The value at a name of the table.
-pub(crate) fn needed<'a>(
-    table: &'a Table,
-    key: Key,
-    name: &str,
-) -> Result<&'a Value, SessionFault>
+pub(crate) fn needed<'a>(table: &'a Table, key: Key, name: &str) -> Result<&'a Value, SessionFault>
     ensures there { IfOk result (λ v. get_member name.now (table_view table.now) ≡ Some (view v.now)) }
     ensures missing { IfErr result (λ e. (get_member name.now (table_view table.now) ≡ None) × (e ≡ SessionFault.Missing key)) }
 {

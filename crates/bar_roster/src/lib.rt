@@ -10,3 +10,6 @@ mod text;
 
 pub use fault::{Key, SessionFault};
 pub use session::Session;
+
+#[cfg(test)]
+mod tests;
