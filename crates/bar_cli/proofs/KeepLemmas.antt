@@ -6,7 +6,7 @@ use Rattle.std.specs.Bool.{then_some}
 use Rattle.std.specs.Simd.{first_chunks}
 use Rattle.bar_wire.specs.Places.{chunks}
 use Rattle.bar_wire.specs.Datagram.{Datagram, Manifest}
-use Rattle.bar_rules.specs.Table.{Table, digests_of}
+use Rattle.bar_terms.specs.Table.{Table, digests_of}
 use Rattle.bar_rules.specs.Log.{Log, Heard, table, has_heard, first_heard, has_kind_and_round}
 
 -- the digests in the code's chunks are those of the datagram

@@ -5,7 +5,7 @@ use Rattle.std.specs.HashMap as hashed
 use Rattle.bar_window.specs.declared.update.UpdateId.{UpdateId}
 use Rattle.bar_window.specs.Updates.{same_update}
 use Rattle.bar_rules.specs.Member.{Member}
-use Rattle.bar_rules.specs.Table.{digests_of}
+use Rattle.bar_terms.specs.Table.{digests_of}
 use Rattle.bar_rules.specs.Log.{Log, ticks, table, has_heard, has_kind_and_round, block_of}
 use Rattle.bar_cli.specs.declared.listener.Listener.{Listener}
 

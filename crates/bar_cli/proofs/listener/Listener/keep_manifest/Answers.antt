@@ -1,7 +1,7 @@
 use Rattle.std.proofs.Common.{◌≡◌, ◌∙◌, ◌+◌, ◌==◌, ℕ, sym, arith, true, None, Vec, List, Global, eqb}
 use Rattle.std.proofs.lemmas.Bool.Decides.{nat_tests}
 use Rattle.std.specs.HashMap.{get}
-use Rattle.bar_rules.specs.Table.{digests_of}
+use Rattle.bar_terms.specs.Table.{digests_of}
 use Rattle.bar_rules.specs.Log.{ticks, table, block_of, first_heard, has_kind_and_round}
 use Rattle.bar_cli.proofs.KeepLemmas.{manifest_listed, manifest_heard, or_none, found_more, told_more, none_told}
 use Rattle.bar_cli.proofs.listener.Listener.keep_manifest.Goals as goal
