@@ -1,11 +1,10 @@
 -- The shape of a session's numbers.
-use Rattle.std.proofs.Common.{◌≡◌, ◌∙◌, ℕ, Bool, true, false, List, length, Option, Some, refl, sym, arith, ◌<◌, ◌≤◌, true≢false, nat_le, nat_lt, ◌==◌}
+use Rattle.std.proofs.Common.{◌≡◌, ℕ, Bool, true, false, List, length, Some, refl, sym, arith, true≢false, nat_le, nat_lt, ◌==◌}
 use Rattle.std.proofs.lemmas.Bool.Decides.{nat_tests}
 use Rattle.std.proofs.Math.Nat.{ℕ_set}
 use Rattle.std.proofs.Math.Bridge.{le_prop}
 use Rattle.bar_lms.specs.Params.{signature_len}
 use Rattle.bar_wire.specs.Limits.{IsShape}
-use Rattle.bar_wire.specs.declared.shape.Shape.{Shape}
 use Rattle.bar_roster.specs.declared.numbers.Numbers.{Numbers}
 use Rattle.bar_roster.specs.Shapes.{params_of, is_shaped, shaped, shape_by, shape_of}
 

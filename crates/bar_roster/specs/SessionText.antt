@@ -1,5 +1,5 @@
 -- The text of a session: what it says, where each of its keys is there and of its kind and range.
-use Rattle.std.specs.Prelude.{ℕ, ◌+◌, ◌*◌, ◌^◌, [], ◌∷◌, ◌++◌, codes, length, nat_le, ◌==◌, List, Result, Ok, Err, if◌then◌else◌}
+use Rattle.std.specs.Prelude.{ℕ, ◌*◌, ◌^◌, [], ◌∷◌, ◌++◌, codes, length, nat_le, List, Result, Ok, Err, if◌then◌else◌}
 use Rattle.std.specs.Option.{ok_or}
 use Rattle.toml.specs.Data.{Data, Items, no_items, item, Members, as_table}
 use Rattle.bar_lms.specs.declared.params.Params.{Params}

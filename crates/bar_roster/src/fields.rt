@@ -26,7 +26,7 @@ pub(crate) fn document_table(alloc: Global, bytes: &[u8]) -> Result<Table, Sessi
 }
 
 /// The number that a value is, where it is in the range.
-fn number(value: &Value, low: u64, high: u64) -> Option<u64>
+pub(crate) fn number(value: &Value, low: u64, high: u64) -> Option<u64>
     ensures value { result ≡ number_in low high (view value.now) }
     ensures within { IfSome result (λ n. (low ≤ n) × (n ≤ high)) }
 {
