@@ -48,19 +48,19 @@ block_admitted me log d id block a e body to row =
     let signed : is_signed d.message.body ≡ false = rw body refl in
     let met : is_row_met me log d.message.from d.message.to d.message.body ≡ e = ap (is_row_met me log d.message.from d.message.to) body ∙ row in
     rw (signed, met, to) (all_three a e)
-    where
-      all_three : (a e : Bool) → (a && true && true && e) ≡ (a && e)
-      all_three true e = refl
-      all_three false e = refl
+  where
+    all_three : (a e : Bool) → (a && true && true && e) ≡ (a && e)
+    all_three true e = refl
+    all_three false e = refl
 
 -- no row, no admission
 pub no_row : (me : Member) (log : Log) (d : Datagram) → is_row_met me log d.message.from d.message.to d.message.body ≡ false → is_admitted me log d ≡ false
 unfolding is_admitted
 no_row me log d row = rw row (nothing _)
-    where
-      nothing : (b : Bool) → (b && false) ≡ false
-      nothing true = refl
-      nothing false = refl
+  where
+    nothing : (b : Bool) → (b && false) ≡ false
+    nothing true = refl
+    nothing false = refl
 
 -- the signature of a manifest as it stands in a view
 pub view_genuine : (s : SessionData) (bytes sig : List ℕ) (v : View) (round : ℕ) (digests : List (List ℕ)) (r : Bool) → IsView s.shape bytes v
@@ -72,8 +72,8 @@ view_genuine s bytes sig v round digests r is body same test =
     let message : message_bytes s.shape (datagram s.shape v).message ≡ v.message.now = sym is.message_is in
     let signature : signature_bytes v.sig ≡ sig = sym same in
     let here : is_accepted_under s.params (key_of s v.from) (message_bytes s.shape (datagram s.shape v).message) (signature_bytes v.sig)
-        ≡ is_accepted_under s.params (key_of s 0) v.message.now sig
-        = λ i. is_accepted_under s.params (key_of s (from i)) (message i) (signature i)
+    ≡ is_accepted_under s.params (key_of s 0) v.message.now sig
+    = λ i. is_accepted_under s.params (key_of s (from i)) (message i) (signature i)
     in
     here ∙ sym test
 

@@ -1,14 +1,13 @@
 -- What a manifest adds to the table and to what was heard.
-use Rattle.std.proofs.Common.{◌≡◌, ◌∙◌, ap, refl, sym, arith, ℕ, zero, suc, ◌*◌, ◌/◌, ◌==◌, ◌++◌, List, [], ◌∷◌, take, drop, length, Bool, true, false, ◌&&◌, Option, Some, None, is_some, inl, inr, if◌then◌else◌}
+use Rattle.std.proofs.Common.{◌≡◌, ap, refl, ℕ, zero, suc, ◌==◌, ◌++◌, List, [], ◌∷◌, take, drop, Bool, true, false, Option, Some, None, is_some, inl, inr, if◌then◌else◌}
 use Rattle.std.proofs.lemmas.Bool.{cases_Bool}
-use Rattle.std.proofs.lemmas.Bool.Decides.{nat_tests}
 use Rattle.std.specs.Option.{option_or, option_map}
 use Rattle.std.specs.Bool.{then_some}
 use Rattle.std.specs.Simd.{first_chunks}
 use Rattle.bar_wire.specs.Places.{chunks}
-use Rattle.bar_wire.specs.Datagram.{Datagram, Body, Manifest}
-use Rattle.bar_rules.specs.Table.{Table, digests_of}
-use Rattle.bar_rules.specs.Log.{Log, Heard, table, manifest_of, has_heard, first_heard, has_kind_and_round}
+use Rattle.bar_wire.specs.Datagram.{Datagram, Manifest}
+use Rattle.bar_terms.specs.Table.{Table, digests_of}
+use Rattle.bar_rules.specs.Log.{Log, Heard, table, has_heard, first_heard, has_kind_and_round}
 
 -- the digests in the code's chunks are those of the datagram
 pub chunks_are : (n : ℕ) (bytes : List ℕ) → first_chunks 32 n bytes ≡ chunks 32 n bytes

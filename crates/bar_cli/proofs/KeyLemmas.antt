@@ -1,9 +1,8 @@
 -- Acceptance under a key that comes as bytes.
-use Rattle.std.proofs.Common.{◌≡◌, ◌∙◌, ap, refl, sym, List, ℕ, Bool, true, false, Result, Ok, Err, inl, inr, true≢false}
+use Rattle.std.proofs.Common.{◌≡◌, refl, sym, List, ℕ, Bool, true, false, inl, inr, true≢false}
 use Rattle.std.specs.Bool.{IsTrue}
 use Rattle.std.proofs.lemmas.Bool.{cases_Bool}
 use Rattle.bar_lms.specs.declared.params.Params.{Params}
-use Rattle.bar_lms.specs.declared.key.KeyFault.{KeyFault}
 use Rattle.bar_lms.specs.Signature.{Public}
 use Rattle.bar_lms.specs.Acceptance.{Accepts, is_accepted, is_accepted_under, is_key_of, key_at}
 

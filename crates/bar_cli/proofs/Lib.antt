@@ -7,3 +7,4 @@ pub mod PlayLemmas
 pub mod TakeLemmas
 pub mod ReadingLemmas
 pub mod PlayedSoFar
+pub mod SendLemmas

@@ -10,8 +10,9 @@ use Rattle.bar_cli.specs.Status.{code_of, is_status}
 use Rattle.bar_cli.specs.declared.status.Status.{Status}
 use Rattle.bar_cli.specs.declared.status.Status.TheVariants.{Done, Usage, FileFailed, SessionRefused, OutputFailed, InputRefused, NoMemory}
 use Rattle.bar_roster.specs.SessionText.{SessionData}
-use Rattle.bar_cli.specs.Replay.{Recorded, session_of, recording_of, contents_of}
+use Rattle.bar_cli.specs.Replay.{Recorded, session_of, recording_of, member_of, contents_of}
 use Rattle.bar_cli.specs.ReplayPlan.{ReplayFiles, Accepted, Replayed, PlayedFront, IsReplayCall, turn, turns, played_bytes, replay_plan, recording_plan, run_plan, replay_actions, session_refused, input_refused}
+use Rattle.bar_cli.proofs.SendLemmas.{nothing-sent}
 use Rattle.bar_cli.proofs.ReplayLemmas.{final-played, final-other, front-turns}
 use Rattle.bar_outside.proofs.Contents.{put_at-same}
 use Rattle.bar_outside.proofs.ActionLists.{Begun-none, Begun-read, Begun-create}
@@ -123,6 +124,7 @@ replayed names old new ends told = by_case (case_of names old.files.content) (en
         record {
           accepted = a;
           played = ap (λ holds. holds names.played) ran.files ∙ final-played names (contents_of a.session a.recording) old.files.content;
+          sent = nothing-sent (member_of a.session a.recording.party) [] 1 a.recording.inputs;
           others = λ q differs. ap (λ holds. holds q) ran.files ∙ final-other names (contents_of a.session a.recording) old.files.content q differs;
         }
 

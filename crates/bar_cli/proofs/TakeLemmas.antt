@@ -1,5 +1,5 @@
 -- A datagram that is decoded is heard where it is admitted.
-use Rattle.std.proofs.Common.{◌≡◌, ◌∙◌, ap, refl, sym, List, ◌∷◌, true, false, Option, Some, subst, ℕ, ◌<◌, nat_le, arith}
+use Rattle.std.proofs.Common.{◌≡◌, ◌∙◌, ap, refl, sym, ◌∷◌, true, false, Option, Some, ℕ, ◌<◌, nat_le, arith}
 use Rattle.std.proofs.lemmas.Bool.Decides.{nat_tests}
 use Rattle.bar_wire.specs.Inputs.{Input, Tick}
 use Rattle.bar_wire.specs.Datagram.{Datagram}

@@ -6,7 +6,9 @@ use Rattle.bar_outside.specs.declared.files.CallKind.TheVariants.{Read, Create, 
 use Rattle.bar_outside.specs.Plan.{World, Action, Plan, reading, accepting, ending, doing}
 use Rattle.bar_outside.specs.Plan.Action.{create, append}
 use Rattle.bar_roster.specs.SessionText.{SessionData}
-use Rattle.bar_cli.specs.Replay.{Recorded, session_of, recording_of, contents_of}
+use Rattle.bar_rules.specs.Member.{Member}
+use Rattle.bar_rules.specs.Run.{played_by, sends_of}
+use Rattle.bar_cli.specs.Replay.{Recorded, session_of, recording_of, member_of, contents_of}
 
 -- the files of a replay
 pub record ReplayFiles : Type 0 where
@@ -61,14 +63,19 @@ pub record Accepted (names : ReplayFiles) (content : Content) : Type 0 where
   pub recording_read : readable content names.recording ≡ Some bytes
   pub recording_is : recording_of session bytes ≡ Some recording
 
--- the bytes that the recording's inputs play
-abbrev pub bytes_of : (names : ReplayFiles) (content : Content) → Accepted names content → List ℕ
-bytes_of names content accepted = played_bytes (contents_of accepted.session accepted.recording)
+-- the peer whose recording it is
+abbrev pub peer_of : (names : ReplayFiles) (content : Content) → Accepted names content → Member
+peer_of names content accepted = member_of accepted.session accepted.recording.party
 
--- both were accepted, and the played file has exactly what the recording's inputs play
+-- the bytes that the peer plays over the recording's inputs
+abbrev pub bytes_of : (names : ReplayFiles) (content : Content) → Accepted names content → List ℕ
+bytes_of names content accepted = played_by (peer_of names content accepted) accepted.recording.inputs
+
+-- both were accepted, the played file has exactly what the peer plays over the recording's inputs, and the peer sends nothing
 pub record Replayed (names : ReplayFiles) (old new : World) : Type 0 where
   pub accepted : Accepted names old.files.content
   pub played : new.files.content names.played ≡ Some (bytes_of names old.files.content accepted)
+  pub sent : sends_of (peer_of names old.files.content accepted) accepted.recording.inputs ≡ []
   pub others : (path : List ℕ) → path ≢ names.played → new.files.content path ≡ old.files.content path
 
 -- both were accepted, and the played file has a front of what the recording's inputs play

@@ -1,11 +1,11 @@
 -- What a listener keeps of its log.
-use Rattle.std.specs.Prelude.{◌≡◌, ℕ, List, map, Option, Vec, nat_eq, is_some, option_map}
+use Rattle.std.specs.Prelude.{◌≡◌, ℕ, List, map, Vec, nat_eq, is_some, option_map}
 use Rattle.std.specs.declared.alloc.Global.{Global}
 use Rattle.std.specs.HashMap as hashed
 use Rattle.bar_window.specs.declared.update.UpdateId.{UpdateId}
 use Rattle.bar_window.specs.Updates.{same_update}
 use Rattle.bar_rules.specs.Member.{Member}
-use Rattle.bar_rules.specs.Table.{digests_of}
+use Rattle.bar_terms.specs.Table.{digests_of}
 use Rattle.bar_rules.specs.Log.{Log, ticks, table, has_heard, has_kind_and_round, block_of}
 use Rattle.bar_cli.specs.declared.listener.Listener.{Listener}
 

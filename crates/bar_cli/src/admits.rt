@@ -6,7 +6,7 @@ ghost use Rattle.bar_lms.specs.Acceptance.{is_accepted_under};
 ghost use Rattle.bar_wire.specs.Datagram.{Manifest, Block};
 ghost use Rattle.bar_wire.specs.Views.{datagram, plain, signature_bytes, IsView};
 ghost use Rattle.bar_rules.specs.Member.{Member, is_alive, key_of};
-ghost use Rattle.bar_rules.specs.Table.{digest_in, digest_of};
+ghost use Rattle.bar_terms.specs.Table.{digest_in, digest_of};
 ghost use Rattle.bar_rules.specs.Log.{Log, table, is_held, round_now, has_heard, has_kind_and_round};
 ghost use Rattle.bar_rules.specs.Admission.{has_digest, is_admitted, is_for, is_row_met};
 ghost use Rattle.bar_cli.specs.Represents.{Represents};

@@ -46,7 +46,12 @@ impl Listener {
     }
 
     /// Adds the content of an update, where it is held.
-    fn add_content(&self, alloc: Global, id: UpdateId, contents: &mut Vec<Vec<u8>>) -> Result<(), AllocError>
+    fn add_content(
+        &self,
+        alloc: Global,
+        id: UpdateId,
+        contents: &mut Vec<Vec<u8>>,
+    ) -> Result<(), AllocError>
         ensures { IfOk result (λ _. (me : Member) (log : Log) → Represents me log self.now → texts contents.new.items ≡ texts contents.old.items ++ content_at log id) }
     {
         let Some(content) = self.content(id) else {

@@ -91,7 +91,7 @@ fn play_inputs<F: Files>(
 ) -> Result<(), Fault>
     ensures { (me : Member) (log : Log) → Represents me log listener.old → (out : Stream)
         → Follows (turns played.now (run.contents_of me log (inputs_left items.entry)))
-            (world (F.disk files.old) out) (world (F.disk files.new) out) result }
+        (world (F.disk files.old) out) (world (F.disk files.new) out) result }
 {
     for input in items {
         play_input(alloc, listener, input, files, played)?;
@@ -109,7 +109,7 @@ fn play_input<F: Files>(
 ) -> Result<(), Fault>
     ensures follows { (me : Member) (log : Log) → Represents me log listener.old → (out : Stream)
         → Follows (turn played.now (step me log (plain_input input.entry)).contents)
-            (world (F.disk files.old) out) (world (F.disk files.new) out) result }
+        (world (F.disk files.old) out) (world (F.disk files.new) out) result }
     ensures after { (me : Member) (log : Log) → Represents me log listener.old
         → OnOk result (Represents me (step me log (plain_input input.entry)).log listener.new) }
 {

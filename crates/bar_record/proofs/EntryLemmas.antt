@@ -1,7 +1,7 @@
 -- The entries at the front of some bytes, one after another.
-use Rattle.std.proofs.Common.{◌≡◌, ℕ, zero, suc, ◌+◌, ◌-◌, ◌<◌, List, [], ◌∷◌, ◌++◌, refl, ap, arith, sym}
+use Rattle.std.proofs.Common.{◌≡◌, ℕ, zero, suc, ◌-◌, ◌<◌, List, [], ◌∷◌, refl, arith}
 use Rattle.bar_wire.specs.Inputs.{Input}
-use Rattle.bar_record.specs.Recording.{First, NoByte, End, Entry, NoEntry, first_of}
+use Rattle.bar_record.specs.Recording.{NoByte, End, Entry, NoEntry, first_of}
 use Rattle.bar_record.specs.Items.{entries}
 
 -- one entry, and those behind it

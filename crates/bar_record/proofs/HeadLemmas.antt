@@ -24,8 +24,8 @@ eight (a ∷ b ∷ c ∷ d ∷ e ∷ f ∷ g ∷ h ∷ i ∷ js) long = absurd (
 pub no_head : (bytes id : List ℕ) (party : ℕ) → length id ≡ 8 → length bytes < 15 → bytes_eq (take 15 bytes) (head_bytes id party) ≡ false
 no_head bytes id party long short = elim (cases_Bool (bytes_eq (take 15 bytes) (head_bytes id party))) [
   | inl same ↦
-    let is : take 15 bytes ≡ head_bytes id party = (bytes_eq-Decides (take 15 bytes) (head_bytes id party)).0 same in
-    let head : length (head_bytes id party) ≡ 15 = simp (length-append, length_u16) (omega (arith, long)) in
-    absurd (omega (arith, ap length is, head, length-take {A = ℕ}))
+      let is : take 15 bytes ≡ head_bytes id party = (bytes_eq-Decides (take 15 bytes) (head_bytes id party)).0 same in
+      let head : length (head_bytes id party) ≡ 15 = simp (length-append, length_u16) (omega (arith, long)) in
+      absurd (omega (arith, ap length is, head, length-take {A = ℕ}))
   | inr other ↦ other
 ]

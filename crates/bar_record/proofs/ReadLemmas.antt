@@ -1,6 +1,6 @@
 -- Reading a recording entry by entry.
 use Rattle.std.proofs.Common.{◌≡◌, ℕ, zero, suc, ◌+◌, ◌-◌, ◌<◌, ◌≤◌, ◌++◌, List, [], ◌∷◌, length, refl, ap, sym, ◌∙◌, arith, append_assoc, Result, Ok, Err, nat_le, false, true}
-use Rattle.std.proofs.Common.{take, drop, ◌==◌, Bool, inl, inr, length-append, length-drop, append-nil}
+use Rattle.std.proofs.Common.{take, drop, ◌==◌, inl, inr, length-append, length-drop, append-nil}
 use Rattle.std.proofs.lemmas.Bool.{cases_Bool}
 use Rattle.std.proofs.lemmas.Bool.Decides.{nat_tests}
 use Rattle.std.proofs.lemmas.List.{length-take-le}
@@ -41,11 +41,11 @@ length_datagram : (len : ℕ) (rest others : List ℕ) (input : Input) → datag
 length_datagram len rest others input is = elim (cases_Bool (nat_le len 65507)) [
   | inl few ↦ elim (cases_Bool (nat_le len (length rest))) [
     | inl all ↦
-      let e : Entry (Came (take len rest)) (drop len rest) ≡ Entry input others = rw (few, all) at is in
-      let le : len ≤ length rest = le_of_test len (length rest) all in
-      let one : input ≡ Came (take len rest) = cc in
-      let two : others ≡ drop len rest = cc in
-      rw (one, two) (simp (length-append, length_u16, length-drop) (omega (arith, length-take-le len rest le)))
+        let e : Entry (Came (take len rest)) (drop len rest) ≡ Entry input others = rw (few, all) at is in
+        let le : len ≤ length rest = le_of_test len (length rest) all in
+        let one : input ≡ Came (take len rest) = cc in
+        let two : others ≡ drop len rest = cc in
+        rw (one, two) (simp (length-append, length_u16, length-drop) (omega (arith, length-take-le len rest le)))
     | inr short ↦ let e : NoEntry ≡ Entry input others = rw (few, short) at is in absurd cc
   ]
   | inr many ↦ let e : NoEntry ≡ Entry input others = rw many at is in absurd cc
@@ -54,9 +54,9 @@ length_datagram len rest others input is = elim (cases_Bool (nat_le len 65507)) 
 length_sized : (rest others : List ℕ) (input : Input) → sized_first rest ≡ Entry input others → 1 + length rest ≡ length (entry_bytes input) + length others
 length_sized rest others input is = elim (cases_Bool (nat_le 2 (length rest))) [
   | inl room ↦
-    let e : datagram_first (len_at rest) (drop 2 rest) ≡ Entry input others = rw room at is in
-    let le : 2 ≤ length rest = le_of_test 2 (length rest) room in
-    omega (arith, length_datagram (len_at rest) (drop 2 rest) others input e, length-drop 2 rest)
+      let e : datagram_first (len_at rest) (drop 2 rest) ≡ Entry input others = rw room at is in
+      let le : 2 ≤ length rest = le_of_test 2 (length rest) room in
+      omega (arith, length_datagram (len_at rest) (drop 2 rest) others input e, length-drop 2 rest)
   | inr short ↦ let e : NoEntry ≡ Entry input others = rw short at is in absurd cc
 ]
 
@@ -65,10 +65,10 @@ length_marked mark rest others input is = elim (cases_Bool (mark == 0)) [
   | inl end ↦ let e : End rest ≡ Entry input others = rw end at is in absurd cc
   | inr no_end ↦ elim (cases_Bool (mark == 1)) [
     | inl tick ↦
-      let e : Entry Tick rest ≡ Entry input others = rw (no_end, tick) at is in
-      let one : input ≡ Tick = cc in
-      let two : others ≡ rest = cc in
-      rw (one, two) refl
+        let e : Entry Tick rest ≡ Entry input others = rw (no_end, tick) at is in
+        let one : input ≡ Tick = cc in
+        let two : others ≡ rest = cc in
+        rw (one, two) refl
     | inr no_tick ↦ elim (cases_Bool (mark == 2)) [
       | inl sized ↦ let e : sized_first rest ≡ Entry input others = rw (no_end, no_tick, sized) at is in length_sized rest others input e
       | inr no_mark ↦ let e : NoEntry ≡ Entry input others = rw (no_end, no_tick, no_mark) at is in absurd cc
@@ -134,9 +134,9 @@ read_more whole rest others last i ticks input h below early is =
           read_by whole rest last i ticks (Entry input others) h below is
           ∙ (ap (after (entries i whole)) here ∙ (after_before (entries i whole) input end ∙ longer));
       front = λ m.
-      let shift : i + 1 + m ≡ i + (m + 1) = omega arith in
-      let less : m + 1 - 1 ≡ m = omega arith in
-      rw (shift, h.front (m + 1), entries_entry (m + 1) rest others input (omega arith) is, less, one) (sym (append_assoc (entries i whole) (input ∷ []) (entries m others)));
+          let shift : i + 1 + m ≡ i + (m + 1) = omega arith in
+          let less : m + 1 - 1 ≡ m = omega arith in
+          rw (shift, h.front (m + 1), entries_entry (m + 1) rest others input (omega arith) is, less, one) (sym (append_assoc (entries i whole) (input ∷ []) (entries m others)));
       within = omega (arith, h.within);
     }
 

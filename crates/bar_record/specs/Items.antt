@@ -1,6 +1,5 @@
 -- The entries at the front of some bytes.
 use Rattle.std.specs.Prelude.{ℕ, zero, suc, List, [], ◌∷◌}
-use Rattle.std.specs.Borrow.{Bor}
 use Rattle.bar_wire.specs.Inputs.{Input, plain_input}
 use Rattle.bar_record.specs.declared.first.First.{First as RawFirst}
 use Rattle.bar_record.specs.declared.first.First.TheVariants as raw

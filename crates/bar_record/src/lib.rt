@@ -9,3 +9,6 @@ mod reading;
 pub use fault::RecordFault;
 pub use items::Items;
 pub use reading::{head, read};
+
+#[cfg(test)]
+mod tests;

@@ -17,9 +17,7 @@ pub fn head(id: &[u8; 8], party: u16) -> [u8; HEAD_LEN]
 {
     let [a, b, c, d, e, f, g, h] = *id;
     let [high, low] = party.to_be_bytes();
-    [
-        b'B', b'A', b'R', b'L', 1, a, b, c, d, e, f, g, h, high, low,
-    ]
+    [b'B', b'A', b'R', b'L', 1, a, b, c, d, e, f, g, h, high, low]
 }
 
 /// How many ticks an input is.

@@ -1,3 +1,6 @@
 pub mod FieldLemmas
 pub mod PartiesLemmas
 pub mod ShapeLemmas
+pub mod PlainText
+pub mod KeyReadBack
+pub mod KeyLemmas

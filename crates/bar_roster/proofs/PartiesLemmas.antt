@@ -1,5 +1,5 @@
 -- What a session text says of its parties.
-use Rattle.std.proofs.Common.{◌≡◌, refl, ℕ, List, [], ◌∷◌, Ok, Err, Some, codes, Result}
+use Rattle.std.proofs.Common.{◌≡◌, refl, ℕ, List, [], ◌∷◌, Ok, Err, Some, codes}
 use Rattle.toml.specs.Data.{Members, Items}
 use Rattle.bar_roster.specs.declared.fault.Key.TheVariants.{CasterKey, Peers, Fanout}
 use Rattle.bar_roster.specs.declared.fault.SessionFault.{SessionFault}

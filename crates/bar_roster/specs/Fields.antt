@@ -1,5 +1,5 @@
 -- The values of a TOML table, by kind and range.
-use Rattle.std.specs.Prelude.{ℕ, ◌+◌, ◌++◌, not, nat_eq, nat_le, ◌&&◌, pos, Bool, true, List, [], ◌∷◌, Option, Some, None, is_some, option_and_then, Result, Ok, Err, if◌then◌else◌}
+use Rattle.std.specs.Prelude.{ℕ, ◌+◌, not, nat_eq, nat_le, ◌&&◌, pos, Bool, true, List, [], ◌∷◌, Option, Some, None, is_some, option_and_then, Result, Ok, Err, if◌then◌else◌}
 use Rattle.std.specs.Option.{ok_or}
 use Rattle.std.specs.Str.{is_utf8, bytes_eq}
 use Rattle.std.specs.List.{list_any, starts_with}

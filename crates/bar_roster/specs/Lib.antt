@@ -4,3 +4,6 @@ pub mod SessionText
 pub mod FaultText
 pub mod NumberRanges
 pub mod Sessions
+pub mod KeyText
+pub mod KeyFile
+pub mod KeyFaultText

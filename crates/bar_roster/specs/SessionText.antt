@@ -1,5 +1,5 @@
 -- The text of a session: what it says, where each of its keys is there and of its kind and range.
-use Rattle.std.specs.Prelude.{ℕ, ◌+◌, ◌*◌, ◌^◌, [], ◌∷◌, ◌++◌, codes, length, nat_le, ◌==◌, List, Result, Ok, Err, if◌then◌else◌}
+use Rattle.std.specs.Prelude.{ℕ, ◌*◌, ◌^◌, [], ◌∷◌, ◌++◌, codes, length, nat_le, List, Result, Ok, Err, if◌then◌else◌}
 use Rattle.std.specs.Option.{ok_or}
 use Rattle.toml.specs.Data.{Data, Items, no_items, item, Members, as_table}
 use Rattle.bar_lms.specs.declared.params.Params.{Params}
@@ -40,8 +40,16 @@ numbers_of ms = do
   lms ← field (number_in 5 7) Lms (codes "lms") ms
   ots ← field (number_in 1 4) OtsKey (codes "ots") ms
   Ok (record {
-    version = version; id = id; rounds = rounds; life = life; cap = cap; per_round = per_round; port = port;
-    tick_ms = tick_ms; lms = lms; ots = ots
+    version = version;
+    id = id;
+    rounds = rounds;
+    life = life;
+    cap = cap;
+    per_round = per_round;
+    port = port;
+    tick_ms = tick_ms;
+    lms = lms;
+    ots = ots;
   })
 
 -- ---- the parties
@@ -71,8 +79,14 @@ enough_leaves rounds height =
 
 abbrev pub session_data : Numbers → Shape → ℕ → List (List ℕ) × List (List ℕ) → SessionData
 session_data n shape fanout parties = record {
-  shape = shape; cap = n.cap; fanout = fanout; port = n.port; tick_ms = n.tick_ms;
-  params = params_of n.lms n.ots; keys = parties.0; anchors = parties.1
+  shape = shape;
+  cap = n.cap;
+  fanout = fanout;
+  port = n.port;
+  tick_ms = n.tick_ms;
+  params = params_of n.lms n.ots;
+  keys = parties.0;
+  anchors = parties.1;
 }
 
 -- The keys of the text in the order of their checks. Numbers in range have a shape, so that its check never fails.

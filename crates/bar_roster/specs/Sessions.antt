@@ -1,5 +1,5 @@
 -- What holds of every session that is read.
-use Rattle.std.specs.Prelude.{◌≡◌, ℕ, ◌+◌, ◌*◌, ◌^◌, ◌≤◌, length}
+use Rattle.std.specs.Prelude.{◌≡◌, ◌+◌, ◌*◌, ◌^◌, ◌≤◌, length}
 use Rattle.bar_lms.specs.Params.{levels, signature_len}
 use Rattle.bar_wire.specs.declared.shape.Shape.{Shape}
 use Rattle.bar_roster.specs.SessionText.{SessionData}

@@ -38,8 +38,14 @@ shaped id life h =
 
 abbrev pub shape_by : (n : Numbers) (peers : ℕ) (b : Bool) → is_shaped n.id n.life ≡ b → Option Shape
 shape_by n peers true h = Some (record {
-  version = n.version; id = n.id; peers = peers; rounds = n.rounds; life = n.life; per_round = n.per_round;
-  sig_len = signature_len (params_of n.lms n.ots); shaped = shaped n.id n.life h
+  version = n.version;
+  id = n.id;
+  peers = peers;
+  rounds = n.rounds;
+  life = n.life;
+  per_round = n.per_round;
+  sig_len = signature_len (params_of n.lms n.ots);
+  shaped = shaped n.id n.life h;
 })
 shape_by n peers false h = None
 

@@ -26,7 +26,7 @@ pub(crate) fn document_table(alloc: Global, bytes: &[u8]) -> Result<Table, Sessi
 }
 
 /// The number that a value is, where it is in the range.
-fn number(value: &Value, low: u64, high: u64) -> Option<u64>
+pub(crate) fn number(value: &Value, low: u64, high: u64) -> Option<u64>
     ensures value { result ≡ number_in low high (view value.now) }
     ensures within { IfSome result (λ n. (low ≤ n) × (n ≤ high)) }
 {
@@ -42,11 +42,7 @@ pub(crate) fn bytes<const N: usize>(value: &Value) -> Option<[u8; N]>
 }
 
 /// The value at a name of the table.
-pub(crate) fn needed<'a>(
-    table: &'a Table,
-    key: Key,
-    name: &str,
-) -> Result<&'a Value, SessionFault>
+pub(crate) fn needed<'a>(table: &'a Table, key: Key, name: &str) -> Result<&'a Value, SessionFault>
     ensures there { IfOk result (λ v. get_member name.now (table_view table.now) ≡ Some (view v.now)) }
     ensures missing { IfErr result (λ e. (get_member name.now (table_view table.now) ≡ None) × (e ≡ SessionFault.Missing key)) }
 {

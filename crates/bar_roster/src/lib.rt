@@ -3,10 +3,23 @@
 
 mod fault;
 mod fields;
+mod key_fault;
+mod key_fields;
+mod key_file;
+mod key_writer;
+pub mod laws;
 mod numbers;
 mod parties;
 mod session;
 mod text;
 
 pub use fault::{Key, SessionFault};
+pub use key_fault::KeyFileFault;
+pub use key_file::KeyFile;
+pub use key_writer::key_text;
 pub use session::Session;
+
+#[cfg(test)]
+mod key_tests;
+#[cfg(test)]
+mod tests;

@@ -42,9 +42,7 @@ fn peer(
     requires { length earlier.now ≤ 200 }
     ensures { result ≡ peer_of lms ots earlier.now (view value.now) }
 {
-    let table = value
-        .as_table()
-        .ok_or(SessionFault::BadValue(Key::Peers))?;
+    let table = value.as_table().ok_or(SessionFault::BadValue(Key::Peers))?;
     let number = earlier.len() as u16;
     let name = Key::PeerKey(number);
     let text = needed(table, name, "key")?;

@@ -2,7 +2,6 @@
 ghost use Rattle.std.specs.Prelude.{◌≡◌, ◌≤◌, ◌<◌, ◌⊎◌, ◌-◌, ◌*◌, ◌^◌, Some, Err, Ok, IfOk, IfErr, OnOk, slice_get};
 ghost use Rattle.toml.specs.View.{table_view};
 ghost use Rattle.bar_lms.specs.Params.{levels};
-
 ghost use Rattle.bar_roster.specs.NumberRanges.{AreInRange};
 ghost use Rattle.bar_roster.specs.SessionText.{enough_leaves, parties_of, session_of};
 ghost use Rattle.bar_roster.specs.Shapes.{params_of, shape_of};
@@ -36,15 +35,27 @@ impl Model for Session {
     ghost Value = { SessionData };
 
     ghost view = { λ s. record {
-        shape = s.shape; cap = s.cap; fanout = s.fanout; port = s.port; tick_ms = s.tick_ms;
-        params = s.params; keys = s.keys.items; anchors = s.anchors.items
+      shape = s.shape;
+      cap = s.cap;
+      fanout = s.fanout;
+      port = s.port;
+      tick_ms = s.tick_ms;
+      params = s.params;
+      keys = s.keys.items;
+      anchors = s.anchors.items;
     } };
 
     ghost use Rattle.bar_roster.specs.Sessions.{IsSession};
 
     ghost invariant = { λ s. IsSession (record {
-        shape = s.shape; cap = s.cap; fanout = s.fanout; port = s.port; tick_ms = s.tick_ms;
-        params = s.params; keys = s.keys.items; anchors = s.anchors.items
+      shape = s.shape;
+      cap = s.cap;
+      fanout = s.fanout;
+      port = s.port;
+      tick_ms = s.tick_ms;
+      params = s.params;
+      keys = s.keys.items;
+      anchors = s.anchors.items;
     }) };
 }
 

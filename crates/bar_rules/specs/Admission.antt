@@ -9,7 +9,7 @@ use Rattle.bar_wire.specs.Datagram.{Message, Datagram, Body, Manifest, Block, is
 use Rattle.bar_wire.specs.Grammar.{message_bytes}
 use Rattle.bar_roster.specs.SessionText.{SessionData}
 use Rattle.bar_rules.specs.Member.{Member, key_of, is_alive}
-use Rattle.bar_rules.specs.Table.{Digest, Known, PastEnd, NoManifest, digest_of}
+use Rattle.bar_terms.specs.Table.{Digest, Known, PastEnd, NoManifest, digest_of}
 use Rattle.bar_rules.specs.Log.{Log, table, round_now, has_heard, has_kind_and_round, is_held}
 
 -- the receiver that means all peers

@@ -1,5 +1,4 @@
 pub mod Member
-pub mod Table
 pub mod Log
 pub mod Admission
 pub mod Run

@@ -7,7 +7,7 @@ use Rattle.bar_window.specs.declared.update.UpdateId.{UpdateId}
 use Rattle.bar_window.specs.Updates.{same_update}
 use Rattle.bar_wire.specs.Datagram.{Message, Datagram, Body, Manifest, Block, kind_number, round_of}
 use Rattle.bar_rules.specs.Member.{round_after}
-use Rattle.bar_rules.specs.Table.{Table}
+use Rattle.bar_terms.specs.Table.{Table}
 
 pub data Entry : Type 0 where
   Ticked : Entry

@@ -8,7 +8,7 @@ use Rattle.bar_wire.specs.Grammar.{words_of}
 use Rattle.bar_wire.specs.Places.{datagram_of}
 use Rattle.bar_wire.specs.Inputs.{Input, Tick, Came}
 use Rattle.bar_rules.specs.Member.{Member, slot_after, last_tick}
-use Rattle.bar_rules.specs.Log.{Log, Entry, Ticked, Heard, ticks, round_now, block_of}
+use Rattle.bar_rules.specs.Log.{Log, Ticked, Heard, ticks, round_now, block_of}
 use Rattle.bar_rules.specs.Admission.{is_admitted}
 
 -- what an input leaves: the log, the datagrams that are sent, each with its receiver, and the contents that are played

@@ -1,4 +1,4 @@
-use Rattle.std.proofs.Common.{◌≡◌, ◌∙◌, ◌*◌, ◌/◌, ap, arith, subst, List, ℕ, length}
+use Rattle.std.proofs.Common.{◌≡◌, ◌∙◌, ◌/◌, ap, arith, subst, List, ℕ, length}
 use Rattle.std.specs.Prelude.{IfOk}
 use Rattle.std.specs.Simd.{first_chunks}
 use Rattle.bar_wire.specs.Places.{chunks}

@@ -1,4 +1,4 @@
-use Rattle.std.proofs.Common.{Result, Ok, Err, OnOk, ◌≡◌, sym}
+use Rattle.std.proofs.Common.{Result, Ok, Err, OnOk}
 use Rattle.bar_cli.proofs.replay.play_input.Goals as goal
 
 -- what holds at all, holds at Ok

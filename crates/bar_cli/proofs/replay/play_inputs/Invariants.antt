@@ -1,4 +1,4 @@
-use Rattle.std.proofs.Common.{ℕ, List, Ok}
+use Rattle.std.proofs.Common.{Ok}
 use Rattle.bar_outside.specs.Plan.{world}
 use Rattle.bar_outside.specs.Stream.{Stream}
 use Rattle.bar_outside.specs.Follows.{Follows}
@@ -16,6 +16,6 @@ invariant-loop-input g l =
     (goal.iterator-loop-input g).can_next l.input-iterator ×
     (goal.iterator-loop-input g).is_finite l.input-iterator ×
     ((me : Member) (log : Log) → Represents me log l.fn.listener →
-        SoFar me log (inputs_left l.fn.items) (inputs_left l.input-iterator) l.listener
-            (λ played. (out : Stream) → Follows {T = Unit {0}} (turns l.played played) (world (g.F.Files.disk l.fn.files) out)
-                (world (g.F.Files.disk l.files) out) (Ok tt)))
+    SoFar me log (inputs_left l.fn.items) (inputs_left l.input-iterator) l.listener
+    (λ played. (out : Stream) → Follows {T = Unit {0}} (turns l.played played) (world (g.F.Files.disk l.fn.files) out)
+    (world (g.F.Files.disk l.files) out) (Ok tt)))

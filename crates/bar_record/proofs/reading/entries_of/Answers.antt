@@ -1,4 +1,4 @@
-use Rattle.std.proofs.Common.{◌≡◌, ◌∙◌, ◌-◌, ◌+◌, ◌<◌, suc, length, refl, ap, arith, sym, zero, nat_le, true}
+use Rattle.std.proofs.Common.{◌≡◌, ◌∙◌, ◌+◌, length, refl, arith, sym, nat_le, true}
 use Rattle.std.proofs.lemmas.Bool.Decides.{nat_tests}
 use Rattle.bar_record.specs.Recording.{NoByte, NoEntry, End, Entry}
 use Rattle.bar_wire.specs.Inputs.{plain_input}

@@ -27,5 +27,12 @@ returns-clause-ok c =
     (sym c.in_ok-caster.ensures) c.in_ok-entries.ensures.ok (rw c.deref.ensures.value at c.in_ok-keys.ensures.ok)
     (omega (arith, c.in_ok-entries.ensures.count.0, c.len-count.ensures)) (sym c.in_ok-fanout.ensures.value) leaves c.shape_of.ensures.value
     ∙ (λ i. Ok (record {
-      shape = c.shape_of.result; cap = c.args.numbers.now.cap; fanout = c.in_ok-fanout.field-0; port = c.args.numbers.now.port;
-      tick_ms = c.args.numbers.now.tick_ms; params = types i; keys = c.in_ok-keys.keys.items; anchors = c.in_ok-keys.anchors.items }))
+      shape = c.shape_of.result;
+      cap = c.args.numbers.now.cap;
+      fanout = c.in_ok-fanout.field-0;
+      port = c.args.numbers.now.port;
+      tick_ms = c.args.numbers.now.tick_ms;
+      params = types i;
+      keys = c.in_ok-keys.keys.items;
+      anchors = c.in_ok-keys.anchors.items;
+    }))

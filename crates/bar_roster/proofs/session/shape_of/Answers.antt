@@ -1,4 +1,4 @@
-use Rattle.std.proofs.Common.{◌≡◌, ◌∙◌, ap}
+use Rattle.std.proofs.Common.{◌∙◌, ap}
 use Rattle.bar_lms.specs.Params.{signature_len}
 use Rattle.bar_roster.proofs.ShapeLemmas.{shape_is}
 use Rattle.bar_roster.proofs.session.shape_of.Goals as goal

@@ -1,4 +1,4 @@
-use Rattle.std.proofs.Common.{◌≡◌, ◌∙◌, ◌++◌, ◌∷◌, [], ap, sym, List, ℕ, append-nil}
+use Rattle.std.proofs.Common.{◌∙◌, ◌++◌, ◌∷◌, [], ap, sym, List, ℕ, append-nil}
 use Rattle.bar_cli.specs.Represents.{texts}
 use Rattle.bar_cli.proofs.PlayLemmas.{texts_more}
 use Rattle.bar_cli.proofs.listener.Listener.add_content.Goals as goal

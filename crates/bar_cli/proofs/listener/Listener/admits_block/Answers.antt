@@ -1,4 +1,4 @@
-use Rattle.std.proofs.Common.{◌≡◌, ◌∙◌, sym, refl, true, false}
+use Rattle.std.proofs.Common.{◌∙◌, sym, refl, true, false}
 use Rattle.bar_wire.specs.Views.{datagram}
 use Rattle.bar_cli.proofs.AdmitLemmas.{block_admitted}
 use Rattle.bar_cli.proofs.listener.Listener.admits_block.Goals as goal

@@ -1,4 +1,4 @@
-use Rattle.std.proofs.Common.{◌≡◌, ◌∙◌, sym, refl, ℕ, List, false, true}
+use Rattle.std.proofs.Common.{◌∙◌, sym, refl, false, true}
 use Rattle.bar_wire.specs.Views.{datagram}
 use Rattle.bar_cli.proofs.AdmitLemmas.{manifest_admitted, view_genuine}
 use Rattle.bar_cli.proofs.listener.Listener.admits_manifest.Goals as goal

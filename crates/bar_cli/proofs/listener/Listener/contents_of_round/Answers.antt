@@ -1,7 +1,7 @@
-use Rattle.std.proofs.Common.{◌≡◌, ◌∙◌, ◌++◌, ap, sym, arith, List, ℕ}
+use Rattle.std.proofs.Common.{◌∙◌, ◌++◌, ap, sym, arith, List, ℕ}
 use Rattle.bar_rules.specs.Run.{content_at}
 use Rattle.bar_cli.specs.Represents.{texts}
-use Rattle.bar_cli.proofs.PlayLemmas.{contents_below, contents_more, contents_all, contents_none}
+use Rattle.bar_cli.proofs.PlayLemmas.{contents_more, contents_all, contents_none}
 use Rattle.bar_cli.proofs.listener.Listener.contents_of_round.Goals as goal
 
 pub loop-index-init : goal.loop-index-init

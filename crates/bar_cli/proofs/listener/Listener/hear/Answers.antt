@@ -1,4 +1,4 @@
-use Rattle.std.proofs.Common.{◌≡◌, ◌∙◌, ap, sym, ℕ, List}
+use Rattle.std.proofs.Common.{◌≡◌, ◌∙◌, ap, sym}
 use Rattle.bar_wire.specs.Views.{datagram, plain}
 use Rattle.bar_wire.specs.Datagram.{Manifest, Block}
 use Rattle.bar_cli.proofs.AdmitLemmas.{admitted_first, admitted_new}

@@ -1,6 +1,4 @@
-use Rattle.std.proofs.Common.{◌≡◌, ◌∙◌, ◌+◌, refl, sym, ap, true, false, nat_lt}
-use Rattle.bar_rules.specs.Member.{is_alive}
-use Rattle.bar_rules.specs.Log.{round_now}
+use Rattle.std.proofs.Common.{◌∙◌, refl, sym}
 use Rattle.bar_cli.proofs.listener.Listener.may_hold.Goals as goal
 
 pub returns-then-not-has_digest : goal.returns-then-not-has_digest

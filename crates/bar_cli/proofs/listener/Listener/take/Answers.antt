@@ -1,9 +1,7 @@
 use Rattle.std.proofs.Common.{◌≡◌, ◌∙◌, ◌∷◌, ap, sym, subst, nat_le, false, arith}
-use Rattle.bar_wire.specs.Inputs.{Input, Tick, plain_input}
-use Rattle.bar_roster.specs.SessionText.{SessionData}
+use Rattle.bar_wire.specs.Inputs.{Tick, plain_input}
 use Rattle.bar_rules.specs.Member.{last_tick}
 use Rattle.bar_rules.specs.Log.{Log, Ticked, ticks}
-use Rattle.bar_rules.specs.Run.{step}
 use Rattle.bar_cli.specs.Represents.{Represents}
 use Rattle.bar_cli.proofs.TakeLemmas.{early, tick_log, tick_contents}
 use Rattle.bar_cli.proofs.listener.Listener.take.Goals as goal

@@ -1,6 +1,5 @@
-use Rattle.std.proofs.Common.{◌≡◌, ◌∙◌, ap, sym, subst, Option, Some, true, false}
+use Rattle.std.proofs.Common.{◌≡◌, ◌∙◌, ap, sym, subst, Some, true, false}
 use Rattle.bar_wire.specs.declared.shape.Shape.{Shape}
-use Rattle.bar_wire.specs.Datagram.{Datagram}
 use Rattle.bar_wire.specs.Places.{datagram_of}
 use Rattle.bar_wire.specs.Views.{datagram, IsView}
 use Rattle.bar_roster.specs.SessionText.{SessionData}

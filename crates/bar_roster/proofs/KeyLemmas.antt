@@ -1,0 +1,70 @@
+-- Keys that belong to a session.
+use Rattle.std.proofs.Common.{◌≡◌, ℕ, zero, suc, ◌-◌, ◌≤◌, ◌==◌, Bool, true, false, List, Option, Some, None, refl, sym, ap, subst, arith, slice_get, true≢false}
+use Rattle.std.proofs.lemmas.Option.{none-some}
+use Rattle.std.specs.Option.{option_map_or}
+use Rattle.std.proofs.lemmas.Bool.Decides.{nat_tests}
+use Rattle.std.specs.Bool.{Decides, one_answer, MatchBool}
+use Rattle.std.specs.Str.{bytes_eq}
+use Rattle.std.proofs.lemmas.Bool.{and_parts, and_from, eqb-true, leb-true}
+use Rattle.std.proofs.lemmas.Slice.Eq.{bytes_eq-Decides}
+use Rattle.bar_lms.specs.Secret.{public_key}
+use Rattle.bar_seeds.specs.Seeds.{anchor_of}
+use Rattle.bar_seeds.specs.declared.secrets.Secrets.{Secrets}
+use Rattle.bar_roster.specs.declared.key_fields.KeyData.{KeyData}
+use Rattle.bar_roster.specs.declared.key_file.KeyFile.{KeyFile}
+use Rattle.bar_roster.specs.SessionText.{SessionData}
+use Rattle.bar_roster.specs.KeyFile.{Fits, fits, is_at, is_of_session, secrets_in, signing_secret, IsMadeFor, IsKeyFileOf}
+
+at_test : (o : Option (List ℕ)) (row : List ℕ) → Decides (option_map_or (λ held. bytes_eq held row) o false) (o ≡ Some row)
+at_test None row = (λ h. absurd (true≢false (sym h)), λ e. absurd (none-some row e))
+at_test (Some held) row = (λ h. ap Some ((bytes_eq-Decides held row).0 h), λ e. let same : held ≡ row = cc in (bytes_eq-Decides held row).1 same)
+
+-- the test of a place decides what stands there
+pub row_test : (rows : List (List ℕ)) (place : ℕ) (row : List ℕ) → Decides (is_at rows place row) (slice_get rows place ≡ Some row)
+row_test rows place row = at_test (slice_get rows place) row
+
+-- what is compared is what stands at the place
+pub row_at : (rows : List (List ℕ)) (place : ℕ) (row held : List ℕ) (b : Bool) → slice_get rows place ≡ Some held → Decides b (held ≡ row) → b ≡ is_at rows place row
+row_at rows place row held b e same = rw e (one_answer _ _ same (bytes_eq-Decides held row))
+
+pub fits_test : (s : SessionData) (party : ℕ) (secret : List ℕ) → Decides (fits s party secret) (Fits s party secret)
+fits_test s zero secret =
+    let key = row_test s.keys 0 (public_key (signing_secret s secret)) in (
+      λ h. record { key = key.0 (and_parts _ _ h).0; anchor = λ some. absurd (omega arith) },
+      λ f. and_from _ _ (key.1 f.key) refl,
+    )
+fits_test s (suc peer) secret =
+    let party : ℕ = suc peer in
+    let key = row_test s.keys party (public_key (signing_secret s secret)) in
+    let anchor = row_test s.anchors (party - 1) (anchor_of (secrets_in s party secret) s.shape.rounds) in
+    let other : (party == 0) ≡ false = grind (arith, nat_tests) in (
+      λ h.
+          let parts = and_parts _ _ h in
+          record { key = key.0 parts.0; anchor = λ some. anchor.0 (rw other at parts.1) },
+      λ f. and_from _ _ (key.1 f.key) (rw other (anchor.1 (f.anchor (omega arith)))),
+    )
+
+-- a key of the session has the role that is asked for, and is a party's
+of_session : (s : SessionData) (caster : Bool) (k : KeyData) → is_of_session s caster k ≡ true → MatchBool caster (k.party ≡ 0) (1 ≤ k.party) × (k.party ≤ s.shape.peers)
+of_session s true k h =
+    let parts = and_parts _ _ (and_parts _ _ h).1 in
+    (eqb-true _ _ parts.0, leb-true _ _ parts.1)
+of_session s false k h =
+    let parts = and_parts _ _ (and_parts _ _ h).1 in
+    (leb-true _ _ parts.0, leb-true _ _ parts.1)
+
+-- what is made of a key of the session, where its public key and its anchor are the session's
+pub key_file_of_session : (s : SessionData) (caster : Bool) (k : KeyData) (file : KeyFile) → is_of_session s caster k ≡ true → IsMadeFor s k.party k.secret file
+    → fits s file.secrets.party file.secrets.secret ≡ true → IsKeyFileOf s caster file
+key_file_of_session s caster k file ours made held =
+    let role = of_session s caster k ours in
+    let party : file.secrets.party ≡ k.party = ap (λ (x : Secrets). x.party) made.secrets in
+    let secret : file.secrets.secret ≡ k.secret = ap (λ (x : Secrets). x.secret) made.secrets in
+    let of_party : ℕ → Type 0 = λ p. IsMadeFor s p k.secret file in
+    let of_secret : List ℕ → Type 0 = λ x. IsMadeFor s file.secrets.party x file in
+    record {
+      party = rw party role.1;
+      role = rw party role.0;
+      made = subst of_secret (sym secret) (subst of_party (sym party) made);
+      fits = (fits_test s file.secrets.party file.secrets.secret).0 held;
+    }

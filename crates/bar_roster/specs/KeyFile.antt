@@ -1,0 +1,77 @@
+-- Keys that belong to a session, and the first fault of one that doesn't.
+use Rattle.std.specs.Prelude.{◌≡◌, ℕ, ◌-◌, ◌≤◌, ◌==◌, ◌&&◌, ◌||◌, not, nat_le, Bool, false, List, Option, Some, None, Result, Ok, Err, slice_get, if◌then◌else◌}
+use Rattle.std.specs.Bool.{MatchBool}
+use Rattle.std.specs.Option.{option_map_or}
+use Rattle.std.specs.Str.{bytes_eq}
+use Rattle.toml.specs.Data.{Members}
+use Rattle.bar_lms.specs.Params.{lms_type, ots_type}
+use Rattle.bar_lms.specs.Secret.{Secret, public_key}
+use Rattle.bar_seeds.specs.declared.secrets.Secrets.{Secrets}
+use Rattle.bar_seeds.specs.Seeds.{anchor_of}
+use Rattle.bar_roster.specs.declared.key_file.KeyFile.{KeyFile}
+use Rattle.bar_roster.specs.declared.key_fault.KeyFileFault.{KeyFileFault}
+use Rattle.bar_roster.specs.declared.key_fault.KeyFileFault.TheVariants.{NotToml, BadValue, NotInRoster, Spent}
+use Rattle.bar_roster.specs.declared.key_fields.KeyData.{KeyData}
+use Rattle.bar_roster.specs.Fields.{document}
+use Rattle.bar_roster.specs.SessionText.{SessionData}
+use Rattle.bar_roster.specs.KeyText.{key_fields}
+
+-- what a party's secret is to a session: its source of seeds, and of its signing key
+abbrev pub secrets_in : SessionData → ℕ → List ℕ → Secrets
+secrets_in s party secret = record { id = s.shape.id; party = party; secret = secret }
+
+abbrev pub signing_secret : SessionData → List ℕ → Secret
+signing_secret s secret = record { params = s.params; id = s.shape.id; secret = secret }
+
+-- The session holds for a party the public key, and for a peer the anchor, that come from a secret.
+pub record Fits (s : SessionData) (party : ℕ) (secret : List ℕ) : Type 0 where
+  pub key : slice_get s.keys party ≡ Some (public_key (signing_secret s secret))
+  pub anchor : 1 ≤ party → slice_get s.anchors (party - 1) ≡ Some (anchor_of (secrets_in s party secret) s.shape.rounds)
+
+-- whether a row stands at a place
+abbrev pub is_at : List (List ℕ) → ℕ → List ℕ → Bool
+is_at rows place row = option_map_or (λ held. bytes_eq held row) (slice_get rows place) false
+
+-- the same as a test
+abbrev pub fits : SessionData → ℕ → List ℕ → Bool
+fits s party secret =
+    is_at s.keys party (public_key (signing_secret s secret))
+    && ((party == 0) || is_at s.anchors (party - 1) (anchor_of (secrets_in s party secret) s.shape.rounds))
+
+-- whether the numbers are the session's, and the party is the broadcaster or a peer, as asked for
+abbrev pub is_of_session : SessionData → Bool → KeyData → Bool
+is_of_session s caster k =
+    (bytes_eq k.id s.shape.id && ((k.rounds == s.shape.rounds) && ((k.lms == lms_type s.params.height) && (k.ots == ots_type s.params.ots))))
+    && ((if caster then k.party == 0 else nat_le 1 k.party) && nat_le k.party s.shape.peers)
+
+-- ---- the first fault, or whose secret it is
+
+abbrev pub checked_key : SessionData → Bool → Bool → Option KeyData → Result Secrets KeyFileFault
+checked_key s caster fresh None = Err BadValue
+checked_key s caster fresh (Some k) =
+    if not (is_of_session s caster k && fits s k.party k.secret) then Err NotInRoster
+    else if k.spent && fresh then Err Spent
+    else Ok (secrets_in s k.party k.secret)
+
+abbrev pub checked_table : SessionData → Bool → Bool → Option Members → Result Secrets KeyFileFault
+checked_table s caster fresh None = Err NotToml
+checked_table s caster fresh (Some ms) = checked_key s caster fresh (key_fields ms)
+
+-- what some bytes are read as, for a session, where the broadcaster's key or a peer's is asked for, and maybe a fresh one
+abbrev pub key_file_of : SessionData → Bool → Bool → List ℕ → Result Secrets KeyFileFault
+key_file_of s caster fresh bytes = checked_table s caster fresh (document bytes)
+
+-- ---- what is made of it
+
+-- The secrets, the signing key and the chain are those of a party's secret.
+pub record IsMadeFor (s : SessionData) (party : ℕ) (secret : List ℕ) (k : KeyFile) : Type 0 where
+  pub secrets : k.secrets ≡ secrets_in s party secret
+  pub signer : k.signer ≡ signing_secret s secret
+  pub chain : k.chain ≡ record { secrets = secrets_in s party secret; rounds = s.shape.rounds }
+
+-- The key file is of the broadcaster or of a peer of the session, as asked for, and the session holds its public key and its anchor.
+pub record IsKeyFileOf (s : SessionData) (caster : Bool) (k : KeyFile) : Type 0 where
+  pub party : k.secrets.party ≤ s.shape.peers
+  pub role : MatchBool caster (k.secrets.party ≡ 0) (1 ≤ k.secrets.party)
+  pub made : IsMadeFor s k.secrets.party k.secrets.secret k
+  pub fits : Fits s k.secrets.party k.secrets.secret
