@@ -3,3 +3,4 @@ pub mod Xor
 pub mod Laid
 pub mod Opens
 pub mod OwnKey
+pub mod Longer
