@@ -1,17 +1,18 @@
--- A peer's log, newest first: each tick, and each datagram that it admitted.
+-- A peer's log, newest first: each tick, each datagram that it admitted or signed, each piece of evidence that it kept.
 -- What the peer knows is read from the log: `earliest f` is the first thing that f finds in an entry and what stood before it.
-use Rattle.std.specs.Prelude.{ℕ, ◌+◌, ◌==◌, ◌&&◌, Bool, List, [], ◌∷◌, ◌++◌, Option, Some, None, is_some, option_and_then}
+use Rattle.std.specs.Prelude.{ℕ, ◌+◌, ◌==◌, ◌&&◌, Bool, List, [], ◌∷◌, ◌++◌, Option, Some, None, is_some, option_and_then, if◌then◌else◌}
 use Rattle.std.specs.Option.{option_or}
 use Rattle.std.specs.Bool.{then_some}
-use Rattle.bar_window.specs.declared.update.UpdateId.{UpdateId}
-use Rattle.bar_window.specs.Updates.{same_update}
-use Rattle.bar_wire.specs.Datagram.{Message, Datagram, Body, Manifest, Block, kind_number, round_of}
-use Rattle.bar_rules.specs.Member.{round_after}
+use Rattle.std.specs.List.{list_any}
+use Rattle.bar_wire.specs.Datagram.{Message, Datagram, Body, Manifest, Evict, kind_number, round_of}
 use Rattle.bar_terms.specs.Table.{Table}
+use Rattle.bar_rules.specs.Member.{round_after}
 
 pub data Entry : Type 0 where
   Ticked : Entry
   Heard : Datagram → Entry
+  Said : Datagram → Entry
+  Kept : (party : ℕ) → (evidence : List (List ℕ)) → Entry
 
 abbrev pub Log : Type 0
 Log = List Entry
@@ -21,22 +22,41 @@ abbrev pub earliest : {A : Type 0} → (Log → Entry → Option A) → Log → 
 earliest f [] = None
 earliest f (e ∷ log) = option_or (earliest f log) (f log e)
 
--- ---- admitted datagrams
+-- ---- entries
 
 abbrev pub heard_in : Entry → Option Datagram
-heard_in Ticked = None
 heard_in (Heard d) = Some d
+heard_in Ticked = None
+heard_in (Said d) = None
+heard_in (Kept q e) = None
+
+abbrev pub said_in : Entry → Option Datagram
+said_in (Said d) = Some d
+said_in (Heard d) = None
+said_in Ticked = None
+said_in (Kept q e) = None
 
 -- this datagram if its message passes
 abbrev pub if_passes : (Message → Bool) → Option Datagram → Option Datagram
 if_passes p o = option_and_then (λ d. then_some (p d.message) d) o
 
--- the first admitted datagram whose message passes
+-- the first admitted datagram, and the first signed one, whose message passes
 abbrev pub first_heard : (Message → Bool) → Log → Option Datagram
 first_heard p log = earliest (λ before e. if_passes p (heard_in e)) log
 
+abbrev pub first_said : (Message → Bool) → Log → Option Datagram
+first_said p log = earliest (λ before e. if_passes p (said_in e)) log
+
 abbrev pub has_heard : (Message → Bool) → Log → Bool
 has_heard p log = is_some (first_heard p log)
+
+abbrev pub has_said : (Message → Bool) → Log → Bool
+has_said p log = is_some (first_said p log)
+
+-- how many admitted datagrams pass
+abbrev pub count_heard : (Message → Bool) → Log → ℕ
+count_heard p [] = 0
+count_heard p (e ∷ log) = count_heard p log + (if is_some (if_passes p (heard_in e)) then 1 else 0)
 
 abbrev pub has_kind_and_round : ℕ → ℕ → Message → Bool
 has_kind_and_round kind round m = (kind_number m.body == kind) && (round_of m.body == round)
@@ -46,6 +66,8 @@ has_kind_and_round kind round m = (kind_number m.body == kind) && (round_of m.bo
 abbrev pub ticks_in : Entry → ℕ
 ticks_in Ticked = 1
 ticks_in (Heard d) = 0
+ticks_in (Said d) = 0
+ticks_in (Kept q e) = 0
 
 abbrev pub ticks : Log → ℕ
 ticks [] = 0
@@ -61,27 +83,24 @@ manifest_of (Manifest round digests) = (round, digests) ∷ []
 manifest_of _ = []
 
 abbrev pub manifest_in : Entry → Table
-manifest_in Ticked = []
 manifest_in (Heard d) = manifest_of d.message.body
+manifest_in Ticked = []
+manifest_in (Said d) = []
+manifest_in (Kept q e) = []
 
 abbrev pub table : Log → Table
 table [] = []
 table (e ∷ log) = table log ++ manifest_in e
 
--- ---- holdings
+-- ---- announced evictions
 
--- the block that an admitted datagram adds for an update
-abbrev pub block_from : UpdateId → Body → Option (List ℕ)
-block_from u (Block v block) = then_some (same_update u v) block
-block_from u _ = None
+abbrev pub evicted_by : Body → List ℕ
+evicted_by (Evict round parties) = parties
+evicted_by _ = []
 
-abbrev pub block_in : UpdateId → Entry → Option (List ℕ)
-block_in u Ticked = None
-block_in u (Heard d) = block_from u d.message.body
+abbrev pub names_party : ℕ → Message → Bool
+names_party party m = list_any (λ q. q == party) (evicted_by m.body)
 
--- the block that is held for an update: the first that was added
-abbrev pub block_of : Log → UpdateId → Option (List ℕ)
-block_of log u = earliest (λ before e. block_in u e) log
-
-abbrev pub is_held : Log → UpdateId → Bool
-is_held log u = is_some (block_of log u)
+-- an admitted EVICT names the party
+abbrev pub is_announced : Log → ℕ → Bool
+is_announced log party = has_heard (names_party party) log

@@ -1,14 +1,31 @@
--- A party of a session, and its time.
-use Rattle.std.specs.Prelude.{ℕ, ◌+◌, ◌*◌, ◌/◌, ◌%◌, Bool, List, [], nat_lt, unwrap_or, slice_get}
+-- A session, and one party of it with its secret; rounds and slots.
+use Rattle.std.specs.Prelude.{ℕ, ◌+◌, ◌-◌, ◌*◌, ◌/◌, ◌%◌, Bool, List, [], nat_lt, unwrap_or, slice_get}
 use Rattle.bar_roster.specs.SessionText.{SessionData}
+use Rattle.bar_roster.specs.Sessions.{IsSession}
+use Rattle.bar_roster.specs.KeyFile.{Fits}
+use Rattle.bar_wire.specs.Grammar.{IsPeer}
+
+abbrev pub Session : Type 0
+Session = SessionData
 
 pub record Member : Type 0 where
-  pub session : SessionData
+  pub session : Session
   pub party : ℕ
+  pub secret : List ℕ
+
+-- The member is a peer of its session, which holds the key and the anchor that come from its secret.
+pub record IsMember (me : Member) : Type 0 where
+  pub session : IsSession me.session
+  pub peer : IsPeer me.session.shape me.party
+  pub fits : Fits me.session me.party me.secret
 
 -- the public key of a party, the broadcaster's at 0
-abbrev pub key_of : SessionData → ℕ → List ℕ
+abbrev pub key_of : Session → ℕ → List ℕ
 key_of s party = unwrap_or (slice_get s.keys party) []
+
+-- the anchor of a peer
+abbrev pub anchor_of : Session → ℕ → List ℕ
+anchor_of s peer = unwrap_or (slice_get s.anchors (peer - 1)) []
 
 -- Ticks are counted from 1. Each round has eight of them, in slots 0 to 7; before the first tick the round is 0.
 abbrev pub round_after : ℕ → ℕ
@@ -18,9 +35,9 @@ abbrev pub slot_after : ℕ → ℕ
 slot_after ticks = (ticks + 7) % 8
 
 -- the last tick that a core takes: the end of the round in which the last updates have been played
-abbrev pub last_tick : SessionData → ℕ
+abbrev pub last_tick : Session → ℕ
 last_tick s = 8 * (s.shape.rounds + s.shape.life + 1)
 
 -- an update of this round is alive in that round
-abbrev pub is_alive : SessionData → ℕ → ℕ → Bool
+abbrev pub is_alive : Session → ℕ → ℕ → Bool
 is_alive s round now = nat_lt now (round + s.shape.life)

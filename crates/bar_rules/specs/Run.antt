@@ -1,59 +1,30 @@
 -- What a peer does at each input, and over a list of inputs.
-use Rattle.std.specs.Prelude.{ℕ, ◌+◌, ◌-◌, ◌*◌, ◌==◌, ◌&&◌, List, [], ◌∷◌, ◌++◌, map, slice_range, slice_index, Option, Some, None, option_to_list, nat_le, if◌then◌else◌}
+use Rattle.std.specs.Prelude.{ℕ, ◌+◌, ◌==◌, List, [], ◌∷◌, ◌++◌, map, not, nat_le, if◌then◌else◌}
 use Rattle.std.specs.List.{flat_map, concat}
-use Rattle.bar_window.specs.declared.update.UpdateId.{UpdateId}
-use Rattle.bar_window.specs.Updates.{updates_of}
 use Rattle.bar_wire.specs.Datagram.{Datagram}
-use Rattle.bar_wire.specs.Grammar.{words_of}
-use Rattle.bar_wire.specs.Places.{datagram_of}
 use Rattle.bar_wire.specs.Inputs.{Input, Tick, Came}
-use Rattle.bar_rules.specs.Member.{Member, slot_after, last_tick}
-use Rattle.bar_rules.specs.Log.{Log, Ticked, Heard, ticks, round_now, block_of}
-use Rattle.bar_rules.specs.Admission.{is_admitted}
-
--- what an input leaves: the log, the datagrams that are sent, each with its receiver, and the contents that are played
-pub record Out : Type 0 where
-  pub log : Log
-  pub sends : List (ℕ × Datagram)
-  pub contents : List (List ℕ)
-
--- The content of a block: behind its length, a number of two bytes, as many bytes. A length above 1,022 plays nothing.
-abbrev pub content_of : List ℕ → List (List ℕ)
-content_of block =
-    let len = 256 * slice_index block 0 + slice_index block 1 in
-    if nat_le len 1022 then slice_range block 2 (2 + len) ∷ [] else []
-
--- the content of an update, where it is held
-abbrev pub content_at : Log → UpdateId → List (List ℕ)
-content_at log u = flat_map content_of (option_to_list (block_of log u))
-
--- the contents of a round's held updates, in order
-unfoldable pub contents_of_round : Member → Log → ℕ → List (List ℕ)
-contents_of_round me log round = flat_map (content_at log) (updates_of (words_of me.session.shape) round)
-
--- at the first slot of a round the updates are played that were released as many rounds before as an update lives
-abbrev pub contents_at_tick : Member → Log → List (List ℕ)
-contents_at_tick me log =
-    let round = round_now log - me.session.shape.life in
-    if (slot_after (ticks log) == 0) && (nat_le 1 round && nat_le round me.session.shape.rounds)
-    then contents_of_round me log round else []
-
--- the log with a datagram, where it is admitted
-abbrev pub heard : Member → Log → Option Datagram → Log
-heard me log None = log
-heard me log (Some d) = if is_admitted me log d then Heard d ∷ log else log
+use Rattle.bar_rules.specs.Member.{Member, last_tick}
+use Rattle.bar_rules.specs.Values.{datagram_of}
+use Rattle.bar_rules.specs.Log.{Log, Ticked, ticks}
+use Rattle.bar_rules.specs.Orders.{Out, begun, perform_all}
+use Rattle.bar_rules.specs.Replies.{take_datagram}
+use Rattle.bar_rules.specs.Ticks.{orders_at_tick, contents_at_tick}
 
 abbrev pub take_input : Member → Log → Input → Out
-take_input me log Tick = record { log = Ticked ∷ log; sends = []; contents = contents_at_tick me (Ticked ∷ log) }
-take_input me log (Came bytes) = record { log = heard me log (datagram_of me.session.shape bytes); sends = []; contents = [] }
+take_input me log Tick = perform_all me (begun (Ticked ∷ log)) (orders_at_tick me (Ticked ∷ log))
+take_input me log (Came bytes) = take_datagram me log (datagram_of me.session bytes)
 
--- nothing is done
-abbrev pub idle : Log → Out
-idle log = record { log = log; sends = []; contents = [] }
-
--- one input; after its last tick a peer ignores every input
+-- the log and the sends after one input; after its last tick a peer ignores every input
 unfoldable pub step : Member → Log → Input → Out
-step me log input = if nat_le (last_tick me.session) (ticks log) then idle log else take_input me log input
+step me log input = if nat_le (last_tick me.session) (ticks log) then begun log else take_input me log input
+
+abbrev pub contents_at : Member → Log → Input → List (List ℕ)
+contents_at me log Tick = contents_at_tick me (Ticked ∷ log)
+contents_at me log (Came bytes) = []
+
+-- the contents that one input plays
+abbrev pub contents_by : Member → Log → Input → List (List ℕ)
+contents_by me log input = if nat_le (last_tick me.session) (ticks log) then [] else contents_at me log input
 
 -- ---- a run over a list of inputs
 
@@ -64,7 +35,7 @@ log_after me log (input ∷ inputs) = log_after me (step me log input).log input
 -- the contents that each input plays
 abbrev pub contents_of : Member → Log → List Input → List (List (List ℕ))
 contents_of me log [] = []
-contents_of me log (input ∷ inputs) = (step me log input).contents ∷ contents_of me (step me log input).log inputs
+contents_of me log (input ∷ inputs) = contents_by me log input ∷ contents_of me (step me log input).log inputs
 
 -- the datagrams that are sent, each with its input's number and its receiver
 abbrev pub sends_from : Member → Log → ℕ → List Input → List (ℕ × ℕ × Datagram)
@@ -78,3 +49,18 @@ played_by me inputs = flat_map concat (contents_of me [] inputs)
 
 abbrev pub sends_of : Member → List Input → List (ℕ × ℕ × Datagram)
 sends_of me inputs = sends_from me [] 1 inputs
+
+-- ---- pacing
+
+-- one tick is put before each datagram that would be the 65,537th in a row; nothing stands after the last tick
+abbrev pub paced_from : ℕ → ℕ → ℕ → List Input → List Input
+paced_from last ticks run [] = []
+paced_from last ticks run (Tick ∷ inputs) = if nat_le last ticks then [] else Tick ∷ paced_from last (ticks + 1) 0 inputs
+paced_from last ticks run (Came bytes ∷ inputs) =
+    if nat_le last ticks then []
+    else if not (run == 65536) then Came bytes ∷ paced_from last ticks (run + 1) inputs
+    else if nat_le last (ticks + 1) then Tick ∷ []
+    else Tick ∷ Came bytes ∷ paced_from last (ticks + 1) 1 inputs
+
+abbrev pub paced : Member → List Input → List Input
+paced me inputs = paced_from (last_tick me.session) 0 0 inputs

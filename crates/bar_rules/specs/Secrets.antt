@@ -1,0 +1,44 @@
+-- What comes from a member's secret, and how a partner is chosen.
+use Rattle.std.specs.Prelude.{ℕ, Bool, List}
+use Rattle.bar_window.specs.declared.update.UpdateId.{UpdateId}
+use Rattle.bar_window.specs.declared.exchange.Exchange.{Exchange}
+use Rattle.bar_window.specs.declared.exchange.Role.{Role}
+use Rattle.bar_window.specs.declared.exchange.XKind.{XKind}
+use Rattle.bar_wire.specs.Grammar.{words_of}
+use Rattle.bar_lms.specs.Secret as lms
+use Rattle.bar_seeds.specs.declared.secrets.Secrets.{Secrets}
+use Rattle.bar_seeds.specs.Seeds as seeds
+use Rattle.bar_seeds.specs.Partners as partners
+use Rattle.bar_seeds.specs.Derived as derived
+use Rattle.bar_roster.specs.KeyFile.{secrets_in, signing_secret}
+use Rattle.bar_rules.specs.Member.{Session, Member, anchor_of}
+
+abbrev pub secrets_of : Member → Secrets
+secrets_of me = secrets_in me.session me.party me.secret
+
+-- the nonce of an exchange, and the key of the briefcase that a side of it seals
+abbrev pub nonce_of : Member → Exchange → List ℕ
+nonce_of me x = derived.nonce_of (secrets_of me) x
+
+abbrev pub briefcase_key : Member → Exchange → Role → List ℕ
+briefcase_key me x role = derived.briefcase_key (secrets_of me) x role
+
+-- the commitment to a nonce and a history
+abbrev pub commitment_of : Session → Exchange → List ℕ → List UpdateId → List ℕ
+commitment_of s x nonce ha = derived.commitment_of (words_of s.shape) s.shape.life s.shape.id x nonce ha
+
+-- the seed of a round
+abbrev pub seed_of : Member → ℕ → List ℕ
+seed_of me round = seeds.seed_of (secrets_of me) me.session.shape.rounds round
+
+-- whether it is a peer's seed of a round
+abbrev pub is_seed : Session → ℕ → ℕ → List ℕ → Bool
+is_seed s peer round seed = seeds.is_seed s.shape.id (anchor_of s peer) peer round seed
+
+-- the partner that a seed chooses for a peer
+abbrev pub partner_of : Session → List ℕ → XKind → ℕ → ℕ
+partner_of s seed kind peer = partners.partner_of s.shape.id s.shape.peers seed kind peer
+
+-- the signature with a leaf of the key that comes from a secret
+abbrev pub signature_of : Member → ℕ → List ℕ → List ℕ
+signature_of me leaf message = lms.signed (signing_secret me.session me.secret) leaf message
