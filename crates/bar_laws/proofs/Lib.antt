@@ -1,0 +1,5 @@
+mod Earliest
+mod Same
+mod Later
+mod Spoken
+mod LaterTerms

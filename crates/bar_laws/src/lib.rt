@@ -1,0 +1,2 @@
+//! What holds of every run of a peer, and of all parties together, over the definitions alone.
+#![tactic(auto)]
