@@ -1,5 +1,6 @@
 mod Earliest
 mod Same
+mod Facts
 mod Later
 mod Spoken
 mod LaterTerms
