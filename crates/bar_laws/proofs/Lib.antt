@@ -4,3 +4,8 @@ mod Facts
 mod Later
 mod Spoken
 mod LaterTerms
+mod Balance
+mod Tables
+mod Once
+mod Valid
+mod Unique
