@@ -130,7 +130,7 @@ pub record HasBoth (me : Member) (log : Log) (x : Exchange) (role : Role) : Type
   pub side : mine.role ≡ role
   pub valid : (t : Table) × (terms_ok me.session t x mine.terms ≡ true)
 
-some-same : {A : Type 0} (o : Option A) (a b : A) → o ≡ Some a → o ≡ Some b → a ≡ b
+pub some-same : {A : Type 0} (o : Option A) (a b : A) → o ≡ Some a → o ≡ Some b → a ≡ b
 some-same o a b p q = cc
 
 case-was-said : (log : Log) (x : Exchange) (role : Role) (c : Briefcase) → case_given log x role ≡ Some c → has_said (is_of 8 x role) log ≡ true

@@ -9,3 +9,5 @@ mod Tables
 mod Once
 mod Valid
 mod Unique
+mod Grammar
+mod Obeys
