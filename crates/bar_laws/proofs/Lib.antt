@@ -11,3 +11,4 @@ mod Valid
 mod Unique
 mod Grammar
 mod Obeys
+mod Runs
