@@ -12,3 +12,4 @@ mod Unique
 mod Grammar
 mod Obeys
 mod Runs
+mod Adds
