@@ -13,3 +13,4 @@ mod Grammar
 mod Obeys
 mod Runs
 mod Adds
+mod Sends

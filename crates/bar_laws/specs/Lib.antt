@@ -1,0 +1,2 @@
+pub mod Obedience
+pub mod Balance
