@@ -7,17 +7,19 @@ use Rattle.bar_rules.specs.Signing.{leaf_of, seat_by, signed}
 use Rattle.bar_rules.specs.Terms.{seat, seat_in, first_kind}
 use Rattle.bar_rules.specs.Values.{message_bytes}
 use Rattle.bar_seal.specs.Leaves as leaves
+use Rattle.bar_roster.specs.Sessions.{IsSession}
+use Rattle.bar_laws.specs.Leaves.{KeepsLeaves}
 use Rattle.bar_window.specs.declared.exchange.Exchange.{Exchange}
 use Rattle.bar_window.specs.declared.exchange.Role.{Role}
 use Rattle.bar_window.specs.declared.exchange.Role.TheVariants.{Initiator, Responder}
 use Rattle.bar_window.specs.declared.exchange.XKind.{XKind}
 use Rattle.bar_window.specs.declared.exchange.XKind.TheVariants.{Balanced, Push}
 use Rattle.bar_wire.specs.Datagram.{Message, Datagram, Body, Manifest, Evict, part_of, exchange_by}
-use Rattle.std.proofs.Common.{◌≡◌, ℕ, refl, sym, ap, ◌∙◌}
-use Rattle.std.specs.Prelude.{Option, Some, None, unwrap_or}
+use Rattle.std.proofs.Common.{◌≡◌, ℕ, zero, suc, ◌<◌, List, [], ◌∷◌, length, refl, sym, ap, ◌∙◌, arith}
+use Rattle.std.specs.Prelude.{Option, Some, None, unwrap_or, Contains, slice_index_or}
 use Rattle.bar_laws.proofs.Earliest.{allowed-at}
 use Rattle.bar_laws.proofs.Later.{WasSaid, IsLater, later-entry, find-later}
-use Rattle.bar_laws.proofs.Leaves.{Placed, placed, has-seat}
+use Rattle.bar_laws.proofs.OneLeaf.{Placed, placed, has-seat, one-leaf, leaf-below}
 
 -- the leaf of a message of an exchange
 leaf-by_part : (b : Body) (p : ℕ × XKind × Role) (s : ℕ) → part_of b ≡ Some p → leaves.leaf_of b s ≡ leaves.leaf_at p.0 p.1 p.2 (leaves.step_of b) s
@@ -59,3 +61,21 @@ said-sealed me log d h w =
     let al = allowed-at me log w.before (Said d) w.place h in
     let leaf : leaf_of w.before d.message ≡ leaf_of log d.message = leaf-stays me log w.before d.message (later-entry log w.before (Said d) w.place) (placed me w.before d.message al.1 al.0.rule) al.0.rule.mine in
     al.0.sealed ∙ (λ i. record { message = d.message; signature = signature_of me (leaf i) (message_bytes me.session d.message) })
+
+-- what stands in a log was said
+was-said-in : (log : Log) (d : Datagram) → Contains log (Said d) → WasSaid log d
+was-said-in [] d w = absurd (omega (arith, w.1))
+was-said-in (x ∷ log) d w = go w.0 w.1 w.2
+  where
+    go : (k : ℕ) → k < length (x ∷ log) → slice_index_or (x ∷ log) k (Said d) ≡ Said d → WasSaid (x ∷ log) d
+    go zero below at = record { before = log; place = record { after = []; split = ap (λ y. y ∷ log) at } }
+    go (suc k) below at =
+        let deep : WasSaid log d = was-said-in log d (k, omega (arith, below), at) in
+        record { before = deep.before; place = record { after = x ∷ deep.place.after; split = ap (λ l. x ∷ l) deep.place.split } }
+
+pub keeps-leaves : (me : Member) (log : Log) → IsSession me.session → IsObedient me log → KeepsLeaves me log
+keeps-leaves me log s h = record {
+  once = λ d e v w. one-leaf me log d e h (was-said-in log d v) (was-said-in log e w);
+  below = λ d w. leaf-below me log d s h (was-said-in log d w);
+  stays = λ d w. said-sealed me log d h (was-said-in log d w);
+}

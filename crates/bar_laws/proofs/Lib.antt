@@ -4,3 +4,7 @@ mod Facts
 mod Later
 mod Spoken
 mod LaterTerms
+mod Seats
+mod Elsewhere
+mod OneLeaf
+mod FinalLeaf
