@@ -4,6 +4,13 @@ mod Facts
 mod Later
 mod Spoken
 mod LaterTerms
+mod Balance
+mod Tables
+mod Once
+mod Valid
+mod Unique
+mod Grammar
+mod Obeys
 mod Seats
 mod Elsewhere
 mod OneLeaf
