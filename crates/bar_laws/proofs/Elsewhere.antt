@@ -28,18 +28,10 @@ use Rattle.std.proofs.lemmas.Bool.{and_parts, and_from, eqb-true, eq-eqb, or_cas
 use Rattle.bar_laws.proofs.Earliest.{IsEntry, IsFind, find-of, allowed-at}
 use Rattle.bar_laws.proofs.Facts.{only_told, partner_other}
 use Rattle.bar_laws.proofs.Later.{WasSaid, WasHeard, IsLater, later-entry, some-is, first_said-was, first_heard-was, said-rule, find-later}
-use Rattle.bar_laws.proofs.LaterTerms.{said-later}
+use Rattle.bar_laws.proofs.Grammar.{was-heard-own}
 use Rattle.bar_laws.proofs.Once.{parts-of, said-found, eqb_refl, same_role_refl, same_exchange_refl}
 use Rattle.bar_laws.proofs.Same.{same_exchange-is, same_role-is}
 use Rattle.bar_laws.proofs.Spoken.{first_on-own}
-
--- ---- what was found stays found
-
-pub has_said-later : (p : Message → Bool) (log before : Log) → IsLater log before → has_said p before ≡ true → has_said p log ≡ true
-has_said-later p log before later e = let f = some-is _ e in ap is_some (said-later p log before f.0 later f.1)
-
-pub has_heard-later : (p : Message → Bool) (log before : Log) → IsLater log before → has_heard p before ≡ true → has_heard p log ≡ true
-has_heard-later p log before later e = let f = some-is _ e in ap is_some (find-later (λ before e. if_passes p (heard_in e)) log before f.0 later f.1)
 
 -- ---- the parties of a message
 
@@ -89,54 +81,13 @@ receiver-on kind x role m e = let w = is_of-is kind x role m e in sym (party-ove
 pub is_of-own : (m : Message) (r : ℕ) (k : XKind) (role : Role) → part_of m.body ≡ Some (r, k, role) → is_of (kind_number m.body) (exchange_by r k role m.from m.to) role m ≡ true
 is_of-own m r k role e = rw e (and_from _ _ (eqb_refl (kind_number m.body)) (and_from _ _ (same_exchange_refl (exchange_by r k role m.from m.to)) (same_role_refl role)))
 
--- ---- what is heard is to this member and from another
-
-pub record IsIncoming (me : Member) (m : Message) : Type 0 where
-  pub to : m.to ≡ me.party
-  pub other : m.from ≡ me.party → ⊥
-  pub peer : IsPeer me.session.shape m.from
-
-pub admitted-row : (me : Member) (log : Log) (d : Datagram) → is_admitted me log d ≡ true → is_row_met me log d.message.from d.message.to d.message.body ≡ true
-unfolding is_admitted
-admitted-row me log d e = (and_parts _ _ e).1
-
-admitted-to : (me : Member) (log : Log) (d : Datagram) → is_admitted me log d ≡ true → is_for me d.message ≡ true
-unfolding is_admitted
-admitted-to me log d e = (and_parts _ _ (and_parts _ _ (and_parts _ _ (and_parts _ _ e).0).0).0).0
-
--- a message of an exchange goes from a peer to another
-peers-of : (s : Shape) (b : Body) (p : ℕ × XKind × Role) (from to : ℕ) → part_of b ≡ Some p → grammar.MaySend s (kind_of b) from to → IsPeer s from × IsPeer s to × (from ≡ to → ⊥)
-peers-of s (Request r d c) p from to e h = h
-peers-of s (Response r hb) p from to e h = h
-peers-of s (Divulge r n ha) p from to e h = h
-peers-of s (Query r d y o) p from to e h = h
-peers-of s (Reply r w g z) p from to e h = h
-peers-of s (Case c) p from to e h = h
-peers-of s (KeyRequest r k role) p from to e h = h
-peers-of s (Key k) p from to e h = h
-peers-of s (Manifest r ds) p from to e h = cc
-peers-of s (Block u b) p from to e h = cc
-peers-of s (Evidence ds) p from to e h = cc
-peers-of s (Evict r ps) p from to e h = cc
-
--- a message of an exchange is for one party
-part-to_one : (b : Body) (p : ℕ × XKind × Role) → part_of b ≡ Some p → is_to_all b ≡ false
-part-to_one (Manifest r ds) p e = cc
-part-to_one (Evict r ps) p e = cc
-part-to_one _ p e = refl
-
-pub heard-incoming : (me : Member) (log : Log) (d : Datagram) (p : ℕ × XKind × Role) → IsObedient me log → WasHeard log d → part_of d.message.body ≡ Some p → IsIncoming me d.message
-heard-incoming me log d p h w e =
-    let allowed : Allows me w.before (Heard d) = (allowed-at me log w.before (Heard d) w.place h).0 in
-    let peers = peers-of me.session.shape d.message.body p d.message.from d.message.to e (only_told me.session.shape d _ allowed.1).fits.may_send in
-    let to : d.message.to ≡ me.party = eqb-true _ _ (rw (part-to_one d.message.body p e) at (admitted-to me w.before d allowed.0)) in
-    record { to = to; other = λ z. peers.2 (z ∙ sym to); peer = peers.0 }
+-- ---- what is heard is from another
 
 -- nothing of this member's side is heard
 pub own-unheard : (me : Member) (log : Log) (d : Datagram) (kind : ℕ) (x : Exchange) (role : Role) → IsObedient me log → WasHeard log d → is_of kind x role d.message ≡ true → party_on x role ≡ me.party → ⊥
 own-unheard me log d kind x role h w e own =
     let at = is_of-is kind x role d.message e in
-    (heard-incoming me log d (at.round, at.sort, role) h w at.part).other (sender-on kind x role d.message e ∙ own)
+    (was-heard-own me log d (at.round, at.sort, role) w h at.part).other (sender-on kind x role d.message e ∙ own)
 
 -- ---- complete terms
 

@@ -65,12 +65,12 @@ said-sealed me log d h w =
 -- what stands in a log was said
 was-said-in : (log : Log) (d : Datagram) → Contains log (Said d) → WasSaid log d
 was-said-in [] d w = absurd (omega (arith, w.1))
-was-said-in (x ∷ log) d w = go w.0 w.1 w.2
+was-said-in (x ∷ log) d w = go w.0 w.1 w.2 (was-said-in log d)
   where
-    go : (k : ℕ) → k < length (x ∷ log) → slice_index_or (x ∷ log) k (Said d) ≡ Said d → WasSaid (x ∷ log) d
-    go zero below at = record { before = log; place = record { after = []; split = ap (λ y. y ∷ log) at } }
-    go (suc k) below at =
-        let deep : WasSaid log d = was-said-in log d (k, omega (arith, below), at) in
+    go : (k : ℕ) → k < length (x ∷ log) → slice_index_or (x ∷ log) k (Said d) ≡ Said d → (Contains log (Said d) → WasSaid log d) → WasSaid (x ∷ log) d
+    go zero below at f = record { before = log; place = record { after = []; split = ap (λ y. y ∷ log) at } }
+    go (suc k) below at f =
+        let deep : WasSaid log d = f (k, omega (arith, below), at) in
         record { before = deep.before; place = record { after = x ∷ deep.place.after; split = ap (λ l. x ∷ l) deep.place.split } }
 
 pub keeps-leaves : (me : Member) (log : Log) → IsSession me.session → IsObedient me log → KeepsLeaves me log

@@ -22,7 +22,9 @@ use Rattle.std.specs.Prelude.{Option, Some, None, ◌⊎◌, is_some, option_map
 use Rattle.std.specs.Option.{option_map_or}
 use Rattle.std.proofs.lemmas.Bool.{and_parts, ltb-true}
 use Rattle.bar_laws.proofs.Earliest.{option_or-cases, allowed-at}
-use Rattle.bar_laws.proofs.Elsewhere.{has_said-later, has_heard-later, party-on, kind-on, is_of-is, is_of-own, receiver-on, sender-on, admitted-row, terms-said, role-own, sign-elsewhere, SaidCase, said-case}
+use Rattle.bar_laws.proofs.Obeys.{said-more, heard-more}
+use Rattle.bar_laws.proofs.Tables.{admitted-row}
+use Rattle.bar_laws.proofs.Elsewhere.{party-on, kind-on, is_of-is, is_of-own, receiver-on, sender-on, terms-said, role-own, sign-elsewhere, SaidCase, said-case}
 use Rattle.bar_laws.proofs.Facts.{leaves_few, peers_named}
 use Rattle.bar_laws.proofs.Later.{WasSaid, IsLater, later-entry, some-is, heard_in-is, first_said-was, said-rule}
 use Rattle.bar_laws.proofs.Once.{parts-of, part-round, said-found}
@@ -111,7 +113,7 @@ key-begun me before r k role to h w =
         (λ i. exchange_by (part.0 i) (part.1 i) (part.2 i) (sym al.0.rule.mine i) d.message.to) ∙ of.exchange
     in
     let sort : c.kind ≡ k = sym (kind-on c.round c.kind c.role me.party d.message.to) ∙ ap (λ (z : Exchange). z.kind) same ∙ kind-on r k role me.party to in
-    has_said-later (is_of (first_kind k role) x role) before w.1.was.before (later-entry before w.1.was.before (Said d) w.1.was.place)
+    said-more (is_of (first_kind k role) x role) before w.1.was.before (later-entry before w.1.was.before (Said d) w.1.was.place)
     (sym (λ i. has_said (is_of (first_kind (sort i) (part.2 i)) (same i) (part.2 i)) w.1.was.before) ∙ begun)
 
 -- a responder's first message is said where the request is heard
@@ -137,7 +139,7 @@ first-asked me log r k to h e = at (some-is _ e)
     at g =
         let was = first_said-was (is_of (answer_kind k) x Responder) log g.0 g.1 in
         let sign = (said-rule me log g.0 was.0 h).rule in
-        has_heard-later (is_of (asking_kind k) x Initiator) log was.0.before (later-entry log was.0.before (Said g.0) was.0.place) (answer g.0 was.0.before sign.mine g.0.message.body k sign.rule was.1)
+        heard-more (is_of (asking_kind k) x Initiator) log was.0.before (later-entry log was.0.before (Said g.0) was.0.place) (answer g.0 was.0.before sign.mine g.0.message.body k sign.rule was.1)
 
 -- ---- a message that may be signed
 
@@ -188,7 +190,7 @@ begun-in me log d r k role h w part = go place.first
         let number : kind_number d.message.body ≡ first_kind k role = n ∙ (λ i. first_kind (same.1 i) (same.2 i)) in
         said-found (is_of (first_kind k role) (exchange_by r k role me.party d.message.to) role) log d w
         (sym (λ i. is_of (number i) (exchange_by r k role (al.0.rule.mine i) d.message.to) role d.message) ∙ is_of-own d.message r k role part)
-    go (inr b) = has_said-later _ log w.before (later-entry log w.before (Said d) w.place) (sym (λ i. has_said (is_of (first_kind (same.1 i) (same.2 i)) (exchange_by (same.0 i) (same.1 i) (same.2 i) me.party d.message.to) (same.2 i)) w.before) ∙ b)
+    go (inr b) = said-more _ log w.before (later-entry log w.before (Said d) w.place) (sym (λ i. has_said (is_of (first_kind (same.1 i) (same.2 i)) (exchange_by (same.0 i) (same.1 i) (same.2 i) me.party d.message.to) (same.2 i)) w.before) ∙ b)
 
 -- one request of a round and kind
 one-request : (me : Member) (log : Log) (r : ℕ) (k : XKind) (s t : ℕ) → IsObedient me log → IsBegun log r k Initiator me.party s → IsBegun log r k Initiator me.party t → s ≡ t
