@@ -15,3 +15,4 @@ mod Seats
 mod Elsewhere
 mod OneLeaf
 mod FinalLeaf
+mod InLife
