@@ -16,3 +16,4 @@ mod Elsewhere
 mod OneLeaf
 mod FinalLeaf
 mod InLife
+mod OpenList
