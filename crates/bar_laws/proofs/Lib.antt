@@ -17,3 +17,4 @@ mod OneLeaf
 mod FinalLeaf
 mod InLife
 mod OpenList
+mod AgreeLogs
