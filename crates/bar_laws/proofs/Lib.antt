@@ -11,6 +11,9 @@ mod Valid
 mod Unique
 mod Grammar
 mod Obeys
+mod Runs
+mod Adds
+mod Sends
 mod Seats
 mod Elsewhere
 mod OneLeaf

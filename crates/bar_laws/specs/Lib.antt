@@ -1,1 +1,3 @@
+pub mod Obedience
+pub mod Balance
 pub mod Leaves

@@ -1,4 +1,6 @@
 //! What holds of every run of a peer, and of all parties together, over the definitions alone.
 #![tactic(auto)]
 
+pub mod obedience;
+pub mod totals;
 pub mod leaves;

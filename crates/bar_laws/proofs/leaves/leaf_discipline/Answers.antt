@@ -5,4 +5,4 @@ use Rattle.bar_laws.proofs.Runs.{run-obedient}
 use Rattle.bar_laws.proofs.leaves.leaf_discipline.Goals as goal
 
 pub returns : goal.returns
-returns c = λ me is inputs. keeps-leaves me (log_after me [] inputs) is.session (run-obedient me is inputs)
+returns c = λ me is inputs. keeps-leaves me (log_after me [] inputs) is.session (run-obedient me [] inputs tt)
