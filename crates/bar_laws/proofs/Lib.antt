@@ -14,3 +14,10 @@ mod Obeys
 mod Runs
 mod Adds
 mod Sends
+mod Seats
+mod Elsewhere
+mod OneLeaf
+mod FinalLeaf
+mod InLife
+mod OpenList
+mod AgreeLogs

@@ -1,2 +1,3 @@
 pub mod Obedience
 pub mod Balance
+pub mod Leaves

@@ -3,3 +3,4 @@
 
 pub mod obedience;
 pub mod totals;
+pub mod leaves;
