@@ -3,3 +3,4 @@ mod Same
 mod Later
 mod Spoken
 mod LaterTerms
+mod Stays

@@ -1,2 +1,4 @@
 //! What holds of every run of a peer, and of all parties together, over the definitions alone.
 #![tactic(auto)]
+
+pub mod verdicts;
