@@ -4,3 +4,7 @@ mod Later
 mod Spoken
 mod LaterTerms
 mod Stays
+mod Accuses
+mod Parts
+mod Kept
+mod BadKeys

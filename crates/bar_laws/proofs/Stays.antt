@@ -16,7 +16,7 @@ use Rattle.std.proofs.Common.{◌≡◌, ℕ, Bool, true, false, List, [], ◌�
 use Rattle.std.specs.Prelude.{Option, Some, None, ◌⊎◌, if◌then◌else◌}
 use Rattle.std.specs.List.{list_all}
 use Rattle.std.specs.Bool.{then_some}
-use Rattle.std.proofs.lemmas.Bool.{and_parts, and_from, both_ways}
+use Rattle.std.proofs.lemmas.Bool.{and_parts, and_from, both_ways, not-true, not_from_false, cases_Bool}
 
 -- what bar_case ensures of an opening that is bad: it stays so under longer tables
 abbrev pub BadStaysBad : Type 0
@@ -39,19 +39,11 @@ past_end-extends old new u h e = go (digest-extends old new u h)
     go (inl none) = ap is_past_end none
     go (inr same) = ap is_past_end (sym same) ∙ e
 
-not-is_true : (b : Bool) → not b ≡ true → b ≡ false
-not-is_true true e = cc
-not-is_true false e = refl
-
-not-is_false : (b : Bool) → b ≡ false → not b ≡ true
-not-is_false true e = cc
-not-is_false false e = refl
-
 pub none_past_end-extends : (old new : Table) (us : List UpdateId) → Extends old new → none_past_end new us ≡ true → none_past_end old us ≡ true
 none_past_end-extends old new [] h e = refl
 none_past_end-extends old new (u ∷ us) h e =
     let p : (not (is_past_end (digest_of new u)) ≡ true) × (none_past_end new us ≡ true) = and_parts _ _ e in
-    and_from _ _ (not-is_false _ (past_end-extends old new u h (not-is_true _ p.0))) (none_past_end-extends old new us h p.1)
+    and_from _ _ (not_from_false _ (past_end-extends old new u h (not-true _ p.0))) (none_past_end-extends old new us h p.1)
 
 and_first : (a b c : Bool) → (a ≡ true → b ≡ true) → (a && c) ≡ true → (b && c) ≡ true
 and_first a b c f e = let p = and_parts a c e in and_from b c (f p.0) p.1
@@ -70,21 +62,17 @@ terms_ok-extends s old new x (Trade nonce ha hb) h e = let p = and_parts _ _ e i
 terms_ok-extends s old new x (Offer young aged want give junk) h e =
     and_first _ _ _ (offer_ok-extends s.cap s.shape.life old new x.round young aged h) e
 
-true_or_false : (b : Bool) → (b ≡ true) ⊎ (b ≡ false)
-true_or_false true = inl refl
-true_or_false false = inr refl
-
 pub bad_terms-extends : (s : Session) (old new : Table) (m : Message) (c : Briefcase) → Extends old new → bad_terms s old m c ≡ true → bad_terms s new m c ≡ true
-bad_terms-extends s old new m c h e = go (true_or_false (terms_ok s new x c.terms && counts_ok s c))
+bad_terms-extends s old new m c h e = go (cases_Bool (terms_ok s new x c.terms && counts_ok s c))
   where
     x : Exchange
     x = exchange_by c.round c.kind c.role m.from m.to
 
     go : ((terms_ok s new x c.terms && counts_ok s c) ≡ true) ⊎ ((terms_ok s new x c.terms && counts_ok s c) ≡ false) → bad_terms s new m c ≡ true
-    go (inr f) = not-is_false _ f
+    go (inr f) = not_from_false _ f
     go (inl t) =
         let ok : (terms_ok s old x c.terms && counts_ok s c) ≡ true = and_first _ _ _ (terms_ok-extends s old new x c.terms h) t in
-        let no : (terms_ok s old x c.terms && counts_ok s c) ≡ false = not-is_true _ e in
+        let no : (terms_ok s old x c.terms && counts_ok s c) ≡ false = not-true _ e in
         absurd (both_ways _ no ok)
 
 -- ---- verdicts

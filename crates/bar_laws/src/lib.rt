@@ -1,4 +1,5 @@
 //! What holds of every run of a peer, and of all parties together, over the definitions alone.
 #![tactic(auto)]
 
+pub mod evidence;
 pub mod verdicts;
