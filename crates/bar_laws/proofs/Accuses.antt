@@ -8,10 +8,9 @@ use Rattle.bar_rules.specs.Values.{datagram_bytes, datagram_of, is_signed_by}
 use Rattle.bar_rules.specs.Verdict.{Shown, BadOpening, verdict, verdict_on, all_read, fault_of_two, bad_opening, pair_opening, key_fits, is_peer_kind, are_of_one_peer, key_of_body}
 use Rattle.bar_terms.specs.Table.{Table}
 use Rattle.bar_window.specs.declared.exchange.Exchange.{Exchange}
-use Rattle.bar_window.specs.declared.exchange.Role.{Role}
 use Rattle.bar_wire.specs.Datagram.{Datagram, Case, Key, Briefcase, KeyGiven, is_of, part_of, exchange_by}
 use Rattle.std.specs.Option.{option_or}
-use Rattle.std.proofs.Common.{◌≡◌, ℕ, true, List, [], ◌∷◌, refl, sym, ap, subst}
+use Rattle.std.proofs.Common.{◌≡◌, true, [], ◌∷◌, refl, sym, ap, subst}
 use Rattle.std.specs.Prelude.{Option, Some, None, is_some}
 use Rattle.std.specs.List.{list_all}
 use Rattle.std.proofs.lemmas.Bool.{and_from, eq-eqb}

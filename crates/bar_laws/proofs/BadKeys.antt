@@ -1,33 +1,33 @@
 -- Where a heard key opens a heard briefcase badly, evidence is kept against their sender.
-use Rattle.bar_case.specs.Items.{junk_key, item_len}
+use Rattle.bar_case.specs.Items.{junk_key}
 use Rattle.bar_case.specs.Opened.{opening, opened, findings, is_bad}
 use Rattle.bar_case.specs.Opened as briefcases
 use Rattle.bar_rules.specs.Admission.{is_admitted, is_row_met, is_genuine, are_terms}
 use Rattle.bar_rules.specs.Evidence.{completed, is_tried, kept, kept_in}
 use Rattle.bar_rules.specs.Holdings.{briefcase_in, case_for}
-use Rattle.bar_rules.specs.Log.{Log, Entry, Ticked, Heard, Said, Kept, earliest, heard_in, if_passes, first_heard, first_said, has_heard, has_said, table, round_now, is_announced}
-use Rattle.bar_rules.specs.Member.{Session, Member}
+use Rattle.bar_rules.specs.Log.{Log, Entry, Ticked, Heard, Said, Kept, heard_in, if_passes, first_heard, first_said, has_heard, has_said, table, round_now, is_announced}
+use Rattle.bar_rules.specs.Member.{Member}
 use Rattle.bar_rules.specs.Rules.{IsObedient, Allows, MaySend}
 use Rattle.bar_rules.specs.Signing.{MaySay, MayGiveCase, windows_within}
 use Rattle.bar_rules.specs.Terms.{terms_of, role_of, partner_in, case_heard}
 use Rattle.bar_rules.specs.Values.{opening_of, is_signed_by, terms_ok, counts_ok}
-use Rattle.bar_rules.specs.Verdict.{key_fits, pair_opening, is_peer_kind}
+use Rattle.bar_rules.specs.Verdict.{is_peer_kind}
 use Rattle.bar_terms.specs.Table.{Table, Extends, digest_of, Digest, Known, PastEnd, NoManifest, is_known, is_within}
 use Rattle.bar_terms.specs.Terms.{promise, promised_updates, promised_junk, trade_count}
 use Rattle.bar_terms.specs.declared.items.Item.{Item}
 use Rattle.bar_terms.specs.declared.items.Item.TheVariants.{Update, Junk}
-use Rattle.bar_window.specs.Exchange.{other_role, same_exchange, same_role, party_on}
+use Rattle.bar_window.specs.Exchange.{other_role, same_exchange, same_role}
 use Rattle.bar_window.specs.Terms.{Terms, Trade, Offer}
 use Rattle.bar_window.specs.Updates.{has_update, same_update, is_inside, minus}
 use Rattle.bar_window.specs.declared.exchange.Exchange.{Exchange}
 use Rattle.bar_window.specs.declared.exchange.Role.{Role}
 use Rattle.bar_window.specs.declared.exchange.Role.TheVariants.{Initiator, Responder}
 use Rattle.bar_window.specs.declared.update.UpdateId.{UpdateId}
-use Rattle.bar_wire.specs.Datagram.{Message, Datagram, Body, Case, Key, Briefcase, KeyGiven, is_of, is_signed, part_of, round_of, exchange_by, exchange_of}
-use Rattle.std.proofs.Common.{◌≡◌, ℕ, ◌≤◌, ◌+◌, Bool, true, false, List, [], ◌∷◌, ◌++◌, refl, sym, ap, ◌∙◌, subst, ◌&&◌, not, inl, inr, map, take, drop, length, eqb}
-use Rattle.std.specs.Prelude.{Option, Some, None, ◌⊎◌, is_some, option_and_then, option_map, cond, nat_le}
+use Rattle.bar_wire.specs.Datagram.{Datagram, Case, Key, Briefcase, KeyGiven, is_of, is_signed, part_of, round_of, exchange_by, exchange_of}
+use Rattle.std.proofs.Common.{◌≡◌, ℕ, ◌+◌, Bool, true, false, List, [], ◌∷◌, ◌++◌, refl, sym, ap, ◌∙◌, subst, ◌&&◌, not, inl, inr, map, take, drop}
+use Rattle.std.specs.Prelude.{Option, Some, None, ◌⊎◌, is_some, option_and_then, option_map, nat_le}
 use Rattle.std.specs.List.{list_all, AllByRecursion, range_with_len}
-use Rattle.std.proofs.lemmas.Bool.{and_parts, and_from, eq-eqb, eqb-true, both_ways, or_cases, cases_Bool, not_from_false}
+use Rattle.std.proofs.lemmas.Bool.{and_parts, and_from, eq-eqb, both_ways, or_cases, cases_Bool, not_from_false}
 use Rattle.bar_laws.specs.Evidence.{HasHeard, OpensBadly}
 use Rattle.bar_laws.proofs.Earliest.{IsEntry, allowed-at}
 use Rattle.bar_laws.proofs.Later.{IsLater, WasHeard, WasSaid, later-entry, find-later, first_heard-was, first_said-was, said-rule, some-is}
@@ -36,9 +36,10 @@ use Rattle.bar_laws.proofs.Same.{same_update-is, same_terms-is}
 use Rattle.bar_laws.proofs.Once.{same_exchange_refl, same_role_refl}
 use Rattle.bar_laws.proofs.Tables.{table-later, within-extends, known-digest-extends, admitted-row}
 use Rattle.bar_laws.proofs.Valid.{all-take, all-filtered}
+use Rattle.bar_laws.proofs.Grammar.{IsOwn, heard-own}
 use Rattle.bar_laws.proofs.Balance.{IsCaseOf, is_of-case}
 use Rattle.bar_laws.proofs.Stays.{terms_ok-extends}
-use Rattle.bar_laws.proofs.Parts.{DatagramsAreSpelled, IsPart, is_of-part, IsForMe, heard-for_me, sender-side, receiver-side, receiver-role, receiver-partner, other-other}
+use Rattle.bar_laws.proofs.Parts.{IsPart, is_of-part, sender-side, receiver-side, receiver-role, receiver-partner, other-other}
 use Rattle.bar_laws.proofs.Accuses.{IsBadPair, bad-completed}
 use Rattle.bar_laws.proofs.Kept.{IsWatchful, watchful-at}
 
@@ -200,10 +201,10 @@ key-row me before e k admitted is =
     ((and_parts _ _ p.0).1, p.1)
 
 -- an admitted key is tried, where no evidence is kept yet
-key-tried : DatagramsAreSpelled → (me : Member) (before : Log) (e : Datagram) (k : KeyGiven) → Allows me before (Heard e) → e.message.body ≡ Key k → is_some (kept before e.message.from) ≡ false
+key-tried : (me : Member) (before : Log) (e : Datagram) (k : KeyGiven) → Allows me before (Heard e) → e.message.body ≡ Key k → is_some (kept before e.message.from) ≡ false
     → is_tried me before e ≡ true
-key-tried law me before e k al is none =
-    let mine : IsForMe me e = heard-for_me law me before e (k.round, k.kind, k.role) al (ap part_of is) in
+key-tried me before e k al is none =
+    let mine : IsOwn me e = heard-own me before e (k.round, k.kind, k.role) al (ap part_of is) in
     let recent : nat_le (round_now before) (round_of e.message.body + me.session.shape.life) ≡ true = rw is (key-row me before e k al.0 is).1 in
     and_from _ _
     (and_from _ _
@@ -243,10 +244,10 @@ opened-before me log before x role d key later b =
     (within-same (table before) (table log) (promised_updates me.session.cap b.case.terms b.case.role) (table-later log before later) b.within)
 
 -- evidence is kept where a heard key opens the heard briefcase badly
-pub bad-key-kept : DatagramsAreSpelled → (me : Member) (log before : Log) (e : Datagram) (k : KeyGiven) (c : Briefcase) → IsObedient me log → IsWatchful me log → IsEntry log before (Heard e) → e.message.body ≡ Key k
+pub bad-key-kept : (me : Member) (log before : Log) (e : Datagram) (k : KeyGiven) (c : Briefcase) → IsObedient me log → IsWatchful me log → IsEntry log before (Heard e) → e.message.body ≡ Key k
     → case_for log (exchange_by k.round k.kind k.role e.message.from e.message.to) k.role ≡ Some c
     → is_bad (opening_of me.session (table log) (exchange_by k.round k.kind k.role e.message.from e.message.to) c k.key) ≡ true → is_some (kept log e.message.from) ≡ true
-bad-key-kept law me log before e k c h watchful place is found bad = go (cases_Bool (is_some (kept before e.message.from)))
+bad-key-kept me log before e k c h watchful place is found bad = go (cases_Bool (is_some (kept before e.message.from)))
   where
     x : Exchange
     x = exchange_by k.round k.kind k.role e.message.from e.message.to
@@ -266,7 +267,7 @@ bad-key-kept law me log before e k c h watchful place is found bad = go (cases_B
         let same : c ≡ b.case = cc (now, found) in
         let bad_now : is_bad (opening_of me.session (table log) x b.case k.key) ≡ true = subst (λ z. is_bad (opening_of me.session (table log) x z k.key) ≡ true) same bad in
         let bad_then : is_bad (opening_of me.session (table before) x b.case k.key) ≡ true = ap is_bad (opened-before me log before x k.role d k.key later b) ∙ bad_now in
-        let some : is_some (completed me before e) ≡ true = bad-completed me before d e b.case k first (key-tried law me before e k al.0 is free) (bad-pair me before d e k al.0 is was.1 b bad_then) in
+        let some : is_some (completed me before e) ≡ true = bad-completed me before d e b.case k first (key-tried me before e k al.0 is free) (bad-pair me before d e k al.0 is was.1 b bad_then) in
         let nothing : is_some (completed me before e) ≡ false = ap is_some (watchful-at me log before e place watchful) in
         both_ways _ nothing some
 
@@ -290,18 +291,18 @@ heard-was (Said e ∷ log) d h = earlier (Said e) log d (heard-was log d h)
 heard-was (Kept q f ∷ log) d h = earlier (Kept q f) log d (heard-was log d h)
 
 -- so where a key of an exchange opens the partner's briefcase badly, evidence against the partner is kept
-pub opens-badly-kept : DatagramsAreSpelled → (me : Member) (log : Log) (x : Exchange) (d : Datagram) → IsObedient me log → IsWatchful me log → OpensBadly me log x d → is_some (kept log (partner_in me x)) ≡ true
-opens-badly-kept law me log x d h watchful o =
+pub opens-badly-kept : (me : Member) (log : Log) (x : Exchange) (d : Datagram) → IsObedient me log → IsWatchful me log → OpensBadly me log x d → is_some (kept log (partner_in me x)) ≡ true
+opens-badly-kept me log x d h watchful o =
     let w : WasHeard log d = heard-was log d o.heard in
     let k : KeyGiven = o.key in
     let own : Exchange = exchange_by k.round k.kind k.role d.message.from d.message.to in
     let al : Allows me w.before (Heard d) = (allowed-at me log w.before (Heard d) w.place h).0 in
-    let mine : IsForMe me d = heard-for_me law me w.before d (k.round, k.kind, k.role) al (ap part_of o.is_key) in
+    let mine : IsOwn me d = heard-own me w.before d (k.round, k.kind, k.role) al (ap part_of o.is_key) in
     let named : exchange_of d.message ≡ Some own = ap (λ b. option_map (λ p. exchange_by p.0 p.1 p.2 d.message.from d.message.to) (part_of b)) o.is_key in
     let same : x ≡ own = (let e = o.of_exchange in cc) in
     let side : other_role (role_of me own) ≡ k.role = ap other_role (receiver-role me k.round k.kind k.role d.message.from d.message.to mine.to mine.other) ∙ other-other k.role in
     let partner : partner_in me own ≡ d.message.from = receiver-partner me k.round k.kind k.role d.message.from d.message.to mine.to mine.other in
     let found : case_for log own k.role ≡ Some o.case = subst (λ r. case_for log own r ≡ Some o.case) side (subst (λ y. case_heard me log y ≡ Some o.case) same o.case_is) in
     let bad : is_bad (opening_of me.session (table log) own o.case k.key) ≡ true = subst (λ y. is_bad (opening_of me.session (table log) y o.case k.key) ≡ true) same o.bad in
-    let kept_now : is_some (kept log d.message.from) ≡ true = bad-key-kept law me log w.before d k o.case h watchful w.place o.is_key found bad in
+    let kept_now : is_some (kept log d.message.from) ≡ true = bad-key-kept me log w.before d k o.case h watchful w.place o.is_key found bad in
     subst (λ y. is_some (kept log (partner_in me y)) ≡ true) (sym same) (subst (λ q. is_some (kept log q) ≡ true) (sym partner) kept_now)

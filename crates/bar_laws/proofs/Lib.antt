@@ -1,8 +1,17 @@
 mod Earliest
 mod Same
+mod Facts
 mod Later
 mod Spoken
 mod LaterTerms
+mod Balance
+mod Tables
+mod Once
+mod Valid
+mod Unique
+mod Grammar
+mod Obeys
+mod Runs
 mod Stays
 mod Accuses
 mod Parts

@@ -2,9 +2,9 @@
 use Rattle.bar_case.specs.Opened.{opening, is_bad}
 use Rattle.bar_rules.specs.Holdings.{briefcase_in}
 use Rattle.bar_rules.specs.Member.{Session}
-use Rattle.bar_rules.specs.Values.{terms_ok, opening_of, counts_ok, is_signed_by}
+use Rattle.bar_rules.specs.Values.{terms_ok, counts_ok, is_signed_by}
 use Rattle.bar_rules.specs.Verdict.{Fault, BadOpening, BadTerms, Shown, NotShown, bad_terms, fault_of_one, fault_of_two, bad_opening, key_of_body, fault_of, judged, verdict_on, verdict, fault_by_words, asked, wrong_partner, WrongPartner, all_read, are_of_one_peer, Malformed, NotSigned}
-use Rattle.bar_terms.specs.Table.{Table, Extends, digests_of, digest_of, digest_in, NoManifest, none_past_end, is_past_end}
+use Rattle.bar_terms.specs.Table.{Table, Extends, digest_of, NoManifest, none_past_end, is_past_end}
 use Rattle.bar_terms.specs.Terms.{offer_ok}
 use Rattle.bar_window.specs.Terms.{Terms, Trade, Offer}
 use Rattle.bar_window.specs.declared.exchange.Exchange.{Exchange}
@@ -16,6 +16,7 @@ use Rattle.std.proofs.Common.{◌≡◌, ℕ, Bool, true, false, List, [], ◌�
 use Rattle.std.specs.Prelude.{Option, Some, None, ◌⊎◌, if◌then◌else◌}
 use Rattle.std.specs.List.{list_all}
 use Rattle.std.specs.Bool.{then_some}
+use Rattle.bar_laws.proofs.Tables.{digest-extends}
 use Rattle.std.proofs.lemmas.Bool.{and_parts, and_from, both_ways, not-true, not_from_false, cases_Bool}
 
 -- what bar_case ensures of an opening that is bad: it stays so under longer tables
@@ -23,14 +24,6 @@ abbrev pub BadStaysBad : Type 0
 BadStaysBad =
     (id : List ℕ) (x : Exchange) (cap : ℕ) (terms : Terms) (role : Role) (cipher key : List ℕ) (old new : Table) → Extends old new
     → is_bad (opening id x cap terms role cipher key old) ≡ true → is_bad (opening id x cap terms role cipher key new) ≡ true
-
--- a longer table says the same of an update, where the shorter one has its round
-pub digest-extends : (old new : Table) (u : UpdateId) → Extends old new → (digest_of old u ≡ NoManifest) ⊎ (digest_of new u ≡ digest_of old u)
-digest-extends old new u h = go (digests_of old u.round) refl
-  where
-    go : (o : Option (List (List ℕ))) → digests_of old u.round ≡ o → (digest_of old u ≡ NoManifest) ⊎ (digest_of new u ≡ digest_of old u)
-    go None e = inl (rw e)
-    go (Some ds) e = let f : digests_of new u.round ≡ Some ds = h.same u.round ds e in inr (ap (λ o. digest_in o u.index) (f ∙ sym e))
 
 pub past_end-extends : (old new : Table) (u : UpdateId) → Extends old new → is_past_end (digest_of new u) ≡ false → is_past_end (digest_of old u) ≡ false
 past_end-extends old new u h e = go (digest-extends old new u h)

@@ -5,7 +5,7 @@ use Rattle.bar_terms.specs.Table.{Table, Extends}
 use Rattle.bar_wire.specs.Datagram.{Datagram, Key, Briefcase, KeyGiven, exchange_of}
 use Rattle.bar_wire.specs.Inputs.{Input}
 use Rattle.bar_case.specs.Opened.{is_bad}
-use Rattle.bar_rules.specs.Member.{Member, IsMember}
+use Rattle.bar_rules.specs.Member.{Member}
 use Rattle.bar_rules.specs.Values.{opening_of}
 use Rattle.bar_rules.specs.Log.{Log, Heard, table}
 use Rattle.bar_rules.specs.Terms.{partner_in, case_heard}
@@ -32,12 +32,12 @@ pub record OpensBadly (me : Member) (log : Log) (x : Exchange) (d : Datagram) : 
 -- whatever comes, where a KEY opens the partner's CASE badly, evidence against the partner is kept
 abbrev pub BadKeysLeaveEvidence : Type 0
 BadKeysLeaveEvidence =
-    (me : Member) (inputs : List Input) (x : Exchange) (d : Datagram) → IsMember me → OpensBadly me (log_after me [] inputs) x d
+    (me : Member) (inputs : List Input) (x : Exchange) (d : Datagram) → OpensBadly me (log_after me [] inputs) x d
     → is_some (kept (log_after me [] inputs) (partner_in me x)) ≡ true
 
 -- whatever comes, the evidence that is kept against a party shows a fault of this party, under every table that extends the peer's
 abbrev pub KeptEvidenceIsShown : Type 0
 KeptEvidenceIsShown =
-    (me : Member) (inputs : List Input) (party : ℕ) (evidence : List (List ℕ)) (two : Table) → IsMember me
+    (me : Member) (inputs : List Input) (party : ℕ) (evidence : List (List ℕ)) (two : Table)
     → kept (log_after me [] inputs) party ≡ Some evidence → Extends (table (log_after me [] inputs)) two
     → (fault : Fault) × (verdict me.session two evidence ≡ Shown party fault)

@@ -27,8 +27,14 @@ use Rattle.bar_rules.specs.Choices.{wanted_of}
 abbrev pub everyone : ℕ
 everyone = 65535
 
-abbrev pub is_for : Member → ℕ → Bool
-is_for me to = (to == me.party) || (to == everyone)
+-- the kinds that go to all peers; every other kind goes to one party
+abbrev pub is_to_all : Body → Bool
+is_to_all (Manifest round digests) = true
+is_to_all (Evict round parties) = true
+is_to_all _ = false
+
+abbrev pub is_for : Member → Message → Bool
+is_for me m = if is_to_all m.body then m.to == everyone else m.to == me.party
 
 -- where the kind is signed, the signature is accepted under the sender's key
 abbrev pub is_genuine : Session → Datagram → Bool
@@ -138,7 +144,7 @@ is_row_met me log from to (Evidence datagrams) = false
 
 unfoldable pub is_admitted : Member → Log → Datagram → Bool
 is_admitted me log d =
-    is_for me d.message.to
+    is_for me d.message
     && not (is_announced log d.message.from)
     && is_genuine me.session d
     && not (is_heard_again log d.message)

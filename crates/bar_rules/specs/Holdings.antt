@@ -9,7 +9,7 @@ use Rattle.bar_terms.specs.Table.{Table}
 use Rattle.bar_wire.specs.Datagram.{Message, Body, Block, Case, Key, Briefcase, is_of, exchange_by}
 use Rattle.bar_rules.specs.Member.{Session, is_alive}
 use Rattle.bar_rules.specs.Values.{window_of, opening_of, is_good, opened_block}
-use Rattle.bar_rules.specs.Log.{Log, Entry, Ticked, Heard, Said, Kept, earliest, first_heard, table, round_now}
+use Rattle.bar_rules.specs.Log.{Log, Entry, Ticked, Heard, Said, Kept, earliest, first_heard, first_said, table, round_now}
 
 abbrev pub briefcase_in : Body → Option Briefcase
 briefcase_in (Case c) = Some c
@@ -18,6 +18,10 @@ briefcase_in _ = None
 -- the briefcase of an exchange that was heard from a side of it
 abbrev pub case_for : Log → Exchange → Role → Option Briefcase
 case_for log x role = option_and_then (λ d. briefcase_in d.message.body) (first_heard (is_of 8 x role) log)
+
+-- the briefcase of an exchange that this member said, on a side of it
+abbrev pub case_given : Log → Exchange → Role → Option Briefcase
+case_given log x role = option_and_then (λ d. briefcase_in d.message.body) (first_said (is_of 8 x role) log)
 
 -- the block of an update that an opened briefcase has, if its opening is good
 abbrev pub block_opened : Session → Table → Exchange → UpdateId → List ℕ → Option Briefcase → Option (List ℕ)

@@ -16,8 +16,8 @@ use Rattle.bar_rules.specs.Member.{Session, Member}
 use Rattle.bar_rules.specs.Values.{terms_ok, counts_ok, sealed, message_bytes}
 use Rattle.bar_rules.specs.Secrets.{nonce_of, briefcase_key, commitment_of, seed_of, partner_of, signature_of}
 use Rattle.bar_rules.specs.Log.{Log, table, round_now, has_heard, has_said}
-use Rattle.bar_rules.specs.Holdings.{block_of, history, case_for}
-use Rattle.bar_rules.specs.Terms.{terms_of, seat, offered, body_on, case_said}
+use Rattle.bar_rules.specs.Holdings.{block_of, history, case_for, case_given}
+use Rattle.bar_rules.specs.Terms.{terms_of, seat, offered, body_on}
 use Rattle.bar_rules.specs.Choices.{young_of, aged_of, wanted_of, given_of}
 
 -- the exchange of a round and kind that this member starts with a partner
@@ -75,7 +75,7 @@ pub record MayGiveCase (me : Member) (log : Log) (to : ℕ) (c : Briefcase) : Ty
 pub record MayGiveKey (me : Member) (log : Log) (to : ℕ) (k : KeyGiven) : Type 0 where
   pub ours : Briefcase
   pub theirs : Briefcase
-  pub said : case_said me log (exchange_by k.round k.kind k.role me.party to) ≡ Some ours
+  pub said : case_given log (exchange_by k.round k.kind k.role me.party to) k.role ≡ Some ours
   pub heard : case_for log (exchange_by k.round k.kind k.role me.party to) (other_role k.role) ≡ Some theirs
   pub same : theirs.terms ≡ ours.terms
   pub counts : counts_ok me.session theirs ≡ true

@@ -14,7 +14,7 @@ use Rattle.bar_wire.specs.Datagram.{Datagram, Body, Response, Divulge, Query, Re
 use Rattle.bar_rules.specs.Member.{Session, Member}
 use Rattle.bar_rules.specs.Secrets.{nonce_of}
 use Rattle.bar_rules.specs.Log.{Log, Entry, Ticked, Heard, Said, Kept, earliest, heard_in, if_passes, first_heard, first_said, has_said, count_heard, has_kind_and_round}
-use Rattle.bar_rules.specs.Holdings.{briefcase_in, case_for, history}
+use Rattle.bar_rules.specs.Holdings.{case_for, case_given, history}
 
 -- this member's side of an exchange, and its partner
 abbrev pub role_of : Member → Exchange → Role
@@ -110,7 +110,7 @@ promise_size s None = 0
 promise_size s (Some c) = length (promise s.cap c.terms c.role)
 
 abbrev pub case_said : Member → Log → Exchange → Option Briefcase
-case_said me log x = option_and_then (λ d. briefcase_in d.message.body) (first_said (is_of 8 x (role_of me x)) log)
+case_said me log x = case_given log x (role_of me x)
 
 abbrev pub case_heard : Member → Log → Exchange → Option Briefcase
 case_heard me log x = case_for log x (other_role (role_of me x))

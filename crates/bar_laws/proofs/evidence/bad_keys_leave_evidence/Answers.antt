@@ -6,4 +6,4 @@ use Rattle.bar_laws.proofs.BadKeys.{opens-badly-kept}
 use Rattle.bar_laws.proofs.evidence.bad_keys_leave_evidence.Goals as goal
 
 pub returns : goal.returns
-returns c = λ me inputs x d is. opens-badly-kept c.the_datagram_is_spelled.ensures me (log_after me [] inputs) x d (run-obedient me is inputs) (run-watchful me [] inputs tt)
+returns c = λ me inputs x d. opens-badly-kept me (log_after me [] inputs) x d (run-obedient me [] inputs tt) (run-watchful me [] inputs tt)
