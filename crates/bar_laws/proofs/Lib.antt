@@ -17,3 +17,5 @@ mod Accuses
 mod Parts
 mod Kept
 mod BadKeys
+mod SaidOnce
+mod Framing
