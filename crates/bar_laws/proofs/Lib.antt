@@ -21,3 +21,10 @@ mod FinalLeaf
 mod InLife
 mod OpenList
 mod AgreeLogs
+mod Stays
+mod Accuses
+mod Parts
+mod Kept
+mod BadKeys
+mod SaidOnce
+mod Framing

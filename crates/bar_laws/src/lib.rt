@@ -4,3 +4,5 @@
 pub mod obedience;
 pub mod totals;
 pub mod leaves;
+pub mod evidence;
+pub mod verdicts;
