@@ -28,3 +28,6 @@ mod Kept
 mod BadKeys
 mod SaidOnce
 mod Framing
+mod Casts
+mod CasterFits
+mod PeerFits
