@@ -31,3 +31,4 @@ mod Framing
 mod Casts
 mod CasterFits
 mod PeerFits
+mod Worlds
