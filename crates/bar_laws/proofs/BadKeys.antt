@@ -37,6 +37,7 @@ use Rattle.bar_laws.proofs.Once.{same_exchange_refl, same_role_refl}
 use Rattle.bar_laws.proofs.Tables.{table-later, within-extends, known-digest-extends, admitted-row}
 use Rattle.bar_laws.proofs.Valid.{all-take, all-filtered}
 use Rattle.bar_laws.proofs.Grammar.{IsOwn, heard-own}
+use Rattle.bar_laws.proofs.Sets.{inside-all}
 use Rattle.bar_laws.proofs.Balance.{IsCaseOf, is_of-case}
 use Rattle.bar_laws.proofs.Stays.{terms_ok-extends}
 use Rattle.bar_laws.proofs.Parts.{IsPart, is_of-part, sender-side, receiver-side, receiver-role, receiver-partner, other-other}
@@ -81,19 +82,6 @@ within-same old new (u ∷ us) h e = let p = and_parts _ _ e in (known (digest_o
     known NoManifest f k = cc
 
 -- ---- what is promised is within the table
-
-member-all : (p : UpdateId → Bool) (us : List UpdateId) (u : UpdateId) → has_update us u ≡ true → list_all p us ≡ true → p u ≡ true
-member-all p [] u h e = cc
-member-all p (v ∷ us) u h e = go (or_cases _ _ h) (member-all p us u)
-  where
-    go : (same_update u v ≡ true) ⊎ (has_update us u ≡ true) → (has_update us u ≡ true → list_all p us ≡ true → p u ≡ true) → p u ≡ true
-    go (inl a) k = let same : u ≡ v = same_update-is u v a in subst (λ z. p z ≡ true) (sym same) (and_parts _ _ e).0
-    go (inr a) k = k a (and_parts _ _ e).1
-
--- what holds of each update of a set holds of each of a set inside it
-pub inside-all : (p : UpdateId → Bool) (us vs : List UpdateId) → is_inside us vs ≡ true → list_all p vs ≡ true → list_all p us ≡ true
-inside-all p [] vs h e = refl
-inside-all p (u ∷ us) vs h e = let q = and_parts _ _ h in and_from _ _ (member-all p vs u q.0 e) (inside-all p us vs q.1 e)
 
 promised-within : (me : Member) (log : Log) (t : Table) (x : Exchange) (terms : Terms) (role : Role) → terms_ok me.session t x terms ≡ true → windows_within me log terms ≡ true
     → is_within (table log) (promised_updates me.session.cap terms role) ≡ true

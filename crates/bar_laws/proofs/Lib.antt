@@ -19,3 +19,6 @@ mod Kept
 mod BadKeys
 mod SaidOnce
 mod Framing
+mod Holds
+mod Sets
+mod Whole
