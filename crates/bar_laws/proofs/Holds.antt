@@ -29,7 +29,7 @@ use Rattle.bar_laws.proofs.Unique.{was-said}
 use Rattle.bar_laws.proofs.Valid.{all-take, all-filtered, spoken-reply, IsGoodAnswer}
 use Rattle.bar_laws.proofs.Sets.{inside-all}
 use Rattle.bar_laws.proofs.SaidOnce.{own-said, heard-not-own}
-use Rattle.bar_laws.proofs.Framing.{trade-of, offer-of}
+use Rattle.bar_laws.proofs.Words.{trade-of, offer-of}
 
 -- all of these are held
 abbrev pub AllHeld : Session → Log → List UpdateId → Type 0

@@ -18,7 +18,8 @@ mod Parts
 mod Kept
 mod BadKeys
 mod SaidOnce
-mod Framing
+mod Words
 mod Holds
 mod Sets
 mod Whole
+mod Unframed

@@ -1,2 +1,3 @@
 pub mod Verdicts
 pub mod Evidence
+pub mod Framing

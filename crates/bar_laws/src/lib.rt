@@ -2,4 +2,5 @@
 #![tactic(auto)]
 
 pub mod evidence;
+pub mod framing;
 pub mod verdicts;
