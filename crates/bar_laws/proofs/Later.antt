@@ -49,7 +49,7 @@ said_in-is : (e : Entry) (d : Datagram) → said_in e ≡ Some d → e ≡ Said 
 said_in-is (Said c) d e = cc
 said_in-is _ d e = cc
 
-heard_in-is : (e : Entry) (d : Datagram) → heard_in e ≡ Some d → e ≡ Heard d
+pub heard_in-is : (e : Entry) (d : Datagram) → heard_in e ≡ Some d → e ≡ Heard d
 heard_in-is (Heard c) d e = cc
 heard_in-is _ d e = cc
 

@@ -12,6 +12,15 @@ mod Unique
 mod Grammar
 mod Obeys
 mod Runs
+mod Adds
+mod Sends
+mod Seats
+mod Elsewhere
+mod OneLeaf
+mod FinalLeaf
+mod InLife
+mod OpenList
+mod AgreeLogs
 mod Stays
 mod Accuses
 mod Parts

@@ -1,3 +1,6 @@
+pub mod Obedience
+pub mod Balance
+pub mod Leaves
 pub mod Verdicts
 pub mod Evidence
 pub mod Framing

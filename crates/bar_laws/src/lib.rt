@@ -1,6 +1,9 @@
 //! What holds of every run of a peer, and of all parties together, over the definitions alone.
 #![tactic(auto)]
 
+pub mod obedience;
+pub mod totals;
+pub mod leaves;
 pub mod evidence;
 pub mod framing;
 pub mod verdicts;

@@ -1,0 +1,7 @@
+use Rattle.std.proofs.Common.{[]}
+use Rattle.bar_laws.proofs.Runs.{run-obedient}
+use Rattle.bar_laws.proofs.Sends.{run-balanced}
+use Rattle.bar_laws.proofs.totals.balanced.Goals as goal
+
+pub returns : goal.returns
+returns c = λ me is inputs x. run-balanced me inputs x (run-obedient me [] inputs tt)
