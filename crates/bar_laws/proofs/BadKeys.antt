@@ -18,7 +18,7 @@ use Rattle.bar_terms.specs.declared.items.Item.{Item}
 use Rattle.bar_terms.specs.declared.items.Item.TheVariants.{Update, Junk}
 use Rattle.bar_window.specs.Exchange.{other_role, same_exchange, same_role}
 use Rattle.bar_window.specs.Terms.{Terms, Trade, Offer}
-use Rattle.bar_window.specs.Updates.{has_update, same_update, is_inside, minus}
+use Rattle.bar_window.specs.Updates.{has_update, minus}
 use Rattle.bar_window.specs.declared.exchange.Exchange.{Exchange}
 use Rattle.bar_window.specs.declared.exchange.Role.{Role}
 use Rattle.bar_window.specs.declared.exchange.Role.TheVariants.{Initiator, Responder}
@@ -26,13 +26,13 @@ use Rattle.bar_window.specs.declared.update.UpdateId.{UpdateId}
 use Rattle.bar_wire.specs.Datagram.{Datagram, Case, Key, Briefcase, KeyGiven, is_of, is_signed, part_of, round_of, exchange_by, exchange_of}
 use Rattle.std.proofs.Common.{◌≡◌, ℕ, ◌+◌, Bool, true, false, List, [], ◌∷◌, ◌++◌, refl, sym, ap, ◌∙◌, subst, ◌&&◌, not, inl, inr, map, take, drop}
 use Rattle.std.specs.Prelude.{Option, Some, None, ◌⊎◌, is_some, option_and_then, option_map, nat_le}
-use Rattle.std.specs.List.{list_all, AllByRecursion, range_with_len}
-use Rattle.std.proofs.lemmas.Bool.{and_parts, and_from, eq-eqb, both_ways, or_cases, cases_Bool, not_from_false}
+use Rattle.std.specs.List.{AllByRecursion, range_with_len}
+use Rattle.std.proofs.lemmas.Bool.{and_parts, and_from, eq-eqb, both_ways, cases_Bool, not_from_false}
 use Rattle.bar_laws.specs.Evidence.{HasHeard, OpensBadly}
 use Rattle.bar_laws.proofs.Earliest.{IsEntry, allowed-at}
 use Rattle.bar_laws.proofs.Later.{IsLater, WasHeard, WasSaid, later-entry, find-later, first_heard-was, first_said-was, said-rule, some-is}
 use Rattle.bar_laws.proofs.LaterTerms.{terms_of-later}
-use Rattle.bar_laws.proofs.Same.{same_update-is, same_terms-is}
+use Rattle.bar_laws.proofs.Same.{same_terms-is}
 use Rattle.bar_laws.proofs.Once.{same_exchange_refl, same_role_refl}
 use Rattle.bar_laws.proofs.Tables.{table-later, within-extends, known-digest-extends, admitted-row}
 use Rattle.bar_laws.proofs.Valid.{all-take, all-filtered}
@@ -40,7 +40,8 @@ use Rattle.bar_laws.proofs.Grammar.{IsOwn, heard-own}
 use Rattle.bar_laws.proofs.Sets.{inside-all}
 use Rattle.bar_laws.proofs.Balance.{IsCaseOf, is_of-case}
 use Rattle.bar_laws.proofs.Stays.{terms_ok-extends}
-use Rattle.bar_laws.proofs.Parts.{IsPart, is_of-part, sender-side, receiver-side, receiver-role, receiver-partner, other-other}
+use Rattle.bar_laws.proofs.Elsewhere.{sender-on, receiver-on, party-on, party-over}
+use Rattle.bar_laws.proofs.Parts.{receiver-role, receiver-partner, other-other}
 use Rattle.bar_laws.proofs.Accuses.{IsBadPair, bad-completed}
 use Rattle.bar_laws.proofs.Kept.{IsWatchful, watchful-at}
 
@@ -208,13 +209,12 @@ bad-pair : (me : Member) (before : Log) (d e : Datagram) (k : KeyGiven) → Allo
     → IsBadPair me.session (table before) d e b.case k
 bad-pair me before d e k al is of b bad =
     let x : Exchange = exchange_by k.round k.kind k.role e.message.from e.message.to in
-    let part : IsPart x k.role d.message = is_of-part 8 x k.role d.message of in
     let named : exchange_by b.case.round b.case.kind b.case.role d.message.from d.message.to ≡ x = b.exchange in
     record {
       case = b.body;
       key = is;
-      from = part.from ∙ sender-side k.round k.kind k.role e.message.from e.message.to;
-      fits = and_from _ _ (and_from _ _ (eq-eqb _ _ (part.to ∙ receiver-side k.round k.kind k.role e.message.from e.message.to)) (subst (λ y. same_exchange y x ≡ true) (sym named) (same_exchange_refl x))) (subst (λ r. same_role r k.role ≡ true) (sym b.side) (same_role_refl k.role));
+      from = sender-on 8 x k.role d.message of ∙ party-on k.round k.kind k.role e.message.from e.message.to;
+      fits = and_from _ _ (and_from _ _ (eq-eqb _ _ (receiver-on 8 x k.role d.message of ∙ party-over k.round k.kind k.role e.message.from e.message.to)) (subst (λ y. same_exchange y x ≡ true) (sym named) (same_exchange_refl x))) (subst (λ r. same_role r k.role ≡ true) (sym b.side) (same_role_refl k.role));
       bad =
           subst (λ y. (terms_ok me.session [] y b.case.terms && counts_ok me.session b.case && is_bad (opening_of me.session (table before) y b.case k.key)) ≡ true) (sym named)
           (and_from _ _ (and_from _ _ b.valid b.counts) bad);

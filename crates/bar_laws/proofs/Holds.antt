@@ -17,7 +17,7 @@ use Rattle.bar_window.specs.declared.exchange.Role.{Role}
 use Rattle.bar_window.specs.declared.exchange.Role.TheVariants.{Initiator, Responder}
 use Rattle.bar_window.specs.declared.update.UpdateId.{UpdateId}
 use Rattle.bar_wire.specs.Datagram.{Datagram, Body, Response, Query, Reply, is_of}
-use Rattle.std.proofs.Common.{◌≡◌, ℕ, Bool, true, false, List, [], ◌∷◌, refl, sym, ap, ◌∙◌, subst, not, length, cond}
+use Rattle.std.proofs.Common.{◌≡◌, ℕ, Bool, true, false, List, [], ◌∷◌, refl, sym, ap, subst, not, length, cond}
 use Rattle.std.specs.Prelude.{Option, Some, None, is_some, option_and_then}
 use Rattle.std.specs.List.{list_all}
 use Rattle.std.specs.Bool.{then_some}
@@ -27,8 +27,9 @@ use Rattle.bar_laws.proofs.Later.{WasSaid, IsLater, later-entry, find-later, som
 use Rattle.bar_laws.proofs.Tables.{all-filter}
 use Rattle.bar_laws.proofs.Unique.{was-said}
 use Rattle.bar_laws.proofs.Valid.{all-take, all-filtered, spoken-reply, IsGoodAnswer}
+use Rattle.bar_laws.proofs.Elsewhere.{own-unheard}
 use Rattle.bar_laws.proofs.Sets.{inside-all}
-use Rattle.bar_laws.proofs.SaidOnce.{own-said, heard-not-own}
+use Rattle.bar_laws.proofs.SaidOnce.{own-said}
 use Rattle.bar_laws.proofs.Words.{trade-of, offer-of}
 
 -- all of these are held
@@ -81,7 +82,7 @@ own-history-held me log x a h own e = at (find-of (λ before e. revealed_in me b
     said before false f = cc
 
     heard : (before : Log) (d : Datagram) (b : Bool) → is_of 5 x Initiator d.message ≡ b → IsEntry log before (Heard d) → cond b (divulged d.message.body) None ≡ Some a → AllHeld me.session before a.1
-    heard before d true i place f = absurd (heard-not-own me log d 5 x Initiator h (record { before = before; place = place }) i own)
+    heard before d true i place f = absurd (own-unheard me log d 5 x Initiator h (record { before = before; place = place }) i own)
     heard before d false i place f = cc
 
     by : (before : Log) (e : Entry) → IsEntry log before e → revealed_in me before x e ≡ Some a → AllHeld me.session before a.1

@@ -9,10 +9,9 @@ use Rattle.bar_rules.specs.Member.{Session, Member, IsMember}
 use Rattle.bar_rules.specs.Rules.{IsObedient, MaySend}
 use Rattle.bar_rules.specs.Secrets.{briefcase_key, is_seed, seed_of, partner_of, secrets_of}
 use Rattle.bar_rules.specs.Signing.{MaySign, MaySay, MayGiveCase, MayGiveKey}
-use Rattle.bar_rules.specs.Values.{terms_ok, opening_of, sealed, counts_ok, is_signed_by}
-use Rattle.bar_rules.specs.Verdict.{key_fits, pair_opening, bad_opening, bad_terms, wrong_partner, asked, key_of_body, fault_of_one, fault_of_two, fault_of, all_read, are_of_one_peer, judged, verdict, verdict_on, Fault, NotShown, Malformed, NotSigned}
+use Rattle.bar_rules.specs.Values.{terms_ok, opening_of, counts_ok, is_signed_by}
+use Rattle.bar_rules.specs.Verdict.{key_fits, pair_opening, bad_opening, bad_terms, wrong_partner, asked, key_of_body, fault_of_one, fault_of_two, fault_of, all_read, are_of_one_peer, judged, verdict, Fault, NotShown, Malformed, NotSigned}
 use Rattle.bar_rules.specs.World.{HasSaid}
-use Rattle.bar_seeds.specs.Seeds as seeds
 use Rattle.bar_terms.specs.Table.{Table, Agrees, digests_of, digest_of, digest_in, Known, NoManifest}
 use Rattle.bar_terms.specs.Terms.{promised_updates}
 use Rattle.bar_window.specs.declared.exchange.Exchange.{Exchange}
@@ -22,7 +21,7 @@ use Rattle.bar_window.specs.declared.update.UpdateId.{UpdateId}
 use Rattle.bar_wire.specs.Datagram.{round_of, Message, Datagram, Body, Request, Query, Case, Key, Briefcase, KeyGiven, exchange_by}
 use Rattle.sha2.specs.Sha256.{sha256}
 use Rattle.std.proofs.Common.{◌≤◌, ◌≡◌, ℕ, Bool, true, false, List, [], ◌∷◌, refl, sym, ap, ◌∙◌, subst, inl, inr, ◌&&◌, not, arith}
-use Rattle.std.specs.Prelude.{Option, Some, None, ◌⊎◌, unwrap_or, if◌then◌else◌}
+use Rattle.std.specs.Prelude.{Option, Some, None, ◌⊎◌, if◌then◌else◌}
 use Rattle.std.specs.List.{AllByRecursion, list_all}
 use Rattle.std.specs.Option.{option_map_or}
 use Rattle.std.proofs.lemmas.Bool.{and_parts, and_from, and_right, eq-eqb, not_from_true}
@@ -33,8 +32,7 @@ use Rattle.bar_laws.proofs.Later.{WasSaid, later-entry, said-rule, some-is}
 use Rattle.bar_laws.proofs.Tables.{held-known, table-later}
 use Rattle.bar_laws.proofs.Unique.{SaidIn, was-said, never_bad_terms, agrees-before}
 use Rattle.bar_laws.proofs.Stays.{case_of-is, key_of-is}
-use Rattle.bar_laws.proofs.Parts.{sender-side}
-use Rattle.bar_laws.proofs.SaidOnce.{terms-side}
+use Rattle.bar_laws.proofs.Elsewhere.{party-on, role-own, sign-elsewhere}
 use Rattle.bar_laws.proofs.Words.{never-by_words}
 use Rattle.bar_laws.proofs.Holds.{AllHeld, promise-held}
 use Rattle.bar_laws.proofs.Whole.{blocks-whole}
@@ -65,12 +63,12 @@ all-told me log two [] h agree e = tt
 all-told me log two (u ∷ us) h agree e = let p = and_parts _ _ e in (held-told me log two u h agree p.0, all-told me log two us h agree p.1)
 
 -- what a member seals by the rules never opens badly with the key of its side
-own-opens : (me : Member) (log : Log) (two : Table) (to : ℕ) (c : Briefcase) → IsObedient me log → Agrees (table log) two → MayGiveCase me log to c
+own-opens : (me : Member) (log : Log) (two : Table) (to : ℕ) (c : Briefcase) → IsObedient me log → Agrees (table log) two → (to ≡ me.party → ⊥) → MayGiveCase me log to c
     → is_bad (opening_of me.session two (exchange_by c.round c.kind c.role me.party to) c (briefcase_key me (exchange_by c.round c.kind c.role me.party to) c.role)) ≡ false
-own-opens me log two to c h agree rule =
+own-opens me log two to c h agree other rule =
     let x : Exchange = exchange_by c.round c.kind c.role me.party to in
     let key : List ℕ = briefcase_key me x c.role in
-    let held : AllHeld me.session log (promised_updates me.session.cap c.terms c.role) = promise-held me log x c.role c.terms h (sender-side c.round c.kind c.role me.party to) (terms-side me log c.round c.kind c.role to c.terms h rule.terms) rule.terms in
+    let held : AllHeld me.session log (promised_updates me.session.cap c.terms c.role) = promise-held me log x c.role c.terms h (party-on c.round c.kind c.role me.party to) (role-own me c.round c.kind c.role to other) rule.terms in
     let good = own_key me.session.shape.id x me.session.cap c.terms c.role key two (block_of me.session log) (all-told me log two (promised_updates me.session.cap c.terms c.role) h agree held) in
     subst (λ (cipher : List ℕ). is_bad (opening.opening me.session.shape.id x me.session.cap c.terms c.role cipher key two) ≡ false) (sym rule.cipher) good
 
@@ -92,7 +90,7 @@ never-opens_bad me log two m n c k h p q e f agree fits =
     let cx : exchange_by c.round c.kind c.role me.party m.message.to ≡ exchange_by c.round c.kind c.role m.message.from m.message.to = ap (λ z. exchange_by c.round c.kind c.role z m.message.to) (sym sm.rule.mine) in
     let kx : exchange_by k.round k.kind k.role me.party n.message.to ≡ exchange_by c.round c.kind c.role m.message.from m.message.to = ap (λ z. exchange_by k.round k.kind k.role z n.message.to) (sym sn.rule.mine) ∙ sym same in
     let key : k.key ≡ briefcase_key me (exchange_by c.round c.kind c.role me.party m.message.to) c.role = rk.key ∙ ap (λ z. briefcase_key me z k.role) (kx ∙ sym cx) ∙ ap (λ z. briefcase_key me (exchange_by c.round c.kind c.role me.party m.message.to) z) (sym role) in
-    let good : is_bad (opening_of me.session two (exchange_by c.round c.kind c.role me.party m.message.to) c k.key) ≡ false = subst (λ z. is_bad (opening_of me.session two (exchange_by c.round c.kind c.role me.party m.message.to) c z) ≡ false) (sym key) (own-opens me w.before two m.message.to c before near rc) in
+    let good : is_bad (opening_of me.session two (exchange_by c.round c.kind c.role me.party m.message.to) c k.key) ≡ false = subst (λ z. is_bad (opening_of me.session two (exchange_by c.round c.kind c.role me.party m.message.to) c z) ≡ false) (sym key) (own-opens me w.before two m.message.to c before near (sign-elsewhere me w.before m.message before sm.rule) rc) in
     subst (λ z. is_bad (opening_of me.session two z c k.key) ≡ false) cx good
 
 and-not : (a b : Bool) → (a ≡ true → b ≡ false) → (a && b) ≡ false
@@ -171,22 +169,22 @@ two-by-messages : (s : Session) (t : Table) (d e f g : Datagram) → d.message �
 two-by-messages s t d e f g p q = λ i. fault_of_two s t (record { message = p i; signature = [] }) (record { message = q i; signature = [] })
 
 -- datagrams whose messages a member signed show no fault, under any table that agrees with its own
-never-fault : (me : Member) (log : Log) (two : Table) (ds : List Datagram) → IsMember me → IsObedient me log → Agrees (table log) two → AllByRecursion (λ (d : Datagram). HasSaid log d.message) ds
+pub no-framing : (me : Member) (log : Log) (two : Table) (ds : List Datagram) → IsMember me → IsObedient me log → Agrees (table log) two → AllByRecursion (λ (d : Datagram). HasSaid log d.message) ds
     → fault_of me.session two ds ≡ None
-never-fault me log two [] is h agree a = refl
-never-fault me log two (d ∷ []) is h agree a =
+no-framing me log two [] is h agree a = refl
+no-framing me log two (d ∷ []) is h agree a =
     let s = said-message log d.message a.0 in
     one-by-message me.session two d s.0 (sym s.2) ∙ never-one me log two s.0 is h s.1 agree
-never-fault me log two (d ∷ e ∷ []) is h agree a =
+no-framing me log two (d ∷ e ∷ []) is h agree a =
     let s = said-message log d.message a.0 in
     let t = said-message log e.message a.1.0 in
     two-by-messages me.session two d s.0 e t.0 (sym s.2) (sym t.2) ∙ never-two me log two s.0 t.0 h s.1 t.1 agree
-never-fault me log two (d ∷ e ∷ f ∷ ds) is h agree a = refl
+no-framing me log two (d ∷ e ∷ f ∷ ds) is h agree a = refl
 
 -- evidence whose messages a member signed does not name it
 pub not-named : (me : Member) (log : Log) (two : Table) (evidence : List (List ℕ)) (ds : List Datagram) → IsMember me → IsObedient me log → Agrees (table log) two
     → all_read me.session evidence ≡ Some ds → AllByRecursion (λ (d : Datagram). HasSaid log d.message) ds → names me.party (verdict me.session two evidence) ≡ false
-not-named me log two evidence ds is h agree read said = rw read (checked (are_of_one_peer ds) (list_all (is_signed_by me.session) ds) (fault_of me.session two ds) (never-fault me log two ds is h agree said))
+not-named me log two evidence ds is h agree read said = rw read (checked (are_of_one_peer ds) (list_all (is_signed_by me.session) ds) (fault_of me.session two ds) (no-framing me log two ds is h agree said))
   where
     checked : (a b : Bool) (o : Option Fault) → o ≡ None → names me.party (if not a then NotShown Malformed else (if not b then NotShown NotSigned else judged me.session two ds o)) ≡ false
     checked false b o e = refl

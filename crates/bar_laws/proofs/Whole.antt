@@ -6,14 +6,14 @@ use Rattle.bar_rules.specs.Log.{Log, Entry, Ticked, Heard, Said, Kept, table, fi
 use Rattle.bar_rules.specs.Member.{Session, Member, is_alive}
 use Rattle.bar_rules.specs.Rules.{IsObedient, Allows}
 use Rattle.bar_rules.specs.Values.{opening_of, is_good, opened_block, counts_ok}
-use Rattle.bar_terms.specs.Terms.{promised_updates, promised_junk}
+use Rattle.bar_terms.specs.Terms.{promised_updates}
 use Rattle.bar_window.specs.Updates.{same_update}
 use Rattle.bar_window.specs.declared.exchange.Exchange.{Exchange}
 use Rattle.bar_window.specs.declared.exchange.Role.{Role}
 use Rattle.bar_window.specs.declared.update.UpdateId.{UpdateId}
 use Rattle.bar_wire.specs.Datagram.{Datagram, Body, Block, Case, Key, Briefcase, exchange_by, is_of}
 use Rattle.bar_wire.specs.Grammar.{HasForm}
-use Rattle.std.proofs.Common.{◌≡◌, ℕ, suc, ◌≤◌, ◌+◌, ◌*◌, Bool, true, false, List, [], ◌∷◌, refl, sym, ap, ◌∙◌, subst, length, take, drop, cond, arith, length-take, length-drop}
+use Rattle.std.proofs.Common.{◌≡◌, ℕ, ◌≤◌, ◌+◌, ◌*◌, Bool, true, false, List, [], ◌∷◌, refl, sym, ap, subst, length, take, drop, cond, arith, length-take, length-drop}
 use Rattle.std.specs.Prelude.{Option, Some, None, option_map, option_and_then, find, is_some, zip, bit_xor}
 use Rattle.std.specs.Simd.{first_chunks}
 use Rattle.std.specs.Bool.{then_some}

@@ -15,6 +15,6 @@ use Rattle.bar_rules.specs.World.{HasSaid}
 -- table the judge has, if no round has another list in it than in the peer's.
 abbrev pub NoFraming : Type 0
 NoFraming =
-    (me : Member) (inputs : List Input) (two : Table) (evidence : List (List ℕ)) (ds : List Datagram) → IsMember me → Agrees (table (log_after me [] inputs)) two
+    (me : Member) → IsMember me → (inputs : List Input) (two : Table) (evidence : List (List ℕ)) (ds : List Datagram) → Agrees (table (log_after me [] inputs)) two
     → all_read me.session evidence ≡ Some ds → AllByRecursion (λ (d : Datagram). HasSaid (log_after me [] inputs) d.message) ds
     → names me.party (verdict me.session two evidence) ≡ false

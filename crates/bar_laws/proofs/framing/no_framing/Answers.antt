@@ -5,4 +5,4 @@ use Rattle.bar_laws.proofs.Unframed.{not-named}
 use Rattle.bar_laws.proofs.framing.no_framing.Goals as goal
 
 pub returns : goal.returns
-returns c = λ me inputs two evidence ds is. not-named me (log_after me [] inputs) two evidence ds is (run-obedient me [] inputs tt)
+returns c = λ me is inputs two evidence ds. not-named me (log_after me [] inputs) two evidence ds is (run-obedient me [] inputs tt)
