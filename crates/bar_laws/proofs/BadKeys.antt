@@ -5,7 +5,7 @@ use Rattle.bar_case.specs.Opened as briefcases
 use Rattle.bar_rules.specs.Admission.{is_admitted, is_row_met, is_genuine, are_terms}
 use Rattle.bar_rules.specs.Evidence.{completed, is_tried, kept, kept_in}
 use Rattle.bar_rules.specs.Holdings.{briefcase_in, case_for}
-use Rattle.bar_rules.specs.Log.{Log, Entry, Ticked, Heard, Said, Kept, heard_in, if_passes, first_heard, first_said, has_heard, has_said, table, round_now, is_announced}
+use Rattle.bar_rules.specs.Log.{Log, Entry, Heard, Said, heard_in, if_passes, first_heard, first_said, has_heard, has_said, table, round_now, is_announced}
 use Rattle.bar_rules.specs.Member.{Member}
 use Rattle.bar_rules.specs.Rules.{IsObedient, Allows, MaySend}
 use Rattle.bar_rules.specs.Signing.{MaySay, MayGiveCase, windows_within}
@@ -24,11 +24,11 @@ use Rattle.bar_window.specs.declared.exchange.Role.{Role}
 use Rattle.bar_window.specs.declared.exchange.Role.TheVariants.{Initiator, Responder}
 use Rattle.bar_window.specs.declared.update.UpdateId.{UpdateId}
 use Rattle.bar_wire.specs.Datagram.{Datagram, Case, Key, Briefcase, KeyGiven, is_of, is_signed, part_of, round_of, exchange_by, exchange_of}
-use Rattle.std.proofs.Common.{◌≡◌, ℕ, ◌+◌, Bool, true, false, List, [], ◌∷◌, ◌++◌, refl, sym, ap, ◌∙◌, subst, ◌&&◌, not, inl, inr, map, take, drop}
-use Rattle.std.specs.Prelude.{Option, Some, None, ◌⊎◌, is_some, option_and_then, option_map, nat_le}
+use Rattle.std.proofs.Common.{◌≡◌, ℕ, ◌+◌, Bool, true, false, List, [], ◌∷◌, ◌++◌, refl, sym, ap, ◌∙◌, subst, ◌&&◌, not, inl, inr, map, take, drop, zero, suc, ◌<◌, length, arith}
+use Rattle.std.specs.Prelude.{Option, Some, None, ◌⊎◌, is_some, option_and_then, option_map, nat_le, Contains, slice_index_or}
 use Rattle.std.specs.List.{AllByRecursion, range_with_len}
 use Rattle.std.proofs.lemmas.Bool.{and_parts, and_from, eq-eqb, both_ways, cases_Bool, not_from_false}
-use Rattle.bar_laws.specs.Evidence.{HasHeard, OpensBadly}
+use Rattle.bar_laws.specs.Evidence.{OpensBadly}
 use Rattle.bar_laws.proofs.Earliest.{IsEntry, allowed-at}
 use Rattle.bar_laws.proofs.Later.{IsLater, WasHeard, WasSaid, later-entry, find-later, first_heard-was, first_said-was, said-rule, some-is}
 use Rattle.bar_laws.proofs.LaterTerms.{terms_of-later}
@@ -270,13 +270,13 @@ bad-key-kept me log before e k c h watchful place is found bad = go (cases_Bool 
 earlier : (e : Entry) (log : Log) (d : Datagram) → WasHeard log d → WasHeard (e ∷ log) d
 earlier e log d w = record { before = w.before; place = record { after = e ∷ w.place.after; split = ap (λ l. e ∷ l) w.place.split } }
 
-heard-was : (log : Log) (d : Datagram) → HasHeard log d → WasHeard log d
-heard-was [] d h = absurd h
-heard-was (Heard e ∷ log) d (inl same) = record { before = log; place = record { after = []; split = ap (λ z. Heard z ∷ log) same } }
-heard-was (Heard e ∷ log) d (inr h) = earlier (Heard e) log d (heard-was log d h)
-heard-was (Ticked ∷ log) d h = earlier Ticked log d (heard-was log d h)
-heard-was (Said e ∷ log) d h = earlier (Said e) log d (heard-was log d h)
-heard-was (Kept q f ∷ log) d h = earlier (Kept q f) log d (heard-was log d h)
+heard-was : (log : Log) (d : Datagram) → Contains log (Heard d) → WasHeard log d
+heard-was [] d h = absurd (omega (arith, h.1))
+heard-was (e ∷ log) d h = go h.0 h.1 h.2 (heard-was log d)
+  where
+    go : (k : ℕ) → k < length (e ∷ log) → slice_index_or (e ∷ log) k (Heard d) ≡ Heard d → (Contains log (Heard d) → WasHeard log d) → WasHeard (e ∷ log) d
+    go zero lt is rest = record { before = log; place = record { after = []; split = ap (λ y. y ∷ log) is } }
+    go (suc k) lt is rest = earlier e log d (rest (k, omega arith, is))
 
 -- so where a key of an exchange opens the partner's briefcase badly, evidence against the partner is kept
 pub opens-badly-kept : (me : Member) (log : Log) (x : Exchange) (d : Datagram) → IsObedient me log → IsWatchful me log → OpensBadly me log x d → is_some (kept log (partner_in me x)) ≡ true
