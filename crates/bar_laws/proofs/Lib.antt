@@ -27,6 +27,9 @@ mod Parts
 mod Kept
 mod BadKeys
 mod SaidOnce
+mod Casts
+mod CasterFits
+mod PeerFits
 mod Words
 mod Holds
 mod Sets
