@@ -58,7 +58,7 @@ or-first : {A : Type 0} (o p : Option A) → is_some o ≡ true → is_some (opt
 or-first (Some a) p h = refl
 or-first None p h = cc
 
-or-second : {A : Type 0} (o p : Option A) → is_some p ≡ true → is_some (option_or o p) ≡ true
+pub or-second : {A : Type 0} (o p : Option A) → is_some p ≡ true → is_some (option_or o p) ≡ true
 or-second (Some a) p h = refl
 or-second None p h = h
 

@@ -5,7 +5,7 @@ use Rattle.bar_case.specs.Opened as briefcases
 use Rattle.bar_rules.specs.Admission.{is_admitted, is_row_met, is_genuine, are_terms}
 use Rattle.bar_rules.specs.Evidence.{completed, is_tried, kept, kept_in}
 use Rattle.bar_rules.specs.Holdings.{briefcase_in, case_for}
-use Rattle.bar_rules.specs.Log.{Log, Entry, Ticked, Heard, Said, Kept, heard_in, if_passes, first_heard, first_said, has_heard, has_said, table, round_now, is_announced}
+use Rattle.bar_rules.specs.Log.{Log, Entry, Heard, Said, heard_in, if_passes, first_heard, first_said, has_heard, has_said, table, round_now, is_announced}
 use Rattle.bar_rules.specs.Member.{Member}
 use Rattle.bar_rules.specs.Rules.{IsObedient, Allows, MaySend}
 use Rattle.bar_rules.specs.Signing.{MaySay, MayGiveCase, windows_within}
@@ -18,28 +18,30 @@ use Rattle.bar_terms.specs.declared.items.Item.{Item}
 use Rattle.bar_terms.specs.declared.items.Item.TheVariants.{Update, Junk}
 use Rattle.bar_window.specs.Exchange.{other_role, same_exchange, same_role}
 use Rattle.bar_window.specs.Terms.{Terms, Trade, Offer}
-use Rattle.bar_window.specs.Updates.{has_update, same_update, is_inside, minus}
+use Rattle.bar_window.specs.Updates.{has_update, minus}
 use Rattle.bar_window.specs.declared.exchange.Exchange.{Exchange}
 use Rattle.bar_window.specs.declared.exchange.Role.{Role}
 use Rattle.bar_window.specs.declared.exchange.Role.TheVariants.{Initiator, Responder}
 use Rattle.bar_window.specs.declared.update.UpdateId.{UpdateId}
 use Rattle.bar_wire.specs.Datagram.{Datagram, Case, Key, Briefcase, KeyGiven, is_of, is_signed, part_of, round_of, exchange_by, exchange_of}
-use Rattle.std.proofs.Common.{◌≡◌, ℕ, ◌+◌, Bool, true, false, List, [], ◌∷◌, ◌++◌, refl, sym, ap, ◌∙◌, subst, ◌&&◌, not, inl, inr, map, take, drop}
-use Rattle.std.specs.Prelude.{Option, Some, None, ◌⊎◌, is_some, option_and_then, option_map, nat_le}
-use Rattle.std.specs.List.{list_all, AllByRecursion, range_with_len}
-use Rattle.std.proofs.lemmas.Bool.{and_parts, and_from, eq-eqb, both_ways, or_cases, cases_Bool, not_from_false}
-use Rattle.bar_laws.specs.Evidence.{HasHeard, OpensBadly}
+use Rattle.std.proofs.Common.{◌≡◌, ℕ, ◌+◌, Bool, true, false, List, [], ◌∷◌, ◌++◌, refl, sym, ap, ◌∙◌, subst, ◌&&◌, not, inl, inr, map, take, drop, zero, suc, ◌<◌, length, arith}
+use Rattle.std.specs.Prelude.{Option, Some, None, ◌⊎◌, is_some, option_and_then, option_map, nat_le, Contains, slice_index_or}
+use Rattle.std.specs.List.{AllByRecursion, range_with_len}
+use Rattle.std.proofs.lemmas.Bool.{and_parts, and_from, eq-eqb, both_ways, cases_Bool, not_from_false}
+use Rattle.bar_laws.specs.Evidence.{OpensBadly}
 use Rattle.bar_laws.proofs.Earliest.{IsEntry, allowed-at}
 use Rattle.bar_laws.proofs.Later.{IsLater, WasHeard, WasSaid, later-entry, find-later, first_heard-was, first_said-was, said-rule, some-is}
 use Rattle.bar_laws.proofs.LaterTerms.{terms_of-later}
-use Rattle.bar_laws.proofs.Same.{same_update-is, same_terms-is}
+use Rattle.bar_laws.proofs.Same.{same_terms-is}
 use Rattle.bar_laws.proofs.Once.{same_exchange_refl, same_role_refl}
 use Rattle.bar_laws.proofs.Tables.{table-later, within-extends, known-digest-extends, admitted-row}
 use Rattle.bar_laws.proofs.Valid.{all-take, all-filtered}
 use Rattle.bar_laws.proofs.Grammar.{IsOwn, heard-own}
+use Rattle.bar_laws.proofs.Sets.{inside-all}
 use Rattle.bar_laws.proofs.Balance.{IsCaseOf, is_of-case}
 use Rattle.bar_laws.proofs.Stays.{terms_ok-extends}
-use Rattle.bar_laws.proofs.Parts.{IsPart, is_of-part, sender-side, receiver-side, receiver-role, receiver-partner, other-other}
+use Rattle.bar_laws.proofs.Elsewhere.{sender-on, receiver-on, party-on, party-over}
+use Rattle.bar_laws.proofs.Parts.{receiver-role, receiver-partner, other-other}
 use Rattle.bar_laws.proofs.Accuses.{IsBadPair, bad-completed}
 use Rattle.bar_laws.proofs.Kept.{IsWatchful, watchful-at}
 
@@ -81,19 +83,6 @@ within-same old new (u ∷ us) h e = let p = and_parts _ _ e in (known (digest_o
     known NoManifest f k = cc
 
 -- ---- what is promised is within the table
-
-member-all : (p : UpdateId → Bool) (us : List UpdateId) (u : UpdateId) → has_update us u ≡ true → list_all p us ≡ true → p u ≡ true
-member-all p [] u h e = cc
-member-all p (v ∷ us) u h e = go (or_cases _ _ h) (member-all p us u)
-  where
-    go : (same_update u v ≡ true) ⊎ (has_update us u ≡ true) → (has_update us u ≡ true → list_all p us ≡ true → p u ≡ true) → p u ≡ true
-    go (inl a) k = let same : u ≡ v = same_update-is u v a in subst (λ z. p z ≡ true) (sym same) (and_parts _ _ e).0
-    go (inr a) k = k a (and_parts _ _ e).1
-
--- what holds of each update of a set holds of each of a set inside it
-pub inside-all : (p : UpdateId → Bool) (us vs : List UpdateId) → is_inside us vs ≡ true → list_all p vs ≡ true → list_all p us ≡ true
-inside-all p [] vs h e = refl
-inside-all p (u ∷ us) vs h e = let q = and_parts _ _ h in and_from _ _ (member-all p vs u q.0 e) (inside-all p us vs q.1 e)
 
 promised-within : (me : Member) (log : Log) (t : Table) (x : Exchange) (terms : Terms) (role : Role) → terms_ok me.session t x terms ≡ true → windows_within me log terms ≡ true
     → is_within (table log) (promised_updates me.session.cap terms role) ≡ true
@@ -220,13 +209,12 @@ bad-pair : (me : Member) (before : Log) (d e : Datagram) (k : KeyGiven) → Allo
     → IsBadPair me.session (table before) d e b.case k
 bad-pair me before d e k al is of b bad =
     let x : Exchange = exchange_by k.round k.kind k.role e.message.from e.message.to in
-    let part : IsPart x k.role d.message = is_of-part 8 x k.role d.message of in
     let named : exchange_by b.case.round b.case.kind b.case.role d.message.from d.message.to ≡ x = b.exchange in
     record {
       case = b.body;
       key = is;
-      from = part.from ∙ sender-side k.round k.kind k.role e.message.from e.message.to;
-      fits = and_from _ _ (and_from _ _ (eq-eqb _ _ (part.to ∙ receiver-side k.round k.kind k.role e.message.from e.message.to)) (subst (λ y. same_exchange y x ≡ true) (sym named) (same_exchange_refl x))) (subst (λ r. same_role r k.role ≡ true) (sym b.side) (same_role_refl k.role));
+      from = sender-on 8 x k.role d.message of ∙ party-on k.round k.kind k.role e.message.from e.message.to;
+      fits = and_from _ _ (and_from _ _ (eq-eqb _ _ (receiver-on 8 x k.role d.message of ∙ party-over k.round k.kind k.role e.message.from e.message.to)) (subst (λ y. same_exchange y x ≡ true) (sym named) (same_exchange_refl x))) (subst (λ r. same_role r k.role ≡ true) (sym b.side) (same_role_refl k.role));
       bad =
           subst (λ y. (terms_ok me.session [] y b.case.terms && counts_ok me.session b.case && is_bad (opening_of me.session (table before) y b.case k.key)) ≡ true) (sym named)
           (and_from _ _ (and_from _ _ b.valid b.counts) bad);
@@ -282,13 +270,13 @@ bad-key-kept me log before e k c h watchful place is found bad = go (cases_Bool 
 earlier : (e : Entry) (log : Log) (d : Datagram) → WasHeard log d → WasHeard (e ∷ log) d
 earlier e log d w = record { before = w.before; place = record { after = e ∷ w.place.after; split = ap (λ l. e ∷ l) w.place.split } }
 
-heard-was : (log : Log) (d : Datagram) → HasHeard log d → WasHeard log d
-heard-was [] d h = absurd h
-heard-was (Heard e ∷ log) d (inl same) = record { before = log; place = record { after = []; split = ap (λ z. Heard z ∷ log) same } }
-heard-was (Heard e ∷ log) d (inr h) = earlier (Heard e) log d (heard-was log d h)
-heard-was (Ticked ∷ log) d h = earlier Ticked log d (heard-was log d h)
-heard-was (Said e ∷ log) d h = earlier (Said e) log d (heard-was log d h)
-heard-was (Kept q f ∷ log) d h = earlier (Kept q f) log d (heard-was log d h)
+heard-was : (log : Log) (d : Datagram) → Contains log (Heard d) → WasHeard log d
+heard-was [] d h = absurd (omega (arith, h.1))
+heard-was (e ∷ log) d h = go h.0 h.1 h.2 (heard-was log d)
+  where
+    go : (k : ℕ) → k < length (e ∷ log) → slice_index_or (e ∷ log) k (Heard d) ≡ Heard d → (Contains log (Heard d) → WasHeard log d) → WasHeard (e ∷ log) d
+    go zero lt is rest = record { before = log; place = record { after = []; split = ap (λ y. y ∷ log) is } }
+    go (suc k) lt is rest = earlier e log d (rest (k, omega arith, is))
 
 -- so where a key of an exchange opens the partner's briefcase badly, evidence against the partner is kept
 pub opens-badly-kept : (me : Member) (log : Log) (x : Exchange) (d : Datagram) → IsObedient me log → IsWatchful me log → OpensBadly me log x d → is_some (kept log (partner_in me x)) ≡ true

@@ -14,7 +14,6 @@ use Rattle.bar_terms.specs.Table.{Table, Extends}
 use Rattle.bar_window.specs.declared.exchange.Exchange.{Exchange}
 use Rattle.bar_wire.specs.Datagram.{Datagram, Body}
 use Rattle.bar_wire.specs.Inputs.{Input, Tick, Came}
-use Rattle.std.specs.Option.{option_or}
 use Rattle.std.proofs.Common.{◌≡◌, ℕ, Bool, true, false, List, [], ◌∷◌, ◌++◌, refl, ap, subst, cond, eqb}
 use Rattle.std.specs.Prelude.{Option, Some, None, is_some, nat_le}
 use Rattle.std.specs.Bool.{then_some}
@@ -22,6 +21,7 @@ use Rattle.std.proofs.lemmas.Bool.{and_parts, eq-eqb, eqb-true, both_ways, false
 use Rattle.bar_laws.proofs.Earliest.{IsEntry, IsFind, find-of, allowed-at}
 use Rattle.bar_laws.proofs.Later.{later-entry}
 use Rattle.bar_laws.proofs.Tables.{table-later, extends_trans}
+use Rattle.bar_laws.proofs.Accuses.{or-second}
 use Rattle.bar_laws.proofs.Stays.{BadStaysBad, verdict-stays}
 
 -- no datagram in the log completes evidence that was not kept before it
@@ -68,10 +68,6 @@ perform_all-watchful me out [] h = h
 perform_all-watchful me out (o ∷ os) h = perform_all-watchful me (perform me out o) os (perform-watchful me out o h)
 
 -- ---- a datagram is tried before it is admitted
-
-or-second : {A : Type 0} (o p : Option A) → is_some p ≡ true → is_some (option_or o p) ≡ true
-or-second (Some a) p h = refl
-or-second None p h = h
 
 kept-new : (log : Log) (q : ℕ) (e : List (List ℕ)) → is_some (kept (Kept q e ∷ log) q) ≡ true
 kept-new log q e = or-second (kept log q) (then_some (eqb q q) e) (rw (eq-eqb q q refl) refl)

@@ -27,8 +27,12 @@ mod Parts
 mod Kept
 mod BadKeys
 mod SaidOnce
-mod Framing
 mod Casts
 mod CasterFits
 mod PeerFits
 mod Worlds
+mod Words
+mod Holds
+mod Sets
+mod Whole
+mod Unframed

@@ -1,5 +1,5 @@
 -- What holds of the evidence that a peer keeps.
-use Rattle.std.specs.Prelude.{◌≡◌, ◌⊎◌, ℕ, true, List, [], ◌∷◌, Some, is_some}
+use Rattle.std.specs.Prelude.{◌≡◌, ℕ, true, List, [], Some, is_some, Contains}
 use Rattle.bar_window.specs.declared.exchange.Exchange.{Exchange}
 use Rattle.bar_terms.specs.Table.{Table, Extends}
 use Rattle.bar_wire.specs.Datagram.{Datagram, Key, Briefcase, KeyGiven, exchange_of}
@@ -13,17 +13,11 @@ use Rattle.bar_rules.specs.Verdict.{Fault, Shown, verdict}
 use Rattle.bar_rules.specs.Evidence.{kept}
 use Rattle.bar_rules.specs.Run.{log_after}
 
--- the datagram is among those that the log has admitted
-abbrev pub HasHeard : Log → Datagram → Type 0
-HasHeard [] d = ⊥
-HasHeard (Heard e ∷ log) d = (e ≡ d) ⊎ HasHeard log d
-HasHeard (_ ∷ log) d = HasHeard log d
-
 -- A KEY of an exchange was admitted that opens the CASE which was admitted from the partner badly, under the log's table.
 pub record OpensBadly (me : Member) (log : Log) (x : Exchange) (d : Datagram) : Type 0 where
   pub key : KeyGiven
   pub case : Briefcase
-  pub heard : HasHeard log d
+  pub heard : Contains log (Heard d)
   pub is_key : d.message.body ≡ Key key
   pub of_exchange : exchange_of d.message ≡ Some x
   pub case_is : case_heard me log x ≡ Some case

@@ -3,3 +3,4 @@ pub mod Balance
 pub mod Leaves
 pub mod Verdicts
 pub mod Evidence
+pub mod Framing

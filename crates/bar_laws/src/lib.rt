@@ -5,4 +5,5 @@ pub mod obedience;
 pub mod totals;
 pub mod leaves;
 pub mod evidence;
+pub mod framing;
 pub mod verdicts;

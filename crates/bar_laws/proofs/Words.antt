@@ -18,7 +18,7 @@ use Rattle.bar_window.specs.declared.exchange.XKind.TheVariants.{Balanced, Push}
 use Rattle.bar_window.specs.declared.update.UpdateId.{UpdateId}
 use Rattle.bar_wire.specs.Datagram.{Message, Datagram, Body, Request, Response, Query, Reply, Briefcase, Case, is_of, kind_number, part_of, exchange_by, exchange_of}
 use Rattle.std.specs.Str.{bytes_eq}
-use Rattle.std.proofs.Common.{◌≡◌, ℕ, Bool, true, false, List, refl, sym, ap, ◌∙◌, subst, ◌&&◌, ◌||◌, not, cond}
+use Rattle.std.proofs.Common.{◌≡◌, ℕ, Bool, true, false, List, refl, sym, ap, ◌∙◌, subst, ◌&&◌, not, cond}
 use Rattle.std.specs.Prelude.{Option, Some, None, option_map, option_and_then}
 use Rattle.std.specs.Bool.{then_some}
 use Rattle.std.specs.Option.{option_map_or}
@@ -30,8 +30,9 @@ use Rattle.bar_laws.proofs.Later.{WasSaid, said-rule}
 use Rattle.bar_laws.proofs.Unique.{SaidIn, said-in, never_twice, same_bytes_refl}
 use Rattle.bar_laws.proofs.Once.{parts-of}
 use Rattle.bar_laws.proofs.Obeys.{names-itself}
-use Rattle.bar_laws.proofs.Parts.{IsPart, is_of-part}
-use Rattle.bar_laws.proofs.SaidOnce.{said-same, told-said, heard-not-own, SaidBriefcase, said-briefcase}
+use Rattle.bar_laws.proofs.Elsewhere.{receiver-on, own-unheard}
+use Rattle.bar_laws.proofs.Parts.{is_of-part}
+use Rattle.bar_laws.proofs.SaidOnce.{said-same, told-said, SaidBriefcase, said-briefcase}
 
 -- ---- the parts of the terms that a log tells
 
@@ -162,8 +163,8 @@ request-commits me log before m d x r seed c h w e place j =
     let same : d ≡ m = said-same me log 3 x Initiator d m h (said-in log d v) w.said j i in
     let sign : MaySign me before d.message = (said-rule me log d v h).rule in
     let rule : MayRequest me before d.message.to r seed c = subst (λ b. MaySay me before d.message.to b) (ap (λ z. z.message.body) same ∙ e) sign.rule in
-    let to : d.message.to ≡ x.responder = (is_of-part 3 x Initiator d.message j).to in
-    let names = parts-of (r, Balanced, Initiator) (x.round, x.kind, Initiator) (sym (ap part_of e) ∙ (is_of-part 3 x Initiator m.message i).part) in
+    let to : d.message.to ≡ x.responder = receiver-on 3 x Initiator d.message j in
+    let names = parts-of (r, Balanced, Initiator) (x.round, x.kind, Initiator) (sym (ap part_of e) ∙ is_of-part 3 x Initiator m.message i) in
     let round : r ≡ x.round = names.0 in
     let kind : Balanced ≡ x.kind = names.1 in
     let own : x.initiator ≡ me.party = w.own in
@@ -184,7 +185,7 @@ commit-same me log m x r seed c (Trade nonce ha hb) h w e t = go (find-of (λ be
     said before d false j place f = cc
 
     heard : (before : Log) (d : Datagram) (b : Bool) → is_of 5 x Initiator d.message ≡ b → IsEntry log before (Heard d) → cond b (divulged d.message.body) None ≡ Some (nonce, ha) → c ≡ commitment_of me.session x nonce ha
-    heard before d true j place f = absurd (heard-not-own me log d 5 x Initiator h (record { before = before; place = place }) j w.own)
+    heard before d true j place f = absurd (own-unheard me log d 5 x Initiator h (record { before = before; place = place }) j w.own)
     heard before d false j place f = cc
 
     by : (before : Log) (y : Entry) → IsEntry log before y → revealed_in me before x y ≡ Some (nonce, ha) → c ≡ commitment_of me.session x nonce ha
