@@ -29,6 +29,8 @@ mod BadKeys
 mod SaidOnce
 mod Casts
 mod CasterFits
+mod WindowSets
+mod Short
 mod PeerFits
 mod Worlds
 mod Words
