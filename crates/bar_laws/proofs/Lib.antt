@@ -31,6 +31,8 @@ mod Casts
 mod CasterFits
 mod WindowSets
 mod Short
+mod Formed
+mod SaidFits
 mod PeerFits
 mod Worlds
 mod Words
