@@ -1,5 +1,4 @@
 -- What the broadcaster sends is in the grammar.
-use Rattle.bar_bytes.proofs.Lengths.{length_u16}
 use Rattle.bar_lms.specs.Params.{levels}
 use Rattle.bar_roster.specs.KeyFile.{signing_secret}
 use Rattle.bar_roster.specs.Sessions.{IsSession}
@@ -11,17 +10,18 @@ use Rattle.bar_rules.specs.Orders.{unsigned}
 use Rattle.bar_rules.specs.Secrets.{signature_of}
 use Rattle.bar_rules.specs.Values.{message_bytes}
 use Rattle.bar_window.specs.declared.update.UpdateId.{UpdateId}
-use Rattle.bar_wire.specs.Datagram.{Datagram, Body, Manifest, Block, Evict}
+use Rattle.bar_wire.specs.Datagram.{Manifest, Block, Evict}
 use Rattle.bar_wire.specs.Grammar.{IsDatagram, RisesTo}
 use Rattle.sha2.specs.Sha256.{sha256}
 use Rattle.sha2.proofs.Facts256.{length-sha256}
-use Rattle.std.proofs.Common.{◌≡◌, ℕ, zero, suc, ◌+◌, ◌*◌, ◌-◌, ◌<◌, ◌≤◌, ◌^◌, Bool, true, false, List, [], ◌∷◌, ◌++◌, length, take, drop, refl, sym, ap, ◌∙◌, cond, arith, lit<, length-append, length-take, length-drop}
-use Rattle.std.specs.Prelude.{Contains, map, filter, replicate, is_some, is_none, nat_lt}
+use Rattle.std.proofs.Common.{◌≡◌, ℕ, zero, suc, ◌+◌, ◌*◌, ◌-◌, ◌<◌, ◌≤◌, ◌^◌, Bool, true, false, List, [], ◌∷◌, length, refl, sym, ◌∙◌, cond, arith, length-append, length-take}
+use Rattle.std.specs.Prelude.{Contains, map, filter, is_some, is_none, nat_lt}
 use Rattle.std.specs.List.{AllByRecursion, range_with_len}
 use Rattle.std.proofs.lemmas.List.{length-map, length-replicate}
 use Rattle.std.proofs.lemmas.List.FromFn.{length-range_with_len}
 use Rattle.std.proofs.lemmas.List.Elements.{All-from_recursion, All-contains}
 use Rattle.bar_laws.proofs.Facts.{lms_signed_has_its_length}
+use Rattle.bar_laws.proofs.Short.{length-u16}
 
 -- ---- lists
 
@@ -33,7 +33,7 @@ all-mapped : {X Y : Type 0} (P : Y → Type 0) (f : X → Y) (xs : List X) → (
 all-mapped P f [] h = tt
 all-mapped P f (x ∷ xs) h = (h x, all-mapped P f xs h)
 
-pub length-filtered : {X : Type 0} (p : X → Bool) (xs : List X) → length (filter p xs) ≤ length xs
+length-filtered : {X : Type 0} (p : X → Bool) (xs : List X) → length (filter p xs) ≤ length xs
 length-filtered p [] = omega arith
 length-filtered p (x ∷ xs) = go (p x) (length-filtered p xs)
   where
@@ -73,7 +73,7 @@ leaf-length me leaf message s low =
 -- ---- blocks
 
 block-whole : (content : List ℕ) → length content ≤ 1022 → length (block_bytes content) ≡ 1024
-block-whole content few = simp (length-append, length_u16, length-replicate) (omega (arith, few))
+block-whole content few = simp (length-append, length-u16, length-replicate) (omega (arith, few))
 
 piece-short : (stream : List ℕ) (b : ℕ) → length (piece_of stream b) ≤ 1022
 piece-short stream b = simp length-take (omega arith)

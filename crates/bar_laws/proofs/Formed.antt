@@ -1,7 +1,6 @@
 -- Messages of an exchange whose form, ranges and parties are those of the grammar, and what this says of what was told in them.
 use Rattle.bar_rules.specs.Log.{Log, Entry, Ticked, Heard, Said, Kept}
 use Rattle.bar_rules.specs.Member.{Member}
-use Rattle.bar_rules.specs.Rules.{IsObedient}
 use Rattle.bar_rules.specs.Secrets.{nonce_of}
 use Rattle.bar_rules.specs.Holdings.{history}
 use Rattle.bar_rules.specs.Terms.{first_on, body_on, divulged, answered, offered, taken, revealed, revealed_in}
@@ -17,11 +16,10 @@ use Rattle.bar_wire.specs.declared.shape.Shape.{Shape}
 use Rattle.std.proofs.Common.{◌≡◌, ◌≢◌, ℕ, ◌≤◌, Bool, true, false, List, [], ◌∷◌, ◌++◌, length, refl, sym, ap, ◌∙◌, subst, inl, inr, cond}
 use Rattle.std.specs.Prelude.{Option, Some, None, ◌⊎◌, option_and_then, option_map}
 use Rattle.std.specs.Bool.{then_some}
-use Rattle.bar_laws.proofs.Earliest.{IsEntry, IsFind, find-of, allowed-at}
+use Rattle.bar_laws.proofs.Earliest.{IsEntry, IsFind, find-of}
 use Rattle.bar_laws.proofs.Elsewhere.{is_of-is}
 use Rattle.bar_laws.proofs.Facts.{length-nonce_of}
-use Rattle.bar_laws.proofs.Grammar.{part-in-range, part-of-peers, heard-fits}
-use Rattle.bar_laws.proofs.Later.{WasSaid, WasHeard}
+use Rattle.bar_laws.proofs.Grammar.{part-in-range, part-of-peers}
 use Rattle.bar_laws.proofs.Once.{part-round}
 use Rattle.bar_laws.proofs.Spoken.{spoken_in, WasSpoken, said-spoken, heard-spoken, first_on-was}
 use Rattle.bar_laws.proofs.WindowSets.{history-set}
@@ -47,7 +45,7 @@ pub record IsBetween (s : Shape) (x : Exchange) : Type 0 where
   pub responder : IsPeer s x.responder
   pub other : x.initiator ≢ x.responder
 
-between-by : (s : Shape) (r : ℕ) (k : XKind) (role : Role) (from to : ℕ) → IsRound s r → IsPeer s from → IsPeer s to → from ≢ to → IsBetween s (exchange_by r k role from to)
+pub between-by : (s : Shape) (r : ℕ) (k : XKind) (role : Role) (from to : ℕ) → IsRound s r → IsPeer s from → IsPeer s to → from ≢ to → IsBetween s (exchange_by r k role from to)
 between-by s r k Initiator from to a b c n = record { round = a; initiator = b; responder = c; other = n }
 between-by s r k Responder from to a b c n = record { round = a; initiator = c; responder = b; other = λ e. n (sym e) }
 

@@ -29,10 +29,13 @@ mod BadKeys
 mod SaidOnce
 mod Casts
 mod CasterFits
+mod Rising
+mod WindowFacts
 mod WindowSets
 mod Short
 mod Formed
 mod SaidFits
+mod EvidenceFits
 mod PeerFits
 mod Worlds
 mod Words

@@ -1,17 +1,16 @@
 -- Each message that a member may sign is as the grammar has it, where all that was said or heard before is.
 use Rattle.bar_case.specs.Sealed.{IsTold}
-use Rattle.bar_rules.specs.Admission.{is_admitted}
-use Rattle.bar_rules.specs.Choices.{young_of, aged_of, wanted_of, given_of}
-use Rattle.bar_rules.specs.Holdings.{history, block_of, is_held, case_for, briefcase_in}
-use Rattle.bar_rules.specs.Log.{Log, Entry, Ticked, Heard, Said, Kept, table, has_heard, first_heard}
+use Rattle.bar_rules.specs.Choices.{wanted_of}
+use Rattle.bar_rules.specs.Holdings.{history, block_of, is_held, briefcase_in}
+use Rattle.bar_rules.specs.Log.{Log, Entry, Heard, Said, table, has_heard, first_heard}
 use Rattle.bar_rules.specs.Member.{Session, Member, IsMember}
 use Rattle.bar_rules.specs.Rules.{IsObedient, Allows}
 use Rattle.bar_rules.specs.Secrets.{secrets_of, nonce_of, seed_of, partner_of, briefcase_key}
 use Rattle.bar_rules.specs.Signing.{MaySay, MaySign, MayGiveCase, MayGiveKey, MayReply, asking}
-use Rattle.bar_rules.specs.Terms.{terms_of, terms_by, trade_terms, offer_terms, answered, offered, taken, body_on}
+use Rattle.bar_rules.specs.Terms.{terms_of, terms_by, trade_terms, offer_terms, answered, offered, taken}
 use Rattle.bar_rules.specs.Values.{counts_ok}
 use Rattle.bar_terms.specs.Terms.{promise, promised_updates, promised_junk, can_promise}
-use Rattle.bar_window.specs.Exchange.{party_on, other_role}
+use Rattle.bar_window.specs.Exchange.{other_role}
 use Rattle.bar_window.specs.Terms.{Terms, Trade, Offer}
 use Rattle.bar_window.specs.declared.exchange.Exchange.{Exchange}
 use Rattle.bar_window.specs.declared.exchange.Role.{Role}
@@ -19,17 +18,17 @@ use Rattle.bar_window.specs.declared.exchange.Role.TheVariants.{Initiator, Respo
 use Rattle.bar_window.specs.declared.exchange.XKind.{XKind}
 use Rattle.bar_window.specs.declared.exchange.XKind.TheVariants.{Balanced, Push}
 use Rattle.bar_window.specs.declared.update.UpdateId.{UpdateId}
-use Rattle.bar_wire.specs.Datagram.{Message, Datagram, Body, Request, Response, Query, Reply, Case, Key, Briefcase, KeyGiven, part_of, round_of, exchange_by, is_of}
+use Rattle.bar_wire.specs.Datagram.{Message, Datagram, Body, Request, Response, Query, Reply, Case, Key, Briefcase, KeyGiven, round_of, exchange_by, is_of}
 use Rattle.bar_wire.specs.Grammar.{IsDatagram, words_of, HasForm, HasTermForm, HasFewJunk, InRange, IsRound, IsPeer, IsWindowSet}
-use Rattle.std.proofs.Common.{◌≡◌, ℕ, ◌+◌, ◌*◌, ◌-◌, ◌<◌, ◌≤◌, ◌^◌, Bool, true, false, List, [], ◌∷◌, length, refl, sym, ap, ◌∙◌, subst, inl, inr, arith, not, length-append, length-take}
-use Rattle.std.specs.Prelude.{Option, Some, None, option_and_then, ◌⊎◌, filter}
-use Rattle.std.specs.List.{AllByRecursion, list_all}
+use Rattle.std.proofs.Common.{◌≡◌, ℕ, ◌+◌, ◌*◌, ◌-◌, ◌<◌, ◌≤◌, ◌^◌, true, List, [], ◌∷◌, length, refl, sym, ap, ◌∙◌, subst, inl, inr, arith, not, length-append, length-take}
+use Rattle.std.specs.Prelude.{Option, Some, None, option_and_then, filter}
+use Rattle.std.specs.List.{AllByRecursion}
 use Rattle.std.proofs.lemmas.Bool.{and_parts, eqb-true}
 use Rattle.std.proofs.lemmas.List.{length-map}
 use Rattle.std.proofs.lemmas.List.FromFn.{length-range_with_len}
 use Rattle.bar_laws.proofs.Elsewhere.{party-on, party-over, kind-on, role-own, is_of-is, sign-elsewhere}
 use Rattle.bar_laws.proofs.Facts.{length-chain_back, length-briefcase_key, length-commitment_of, partner_low, partner_high, promises_equal, promises_some, promises_few, terms_promise, length_sealed}
-use Rattle.bar_laws.proofs.Formed.{IsFormed, IsBetween, AllFormed, WasTold, spoken-in, formed-between, party-peer, round-by, told, told-answer, told-offer, told-reply, revealed-formed, fits-formed, SpokenIn}
+use Rattle.bar_laws.proofs.Formed.{IsFormed, IsBetween, AllFormed, spoken-in, formed-between, party-peer, round-by, told, told-answer, told-offer, told-reply, revealed-formed, fits-formed}
 use Rattle.bar_laws.proofs.Grammar.{heard-fits}
 use Rattle.bar_laws.proofs.Holds.{AllHeld, promise-held}
 use Rattle.bar_laws.proofs.Later.{some-is, first_heard-was}
@@ -46,7 +45,7 @@ record IsSaidWell (me : Member) (to : ℕ) (b : Body) : Type 0 where
 
 -- ---- numbers
 
-round-small : (me : Member) (r : ℕ) → IsMember me → IsRound me.session.shape r → r < 2 ^ 32
+pub round-small : (me : Member) (r : ℕ) → IsMember me → IsRound me.session.shape r → r < 2 ^ 32
 round-small me r is round = let high : me.session.shape.rounds ≤ 1820 = is.session.shape.rounds_high in omega (arith, high, round.1)
 
 seed-long : (me : Member) (round : ℕ) (seed : List ℕ) → seed ≡ seed_of me round → length seed ≡ 32

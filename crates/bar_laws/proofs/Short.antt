@@ -1,6 +1,4 @@
 -- What a peer signs fits into evidence: its bytes are at most those of a packet.
-use Rattle.bar_bytes.proofs.Lengths.{length_u16, length_u32}
-use Rattle.bar_bytes.specs.Bytes.{u16_bytes, u32_bytes}
 use Rattle.bar_lms.specs.Params.{chains, levels, signature_len}
 use Rattle.bar_lms.specs.declared.params.Height.{Height}
 use Rattle.bar_lms.specs.declared.params.Height.TheVariants.{H5, H10, H15}
@@ -10,7 +8,6 @@ use Rattle.bar_lms.specs.declared.params.Params.{Params}
 use Rattle.bar_roster.specs.Sessions.{IsSession}
 use Rattle.bar_rules.specs.Member.{Session}
 use Rattle.bar_rules.specs.Verdict.{is_peer_kind}
-use Rattle.bar_window.proofs.Spelling.{length_window_bytes}
 use Rattle.bar_window.specs.Terms.{Terms, Trade, Offer}
 use Rattle.bar_window.specs.declared.exchange.XKind.{XKind}
 use Rattle.bar_window.specs.declared.update.UpdateId.{UpdateId}
@@ -19,11 +16,21 @@ use Rattle.bar_wire.specs.Grammar.{IsDatagram, IsEntryInRange, HasForm, HasTermF
 use Rattle.bar_wire.specs.Grammar as grammar
 use Rattle.bar_wire.specs.declared.kind.Kind.{Kind}
 use Rattle.bar_wire.specs.declared.shape.Shape.{Shape}
-use Rattle.bar_wire.specs.Kinds.{is_signed_kind, code_of}
-use Rattle.std.proofs.Common.{◌≡◌, ℕ, ◌+◌, ◌*◌, ◌<◌, ◌≤◌, Bool, true, false, List, [], ◌∷◌, ◌++◌, length, refl, sym, ap, ◌∙◌, cond, arith, length-append}
+use Rattle.bar_wire.specs.Kinds.{is_signed_kind}
+use Rattle.std.proofs.Common.{◌≡◌, ℕ, ◌+◌, ◌≤◌, Bool, true, false, List, length, refl, cond, arith, length-append}
 use Rattle.std.specs.List.{concat}
+use Rattle.bar_laws.proofs.WindowFacts.{length_window_bytes}
+use Rattle.bar_bytes.specs.Bytes.{u16_bytes, u32_bytes}
 
 -- ---- the parts
+
+pub length-u16 : (n : ℕ) → length (u16_bytes n) ≡ 2
+unfolding u16_bytes
+length-u16 n = refl
+
+length-u32 : (n : ℕ) → length (u32_bytes n) ≡ 4
+unfolding u32_bytes
+length-u32 n = refl
 
 chains-few : (ots : Ots) → chains ots ≤ 265
 chains-few W1 = omega arith
@@ -58,20 +65,20 @@ terms-short s round kind (Offer young aged want give junk) form =
     simp length-append (omega (arith, a, b, c, d))
 
 fields-short : (s : Shape) (b : Body) → HasForm s b → InRange s b → is_peer_kind b ≡ true → length (concat (pieces s b)) ≤ 22000
-fields-short s (Request r seed commitment) form range e = simp (length-append, length_u32) (omega (arith, form.1, form.2))
-fields-short s (Response r hb) form range e = let a = set-short s r hb in simp (length-append, length_u32) (omega (arith, a))
+fields-short s (Request r seed commitment) form range e = simp (length-append, length-u32) (omega (arith, form.1, form.2))
+fields-short s (Response r hb) form range e = let a = set-short s r hb in simp (length-append, length-u32) (omega (arith, a))
 fields-short s (Query r seed young aged) form range e =
     let a = set-short s r young in
     let b = set-short s r aged in
-    simp (length-append, length_u32) (omega (arith, form.1, a, b))
+    simp (length-append, length-u32) (omega (arith, form.1, a, b))
 fields-short s (Reply r want give junk) form range e =
     let a = set-short s r want in
     let b = set-short s r give in
-    simp (length-append, length_u32) (omega (arith, a, b))
+    simp (length-append, length-u32) (omega (arith, a, b))
 fields-short s (Case c) form range e =
     let a = terms-short s c.round c.kind c.terms form.1 in
-    simp (length-append, length_u32) (omega (arith, a, form.2, range.2))
-fields-short s (Key k) form range e = simp (length-append, length_u32) (omega (arith, form.1))
+    simp (length-append, length-u32) (omega (arith, a, form.2, range.2))
+fields-short s (Key k) form range e = simp (length-append, length-u32) (omega (arith, form.1))
 fields-short s _ form range e = cc
 
 -- ---- the datagram
@@ -79,7 +86,7 @@ fields-short s _ form range e = cc
 header-is : (s : Shape) (m : Message) → length (message_bytes s m) ≡ 16 + length (concat (pieces s m.body))
 header-is s m =
     let id : length s.id ≡ 8 = s.shaped.id_long in
-    simp (length-append, length_u16) (omega (arith, id))
+    simp (length-append, length-u16) (omega (arith, id))
 
 sign-short : (kind : Kind) (s : Shape) → grammar.signature_len s kind ≤ s.sig_len
 sign-short kind s = go (is_signed_kind kind)
