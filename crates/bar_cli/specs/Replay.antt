@@ -7,7 +7,7 @@ use Rattle.bar_roster.specs.SessionText as text
 use Rattle.bar_record.specs.Recording.{len_at}
 use Rattle.bar_record.specs.Recording as entries
 use Rattle.bar_rules.specs.Member.{Member, last_tick}
-use Rattle.bar_rules.specs.Run as run
+use Rattle.bar_rules.specs.Listening.{contents_heard}
 
 -- whose recording it is, and its inputs in order
 pub record Recorded : Type 0 where
@@ -41,8 +41,8 @@ unfoldable pub recording_of : SessionData → List ℕ → Option Recorded
 recording_of s bytes = recorded_by s bytes (party_at bytes)
 
 abbrev pub member_of : SessionData → ℕ → Member
-member_of s party = record { session = s; party = party }
+member_of s party = record { session = s; party = party; secret = [] }
 
 -- the contents that each input plays
 abbrev pub contents_of : SessionData → Recorded → List (List (List ℕ))
-contents_of s recording = run.contents_of (member_of s recording.party) [] recording.inputs
+contents_of s recording = contents_heard (member_of s recording.party) [] recording.inputs

@@ -7,7 +7,7 @@ use Rattle.bar_outside.specs.Plan.{World, Action, Plan, reading, accepting, endi
 use Rattle.bar_outside.specs.Plan.Action.{create, append}
 use Rattle.bar_roster.specs.SessionText.{SessionData}
 use Rattle.bar_rules.specs.Member.{Member}
-use Rattle.bar_rules.specs.Run.{played_by, sends_of}
+use Rattle.bar_rules.specs.Listening.{played_by_listener, sends_of_listener}
 use Rattle.bar_cli.specs.Replay.{Recorded, session_of, recording_of, member_of, contents_of}
 
 -- the files of a replay
@@ -69,13 +69,13 @@ peer_of names content accepted = member_of accepted.session accepted.recording.p
 
 -- the bytes that the peer plays over the recording's inputs
 abbrev pub bytes_of : (names : ReplayFiles) (content : Content) → Accepted names content → List ℕ
-bytes_of names content accepted = played_by (peer_of names content accepted) accepted.recording.inputs
+bytes_of names content accepted = played_by_listener (peer_of names content accepted) accepted.recording.inputs
 
 -- both were accepted, the played file has exactly what the peer plays over the recording's inputs, and the peer sends nothing
 pub record Replayed (names : ReplayFiles) (old new : World) : Type 0 where
   pub accepted : Accepted names old.files.content
   pub played : new.files.content names.played ≡ Some (bytes_of names old.files.content accepted)
-  pub sent : sends_of (peer_of names old.files.content accepted) accepted.recording.inputs ≡ []
+  pub sent : sends_of_listener (peer_of names old.files.content accepted) accepted.recording.inputs ≡ []
   pub others : (path : List ℕ) → path ≢ names.played → new.files.content path ≡ old.files.content path
 
 -- both were accepted, and the played file has a front of what the recording's inputs play

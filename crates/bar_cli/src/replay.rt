@@ -9,8 +9,7 @@ ghost use Rattle.bar_record.specs.Inputs.{inputs_left};
 ghost use Rattle.bar_wire.specs.Inputs.{plain_input};
 ghost use Rattle.bar_rules.specs.Member.{Member};
 ghost use Rattle.bar_rules.specs.Log.{Log};
-ghost use Rattle.bar_rules.specs.Run.{step};
-ghost use Rattle.bar_rules.specs.Run as run;
+ghost use Rattle.bar_rules.specs.Listening.{contents_heard, listened};
 ghost use Rattle.bar_cli.specs.Represents.{Represents};
 ghost use Rattle.bar_cli.specs.Recordings.{recording_view};
 ghost use Rattle.bar_cli.specs.Replay.{contents_of};
@@ -90,7 +89,7 @@ fn play_inputs<F: Files>(
     played: &str,
 ) -> Result<(), Fault>
     ensures { (me : Member) (log : Log) → Represents me log listener.old → (out : Stream)
-        → Follows (turns played.now (run.contents_of me log (inputs_left items.entry)))
+        → Follows (turns played.now (contents_heard me log (inputs_left items.entry)))
         (world (F.disk files.old) out) (world (F.disk files.new) out) result }
 {
     for input in items {
@@ -108,10 +107,10 @@ fn play_input<F: Files>(
     played: &str,
 ) -> Result<(), Fault>
     ensures follows { (me : Member) (log : Log) → Represents me log listener.old → (out : Stream)
-        → Follows (turn played.now (step me log (plain_input input.entry)).contents)
+        → Follows (turn played.now (listened me log (plain_input input.entry)).contents)
         (world (F.disk files.old) out) (world (F.disk files.new) out) result }
     ensures after { (me : Member) (log : Log) → Represents me log listener.old
-        → OnOk result (Represents me (step me log (plain_input input.entry)).log listener.new) }
+        → OnOk result (Represents me (listened me log (plain_input input.entry)).log listener.new) }
 {
     let contents = listener.take(alloc, input)?;
     append_all(files, played, &contents)

@@ -15,6 +15,6 @@ returns-in_err-create_file g c = λ out.
 
 pub returns : goal.returns
 returns g c = λ out.
-    let inputs = c.play_inputs.ensures (member_of c.args.session c.args.recording.party) [] c.start-listener.ensures out in
+    let inputs = c.play_inputs.ensures (member_of c.args.session c.args.recording.party) [] (c.start-listener.ensures []) out in
     followed (create c.args.played.now ∷ []) (turns c.args.played.now (contents_of c.args.session (recording_view c.args.recording))) _ _ _ _
     (c.in_ok-create_file.ensures out) _ inputs
