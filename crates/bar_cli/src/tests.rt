@@ -545,6 +545,10 @@ const ENDS: [(&str, &str, bool, &[u64], &[u64], u8, &str, &[u8]); 13] = [
 
 const FAILED: &str = "bar: file failed\n";
 
+fn either<'a>(first: bool, one: &'a [u8], other: &'a [u8]) -> &'a [u8] {
+    if first { one } else { other }
+}
+
 #[test]
 fn statuses_and_lines(rt: HostRuntime) -> Result<(), Fail> {
     let alloc = rt.alloc();
@@ -552,20 +556,18 @@ fn statuses_and_lines(rt: HostRuntime) -> Result<(), Fail> {
     let entries = [START, Entry::Manifest, Entry::Block, END];
     let whole = recording(alloc, &streams, &entries)?;
     for (session, key, is_whole, fail_files, fail_err, status, said, played) in ENDS {
+        let bytes = either(is_whole, &whole, b"BARL");
         let given = Given {
             session,
             key,
-            recording: if is_whole { &whole } else { b"BARL" },
+            recording: bytes,
         };
         let left = run(alloc, given, fail_files, fail_err)?;
         assert_eq!(rt; left.status, status);
         assert_eq!(rt; left.err.bytes(), said.as_bytes());
         assert_eq!(rt; left.files.get("p").unwrap_or(b"none".as_slice()), played);
         assert_eq!(rt; left.out.bytes(), b"".as_slice());
-        assert_eq!(rt;
-            left.files.get("k").unwrap_or(b"none".as_slice()),
-            key.as_bytes()
-        );
+        assert_eq!(rt; left.files.get("rec").unwrap_or(b"none".as_slice()), bytes);
     }
     Ok(())
 }
