@@ -60,7 +60,7 @@ all-contained p (x ∷ xs) f =
 
 -- ---- windows
 
-rounds-in-life : (life round first last : ℕ) (us : List UpdateId) → round + 1 ≤ first + life → is_of_rounds first last us ≡ true → InLife life round us
+pub rounds-in-life : (life round first last : ℕ) (us : List UpdateId) → round + 1 ≤ first + life → is_of_rounds first last us ≡ true → InLife life round us
 rounds-in-life life round first last us h e =
     all-if (λ (u : UpdateId). nat_le first u.round && nat_le u.round last) (is_since life round) us
     (λ u z. le-leb (round + 1) (u.round + life) (let low : first ≤ u.round = leb-true first u.round (and_parts _ _ z).0 in omega (arith, low, h))) e

@@ -21,3 +21,4 @@ mod FinalLeaf
 mod InLife
 mod OpenList
 mod AgreeLogs
+mod AgreeRows
