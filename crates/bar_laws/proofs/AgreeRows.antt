@@ -123,11 +123,14 @@ module _ (me : Member) (one two : Log) (same : AgreesWith me one two) where
     recent-by : (r : ℕ) (k : XKind) (role : Role) (f t : ℕ) → round_now one ≤ r + me.session.shape.life → IsRecent me one (exchange_by r k role f t).round
     recent-by r k role f t h = subst (λ z. round_now one ≤ z + me.session.shape.life) (sym (by-round r k role f t)) h
 
+    near-soon : (round : ℕ) → is_near round (round_now one) ≡ true → round_now one ≤ round + 2
+    near-soon round h = let near : round_now one ≤ round + 1 = leb-true (round_now one) (round + 1) (and_parts (nat_le round (round_now one + 1)) (nat_le (round_now one) (round + 1)) h).1 in omega (arith, near)
+
     ask-same : (kind : XKind) (from round : ℕ) (seed : List ℕ) → may_ask me one kind from round seed ≡ may_ask me two kind from round seed
     ask-same kind from round seed =
         and_first _ _ (is_near round (round_now one))
         (λ b. ap (λ n. (is_seed me.session from round seed && eqb (partner_of me.session seed kind from) me.party) && nat_lt n 2)
-        (requests-same me one two same kind round (let near : round_now one ≤ round + 1 = leb-true (round_now one) (round + 1) (and_parts _ _ b).1 in omega (arith, near))))
+        (requests-same me one two same kind round (soon-recent round (near-soon round b))))
         ∙ ap (λ n. ((is_seed me.session from round seed && eqb (partner_of me.session seed kind from) me.party) && nat_lt (count_heard (has_kind_and_round (asking_kind kind) round) two) 2) && is_near round n) (now me one two same)
 
     pub row-same : (from to : ℕ) (b : Body) → is_row_met me one from to b ≡ is_row_met me two from to b

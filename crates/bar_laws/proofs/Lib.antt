@@ -22,3 +22,4 @@ mod InLife
 mod OpenList
 mod AgreeLogs
 mod AgreeRows
+mod AgreeOrders
