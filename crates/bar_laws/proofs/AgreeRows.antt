@@ -33,7 +33,7 @@ use Rattle.bar_laws.proofs.Once.{parts-of}
 -- ---- tests
 
 -- both sides of a test are the same where what stands beside it holds
-and_first : (a b c : Bool) → (c ≡ true → a ≡ b) → (a && c) ≡ (b && c)
+pub and_first : (a b c : Bool) → (c ≡ true → a ≡ b) → (a && c) ≡ (b && c)
 and_first a b true f = ap (λ z. z && true) (f refl)
 and_first true true false f = refl
 and_first true false false f = refl
@@ -44,7 +44,7 @@ and_middle : (a b c d : Bool) → (a ≡ true → d ≡ true → b ≡ c) → ((
 and_middle true b c d f = and_first (true && b) (true && c) d (λ h. ap (λ z. true && z) (f refl h))
 and_middle false b c d f = refl
 
-and_last : (a b c : Bool) → (a ≡ true → b ≡ c) → (a && b) ≡ (a && c)
+pub and_last : (a b c : Bool) → (a ≡ true → b ≡ c) → (a && b) ≡ (a && c)
 and_last true b c f = f refl
 and_last false b c f = refl
 

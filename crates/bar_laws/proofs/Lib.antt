@@ -23,3 +23,4 @@ mod OpenList
 mod AgreeLogs
 mod AgreeRows
 mod AgreeOrders
+mod AgreeReplies
