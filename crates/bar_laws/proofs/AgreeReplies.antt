@@ -27,6 +27,7 @@ use Rattle.std.proofs.lemmas.Bool.{and_parts, leb-true, lt-leb, leb-false, or_ca
 use Rattle.bar_laws.proofs.AgreeLogs.{now, IsInTime, by-round, kept-agree, heard-agree}
 use Rattle.bar_laws.proofs.AgreeRows.{terms-same, admitted-same, row-in-time, in-time-recent, and_first, and_last}
 use Rattle.bar_laws.proofs.AgreeOrders.{IsTimely, IsAlike, perform-alike, perform_all-alike}
+use Rattle.bar_laws.proofs.Elsewhere.{is_of-is}
 use Rattle.bar_laws.proofs.InLife.{BodyInLife, LogInLife, of-round}
 use Rattle.bar_laws.proofs.Later.{first_heard-was, if_passes-is}
 use Rattle.bar_laws.proofs.Once.{parts-of, part-round}
@@ -43,9 +44,9 @@ when-timely life at true os f = f refl
 when-timely life at false os f = tt
 
 -- new and in time, or within the bound
-in-bound : (now at bound : ℕ) (is_new : Bool) → now ≡ at → (is_new ≡ true → at ≤ bound) → (is_new || nat_le now bound) ≡ true → at ≤ bound
-in-bound now at bound true e f h = f refl
-in-bound now at bound false e f h = subst (λ n. n ≤ bound) e (leb-true now bound h)
+in-bound : (round at bound : ℕ) (is_new : Bool) → round ≡ at → (is_new ≡ true → at ≤ bound) → (is_new || nat_le round bound) ≡ true → at ≤ bound
+in-bound round at bound true e f h = f refl
+in-bound round at bound false e f h = subst (λ n. n ≤ bound) e (leb-true round bound h)
 
 at-round : (life at r : ℕ) (k : XKind) (role : Role) (from to more : ℕ) → at ≤ r + more → at ≤ (exchange_by r k role from to).round + more
 at-round life at r k role from to more h = subst (λ z. at ≤ z + more) (sym (by-round r k role from to)) h
@@ -150,3 +151,117 @@ module _ (me : Member) (one two : Log) (same : AgreesWith me one two) (life : 2 
       go true e =
           let h : round_now one ≤ round_of d.message.body + me.session.shape.life = leb-true (round_now one) (round_of d.message.body + me.session.shape.life) (and_parts _ _ e).1 in
           rw e (λ i. option_or (if_names me.session (same.manifests i) d.message.from (datagram_bytes me.session d ∷ [])) (pairs-same d h i))
+
+  -- ---- one datagram
+
+  -- nothing is done yet
+  pub begun-alike : LogInLife me.session.shape.life one → IsAlike me (round_now one) (begun one) (begun two)
+  begun-alike lives = record { agree = same; moment = refl; sends = refl; lives = lives }
+
+  -- the orders for a datagram are carried out alike
+  reply-alike : (is_new : Bool) (d : Datagram) → LogInLife me.session.shape.life one → IsNewInTime me.session.shape.life (round_now one) is_new d.message.body
+      → IsAlike me (round_now one) (perform_all me (begun one) (reply_orders me one is_new d)) (perform_all me (begun two) (reply_orders me two is_new d))
+  reply-alike is_new d lives f =
+      subst (λ os. IsAlike me (round_now one) (perform_all me (begun one) (reply_orders me one is_new d)) (perform_all me (begun two) os)) (orders-same is_new d.message.from d.message.to d.message.body f)
+      (perform_all-alike me (round_now one) (reply_orders me one is_new d) (begun one) (begun two) life (begun-alike lives) (orders-timely me one (round_now one) is_new d.message.from d.message.to d.message.body life refl f))
+
+-- what is repeated was heard of the same kind, exchange and side
+repeated-like : (me : Member) (log : Log) (d c : Datagram) → repeated me log d ≡ Some c → heard_like log d.message (part_of d.message.body) ≡ Some c
+repeated-like me log d c e = go (is_announced log d.message.from) (heard_like log d.message (part_of d.message.body)) e
+  where
+    tested : (b : Bool) (a : Datagram) → then_some b a ≡ Some c → Some a ≡ Some c
+    tested true a e = e
+    tested false a e = cc
+
+    go : (b : Bool) (o : Option Datagram) → cond b None (if_same me.session d o) ≡ Some c → o ≡ Some c
+    go true o e = cc
+    go false None e = cc
+    go false (Some a) e = tested _ a e
+
+-- what comes again of a round that isn't recent is not answered
+stale-answer : (me : Member) (log : Log) (d : Datagram) (p : ℕ × XKind × Role) → 2 ≤ me.session.shape.life → part_of d.message.body ≡ Some p → p.0 + me.session.shape.life < round_now log
+    → answer_repeat me log (repeated me log d) ≡ begun log
+stale-answer me log d p life e h = go (repeated me log d) refl
+  where
+    x : Exchange
+    x = exchange_by p.0 p.1 p.2 d.message.from d.message.to
+
+    none : (c : Datagram) → is_of (kind_number d.message.body) x p.2 c.message ≡ true → orders_for me log false c.message.from c.message.to c.message.body ≡ []
+    none c is =
+        let w = is_of-is (kind_number d.message.body) x p.2 c.message is in
+        let q : ℕ × XKind × Role = (w.round, w.sort, p.2) in
+        let round : q.0 ≡ p.0 = of-round (kind_number d.message.body) x p.2 c.message q is w.part ∙ by-round p.0 p.1 p.2 d.message.from d.message.to in
+        stale-orders me log c.message.from c.message.to c.message.body q life w.part (subst (λ z. z + me.session.shape.life < round_now log) (sym round) h)
+
+    go : (o : Option Datagram) → repeated me log d ≡ o → answer_repeat me log o ≡ begun log
+    go None f = refl
+    go (Some c) f =
+        let like : first_heard (is_of (kind_number d.message.body) x p.2) log ≡ Some c = subst (λ o. heard_like log d.message o ≡ Some c) e (repeated-like me log d c f) in
+        ap (perform_all me (begun log)) (none c (first_heard-was (is_of (kind_number d.message.body) x p.2) log c like).1)
+
+module _ (me : Member) (one two : Log) (same : AgreesWith me one two) (life : 2 ≤ me.session.shape.life) where
+  repeat-alike : (d : Datagram) → LogInLife me.session.shape.life one → IsAlike me (round_now one) (answer_repeat me one (repeated me one d)) (answer_repeat me two (repeated me two d))
+  repeat-alike d lives = go (part_of d.message.body) refl
+    where
+      -- the same is repeated
+      alike : repeated me one d ≡ repeated me two d → IsAlike me (round_now one) (answer_repeat me one (repeated me one d)) (answer_repeat me two (repeated me two d))
+      alike e = subst (λ o. IsAlike me (round_now one) (answer_repeat me one (repeated me one d)) (answer_repeat me two o)) e (by (repeated me one d))
+        where
+          by : (o : Option Datagram) → IsAlike me (round_now one) (answer_repeat me one o) (answer_repeat me two o)
+          by None = begun-alike me one two same life lives
+          by (Some c) = reply-alike me one two same life false c lives (λ h. cc)
+
+      like : (o : Option (ℕ × XKind × Role)) → part_of d.message.body ≡ o → heard_like one d.message o ≡ heard_like two d.message o → repeated me one d ≡ repeated me two d
+      like o e h =
+          let read : (log : Log) → cond (is_announced log d.message.from) None (if_same me.session d (heard_like log d.message o)) ≡ repeated me log d = (λ log. ap (λ z. cond (is_announced log d.message.from) None (if_same me.session d (heard_like log d.message z))) (sym e)) in
+          sym (read one) ∙ (λ i. cond (same.announced d.message.from i) None (if_same me.session d (h i))) ∙ read two
+
+      recent : (p : ℕ × XKind × Role) (b : Bool) → nat_le (round_now one) (p.0 + me.session.shape.life) ≡ b → part_of d.message.body ≡ Some p → IsAlike me (round_now one) (answer_repeat me one (repeated me one d)) (answer_repeat me two (repeated me two d))
+      recent p true b e =
+          let x : Exchange = exchange_by p.0 p.1 p.2 d.message.from d.message.to in
+          let r : IsRecent me one x.round = subst (λ z. round_now one ≤ z + me.session.shape.life) (sym (by-round p.0 p.1 p.2 d.message.from d.message.to)) (leb-true (round_now one) (p.0 + me.session.shape.life) b) in
+          alike (like (Some p) e (same.heard (kind_number d.message.body) x p.2 r))
+      recent p false b e =
+          let late : p.0 + me.session.shape.life < round_now one = leb-false (round_now one) (p.0 + me.session.shape.life) b in
+          subst (λ a. IsAlike me (round_now one) a (answer_repeat me two (repeated me two d))) (sym (stale-answer me one d p life e late))
+          (subst (λ a. IsAlike me (round_now one) (begun one) a) (sym (stale-answer me two d p life e (subst (λ n. p.0 + me.session.shape.life < n) (now me one two same) late)))
+          (begun-alike me one two same life lives))
+
+      go : (o : Option (ℕ × XKind × Role)) → part_of d.message.body ≡ o → IsAlike me (round_now one) (answer_repeat me one (repeated me one d)) (answer_repeat me two (repeated me two d))
+      go None e = alike (like None e refl)
+      go (Some p) e = recent p (nat_le (round_now one) (p.0 + me.session.shape.life)) refl e
+
+  answered-alike : (d : Datagram) → LogInLife me.session.shape.life one → BodyInLife me.session.shape.life d.message.body → IsAlike me (round_now one) (answered_to me one d) (answered_to me two d)
+  answered-alike d lives body = subst (λ b. IsAlike me (round_now one) (answered_to me one d) (cond b (taken two) (again two))) (admitted-same me one two same life d) (go (is_admitted me one d) refl)
+    where
+      taken : Log → Out
+      taken log = perform_all me (begun (Heard d ∷ log)) (reply_orders me (Heard d ∷ log) true d)
+
+      again : Log → Out
+      again log = answer_repeat me log (repeated me log d)
+
+      go : (b : Bool) → is_admitted me one d ≡ b → IsAlike me (round_now one) (cond b (taken one) (again one)) (cond b (taken two) (again two))
+      go false e = repeat-alike d lives
+      go true e =
+          let time : IsInTime me.session.shape.life (round_now one) d.message.body = row-in-time me one d.message.from d.message.to d.message.body (admitted-row me one d e) in
+          let still : round_now (Heard d ∷ one) ≡ round_now one = omega arith in
+          subst (λ n. IsAlike me n (taken one) (taken two)) still
+          (reply-alike me (Heard d ∷ one) (Heard d ∷ two) (heard-agree me one two same d time) life true d (body, lives) (λ z. subst (λ n. IsInTime me.session.shape.life n d.message.body) (sym still) time))
+
+report-alike : (me : Member) (at : ℕ) (a b : Out) (q : ℕ) (o : Option (List (List ℕ))) → 2 ≤ me.session.shape.life → IsAlike me at a b → IsAlike me at (report_new me a q o) (report_new me b q o)
+report-alike me at a b q None life w = w
+report-alike me at a b q (Some e) life w = perform-alike me at a b (Report q) life w tt
+
+-- a datagram is taken alike
+pub taken-alike : (me : Member) (one two : Log) (d : Datagram) → AgreesWith me one two → 2 ≤ me.session.shape.life → LogInLife me.session.shape.life one → BodyInLife me.session.shape.life d.message.body
+    → IsAlike me (round_now one) (take_datagram me one (Some d)) (take_datagram me two (Some d))
+taken-alike me one two d same life lives body =
+    subst (λ o. IsAlike me (round_now one) (take_datagram me one (Some d)) (report_new me (answered_to me (with_evidence two d.message.from o) d) d.message.from o)) (completed-same me one two same life d)
+    (report-alike me (round_now one) _ _ d.message.from (completed me one d) life (go (completed me one d)))
+  where
+    go : (o : Option (List (List ℕ))) → IsAlike me (round_now one) (answered_to me (with_evidence one d.message.from o) d) (answered_to me (with_evidence two d.message.from o) d)
+    go None = answered-alike me one two same life d lives body
+    go (Some e) =
+        let still : round_now (Kept d.message.from e ∷ one) ≡ round_now one = omega arith in
+        subst (λ n. IsAlike me n (answered_to me (Kept d.message.from e ∷ one) d) (answered_to me (Kept d.message.from e ∷ two) d)) still
+        (answered-alike me (Kept d.message.from e ∷ one) (Kept d.message.from e ∷ two) (kept-agree me one two same d.message.from e) life d (tt, lives) body)
