@@ -83,7 +83,7 @@ pub record IsAlike (me : Member) (at : ℕ) (a b : Out) : Type 0 where
 -- ---- the messages of orders
 
 module _ (me : Member) (one two : Log) (same : AgreesWith me one two) where
-  young-same : (round : ℕ) → 2 ≤ me.session.shape.life → round_now one ≤ round + 2 → young_of me one round ≡ young_of me two round
+  pub young-same : (round : ℕ) → 2 ≤ me.session.shape.life → round_now one ≤ round + 2 → young_of me one round ≡ young_of me two round
   young-same round life h =
       let us : List UpdateId = updates_from me.session (max 1 (round - 1)) round in
       ap (take me.session.cap) (filter-same (is_held me.session one) (is_held me.session two) us (held-on me one two same round us h (from-in-life me.session me.session.shape.life round (max 1 (round - 1)) round (omega arith))))

@@ -39,7 +39,7 @@ use Rattle.bar_laws.proofs.Tables.{admitted-row}
 abbrev IsNewInTime : ℕ → ℕ → Bool → Body → Type 0
 IsNewInTime life at is_new b = is_new ≡ true → IsInTime life at b
 
-when-timely : (life at : ℕ) (b : Bool) (os : List Order) → (b ≡ true → AllByRecursion (IsTimely life at) os) → AllByRecursion (IsTimely life at) (orders_when b os)
+pub when-timely : (life at : ℕ) (b : Bool) (os : List Order) → (b ≡ true → AllByRecursion (IsTimely life at) os) → AllByRecursion (IsTimely life at) (orders_when b os)
 when-timely life at true os f = f refl
 when-timely life at false os f = tt
 

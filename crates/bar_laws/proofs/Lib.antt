@@ -24,3 +24,4 @@ mod AgreeLogs
 mod AgreeRows
 mod AgreeOrders
 mod AgreeReplies
+mod AgreeTicks

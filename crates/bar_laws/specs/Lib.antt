@@ -1,3 +1,4 @@
 pub mod Obedience
 pub mod Balance
 pub mod Leaves
+pub mod Agreement

@@ -4,3 +4,4 @@
 pub mod obedience;
 pub mod totals;
 pub mod leaves;
+pub mod agreement;
