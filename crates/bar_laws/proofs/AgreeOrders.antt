@@ -3,10 +3,8 @@ use Rattle.bar_case.specs.Items.{plaintext, item_bytes, junk_key}
 use Rattle.bar_case.specs.Keystream.{keystream, xor_bytes}
 use Rattle.bar_case.specs.Sealed as sealing
 use Rattle.bar_terms.specs.Table.{is_known, digest_of}
-use Rattle.bar_terms.specs.Terms.{promise, promised_updates, promised_junk}
-use Rattle.bar_terms.specs.declared.items.Item.{Item}
+use Rattle.bar_terms.specs.Terms.{promised_updates, promised_junk}
 use Rattle.bar_terms.specs.declared.items.Item.TheVariants.{Update, Junk}
-use Rattle.bar_window.specs.Exchange.{other_role, same_role}
 use Rattle.bar_window.specs.Terms.{Terms}
 use Rattle.bar_window.specs.declared.exchange.Exchange.{Exchange}
 use Rattle.bar_window.specs.declared.exchange.Role.{Role}
@@ -14,28 +12,26 @@ use Rattle.bar_window.specs.declared.exchange.Role.TheVariants.{Initiator, Respo
 use Rattle.bar_window.specs.declared.exchange.XKind.{XKind}
 use Rattle.bar_window.specs.declared.exchange.XKind.TheVariants.{Balanced, Push}
 use Rattle.bar_window.specs.declared.update.UpdateId.{UpdateId}
-use Rattle.bar_wire.specs.Datagram.{Message, Datagram, Body, Request, Response, Divulge, Query, Reply, Case, Key, KeyRequest, Evidence, is_of, kind_number, part_of, exchange_by, round_of}
+use Rattle.bar_wire.specs.Datagram.{Message, Datagram, Body, Request, Response, Divulge, Query, Reply, Case, KeyRequest, Evidence, is_of, kind_number, part_of, exchange_by, round_of}
 use Rattle.bar_rules.specs.Agreement.{AgreesWith, IsRecent}
 use Rattle.bar_rules.specs.Choices.{young_of, aged_of, wanted_of, given_of}
-use Rattle.bar_rules.specs.Evidence.{kept}
 use Rattle.bar_rules.specs.Holdings.{block_of, is_held, history}
-use Rattle.bar_rules.specs.Log.{Log, Said, first_said, table, round_now, ticks}
-use Rattle.bar_rules.specs.Member.{Member, round_after}
-use Rattle.bar_rules.specs.Orders.{Order, Ask, Answer, Reveal, GiveCase, AskKey, GiveKey, Resend, Report, Out, begun, sending, say, say_new, say_or_repeat, send_if, perform, perform_all, message_to, unsigned, ask_body, answer_body, reply_to, reply_body, case_body, key_body}
+use Rattle.bar_rules.specs.Log.{Log, Said, first_said, table, round_now}
+use Rattle.bar_rules.specs.Member.{Member}
+use Rattle.bar_rules.specs.Orders.{Order, Ask, Answer, Reveal, GiveCase, AskKey, GiveKey, Resend, Report, Out, sending, say, say_new, say_or_repeat, send_if, perform, perform_all, message_to, unsigned, ask_body, answer_body, reply_to, reply_body, case_body, key_body}
 use Rattle.bar_rules.specs.Secrets.{seed_of, nonce_of, commitment_of, briefcase_key, signature_of}
-use Rattle.bar_rules.specs.Signing.{signed, leaf_of, seat_by}
-use Rattle.bar_rules.specs.Terms.{role_of, partner_in, asking_kind, answer_kind, terms_of, revealed, offered, body_on, seat}
-use Rattle.bar_rules.specs.Values.{updates_from, first_round, sealed, message_bytes}
+use Rattle.bar_rules.specs.Signing.{signed, seat_by}
+use Rattle.bar_rules.specs.Terms.{role_of, partner_in, asking_kind, answer_kind, terms_of, offered, body_on}
+use Rattle.bar_rules.specs.Values.{updates_from, first_round, message_bytes}
 use Rattle.bar_seal.specs.Leaves as leaves
-use Rattle.std.proofs.Common.{◌≡◌, ℕ, ◌<◌, ◌≤◌, ◌+◌, ◌-◌, Bool, true, false, List, [], ◌∷◌, ◌++◌, length, take, refl, sym, ap, ◌∙◌, subst, ◌&&◌, not, cond, arith}
-use Rattle.std.specs.Prelude.{Option, Some, None, option_map, option_and_then, unwrap_or, nat_lt, filter, map, flat_map, max, ◌/◌}
+use Rattle.std.proofs.Common.{◌≡◌, ℕ, ◌≤◌, ◌+◌, ◌-◌, Bool, true, false, List, [], ◌∷◌, ◌++◌, length, take, refl, sym, ap, ◌∙◌, subst, ◌&&◌, not, arith}
+use Rattle.std.specs.Prelude.{Option, Some, None, option_map, option_and_then, unwrap_or, nat_lt, filter, map, max, ◌/◌}
 use Rattle.std.specs.Bool.{then_some}
 use Rattle.std.specs.List.{AllByRecursion, range_with_len}
 use Rattle.bar_laws.proofs.AgreeLogs.{now, filter-same, held-on, blocks-on, history-same, said-agree}
 use Rattle.bar_laws.proofs.AgreeRows.{all-with, body-same, terms-same, wanted-same}
-use Rattle.bar_laws.proofs.InLife.{InLife, BodyInLife, LogInLife, from-in-life, history-in-life, young-in-life, aged-in-life, wanted-in-life, given-in-life, promised-in-life, offered-in-life, terms-in-life, of-round}
-use Rattle.bar_laws.proofs.Elsewhere.{is_of-is}
-use Rattle.bar_laws.proofs.Once.{parts-of, part-round}
+use Rattle.bar_laws.proofs.InLife.{InLife, BodyInLife, LogInLife, from-in-life, history-in-life, young-in-life, aged-in-life, wanted-in-life, given-in-life, promised-in-life, offered-in-life, terms-in-life, by-round}
+use Rattle.bar_laws.proofs.Once.{parts-of}
 
 -- ---- briefcases
 
@@ -141,18 +137,11 @@ module _ (me : Member) (one two : Log) (same : AgreesWith me one two) where
   signed-same : (m : Message) → ((p : ℕ × XKind × Role) → part_of m.body ≡ Some p → IsRecent me one p.0) → signed me one m ≡ signed me two m
   signed-same m r = ap (λ n. record { message = m; signature = signature_of me (leaves.leaf_of m.body n) (message_bytes me.session m) }) (go (part_of m.body) refl)
     where
-      by : (p : ℕ × XKind × Role) → (exchange_by p.0 p.1 p.2 m.from m.to).round ≡ p.0
-      by p = side p.2
-        where
-          side : (role : Role) → (exchange_by p.0 p.1 role m.from m.to).round ≡ p.0
-          side Initiator = refl
-          side Responder = refl
-
       go : (o : Option (ℕ × XKind × Role)) → part_of m.body ≡ o → seat_by one m o ≡ seat_by two m o
       go None e = refl
       go (Some p) e =
           let x : Exchange = exchange_by p.0 p.1 p.2 m.from m.to in
-          ap (λ o. unwrap_or o 0) (same.seats x (subst (λ z. round_now one ≤ z + me.session.shape.life) (sym (by p)) (r p e)))
+          ap (λ o. unwrap_or o 0) (same.seats x (subst (λ z. round_now one ≤ z + me.session.shape.life) (sym (by-round p.0 p.1 p.2 m.from m.to)) (r p e)))
 
 -- ---- carrying out orders
 
@@ -175,7 +164,7 @@ new-alike me at a b x (Some body) life w recent f =
     let m : Message = message_to me x body in
     let d : Datagram = signed me a.log m in
     let one : d ≡ signed me b.log m =
-        signed-same me a.log b.log w.agree m (λ p e. (let here : at ≤ p.0 + me.session.shape.life = subst (λ z. at ≤ z + me.session.shape.life) (sym (may.part p e)) recent in subst (λ n. n ≤ p.0 + me.session.shape.life) (sym w.moment) here))
+    signed-same me a.log b.log w.agree m (λ p e. (let here : at ≤ p.0 + me.session.shape.life = subst (λ z. at ≤ z + me.session.shape.life) (sym (may.part p e)) recent in subst (λ n. n ≤ p.0 + me.session.shape.life) (sym w.moment) here))
     in
     let soon : kind_number body ≡ 3 → round_now a.log ≤ round_of body + 2 = (λ k. request-soon me at a x body w.moment may k) in
     record {

@@ -1,35 +1,32 @@
 -- Logs that agree in what a peer keeps answer a datagram alike.
-use Rattle.bar_window.specs.Exchange.{same_role}
 use Rattle.bar_window.specs.declared.exchange.Exchange.{Exchange}
 use Rattle.bar_window.specs.declared.exchange.Role.{Role}
 use Rattle.bar_window.specs.declared.exchange.Role.TheVariants.{Initiator, Responder}
 use Rattle.bar_window.specs.declared.exchange.XKind.{XKind}
 use Rattle.bar_window.specs.declared.exchange.XKind.TheVariants.{Balanced, Push}
-use Rattle.bar_terms.specs.Table.{Table}
-use Rattle.bar_wire.specs.Datagram.{Message, Datagram, Body, Manifest, Block, Request, Response, Divulge, Query, Reply, Case, KeyRequest, Key, Evidence, Evict, is_of, kind_number, part_of, exchange_by, round_of}
+use Rattle.bar_wire.specs.Datagram.{Datagram, Body, Manifest, Block, Request, Response, Divulge, Query, Reply, Case, KeyRequest, Key, Evidence, Evict, is_of, kind_number, part_of, exchange_by, round_of}
 use Rattle.bar_rules.specs.Agreement.{AgreesWith, IsRecent}
 use Rattle.bar_rules.specs.Admission.{is_admitted}
-use Rattle.bar_rules.specs.Evidence.{completed, is_tried, if_names, pair_with, pairs_in, pairs_by, kept}
+use Rattle.bar_rules.specs.Evidence.{completed, is_tried, if_names, pair_with, pairs_by}
 use Rattle.bar_rules.specs.Log.{Log, Heard, Kept, first_heard, table, round_now, is_announced}
-use Rattle.bar_rules.specs.Member.{Session, Member, round_after}
-use Rattle.bar_rules.specs.Orders.{Order, Ask, Answer, Reveal, GiveCase, AskKey, GiveKey, Resend, Report, Out, begun, perform_all}
+use Rattle.bar_rules.specs.Member.{Member}
+use Rattle.bar_rules.specs.Orders.{Order, Answer, Reveal, GiveCase, AskKey, GiveKey, Report, Out, begun, perform_all}
 use Rattle.bar_rules.specs.Replies.{is_trade_worth, orders_when, orders_for, reply_orders, if_same, heard_like, repeated, answer_repeat, answered_to, with_evidence, report_new, take_datagram}
 use Rattle.bar_rules.specs.Terms.{terms_of, first_kind}
 use Rattle.bar_rules.specs.Values.{datagram_bytes, is_signed_by}
 use Rattle.bar_rules.specs.Verdict.{is_peer_kind}
-use Rattle.std.proofs.Common.{◌≡◌, ℕ, ◌<◌, ◌≤◌, ◌+◌, Bool, true, false, List, [], ◌∷◌, ◌++◌, refl, sym, ap, ◌∙◌, subst, ◌&&◌, ◌||◌, not, eqb, cond, arith}
-use Rattle.std.specs.Prelude.{Option, Some, None, is_some, option_map, option_and_then, nat_le}
+use Rattle.std.proofs.Common.{◌≡◌, ℕ, ◌<◌, ◌≤◌, ◌+◌, Bool, true, false, List, [], ◌∷◌, refl, sym, ap, ◌∙◌, subst, ◌&&◌, ◌||◌, not, eqb, cond, arith}
+use Rattle.std.specs.Prelude.{Option, Some, None, is_some, nat_le}
 use Rattle.std.specs.Bool.{then_some}
 use Rattle.std.specs.Option.{option_or}
-use Rattle.std.specs.Str.{bytes_eq}
 use Rattle.std.specs.List.{AllByRecursion}
-use Rattle.std.proofs.lemmas.Bool.{and_parts, leb-true, lt-leb, leb-false, or_cases}
-use Rattle.bar_laws.proofs.AgreeLogs.{now, IsInTime, by-round, kept-agree, heard-agree}
-use Rattle.bar_laws.proofs.AgreeRows.{terms-same, admitted-same, row-in-time, in-time-recent, and_first, and_last}
+use Rattle.std.proofs.lemmas.Bool.{and_parts, leb-true, lt-leb, leb-false}
+use Rattle.bar_laws.proofs.AgreeLogs.{now, IsInTime, kept-agree, heard-agree}
+use Rattle.bar_laws.proofs.AgreeRows.{terms-same, admitted-same, row-in-time, and_last}
 use Rattle.bar_laws.proofs.AgreeOrders.{IsTimely, IsAlike, perform-alike, perform_all-alike}
 use Rattle.bar_laws.proofs.Elsewhere.{is_of-is}
-use Rattle.bar_laws.proofs.InLife.{BodyInLife, LogInLife, of-round}
-use Rattle.bar_laws.proofs.Later.{first_heard-was, if_passes-is}
+use Rattle.bar_laws.proofs.InLife.{BodyInLife, LogInLife, of-round, by-round}
+use Rattle.bar_laws.proofs.Later.{first_heard-was}
 use Rattle.bar_laws.proofs.Once.{parts-of, part-round}
 use Rattle.bar_laws.proofs.Tables.{admitted-row}
 
@@ -51,7 +48,7 @@ in-bound round at bound false e f h = subst (λ n. n ≤ bound) e (leb-true roun
 at-round : (life at r : ℕ) (k : XKind) (role : Role) (from to more : ℕ) → at ≤ r + more → at ≤ (exchange_by r k role from to).round + more
 at-round life at r k role from to more h = subst (λ z. at ≤ z + more) (sym (by-round r k role from to)) h
 
-pub orders-timely : (me : Member) (log : Log) (at : ℕ) (is_new : Bool) (from to : ℕ) (b : Body) → 2 ≤ me.session.shape.life → round_now log ≡ at → IsNewInTime me.session.shape.life at is_new b
+orders-timely : (me : Member) (log : Log) (at : ℕ) (is_new : Bool) (from to : ℕ) (b : Body) → 2 ≤ me.session.shape.life → round_now log ≡ at → IsNewInTime me.session.shape.life at is_new b
     → AllByRecursion (IsTimely me.session.shape.life at) (orders_for me log is_new from to b)
 orders-timely me log at is_new from to (Request r seed c) life e f =
     when-timely me.session.shape.life at _ (Answer (exchange_by r Balanced Initiator from to) ∷ []) (λ h. (in-bound (round_now log) at (r + 1) is_new e f h, tt))
@@ -98,7 +95,7 @@ stale-orders me log from to (Key k) p life e h = refl
 stale-orders me log from to _ p life e h = cc
 
 module _ (me : Member) (one two : Log) (same : AgreesWith me one two) (life : 2 ≤ me.session.shape.life) where
-  pub orders-same : (is_new : Bool) (from to : ℕ) (b : Body) → IsNewInTime me.session.shape.life (round_now one) is_new b → orders_for me one is_new from to b ≡ orders_for me two is_new from to b
+  orders-same : (is_new : Bool) (from to : ℕ) (b : Body) → IsNewInTime me.session.shape.life (round_now one) is_new b → orders_for me one is_new from to b ≡ orders_for me two is_new from to b
   orders-same is_new from to (Request r seed c) f = ap (λ n. orders_when (is_new || nat_le n (r + 1)) (Answer (exchange_by r Balanced Initiator from to) ∷ [])) (now me one two same)
   orders-same true from to (Response r hb) f =
       let x : Exchange = exchange_by r Balanced Responder from to in

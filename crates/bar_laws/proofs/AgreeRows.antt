@@ -2,38 +2,36 @@
 use Rattle.bar_terms.specs.Table.{Table, digest_of, is_within}
 use Rattle.bar_terms.specs.Terms.{offer_ok, offer_rounds}
 use Rattle.bar_window.specs.Exchange.{other_role, same_role}
-use Rattle.bar_window.specs.Updates.{is_of_rounds}
-use Rattle.bar_window.specs.Terms.{Terms}
 use Rattle.bar_window.specs.declared.exchange.Exchange.{Exchange}
 use Rattle.bar_window.specs.declared.exchange.Role.{Role}
 use Rattle.bar_window.specs.declared.exchange.Role.TheVariants.{Initiator, Responder}
 use Rattle.bar_window.specs.declared.exchange.XKind.{XKind}
 use Rattle.bar_window.specs.declared.exchange.XKind.TheVariants.{Balanced, Push}
 use Rattle.bar_window.specs.declared.update.UpdateId.{UpdateId}
-use Rattle.bar_wire.specs.Datagram.{Message, Datagram, Body, Manifest, Block, Request, Response, Divulge, Query, Reply, Case, KeyRequest, Key, Evidence, Evict, Briefcase, is_of, is_signed, kind_number, part_of, exchange_by, round_of}
-use Rattle.bar_rules.specs.Admission.{is_admitted, is_row_met, is_for, is_genuine, is_heard_again, is_named_again, may_ask, is_near, has_digest, meets_commitment, commitment_in, body_heard, body_said, are_terms, terms_with}
+use Rattle.bar_wire.specs.Datagram.{Message, Datagram, Body, Manifest, Block, Request, Response, Divulge, Query, Reply, Case, KeyRequest, Key, Evidence, Evict, is_of, is_signed, kind_number, part_of, exchange_by, round_of}
+use Rattle.bar_rules.specs.Admission.{is_admitted, is_row_met, is_for, is_genuine, is_heard_again, is_named_again, may_ask, is_near, has_digest, meets_commitment, commitment_in, body_said, are_terms, terms_with}
 use Rattle.bar_rules.specs.Agreement.{AgreesWith, IsRecent}
 use Rattle.bar_rules.specs.Choices.{wanted_of}
 use Rattle.bar_rules.specs.Holdings.{is_held}
-use Rattle.bar_rules.specs.Log.{Log, table, round_now, has_heard, has_said, first_heard, first_said, count_heard, has_kind_and_round, is_announced}
+use Rattle.bar_rules.specs.Log.{Log, table, round_now, has_heard, has_said, count_heard, has_kind_and_round, is_announced}
 use Rattle.bar_rules.specs.Member.{Member, is_alive}
 use Rattle.bar_rules.specs.Secrets.{is_seed, partner_of, commitment_of}
-use Rattle.bar_rules.specs.Terms.{terms_of, terms_by, trade_terms, offer_terms, revealed, answered, offered, taken, first_on, body_on, role_of, asking_kind}
+use Rattle.bar_rules.specs.Terms.{terms_of, terms_by, trade_terms, offer_terms, answered, offered, taken, body_on, role_of, asking_kind}
 use Rattle.bar_rules.specs.Values.{counts_ok, terms_ok}
 use Rattle.std.proofs.Common.{◌≡◌, ℕ, ◌<◌, ◌≤◌, ◌+◌, ◌-◌, Bool, true, false, List, [], ◌∷◌, length, refl, sym, ap, ◌∙◌, subst, ◌&&◌, not, eqb, cond, take, arith}
-use Rattle.std.specs.Prelude.{Option, Some, None, is_some, option_map, option_and_then, nat_le, nat_lt, filter, max}
+use Rattle.std.specs.Prelude.{Option, Some, None, is_some, option_map, option_and_then, nat_le, nat_lt, max}
 use Rattle.std.specs.Option.{option_map_or}
 use Rattle.std.specs.Str.{bytes_eq}
-use Rattle.std.specs.List.{list_all, AllByRecursion}
-use Rattle.std.proofs.lemmas.Bool.{and_parts, and_from, leb-true, le-leb, ltb-true}
-use Rattle.bar_laws.proofs.AgreeLogs.{now, filter-same, IsInTime, by-round, held-on, requests-same}
-use Rattle.bar_laws.proofs.InLife.{InLife, rounds-in-life}
+use Rattle.std.specs.List.{AllByRecursion}
+use Rattle.std.proofs.lemmas.Bool.{and_parts, leb-true, ltb-true}
+use Rattle.bar_laws.proofs.AgreeLogs.{now, filter-same, IsInTime, held-on, requests-same}
+use Rattle.bar_laws.proofs.InLife.{InLife, rounds-in-life, by-round}
 use Rattle.bar_laws.proofs.Once.{parts-of}
 
 -- ---- tests
 
 -- both sides of a test are the same where what stands beside it holds
-pub and_first : (a b c : Bool) → (c ≡ true → a ≡ b) → (a && c) ≡ (b && c)
+and_first : (a b c : Bool) → (c ≡ true → a ≡ b) → (a && c) ≡ (b && c)
 and_first a b true f = ap (λ z. z && true) (f refl)
 and_first true true false f = refl
 and_first true false false f = refl
@@ -65,7 +63,7 @@ row-in-time me log from to (Key k) h = leb-true (round_now log) (k.round + me.se
 row-in-time me log from to _ h = tt
 
 -- what is in time is of a recent round
-pub in-time-recent : (life at : ℕ) (b : Body) (p : ℕ × XKind × Role) → 2 ≤ life → IsInTime life at b → part_of b ≡ Some p → at ≤ p.0 + life
+in-time-recent : (life at : ℕ) (b : Body) (p : ℕ × XKind × Role) → 2 ≤ life → IsInTime life at b → part_of b ≡ Some p → at ≤ p.0 + life
 in-time-recent life at (Request r seed c) p two h e = let same : r ≡ p.0 = (parts-of (r, Balanced, Initiator) p e).0 in omega arith
 in-time-recent life at (Response r hb) p two h e = let same : r ≡ p.0 = (parts-of (r, Balanced, Responder) p e).0 in omega arith
 in-time-recent life at (Divulge r nonce ha) p two h e = let same : r ≡ p.0 = (parts-of (r, Balanced, Initiator) p e).0 in omega arith
@@ -81,7 +79,7 @@ pub all-with : {X : Type 0} (f : X → Bool → Bool) (p q : X → Bool) (xs : L
 all-with f p q [] h = tt
 all-with f p q (x ∷ xs) h = (ap (f x) h.0, all-with f p q xs h.1)
 
-pub young-rounds : (cap life : ℕ) (table : Table) (round : ℕ) (young aged : List UpdateId) → 2 ≤ life → offer_ok cap life table round young aged ≡ true → InLife life round young
+young-rounds : (cap life : ℕ) (table : Table) (round : ℕ) (young aged : List UpdateId) → 2 ≤ life → offer_ok cap life table round young aged ≡ true → InLife life round young
 young-rounds cap life table round young aged two h =
     let rounds : offer_rounds life round young aged ≡ true = (and_parts _ _ (and_parts _ _ h).0).0 in
     rounds-in-life life round (max 1 (round - 1)) round young (omega arith) (and_parts _ _ rounds).0
@@ -133,7 +131,7 @@ module _ (me : Member) (one two : Log) (same : AgreesWith me one two) where
         (requests-same me one two same kind round (soon-recent round (near-soon round b))))
         ∙ ap (λ n. ((is_seed me.session from round seed && eqb (partner_of me.session seed kind from) me.party) && nat_lt (count_heard (has_kind_and_round (asking_kind kind) round) two) 2) && is_near round n) (now me one two same)
 
-    pub row-same : (from to : ℕ) (b : Body) → is_row_met me one from to b ≡ is_row_met me two from to b
+    row-same : (from to : ℕ) (b : Body) → is_row_met me one from to b ≡ is_row_met me two from to b
     row-same from to (Manifest r digests) = ap (λ n. nat_le r (n + 1) && is_alive me.session r n) (now me one two same)
     row-same from to (Block u block) =
         (λ i. ((has_digest (digest_of (same.manifests i) u) block && not (is_held me.session one u)) && is_alive me.session u.round (round_now one)))

@@ -5,31 +5,27 @@ use Rattle.bar_window.specs.declared.exchange.Role.{Role}
 use Rattle.bar_window.specs.declared.exchange.Role.TheVariants.{Initiator, Responder}
 use Rattle.bar_window.specs.declared.exchange.XKind.{XKind}
 use Rattle.bar_window.specs.declared.exchange.XKind.TheVariants.{Balanced, Push}
-use Rattle.bar_window.specs.declared.update.UpdateId.{UpdateId}
-use Rattle.bar_wire.specs.Datagram.{Datagram, is_of}
+use Rattle.bar_wire.specs.Datagram.{Datagram}
 use Rattle.bar_wire.specs.Grammar.{words_of}
 use Rattle.bar_wire.specs.Inputs.{Input, Tick, Came}
 use Rattle.bar_rules.specs.Agreement.{AgreesWith, IsRecent}
-use Rattle.bar_rules.specs.Choices.{young_of}
-use Rattle.bar_rules.specs.Evidence.{kept}
-use Rattle.bar_rules.specs.Holdings.{block_of}
-use Rattle.bar_rules.specs.Log.{Log, Ticked, has_heard, has_said, round_now, ticks, is_announced}
-use Rattle.bar_rules.specs.Member.{Member, IsMember, slot_after, last_tick, round_after}
-use Rattle.bar_rules.specs.Orders.{Order, Ask, Reveal, AskKey, Resend, Report, Out, begun, perform_all}
+use Rattle.bar_rules.specs.Log.{Log, Ticked, round_now, ticks, is_announced}
+use Rattle.bar_rules.specs.Member.{Member, slot_after, last_tick}
+use Rattle.bar_rules.specs.Orders.{Order, Ask, AskKey, Resend, Report, begun, perform_all}
 use Rattle.bar_rules.specs.Replies.{orders_when, take_datagram}
 use Rattle.bar_rules.specs.Rules.{IsObedient}
-use Rattle.bar_rules.specs.Run.{take_input, step, contents_at, contents_by}
+use Rattle.bar_rules.specs.Run.{take_input, step, contents_at}
 use Rattle.bar_rules.specs.Secrets.{seed_of, partner_of}
 use Rattle.bar_rules.specs.Terms.{role_of, partner_in, asking_kind, answer_kind}
 use Rattle.bar_rules.specs.Ticks.{open_exchanges, opened, is_initiator, reveals, lacks_answer, lacks_case, lacks_key, again, asking_partner, new_requests, reports, orders_at_tick, content_of, content_at, contents_of_round, contents_at_tick}
 use Rattle.bar_rules.specs.Values.{datagram_of, updates_of}
-use Rattle.std.proofs.Common.{◌≡◌, ℕ, ◌<◌, ◌≤◌, ◌+◌, ◌-◌, Bool, true, false, List, [], ◌∷◌, ◌++◌, length, refl, sym, ap, ◌∙◌, subst, ◌&&◌, ◌||◌, not, eqb, cond, arith}
+use Rattle.std.proofs.Common.{◌≡◌, ℕ, ◌≤◌, ◌+◌, ◌-◌, Bool, true, false, List, [], ◌∷◌, ◌++◌, length, refl, sym, ap, ◌∙◌, subst, ◌&&◌, not, eqb, cond, arith}
 use Rattle.std.specs.Prelude.{Option, Some, None, is_some, nat_le, nat_lt, map, flat_map, filter, option_to_list, ◌*◌}
 use Rattle.std.specs.List.{AllByRecursion, range_with_len}
-use Rattle.std.proofs.lemmas.Bool.{and_parts, leb-true, eqb-true}
+use Rattle.std.proofs.lemmas.Bool.{leb-true}
 use Rattle.bar_laws.specs.Agreement.{AnswersAlike}
 use Rattle.bar_laws.proofs.AgreeLogs.{now, ticked-agree}
-use Rattle.bar_laws.proofs.AgreeRows.{said-same, heard-same, and_last}
+use Rattle.bar_laws.proofs.AgreeRows.{said-same, heard-same}
 use Rattle.bar_laws.proofs.AgreeOrders.{IsTimely, IsAlike, perform_all-alike, young-same}
 use Rattle.bar_laws.proofs.AgreeReplies.{begun-alike, taken-alike, when-timely}
 use Rattle.bar_laws.proofs.Grammar.{read-fits}
@@ -124,13 +120,13 @@ module _ (me : Member) (one two : Log) (same : AgreesWith me one two) (life : 2 
       let other : Role = other_role role in
       let now_is : round_now one ≡ round_now two = now me one two same in
       let answer : lacks_answer me one x ≡ lacks_answer me two x =
-          (λ i. is_initiator role && not (heard-same me one two same (answer_kind x.kind) x Responder r i) && nat_le (now_is i) (x.round + 1))
+      (λ i. is_initiator role && not (heard-same me one two same (answer_kind x.kind) x Responder r i) && nat_le (now_is i) (x.round + 1))
       in
       let case : lacks_case me one x ≡ lacks_case me two x =
-          (λ i. said-same me one two same 8 x role r i && not (heard-same me one two same 8 x other r i) && nat_le (now_is i) (x.round + 2))
+      (λ i. said-same me one two same 8 x role r i && not (heard-same me one two same 8 x other r i) && nat_le (now_is i) (x.round + 2))
       in
       let key : lacks_key me one x ≡ lacks_key me two x =
-          (λ i. said-same me one two same 8 x role r i && heard-same me one two same 8 x other r i && not (heard-same me one two same 10 x other r i) && nat_le (now_is i) (x.round + me.session.shape.life))
+      (λ i. said-same me one two same 8 x role r i && heard-same me one two same 8 x other r i && not (heard-same me one two same 10 x other r i) && nat_le (now_is i) (x.round + me.session.shape.life))
       in
       (λ i. cond (answer i) (Resend (asking_kind x.kind) x ∷ []) (cond (case i) (reveals x.kind role x ++ Resend 8 x ∷ []) (cond (key i) (AskKey x ∷ []) [])))
 
@@ -189,7 +185,7 @@ taken me one two Tick same life lives =
     let at : ℕ = round_now (Ticked ∷ one) in (
       at,
       subst (λ os. IsAlike me at (perform_all me (begun (Ticked ∷ one)) (orders_at_tick me (Ticked ∷ one))) (perform_all me (begun (Ticked ∷ two)) os)) (tick-same me (Ticked ∷ one) (Ticked ∷ two) agree life)
-      (perform_all-alike me at (orders_at_tick me (Ticked ∷ one)) (begun (Ticked ∷ one)) (begun (Ticked ∷ two)) life (begun-alike me (Ticked ∷ one) (Ticked ∷ two) agree life (tt, lives)) (tick-timely me (Ticked ∷ one))),
+          (perform_all-alike me at (orders_at_tick me (Ticked ∷ one)) (begun (Ticked ∷ one)) (begun (Ticked ∷ two)) life (begun-alike me (Ticked ∷ one) (Ticked ∷ two) agree life (tt, lives)) (tick-timely me (Ticked ∷ one))),
     )
 taken me one two (Came bytes) same life lives = (round_now one, go (datagram_of me.session bytes) refl)
   where

@@ -91,4 +91,3 @@ map-later g None p b k e = cc
 pub then-later : {A B : Type 0} (g : A → Option B) (o p : Option A) (b : B) → ((a : A) → o ≡ Some a → p ≡ Some a) → option_and_then g o ≡ Some b → option_and_then g p ≡ Some b
 then-later g (Some a) p b k e = rw (k a refl) e
 then-later g None p b k e = cc
-

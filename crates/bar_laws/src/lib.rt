@@ -1,7 +1,7 @@
 //! What holds of every run of a peer, and of all parties together, over the definitions alone.
 #![tactic(auto)]
 
+pub mod agreement;
+pub mod leaves;
 pub mod obedience;
 pub mod totals;
-pub mod leaves;
-pub mod agreement;
