@@ -51,10 +51,8 @@ pub record IsPlain (log : Log) (b : Body) : Type 0 where
   pub unsigned_kind : is_signed b ≡ false
   pub evidence : (inside b ≡ []) ⊎ ((q : ℕ) × (kept log q ≡ Some (inside b)))
 
--- it goes to the receiver that it names
-pub record SentBy (me : Member) (log : Log) (s : ℕ × Datagram) : Type 0 where
-  pub to : s.0 ≡ s.1.message.to
-  pub from : SaidIn log s.1 ⊎ ((s.1.message.from ≡ me.party) × IsPlain log s.1.message.body)
+abbrev pub SentBy : Member → Log → ℕ × Datagram → Type 0
+SentBy me log s = SaidIn log s.1 ⊎ ((s.1.message.from ≡ me.party) × IsPlain log s.1.message.body)
 
 pub record Adds (me : Member) (log : Log) (o : Option Datagram) (out : Out) : Type 0 where
   pub new : Log
@@ -62,7 +60,7 @@ pub record Adds (me : Member) (log : Log) (o : Option Datagram) (out : Out) : Ty
   pub added : AllByRecursion (AddedBy me log o) new
   pub sent : AllByRecursion (SentBy me out.log) out.sends
 
-all-snoc : {X : Type 0} (P : X → Type 0) (xs : List X) (x : X) → AllByRecursion P xs → P x → AllByRecursion P (xs ++ x ∷ [])
+pub all-snoc : {X : Type 0} (P : X → Type 0) (xs : List X) (x : X) → AllByRecursion P xs → P x → AllByRecursion P (xs ++ x ∷ [])
 all-snoc P [] x a p = (p, tt)
 all-snoc P (y ∷ xs) x a p = (a.0, all-snoc P xs x a.1 p)
 
@@ -71,15 +69,12 @@ all-map P Q [] f a = tt
 all-map P Q (x ∷ xs) f a = (f x a.0, all-map P Q xs f a.1)
 
 pub sent-said : (me : Member) (log : Log) (d : Datagram) (s : ℕ × Datagram) → SentBy me log s → SentBy me (Said d ∷ log) s
-sent-said me log d s sent = record { to = sent.to; from = by sent.from }
+sent-said me log d s (inl p) = inl (inr p)
+sent-said me log d s (inr (f, p)) = inr (f, record { unsigned_kind = p.unsigned_kind; evidence = go p.evidence })
   where
     go : (inside s.1.message.body ≡ []) ⊎ ((q : ℕ) × (kept log q ≡ Some (inside s.1.message.body))) → (inside s.1.message.body ≡ []) ⊎ ((q : ℕ) × (kept (Said d ∷ log) q ≡ Some (inside s.1.message.body)))
     go (inl e) = inl e
     go (inr e) = inr (e.0, option_or-some (kept log e.0) None (inside s.1.message.body) e.1)
-
-    by : SaidIn log s.1 ⊎ ((s.1.message.from ≡ me.party) × IsPlain log s.1.message.body) → SaidIn (Said d ∷ log) s.1 ⊎ ((s.1.message.from ≡ me.party) × IsPlain (Said d ∷ log) s.1.message.body)
-    by (inl p) = inl (inr p)
-    by (inr (f, p)) = inr (f, record { unsigned_kind = p.unsigned_kind; evidence = go p.evidence })
 
 -- a message of a side of an exchange goes to the other
 exchange-to-other : (r : ℕ) (k : XKind) (side : Role) (from to : ℕ) (x : Exchange) → exchange_by r k side from to ≡ x → to ≡ party_on x (other_role side)
@@ -104,7 +99,7 @@ adds-say me log o out kind x b a = go (first_said (is_of kind x (role_of me x)) 
     go : (q : Option Datagram) → first_said (is_of kind x (role_of me x)) out.log ≡ q → (b : Option Body) → Adds me log o (say_or_repeat me out x q b)
     go (Some d) e b =
         let was = first_said-was (is_of kind x (role_of me x)) out.log d e in
-        adds-send me log o out (partner_in me x) d a (record { to = sym (is_of-to kind x (role_of me x) d.message was.1); from = inl (said-in out.log d was.0) })
+        adds-send me log o out (partner_in me x) d a (inl (said-in out.log d was.0))
     go None e None = a
     go None e (Some b) =
         let d : Datagram = signed me out.log (message_to me x b) in
@@ -112,12 +107,12 @@ adds-say me log o out kind x b a = go (first_said (is_of kind x (role_of me x)) 
           new = Said d ∷ a.new;
           split = ap (λ l. Said d ∷ l) a.split;
           added = (tt, a.added);
-          sent = all-snoc (SentBy me (Said d ∷ out.log)) out.sends (partner_in me x, d) (all-map (SentBy me out.log) (SentBy me (Said d ∷ out.log)) out.sends (sent-said me out.log d) a.sent) (record { to = refl; from = inl (inl refl) });
+          sent = all-snoc (SentBy me (Said d ∷ out.log)) out.sends (partner_in me x, d) (all-map (SentBy me out.log) (SentBy me (Said d ∷ out.log)) out.sends (sent-said me out.log d) a.sent) (inl (inl refl));
         }
 
 adds-if : (me : Member) (log : Log) (o : Option Datagram) (out : Out) (to : ℕ) (b : Option Body) → Adds me log o out → ((c : Body) → b ≡ Some c → IsPlain out.log c) → Adds me log o (send_if me out to b)
 adds-if me log o out to None a f = a
-adds-if me log o out to (Some c) a f = adds-send me log o out to (unsigned (record { from = me.party; to = to; body = c })) a (record { to = refl; from = inr (refl, f c refl) })
+adds-if me log o out to (Some c) a f = adds-send me log o out to (unsigned (record { from = me.party; to = to; body = c })) a (inr (refl, f c refl))
 
 report-plain : (log : Log) (q : ℕ) (c : Body) (k : Option (List (List ℕ))) → kept log q ≡ k → option_map Evidence k ≡ Some c → IsPlain log c
 report-plain log q c None e f = cc

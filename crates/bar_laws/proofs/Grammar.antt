@@ -27,6 +27,10 @@ reads-back s b d e = subst (λ z. datagram_of s z ≡ Some d) (sym (spells s b d
 pub fits-back : (s : Session) (d : Datagram) → IsDatagram s.shape d → datagram_of s (datagram_bytes s d) ≡ Some d
 fits-back s d fits = is_told s.shape d (datagram_bytes s d) (record { fits = fits; is = refl })
 
+-- what is in the grammar is all that its bytes are read as
+pub fits-reads : (s : Session) (d : Datagram) → IsDatagram s.shape d → (e : Datagram) → datagram_of s (datagram_bytes s d) ≡ Some e → e ≡ d
+fits-reads s d fits e reads = let back : datagram_of s (datagram_bytes s d) ≡ Some d = fits-back s d fits in cc
+
 pub read-fits : (s : Session) (b : List ℕ) (d : Datagram) → datagram_of s b ≡ Some d → IsDatagram s.shape d
 read-fits s b d e = (only_told s.shape d b e).fits
 

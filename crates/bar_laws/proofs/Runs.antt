@@ -72,7 +72,7 @@ reports-stand me log [] = tt
 reports-stand me log (q ∷ qs) = (tt, reports-stand me log qs)
 
 -- after a tick the round is at least 1
-ticked-low : (log : Log) → 1 ≤ round_now (Ticked ∷ log)
+pub ticked-low : (log : Log) → 1 ≤ round_now (Ticked ∷ log)
 ticked-low log = omega arith
 
 tick-stands : (me : Member) (log : Log) → 1 ≤ round_now log → AllByRecursion (Stands me log) (orders_at_tick me log)

@@ -1,25 +1,32 @@
 -- What a run sends.
-use Rattle.bar_rules.specs.Log.{Log, Entry, Said}
-use Rattle.bar_rules.specs.Member.{Member}
-use Rattle.bar_rules.specs.Run.{step, log_after, sends_from, sends_of}
-use Rattle.bar_rules.specs.Terms.{role_of, totals, totals_with}
+use Rattle.bar_rules.specs.Log.{Log, Entry, Ticked, Heard, Said, first_said, ticks}
+use Rattle.bar_rules.specs.Admission.{is_admitted}
+use Rattle.bar_rules.specs.Evidence.{completed}
+use Rattle.bar_rules.specs.Signing.{signed}
+use Rattle.bar_rules.specs.Orders.{Order, Ask, Answer, Reveal, GiveCase, AskKey, GiveKey, Resend, Report, Out, begun, perform, perform_all, say, say_or_repeat, send_if, message_to, unsigned}
+use Rattle.bar_rules.specs.Replies.{reply_orders, answered_to, answer_repeat, repeated, with_evidence, report_new, take_datagram}
+use Rattle.bar_rules.specs.Ticks.{orders_at_tick}
+use Rattle.bar_rules.specs.Values.{datagram_of}
+use Rattle.bar_rules.specs.Member.{Member, last_tick}
+use Rattle.bar_rules.specs.Run.{take_input, step, log_after, sends_from, sends_of}
+use Rattle.bar_rules.specs.Terms.{role_of, partner_in, totals, totals_with}
 use Rattle.bar_rules.specs.Log.{has_said}
 use Rattle.bar_rules.specs.Rules.{IsObedient}
 use Rattle.bar_laws.specs.Obedience.{IsSentByRule}
 use Rattle.bar_laws.specs.Balance.{key_was_sent, totals_of, IsEven, GoesToPartner}
 use Rattle.bar_window.specs.declared.exchange.Exchange.{Exchange}
 use Rattle.bar_window.specs.declared.exchange.Role.{Role}
-use Rattle.bar_wire.specs.Datagram.{Message, Datagram, Body, Key, is_signed, is_of}
-use Rattle.bar_wire.specs.Inputs.{Input}
+use Rattle.bar_wire.specs.Datagram.{Message, Datagram, Body, KeyRequest, Key, is_signed, is_of}
+use Rattle.bar_wire.specs.Inputs.{Input, Tick, Came}
 use Rattle.std.proofs.Common.{◌≡◌, ℕ, zero, suc, ◌+◌, ◌<◌, Bool, true, false, List, [], ◌∷◌, ◌++◌, length, refl, sym, ap, ◌∙◌, subst, inl, inr, arith}
-use Rattle.std.specs.Prelude.{Option, Some, None, ◌⊎◌, map, Contains, slice_index_or}
+use Rattle.std.specs.Prelude.{Option, Some, None, ◌⊎◌, map, cond, nat_le, Contains, slice_index_or}
 use Rattle.std.specs.List.{AllByRecursion, list_any}
 use Rattle.std.proofs.lemmas.Bool.{or_cases, both_ways}
-use Rattle.bar_laws.proofs.Later.{IsLater, later-same}
+use Rattle.bar_laws.proofs.Later.{IsLater, later-same, first_said-was}
 use Rattle.bar_laws.proofs.Unique.{SaidIn, was-said}
 use Rattle.bar_laws.proofs.Once.{said-found}
 use Rattle.bar_laws.proofs.Balance.{IsKeyOf, is_of-key, IsBalanced, balance}
-use Rattle.bar_laws.proofs.Adds.{Adds, SentBy, IsPlain, step-adds, came, is_of-to, all-map}
+use Rattle.bar_laws.proofs.Adds.{Adds, SentBy, IsPlain, step-adds, is_of-to, all-map, all-snoc}
 
 -- ---- logs grow
 
@@ -59,12 +66,74 @@ pub record IsSent (log : Log) (s : ℕ × Datagram) : Type 0 where
   pub to : s.0 ≡ s.1.message.to
   pub said : is_signed s.1.message.body ≡ true → SaidIn log s.1
 
-sent-by : (me : Member) (log : Log) (s : ℕ × Datagram) → SentBy me log s → IsSent log s
-sent-by me log s b = record { to = b.to; said = λ signed. go signed b.from }
+sent-by : (me : Member) (log : Log) (s : ℕ × Datagram) → SentBy me log s → s.0 ≡ s.1.message.to → IsSent log s
+sent-by me log s b to = record { to = to; said = λ signed. go signed b }
   where
     go : is_signed s.1.message.body ≡ true → SaidIn log s.1 ⊎ ((s.1.message.from ≡ me.party) × IsPlain log s.1.message.body) → SaidIn log s.1
     go signed (inl p) = p
     go signed (inr p) = absurd (both_ways _ p.1.unsigned_kind signed)
+
+-- each datagram goes to the receiver that it names
+abbrev pub IsAddressed : ℕ × Datagram → Type 0
+IsAddressed s = s.0 ≡ s.1.message.to
+
+say-addressed : (me : Member) (out : Out) (kind : ℕ) (x : Exchange) (o : Option Body) → AllByRecursion IsAddressed out.sends → AllByRecursion IsAddressed (say me out kind x o).sends
+say-addressed me out kind x o a = go (first_said (is_of kind x (role_of me x)) out.log) refl o
+  where
+    go : (q : Option Datagram) → first_said (is_of kind x (role_of me x)) out.log ≡ q → (o : Option Body) → AllByRecursion IsAddressed (say_or_repeat me out x q o).sends
+    go (Some d) e o = all-snoc IsAddressed out.sends (partner_in me x, d) a (sym (is_of-to kind x (role_of me x) d.message (first_said-was (is_of kind x (role_of me x)) out.log d e).1))
+    go None e None = a
+    go None e (Some b) = all-snoc IsAddressed out.sends (partner_in me x, signed me out.log (message_to me x b)) a refl
+
+if-addressed : (me : Member) (out : Out) (to : ℕ) (o : Option Body) → AllByRecursion IsAddressed out.sends → AllByRecursion IsAddressed (send_if me out to o).sends
+if-addressed me out to None a = a
+if-addressed me out to (Some b) a = all-snoc IsAddressed out.sends (to, unsigned (record { from = me.party; to = to; body = b })) a refl
+
+perform-addressed : (me : Member) (out : Out) (o : Order) → AllByRecursion IsAddressed out.sends → AllByRecursion IsAddressed (perform me out o).sends
+perform-addressed me out (Ask x) a = say-addressed me out _ x _ a
+perform-addressed me out (Answer x) a = say-addressed me out _ x _ a
+perform-addressed me out (GiveCase x) a = say-addressed me out 8 x _ a
+perform-addressed me out (GiveKey x) a = say-addressed me out 10 x _ a
+perform-addressed me out (Resend kind x) a = say-addressed me out kind x None a
+perform-addressed me out (Reveal x) a = if-addressed me out _ _ a
+perform-addressed me out (AskKey x) a = if-addressed me out (partner_in me x) (Some (KeyRequest x.round x.kind (role_of me x))) a
+perform-addressed me out (Report q) a = if-addressed me out 0 _ a
+
+perform_all-addressed : (me : Member) (out : Out) (os : List Order) → AllByRecursion IsAddressed out.sends → AllByRecursion IsAddressed (perform_all me out os).sends
+perform_all-addressed me out [] a = a
+perform_all-addressed me out (o ∷ os) a = perform_all-addressed me (perform me out o) os (perform-addressed me out o a)
+
+datagram-addressed : (me : Member) (log : Log) (o : Option Datagram) → AllByRecursion IsAddressed (take_datagram me log o).sends
+datagram-addressed me log None = tt
+datagram-addressed me log (Some d) = reported (completed me log d)
+  where
+    before : Log
+    before = with_evidence log d.message.from (completed me log d)
+
+    answered : AllByRecursion IsAddressed (answered_to me before d).sends
+    answered = go (is_admitted me before d) (repeated me before d)
+      where
+        go : (b : Bool) (q : Option Datagram) → AllByRecursion IsAddressed (cond b (perform_all me (begun (Heard d ∷ before)) (reply_orders me (Heard d ∷ before) true d)) (answer_repeat me before q)).sends
+        go true q = perform_all-addressed me (begun (Heard d ∷ before)) (reply_orders me (Heard d ∷ before) true d) tt
+        go false None = tt
+        go false (Some c) = perform_all-addressed me (begun before) (reply_orders me before false c) tt
+
+    reported : (e : Option (List (List ℕ))) → AllByRecursion IsAddressed (report_new me (answered_to me before d) d.message.from e).sends
+    reported None = answered
+    reported (Some e) = perform-addressed me (answered_to me before d) (Report d.message.from) answered
+
+step-addressed : (me : Member) (log : Log) (i : Input) → AllByRecursion IsAddressed (step me log i).sends
+unfolding step
+step-addressed me log i = go (nat_le (last_tick me.session) (ticks log)) i
+  where
+    go : (b : Bool) (i : Input) → AllByRecursion IsAddressed (cond b (begun log) (take_input me log i)).sends
+    go true i = tt
+    go false Tick = perform_all-addressed me (begun (Ticked ∷ log)) (orders_at_tick me (Ticked ∷ log)) tt
+    go false (Came bytes) = datagram-addressed me log (datagram_of me.session bytes)
+
+all-sent : (me : Member) (log : Log) (sends : List (ℕ × Datagram)) → AllByRecursion (SentBy me log) sends → AllByRecursion IsAddressed sends → AllByRecursion (IsSent log) sends
+all-sent me log [] a b = tt
+all-sent me log (s ∷ sends) a b = (sent-by me log s a.0 b.0, all-sent me log sends a.1 b.1)
 
 -- of a send with its input's number
 abbrev pub IsSentAs : Log → ℕ × ℕ × Datagram → Type 0
@@ -85,7 +154,7 @@ run-sent me log n [] = tt
 run-sent me log n (i ∷ is) =
     all-both (IsSentAs (log_after me log (i ∷ is))) _ _
     (numbered (log_after me log (i ∷ is)) (step me log i).log n (step me log i).sends (run-later me (step me log i).log is)
-    (all-map (SentBy me (step me log i).log) (IsSent (step me log i).log) (step me log i).sends (λ s b. sent-by me (step me log i).log s b) (step-adds me log i).sent))
+    (all-sent me (step me log i).log (step me log i).sends (step-adds me log i).sent (step-addressed me log i)))
     (run-sent me (step me log i).log (n + 1) is)
 
 pub sent-by-rule : (me : Member) (inputs : List Input) → AllByRecursion (IsSentByRule (log_after me [] inputs)) (sends_of me inputs)

@@ -2,6 +2,9 @@
 #![tactic(auto)]
 
 pub mod agreement;
+pub mod evidence;
+pub mod framing;
 pub mod leaves;
 pub mod obedience;
 pub mod totals;
+pub mod verdicts;

@@ -7,8 +7,13 @@ use Rattle.bar_rules.specs.Member.{Member, last_tick}
 use Rattle.bar_rules.specs.Values.{datagram_of}
 use Rattle.bar_rules.specs.Log.{Log, Ticked, Heard, ticks}
 use Rattle.bar_rules.specs.Admission.{is_admitted}
-use Rattle.bar_rules.specs.Orders.{Out, begun}
-use Rattle.bar_rules.specs.Run.{contents_by}
+use Rattle.bar_rules.specs.Ticks.{contents_at_tick}
+
+-- what an input leaves: the log, the datagrams that are sent, each with its receiver, and the contents that are played
+pub record Outcome : Type 0 where
+  pub log : Log
+  pub sends : List (ℕ × Datagram)
+  pub contents : List (List ℕ)
 
 -- the kinds that a listener hears
 abbrev pub is_listened : Body → Bool
@@ -16,23 +21,32 @@ is_listened (Manifest round digests) = true
 is_listened (Block u block) = true
 is_listened _ = false
 
+abbrev pub hears : Member → Log → Datagram → Bool
+hears me log d = is_listened d.message.body && is_admitted me log d
+
 -- the log with a datagram, where it is heard
 abbrev pub heard : Member → Log → Option Datagram → Log
 heard me log None = log
-heard me log (Some d) = if is_listened d.message.body && is_admitted me log d then Heard d ∷ log else log
+heard me log (Some d) = if hears me log d then Heard d ∷ log else log
 
-abbrev pub listen_to : Member → Log → Input → Log
-listen_to me log Tick = Ticked ∷ log
-listen_to me log (Came bytes) = heard me log (datagram_of me.session bytes)
+abbrev pub listen : Member → Log → Input → Outcome
+listen me log Tick = record { log = Ticked ∷ log; sends = []; contents = contents_at_tick me (Ticked ∷ log) }
+listen me log (Came bytes) = record { log = heard me log (datagram_of me.session bytes); sends = []; contents = [] }
 
--- the log and the sends after one input, of which there are none; after its last tick a listener ignores every input
-unfoldable pub listened : Member → Log → Input → Out
-listened me log input = if nat_le (last_tick me.session) (ticks log) then begun log else begun (listen_to me log input)
+-- nothing is done
+abbrev pub idle : Log → Outcome
+idle log = record { log = log; sends = []; contents = [] }
+
+-- one input; after its last tick a listener ignores every input
+unfoldable pub listened : Member → Log → Input → Outcome
+listened me log input = if nat_le (last_tick me.session) (ticks log) then idle log else listen me log input
+
+-- ---- a run over a list of inputs
 
 -- the contents that each input plays
 abbrev pub contents_heard : Member → Log → List Input → List (List (List ℕ))
 contents_heard me log [] = []
-contents_heard me log (input ∷ inputs) = contents_by me log input ∷ contents_heard me (listened me log input).log inputs
+contents_heard me log (input ∷ inputs) = (listened me log input).contents ∷ contents_heard me (listened me log input).log inputs
 
 -- the datagrams that are sent, each with its input's number and its receiver
 abbrev pub sends_heard : Member → Log → ℕ → List Input → List (ℕ × ℕ × Datagram)

@@ -1,8 +1,10 @@
 -- All parties of a session, and a network that loses, repeats, reorders and forges.
-use Rattle.std.specs.Prelude.{◌≡◌, ℕ, ◌==◌, Bool, true, List, [], ◌∷◌, ◌++◌, map, Option, Some, None, if◌then◌else◌, slice_get, slice_set, unwrap_or, ◌⊎◌}
+use Rattle.std.specs.Prelude.{◌≡◌, ℕ, ◌+◌, ◌≤◌, ◌==◌, Bool, true, List, [], ◌∷◌, ◌++◌, map, length, Option, Some, None, if◌then◌else◌, slice_get, slice_set, unwrap_or, ◌⊎◌}
 use Rattle.std.specs.List.{concat}
 use Rattle.bar_wire.specs.Datagram.{Message, Datagram, Body, Evidence, is_signed}
 use Rattle.bar_wire.specs.Inputs.{Input, Tick, Came}
+use Rattle.bar_roster.specs.Sessions.{IsSession}
+use Rattle.bar_roster.specs.KeyFile.{Fits}
 use Rattle.bar_rules.specs.Member.{Session, Member}
 use Rattle.bar_rules.specs.Values.{datagram_bytes, datagram_of, is_signed_by}
 use Rattle.bar_rules.specs.Log.{Log, Said}
@@ -20,6 +22,12 @@ pub record Cast : Type 0 where
   pub session : Session
   pub secrets : List (List ℕ)
   pub stream : List ℕ
+
+-- There is a secret for each party, and the session holds the keys and anchors that come from these.
+pub record IsCast (cast : Cast) : Type 0 where
+  pub session : IsSession cast.session
+  pub parties : length cast.secrets ≡ cast.session.shape.peers + 1
+  pub fits : (p : ℕ) → p ≤ cast.session.shape.peers → Fits cast.session p (unwrap_or (slice_get cast.secrets p) [])
 
 -- the logs of the parties from 0 on, what each has played, and each datagram that was ever sent, with its receiver
 pub record World : Type 0 where

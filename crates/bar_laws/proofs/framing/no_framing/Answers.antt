@@ -1,0 +1,8 @@
+use Rattle.std.proofs.Common.{[]}
+use Rattle.bar_rules.specs.Run.{log_after}
+use Rattle.bar_laws.proofs.Runs.{run-obedient}
+use Rattle.bar_laws.proofs.Unframed.{not-named}
+use Rattle.bar_laws.proofs.framing.no_framing.Goals as goal
+
+pub returns : goal.returns
+returns c = λ me is inputs two evidence ds. not-named me (log_after me [] inputs) two evidence ds is (run-obedient me [] inputs tt)
