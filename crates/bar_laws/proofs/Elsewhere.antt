@@ -35,7 +35,7 @@ pub party-on : (r : ℕ) (k : XKind) (role : Role) (f t : ℕ) → party_on (exc
 party-on r k Initiator f t = refl
 party-on r k Responder f t = refl
 
-party-over : (r : ℕ) (k : XKind) (role : Role) (f t : ℕ) → party_on (exchange_by r k role f t) (other_role role) ≡ t
+pub party-over : (r : ℕ) (k : XKind) (role : Role) (f t : ℕ) → party_on (exchange_by r k role f t) (other_role role) ≡ t
 party-over r k Initiator f t = refl
 party-over r k Responder f t = refl
 
@@ -67,10 +67,10 @@ is_of-is kind x role m e = go (part_of m.body) refl (and_parts _ _ e).1
           exchange = rw (← side) (same_exchange-is (exchange_by p.0 p.1 p.2 m.from m.to) x q.0);
         }
 
-sender-on : (kind : ℕ) (x : Exchange) (role : Role) (m : Message) → is_of kind x role m ≡ true → m.from ≡ party_on x role
+pub sender-on : (kind : ℕ) (x : Exchange) (role : Role) (m : Message) → is_of kind x role m ≡ true → m.from ≡ party_on x role
 sender-on kind x role m e = let w = is_of-is kind x role m e in sym (party-on w.round w.sort role m.from m.to) ∙ ap (λ y. party_on y role) w.exchange
 
-receiver-on : (kind : ℕ) (x : Exchange) (role : Role) (m : Message) → is_of kind x role m ≡ true → m.to ≡ party_on x (other_role role)
+pub receiver-on : (kind : ℕ) (x : Exchange) (role : Role) (m : Message) → is_of kind x role m ≡ true → m.to ≡ party_on x (other_role role)
 receiver-on kind x role m e = let w = is_of-is kind x role m e in sym (party-over w.round w.sort role m.from m.to) ∙ ap (λ y. party_on y (other_role role)) w.exchange
 
 -- a message is of its own kind, exchange and side
@@ -80,7 +80,7 @@ is_of-own m r k role e = rw e (and_from _ _ (eqb_refl (kind_number m.body)) (and
 -- ---- what is heard is from another
 
 -- nothing of this member's side is heard
-own-unheard : (me : Member) (log : Log) (d : Datagram) (kind : ℕ) (x : Exchange) (role : Role) → IsObedient me log → WasHeard log d → is_of kind x role d.message ≡ true → party_on x role ≡ me.party → ⊥
+pub own-unheard : (me : Member) (log : Log) (d : Datagram) (kind : ℕ) (x : Exchange) (role : Role) → IsObedient me log → WasHeard log d → is_of kind x role d.message ≡ true → party_on x role ≡ me.party → ⊥
 own-unheard me log d kind x role h w e own =
     let at = is_of-is kind x role d.message e in
     (was-heard-own me log d (at.round, at.sort, role) w h at.part).other (sender-on kind x role d.message e ∙ own)
@@ -141,7 +141,7 @@ terms-said me log x role t h own side e = go x.kind role own side e
 pub role-initiator : (me : Member) (x : Exchange) → x.initiator ≡ me.party → role_of me x ≡ Initiator
 role-initiator me x e = rw (eq-eqb x.initiator me.party e) refl
 
-role-responder : (me : Member) (x : Exchange) → (x.initiator ≡ me.party → ⊥) → role_of me x ≡ Responder
+pub role-responder : (me : Member) (x : Exchange) → (x.initiator ≡ me.party → ⊥) → role_of me x ≡ Responder
 role-responder me x e = rw (ne_eqb x.initiator me.party e) refl
 
 -- this member's side of the exchange of a message of its own to another party
@@ -201,7 +201,7 @@ terms-elsewhere me log r k role to t h e same = no-self me log x h (responder ro
     responder Responder = refl
 
 -- a briefcase is in a CASE
-briefcase-is : (b : Body) (c : Briefcase) → briefcase_in b ≡ Some c → b ≡ Case c
+pub briefcase-is : (b : Body) (c : Briefcase) → briefcase_in b ≡ Some c → b ≡ Case c
 briefcase-is (Case d) c e = cc
 briefcase-is _ c e = cc
 
