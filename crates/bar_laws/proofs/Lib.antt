@@ -21,6 +21,10 @@ mod FinalLeaf
 mod InLife
 mod OpenList
 mod AgreeLogs
+mod AgreeRows
+mod AgreeOrders
+mod AgreeReplies
+mod AgreeTicks
 mod Stays
 mod Accuses
 mod Parts
