@@ -40,3 +40,5 @@ mod Holds
 mod Sets
 mod Whole
 mod Unframed
+mod Accepted
+mod Evictions

@@ -7,7 +7,7 @@ use Rattle.bar_rules.specs.Rules.{IsObedient}
 use Rattle.bar_rules.specs.Run.{step}
 use Rattle.bar_rules.specs.Signing.{MaySay}
 use Rattle.bar_rules.specs.Values.{datagram_bytes, datagram_of}
-use Rattle.bar_rules.specs.World.{Cast, World, opened, played_by, Move, TickOf, Deliver, Hostile, member, step_of, spelled, takes, takes_by, delivered, happens, run, HasSaid, IsGenuine, AllGenuine, IsUnforged, AreUnforged, inside}
+use Rattle.bar_rules.specs.World.{Cast, IsCast, World, opened, played_by, Move, TickOf, Deliver, Hostile, member, step_of, spelled, takes, takes_by, delivered, happens, run, HasSaid, IsGenuine, AllGenuine, IsUnforged, AreUnforged, inside}
 use Rattle.bar_wire.specs.Datagram.{Message, Datagram, Body, Evidence, Manifest, is_signed}
 use Rattle.bar_wire.specs.Inputs.{Input, Tick, Came}
 use Rattle.std.proofs.Common.{◌≡◌, ℕ, zero, suc, Bool, true, false, List, [], ◌∷◌, ◌++◌, refl, sym, ap, ◌∙◌, subst, inl, inr, map, eqb, arith, ◌<◌, ◌≤◌, ◌+◌, length}
@@ -19,11 +19,11 @@ use Rattle.bar_laws.proofs.Earliest.{option_or-cases}
 use Rattle.bar_laws.proofs.Later.{IsLater, said-rule}
 use Rattle.bar_laws.proofs.Adds.{Adds, AddedBy, SentBy, IsSource, HeardIn, came, step-adds}
 use Rattle.bar_laws.proofs.Runs.{step-obedient}
-use Rattle.bar_laws.proofs.Casts.{IsFair, IsOwnBody, IsOwnMessage, AreOwn, AllFit, own-inside, caster-casts}
+use Rattle.bar_laws.proofs.Casts.{IsFair, IsOwnBody, IsOwnMessage, AreOwn, AllFit, IsCaster, own-inside, caster-casts}
+use Rattle.bar_laws.proofs.Accepted.{said-accepted}
 use Rattle.bar_laws.proofs.Grammar.{spells, fits-reads}
 use Rattle.bar_laws.proofs.PeerFits.{said-fits, step-fits}
 use Rattle.bar_rules.specs.Member.{IsMember}
-use Rattle.bar_roster.specs.Sessions.{IsSession}
 use Rattle.bar_laws.proofs.Unique.{SaidIn, was-said}
 
 -- ---- lists
@@ -324,22 +324,35 @@ peer-keeps cast p log i n is h =
     own o d s =
         let w = was-said (step (member cast p) log i).log d s in
         let r = (said-rule (member cast p) (step (member cast p) log i).log d w o).rule in
-        record { from = r.mine; body = body w.before d.message.to d.message.body r.rule; fits = said-fits (member cast p) (step (member cast p) log i).log d is o s }
+        record {
+          from = r.mine;
+          body = body w.before d.message.to d.message.body r.rule;
+          fits = said-fits (member cast p) (step (member cast p) log i).log d is o s;
+          accepted = said-accepted (member cast p) (step (member cast p) log i).log d is o s;
+        }
 
 -- the broadcaster's step is such a step too
-caster-keeps : (cast : Cast) (log : Log) (i : Input) → IsSession cast.session → IsFair (member cast 0) cast.stream log → AreOwn cast.session cast.stream log
+caster-keeps : (cast : Cast) (log : Log) (i : Input) → IsCaster (member cast 0) → IsFair (member cast 0) cast.stream log → AreOwn cast.session cast.stream log
     → IsStep cast 0 log i (caster_step (member cast 0) cast.stream log i)
 caster-keeps cast log i s fair own =
-    let c = caster-casts (member cast 0) cast.stream log i refl s own fair in
+    let c = caster-casts (member cast 0) cast.stream log i s own fair in
     record { adds = c.adds; proper = (λ n. cc, λ z. (c.fair, c.own)); mine = λ d said. (c.own d said).0; fits = c.fits }
 
+-- ---- casts
+
+pub cast-member : (cast : Cast) (p : ℕ) → IsCast cast → 1 ≤ p → p ≤ cast.session.shape.peers → IsMember (member cast p)
+cast-member cast p is low high = record { session = is.session; peer = (omega (arith, low), high); fits = is.fits p high }
+
+cast-caster : (cast : Cast) → IsCast cast → IsCaster (member cast 0)
+cast-caster cast is = record { session = is.session; party = refl; fits = is.fits 0 (omega arith) }
+
 -- each party's step, where the session fits each party's secret
-pub steps-keep : (cast : Cast) → IsSession cast.session → ((p : ℕ) → 1 ≤ p → p ≤ cast.session.shape.peers → IsMember (member cast p)) → StepsKeep cast
-steps-keep cast s members zero log i low o = let f = o.1 refl in caster-keeps cast log i s f.0 f.1
-steps-keep cast s members (suc p) log i low o =
+pub steps-keep : (cast : Cast) → IsCast cast → StepsKeep cast
+steps-keep cast is zero log i low o = let f = o.1 refl in caster-keeps cast log i (cast-caster cast is) f.0 f.1
+steps-keep cast is (suc p) log i low o =
     let n : eqb (suc p) 0 ≡ false = ne_eqb (suc p) 0 (λ z. absurd (omega arith)) in
     let out : step_of cast (suc p) log i ≡ step (member cast (suc p)) log i = rw n refl in
-    subst (λ z. IsStep cast (suc p) log i z) (sym out) (peer-keeps cast (suc p) log i n (members (suc p) (omega arith) low) (o.0 n))
+    subst (λ z. IsStep cast (suc p) log i z) (sym out) (peer-keeps cast (suc p) log i n (cast-member cast (suc p) is (omega arith) low) (o.0 n))
 
 -- the world at the beginning is sound
 opened-log : (secrets : List (List ℕ)) (p : ℕ) (log : Log) → ◌≡◌ {A = Option Log} (slice_get (map (λ secret. []) secrets) p) (Some log) → ◌≡◌ {A = Log} [] log
@@ -361,3 +374,22 @@ opened-sound cast trusted all = record {
   mine = λ p log d e h. absurd (subst (λ l. SaidIn l d) (sym (opened-log cast.secrets p log e)) h);
   pool = tt;
 }
+
+-- ---- whatever the moves are
+
+-- nobody is trusted
+abbrev pub nobody : ℕ → Bool
+nobody p = false
+
+nobody-genuine : (cast : Cast) (w : World) (b : List ℕ) → IsGenuine cast nobody w b
+nobody-genuine cast w b = λ d log reads sign trust. cc
+
+all-nobody : (cast : Cast) (w : World) (bs : List (List ℕ)) → AllGenuine cast nobody w bs
+all-nobody cast w [] = tt
+all-nobody cast w (b ∷ bs) = (nobody-genuine cast w b, all-nobody cast w bs)
+
+pub nobody-unforged : (cast : Cast) (w : World) (moves : List Move) → AreUnforged cast nobody w moves
+nobody-unforged cast w [] = tt
+nobody-unforged cast w (TickOf p ∷ ms) = nobody-unforged cast (happens cast w (TickOf p)) ms
+nobody-unforged cast w (Deliver k ∷ ms) = nobody-unforged cast (happens cast w (Deliver k)) ms
+nobody-unforged cast w (Hostile to b ∷ ms) = ((nobody-genuine cast w b, λ d reads. all-nobody cast w (inside d.message.body)), nobody-unforged cast (happens cast w (Hostile to b)) ms)
