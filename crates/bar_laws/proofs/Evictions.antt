@@ -105,7 +105,7 @@ not-shown cast trusted w q log t ev f is sound n trust at agree g e =
 -- ---- tables
 
 -- a list that a log's table has was heard in a manifest
-list-heard : (log : Log) (r : ℕ) (ds : List (List ℕ)) → digests_of (table log) r ≡ Some ds → (d : Datagram) × HeardIn log d × (d.message.body ≡ Manifest r ds)
+pub list-heard : (log : Log) (r : ℕ) (ds : List (List ℕ)) → digests_of (table log) r ≡ Some ds → (d : Datagram) × HeardIn log d × (d.message.body ≡ Manifest r ds)
 list-heard [] r ds e = cc
 list-heard (x ∷ log) r ds e = go x e (list-heard log r ds)
   where
@@ -153,15 +153,15 @@ list-heard (x ∷ log) r ds e = go x e (list-heard log r ds)
     go (Kept q f) e k = older (Kept q f) (k (plain e))
 
 -- a manifest comes from the broadcaster
-manifest-from : (s : Session) (d : Datagram) (r : ℕ) (ds : List (List ℕ)) → IsDatagram s.shape d → d.message.body ≡ Manifest r ds → d.message.from ≡ 0
+pub manifest-from : (s : Session) (d : Datagram) (r : ℕ) (ds : List (List ℕ)) → IsDatagram s.shape d → d.message.body ≡ Manifest r ds → d.message.from ≡ 0
 manifest-from s d r ds fits e = let may : MaySend s.shape kinds.Manifest d.message.from d.message.to = subst (λ b. MaySend s.shape (kind_of b) d.message.from d.message.to) e fits.may_send in may.0
 
-heard-allowed : (me : Member) (log : Log) (d : Datagram) → IsObedient me log → HeardIn log d → (before : Log) × Allows me before (Heard d)
+pub heard-allowed : (me : Member) (log : Log) (d : Datagram) → IsObedient me log → HeardIn log d → (before : Log) × Allows me before (Heard d)
 heard-allowed me [] d h e = absurd e
 heard-allowed me (x ∷ log) d h (inl e) = (log, subst (λ y. Allows me log y) e h.0)
 heard-allowed me (x ∷ log) d h (inr e) = heard-allowed me log d h.1 e
 
-accepted : (me : Member) (before : Log) (d : Datagram) → is_admitted me before d ≡ true → is_signed d.message.body ≡ true → is_signed_by me.session d ≡ true
+pub accepted : (me : Member) (before : Log) (d : Datagram) → is_admitted me before d ≡ true → is_signed d.message.body ≡ true → is_signed_by me.session d ≡ true
 unfolding is_admitted
 accepted me before d e s = go (is_signed d.message.body) (and_parts _ _ (and_parts _ _ (and_parts _ _ e).0).0).1 s
   where

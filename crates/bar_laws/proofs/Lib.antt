@@ -42,3 +42,8 @@ mod Whole
 mod Unframed
 mod Accepted
 mod Evictions
+mod GoodOpenings
+mod Openings
+mod Pools
+mod Released
+mod Trusted

@@ -44,6 +44,16 @@ set-same [] p x y e = cc
 set-same (z ∷ xs) zero x y e = refl
 set-same (z ∷ xs) (suc p) x y e = set-same xs p x y e
 
+set-length : {X : Type 0} (xs : List X) (p : ℕ) (y : X) → length (slice_set xs p y) ≡ length xs
+set-length [] p y = refl
+set-length (x ∷ xs) zero y = refl
+set-length (x ∷ xs) (suc p) y = ap (λ n. suc n) (set-length xs p y)
+
+get-below : {X : Type 0} (xs : List X) (p : ℕ) → p < length xs → (x : X) × (slice_get xs p ≡ Some x)
+get-below [] p h = absurd (omega (arith, h))
+get-below (x ∷ xs) zero h = (x, refl)
+get-below (x ∷ xs) (suc p) h = get-below xs p (omega (arith, h))
+
 -- ---- growth
 
 said-append : (new log : Log) (m : Message) → HasSaid log m → HasSaid (new ++ log) m
@@ -100,6 +110,7 @@ IsProper cast p log =
     × (eqb p 0 ≡ true → IsFair (member cast 0) cast.stream log × AreOwn cast.session cast.stream log)
 
 pub record IsSound (cast : Cast) (trusted : ℕ → Bool) (w : World) : Type 0 where
+  pub all : length w.logs ≡ cast.session.shape.peers + 1
   pub peers : (p : ℕ) (log : Log) → slice_get w.logs p ≡ Some log → p ≤ cast.session.shape.peers
   pub proper : (p : ℕ) (log : Log) → slice_get w.logs p ≡ Some log → IsProper cast p log
   pub heard : (p : ℕ) (log : Log) (d : Datagram) → slice_get w.logs p ≡ Some log → HeardIn log d → IsGenuine cast trusted w (datagram_bytes cast.session d)
@@ -247,6 +258,7 @@ module _ (cast : Cast) (trusted : ℕ → Bool) (w : World) (p : ℕ) (log : Log
   -- one input of one party keeps the world sound
   pub after-sound : IsSound cast trusted after
   after-sound = record {
+    all = set-length w.logs p out.log ∙ sound.all;
     peers = λ q l e. pe q l (set-cases w.logs p q out.log l e);
     proper = λ q l e. ob q l (set-cases w.logs p q out.log l e);
     heard = λ q l d e h. genuine-wider cast trusted after w (datagram_bytes cast.session d) wider (he q l d (set-cases w.logs p q out.log l e) h);
@@ -275,13 +287,17 @@ module _ (cast : Cast) (trusted : ℕ → Bool) (w : World) (p : ℕ) (log : Log
       mi q l d (inr h) s = sound.mine q l d h s
       mi q l d (inl h) s = subst (λ z. IsOwnMessage cast.session cast.stream z d) (sym h.0) (st.mine d (subst (λ z. SaidIn z d) h.1 s))
 
+-- each party has a log
+pub has-log : (cast : Cast) (trusted : ℕ → Bool) (w : World) (p : ℕ) → IsSound cast trusted w → p ≤ cast.session.shape.peers → (log : Log) × (slice_get w.logs p ≡ Some log)
+has-log cast trusted w p sound low = let all : length w.logs ≡ cast.session.shape.peers + 1 = sound.all in get-below w.logs p (omega (arith, all, low))
+
 -- ---- every list of moves
 
 -- what a step of each party is, where its log is as it should be
 abbrev pub StepsKeep : Cast → Type 0
 StepsKeep cast = (p : ℕ) (log : Log) (i : Input) → p ≤ cast.session.shape.peers → IsProper cast p log → IsStep cast p log i (step_of cast p log i)
 
-takes-sound : (cast : Cast) (trusted : ℕ → Bool) (w : World) (p : ℕ) (i : Input) → StepsKeep cast → IsSound cast trusted w → CameUnforged cast trusted w i → IsSound cast trusted (takes cast w p i)
+pub takes-sound : (cast : Cast) (trusted : ℕ → Bool) (w : World) (p : ℕ) (i : Input) → StepsKeep cast → IsSound cast trusted w → CameUnforged cast trusted w i → IsSound cast trusted (takes cast w p i)
 takes-sound cast trusted w p i laws sound fresh = go (slice_get w.logs p) refl
   where
     go : (o : Option Log) → slice_get w.logs p ≡ o → IsSound cast trusted (takes_by cast w p i o)
@@ -295,7 +311,7 @@ pool-at cast trusted w [] k d a e = cc
 pool-at cast trusted w (x ∷ pool) zero d a e = let same : x ≡ d = cc in subst (λ z. IsUnforged cast trusted w z.1) same a.0
 pool-at cast trusted w (x ∷ pool) (suc k) d a e = pool-at cast trusted w pool k d a.1 e
 
-deliver-sound : (cast : Cast) (trusted : ℕ → Bool) (w : World) (k : ℕ) → StepsKeep cast → IsSound cast trusted w → IsSound cast trusted (happens cast w (Deliver k))
+pub deliver-sound : (cast : Cast) (trusted : ℕ → Bool) (w : World) (k : ℕ) → StepsKeep cast → IsSound cast trusted w → IsSound cast trusted (happens cast w (Deliver k))
 deliver-sound cast trusted w k laws sound = go (slice_get w.pool k) refl
   where
     go : (o : Option (ℕ × List ℕ)) → slice_get w.pool k ≡ o → IsSound cast trusted (delivered cast w o)
@@ -360,6 +376,10 @@ opened-log [] p log e = cc
 opened-log (s ∷ secrets) zero log e = cc
 opened-log (s ∷ secrets) (suc p) log e = opened-log secrets p log e
 
+opened-length : (secrets : List (List ℕ)) → length (map {A = List ℕ} {B = Log} (λ secret. []) secrets) ≡ length secrets
+opened-length [] = refl
+opened-length (s ∷ secrets) = ap (λ n. suc n) (opened-length secrets)
+
 opened-few : (secrets : List (List ℕ)) (p : ℕ) (log : Log) → ◌≡◌ {A = Option Log} (slice_get (map (λ secret. []) secrets) p) (Some log) → p < length secrets
 opened-few [] p log e = cc
 opened-few (s ∷ secrets) zero log e = omega arith
@@ -367,6 +387,7 @@ opened-few (s ∷ secrets) (suc p) log e = let deep : p < length secrets = opene
 
 pub opened-sound : (cast : Cast) (trusted : ℕ → Bool) → length cast.secrets ≡ cast.session.shape.peers + 1 → IsSound cast trusted (opened cast)
 opened-sound cast trusted all = record {
+  all = opened-length cast.secrets ∙ all;
   peers = λ p log e. (let few : p < length cast.secrets = opened-few cast.secrets p log e in omega (arith, few, all));
   proper = λ p log e. subst (λ l. IsProper cast p l) (opened-log cast.secrets p log e) (λ z. tt, λ z. (tt, λ d s. absurd s));
   heard = λ p log d e h. absurd (subst (λ l. HeardIn l d) (sym (opened-log cast.secrets p log e)) h);
@@ -381,10 +402,10 @@ opened-sound cast trusted all = record {
 abbrev pub nobody : ℕ → Bool
 nobody p = false
 
-nobody-genuine : (cast : Cast) (w : World) (b : List ℕ) → IsGenuine cast nobody w b
+pub nobody-genuine : (cast : Cast) (w : World) (b : List ℕ) → IsGenuine cast nobody w b
 nobody-genuine cast w b = λ d log reads sign trust. cc
 
-all-nobody : (cast : Cast) (w : World) (bs : List (List ℕ)) → AllGenuine cast nobody w bs
+pub all-nobody : (cast : Cast) (w : World) (bs : List (List ℕ)) → AllGenuine cast nobody w bs
 all-nobody cast w [] = tt
 all-nobody cast w (b ∷ bs) = (nobody-genuine cast w b, all-nobody cast w bs)
 

@@ -5,3 +5,4 @@ pub mod Verdicts
 pub mod Evidence
 pub mod Framing
 pub mod Agreement
+pub mod Worlds

@@ -6,5 +6,6 @@ pub mod evidence;
 pub mod framing;
 pub mod leaves;
 pub mod obedience;
+pub mod parties;
 pub mod totals;
 pub mod verdicts;
