@@ -285,25 +285,19 @@ struct Left {
     err: MemSink,
 }
 
-/// The files of a replay.
-#[derive(Clone, Copy)]
-struct Given<'a> {
-    session: &'a str,
-    key: &'a str,
-    recording: &'a [u8],
-}
-
 // A run of the line over these files, where these calls of the files and these writes to err fail.
 fn run(
     alloc: Global,
-    given: Given<'_>,
+    session: &str,
+    key: &str,
+    recording: &[u8],
     fail_files: &[u64],
     fail_err: &[u64],
 ) -> Result<Left, AllocError> {
     let mut files = MemFiles::make(alloc, fail_files.to_vec(alloc)?);
-    files.put("ses", given.session.as_bytes())?;
-    files.put("k", given.key.as_bytes())?;
-    files.put("rec", given.recording)?;
+    files.put("ses", session.as_bytes())?;
+    files.put("k", key.as_bytes())?;
+    files.put("rec", recording)?;
     let mut out = MemSink::make(alloc, Vec::new(alloc));
     let mut err = MemSink::make(alloc, fail_err.to_vec(alloc)?);
     let all = words(alloc, &LINE)?;
@@ -388,12 +382,7 @@ fn streams_are_played(rt: HostRuntime) -> Result<(), Fail> {
     let streams = signed_streams(alloc, SMALL_SIGNATURE)?;
     for (entries, played) in PLAYED {
         let bytes = recording(alloc, &streams, entries)?;
-        let given = Given {
-            session: SMALL_SESSION,
-            key: SMALL_KEY,
-            recording: &bytes,
-        };
-        let left = run(alloc, given, &[], &[])?;
+        let left = run(alloc, SMALL_SESSION, SMALL_KEY, &bytes, &[], &[])?;
         assert_eq!(rt; left.status, 0);
         assert_eq!(rt; left.files.get("p").unwrap_or(b"none".as_slice()), played);
         assert_eq!(rt;
@@ -412,12 +401,7 @@ fn a_session_of_ten_rounds_plays_hi(rt: HostRuntime) -> Result<(), Fail> {
     let streams = signed_streams(alloc, SIGNATURE)?;
     let entries = [START, Entry::Manifest, Entry::Block, END];
     let bytes = recording(alloc, &streams, &entries)?;
-    let given = Given {
-        session: SESSION,
-        key: KEY,
-        recording: &bytes,
-    };
-    let left = run(alloc, given, &[], &[])?;
+    let left = run(alloc, SESSION, KEY, &bytes, &[], &[])?;
     assert_eq!(rt; left.status, 0);
     assert_eq!(rt;
         left.files.get("p").unwrap_or(b"none".as_slice()),
@@ -557,12 +541,7 @@ fn statuses_and_lines(rt: HostRuntime) -> Result<(), Fail> {
     let whole = recording(alloc, &streams, &entries)?;
     for (session, key, is_whole, fail_files, fail_err, status, said, played) in ENDS {
         let bytes = either(is_whole, &whole, b"BARL");
-        let given = Given {
-            session,
-            key,
-            recording: bytes,
-        };
-        let left = run(alloc, given, fail_files, fail_err)?;
+        let left = run(alloc, session, key, bytes, fail_files, fail_err)?;
         assert_eq!(rt; left.status, status);
         assert_eq!(rt; left.err.bytes(), said.as_bytes());
         assert_eq!(rt; left.files.get("p").unwrap_or(b"none".as_slice()), played);
@@ -575,12 +554,8 @@ fn statuses_and_lines(rt: HostRuntime) -> Result<(), Fail> {
 // The recording of party 1 is not that of party 2, whose key it is.
 #[test]
 fn recordings_of_other_parties_are_refused(rt: HostRuntime) -> Result<(), Fail> {
-    let given = Given {
-        session: SMALL_SESSION,
-        key: SMALL_KEY,
-        recording: b"BARL\x01\x00\x11\x22\x33\x44\x55\x66\x77\x00\x01\x00",
-    };
-    let left = run(rt.alloc(), given, &[], &[])?;
+    let recording = b"BARL\x01\x00\x11\x22\x33\x44\x55\x66\x77\x00\x01\x00";
+    let left = run(rt.alloc(), SMALL_SESSION, SMALL_KEY, recording, &[], &[])?;
     assert_eq!(rt; left.status, 8);
     assert_eq!(rt; left.err.bytes(), b"bar: input refused\n".as_slice());
     Ok(())
