@@ -1,6 +1,8 @@
-ghost use Rattle.std.specs.Prelude.{◌≡◌, ◌<◌, true, IsSome};
+ghost use Rattle.std.specs.Prelude.{◌≡◌, ◌+◌, ◌<◌, ◌≤◌, true, length, IsSome};
 ghost use Rattle.bar_wire.specs.Datagram.{is_signed, round_of};
-ghost use Rattle.bar_wire.specs.Views.{plain};
+ghost use Rattle.bar_wire.specs.Views.{plain, AreTermWindows};
+ghost use Rattle.bar_wire.specs.Writing.{terms_written};
+ghost use Rattle.bar_wire.specs.declared.shape.Shape.{Shape};
 
 use crate::checker::Checker;
 use crate::identities::Identity;
@@ -10,8 +12,9 @@ use crate::naming::identity;
 use crate::scheme::{Scheme, Verifier};
 use bar_bytes::Steps;
 use bar_lms::{Height, Ots, Params, SecretKey};
-use bar_window::Window;
-use bar_wire::{Body, View};
+use bar_window::{Role, Terms, Window, XKind};
+use bar_wire::{Body, Shape, View, decode, encode};
+use std::alloc::{AllocError, Global};
 use std::marker::Brand;
 use std::sync::ledger::{Blank, Ledger};
 use std::test::Fail;
@@ -164,4 +167,97 @@ fn each_message_of_a_round_has_its_leaf(rt: HostRuntime) {
     assert_eq!(rt; leaf_of(&reply, 0), 48);
     assert_eq!(rt; leaf_of(&key_of(1, 1), 1), 53);
     assert_eq!(rt; leaf_of(&notice, 0), 5);
+}
+
+/// Terms with empty windows of round 16.
+fn terms_of(kind: XKind, life: u8) -> Terms
+    requires some { 0 < life }
+    requires few { life ≤ 16 }
+    ensures windows { (s : Shape) → s.life ≡ life → AreTermWindows s 16 result }
+    ensures written { (s : Shape) → s.life ≡ life → terms_written s result ≤ 513 }
+{
+    let none = Window::empty(16, life);
+    match kind {
+        XKind::Balanced => Terms::Balanced {
+            nonce: [0; 32],
+            ha: none,
+            hb: none,
+        },
+        XKind::Push => Terms::Push {
+            young: none,
+            aged: none,
+            want: none,
+            give: none,
+            junk: 0,
+        },
+    }
+}
+
+/// How many bytes the datagram of a briefcase has whose cipher has so many, signed by LMS of types 6 and 4: 0 where the grammar has no such
+/// datagram.
+#[tactic(auto, using(bar_wire::proofs::Written::message_len, bar_wire::proofs::Written::written_is))]
+fn case_len(
+    alloc: Global,
+    life: u8,
+    kind: XKind,
+    role: Role,
+    updates: u8,
+    junk: u8,
+    cipher: usize,
+) -> Result<usize, AllocError>
+    requires some { 0 < life }
+    requires few { life ≤ 16 }
+    requires room { cipher ≤ 20480 }
+{
+    let verifier = LmsVerifier::new(Params {
+        height: Height::H10,
+        ots: Ots::W8,
+    });
+    let shape = Shape {
+        version: 1,
+        id: ID,
+        peers: 2,
+        rounds: 16,
+        life,
+        per_round: 64,
+        sig_len: verifier.sig_len(),
+    };
+    let cipher = vec![in alloc; 0; cipher]?;
+    let body = Body::Case {
+        round: 16,
+        xkind: kind.code(),
+        role: role.code(),
+        updates,
+        junk,
+        terms: terms_of(kind, life),
+        cipher: &cipher,
+    };
+    let mut out = vec![in alloc; 0; 65507]?;
+    let len = encode(1, 2, &body, &shape, &mut out).saturating_add(shape.sig_len);
+    match out.get(..len) {
+        Some(bytes) if decode(bytes, &shape).is_ok() => Ok(len),
+        _ => Ok(0),
+    }
+}
+
+#[test]
+fn a_briefcase_is_as_long_as_its_items_say(rt: HostRuntime) -> Result<(), Fail> {
+    let (balanced, push) = (XKind::Balanced, XKind::Push);
+    let (initiator, responder) = (Role::Initiator, Role::Responder);
+    let lengths = [
+        (
+            case_len(rt.alloc(), 4, balanced, initiator, 1, 0, 1024)?,
+            2596,
+        ),
+        (
+            case_len(rt.alloc(), 16, balanced, responder, 16, 0, 16384)?,
+            18148,
+        ),
+        (case_len(rt.alloc(), 4, push, responder, 0, 2, 2560)?, 4165),
+        (case_len(rt.alloc(), 4, push, initiator, 2, 0, 2048)?, 3653),
+    ];
+    for (len, wanted) in lengths {
+        assert_eq!(rt; len, wanted);
+    }
+    Ok(())
 }
