@@ -1,7 +1,7 @@
 ghost use Rattle.std.specs.Prelude.{◌≡◌, ◌+◌, ◌<◌, ◌≤◌, true, length, IsSome};
 ghost use Rattle.bar_wire.specs.Datagram.{is_signed, round_of};
-ghost use Rattle.bar_wire.specs.Views.{plain, AreTermWindows};
-ghost use Rattle.bar_wire.specs.Writing.{terms_written};
+ghost use Rattle.bar_wire.specs.Views.{plain, IsBody, AreTermWindows};
+ghost use Rattle.bar_wire.specs.Writing.{terms_written, body_written};
 ghost use Rattle.bar_wire.specs.declared.shape.Shape.{Shape};
 
 use crate::checker::Checker;
@@ -193,9 +193,40 @@ fn terms_of(kind: XKind, life: u8) -> Terms
     }
 }
 
-/// How many bytes the datagram of a briefcase has whose cipher has so many, signed by LMS of types 6 and 4: 0 where the grammar has no such
-/// datagram.
-#[tactic(auto, using(bar_wire::proofs::Written::message_len, bar_wire::proofs::Written::written_is))]
+/// How many bytes the datagram of a body has, under any signature: 0 where the grammar has no such datagram.
+fn datagram_len(body: &Body<'_>, shape: &Shape, out: &mut [u8]) -> usize
+    requires body { IsBody shape.now body.now }
+    requires room { 16 + body_written shape.now body.now ≤ length out.old }
+{
+    let len = encode(1, 2, body, shape, out).saturating_add(shape.sig_len);
+    match out.get(..len) {
+        Some(bytes) if decode(bytes, shape).is_ok() => len,
+        _ => 0,
+    }
+}
+
+/// A session of sixteen rounds whose signatures are of LMS of types 6 and 4.
+fn session_with(life: u8) -> Shape
+    requires some { 0 < life }
+    requires few { life ≤ 16 }
+    ensures { result.life ≡ life }
+{
+    let params = Params {
+        height: Height::H10,
+        ots: Ots::W8,
+    };
+    Shape {
+        version: 1,
+        id: ID,
+        peers: 2,
+        rounds: 16,
+        life,
+        per_round: 64,
+        sig_len: LmsVerifier::new(params).sig_len(),
+    }
+}
+
+/// How many bytes the datagram of a briefcase has whose cipher has so many, where updates live for so many rounds.
 fn case_len(
     alloc: Global,
     life: u8,
@@ -209,19 +240,6 @@ fn case_len(
     requires few { life ≤ 16 }
     requires room { cipher ≤ 20480 }
 {
-    let verifier = LmsVerifier::new(Params {
-        height: Height::H10,
-        ots: Ots::W8,
-    });
-    let shape = Shape {
-        version: 1,
-        id: ID,
-        peers: 2,
-        rounds: 16,
-        life,
-        per_round: 64,
-        sig_len: verifier.sig_len(),
-    };
     let cipher = vec![in alloc; 0; cipher]?;
     let body = Body::Case {
         round: 16,
@@ -233,11 +251,7 @@ fn case_len(
         cipher: &cipher,
     };
     let mut out = vec![in alloc; 0; 65507]?;
-    let len = encode(1, 2, &body, &shape, &mut out).saturating_add(shape.sig_len);
-    match out.get(..len) {
-        Some(bytes) if decode(bytes, &shape).is_ok() => Ok(len),
-        _ => Ok(0),
-    }
+    Ok(datagram_len(&body, &session_with(life), &mut out))
 }
 
 #[test]
