@@ -193,7 +193,7 @@ fn terms_of(kind: XKind, life: u8) -> Terms
     }
 }
 
-/// How many bytes the datagram of a body has, under any signature: 0 where the grammar has no such datagram.
+/// How many bytes the datagram of a body has, with what stands behind the message in `out` as its signature: 0 where it can't be read.
 fn datagram_len(body: &Body<'_>, shape: &Shape, out: &mut [u8]) -> usize
     requires body { IsBody shape.now body.now }
     requires room { 16 + body_written shape.now body.now ≤ length out.old }
@@ -258,20 +258,13 @@ fn case_len(
 fn a_briefcase_is_as_long_as_its_items_say(rt: HostRuntime) -> Result<(), Fail> {
     let (balanced, push) = (XKind::Balanced, XKind::Push);
     let (initiator, responder) = (Role::Initiator, Role::Responder);
-    let lengths = [
-        (
-            case_len(rt.alloc(), 4, balanced, initiator, 1, 0, 1024)?,
-            2596,
-        ),
-        (
-            case_len(rt.alloc(), 16, balanced, responder, 16, 0, 16384)?,
-            18148,
-        ),
-        (case_len(rt.alloc(), 4, push, responder, 0, 2, 2560)?, 4165),
-        (case_len(rt.alloc(), 4, push, initiator, 2, 0, 2048)?, 3653),
-    ];
-    for (len, wanted) in lengths {
-        assert_eq!(rt; len, wanted);
-    }
+    let traded = case_len(rt.alloc(), 4, balanced, initiator, 1, 0, 1024)?;
+    assert_eq!(rt; traded, 2596);
+    let full = case_len(rt.alloc(), 16, balanced, responder, 16, 0, 16384)?;
+    assert_eq!(rt; full, 18148);
+    let padded = case_len(rt.alloc(), 4, push, responder, 0, 2, 2560)?;
+    assert_eq!(rt; padded, 4165);
+    let offered = case_len(rt.alloc(), 4, push, initiator, 2, 0, 2048)?;
+    assert_eq!(rt; offered, 3653);
     Ok(())
 }
