@@ -4,3 +4,4 @@ pub mod Laid
 pub mod Opens
 pub mod OwnKey
 pub mod Longer
+mod Worked

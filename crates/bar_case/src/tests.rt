@@ -1,7 +1,7 @@
-ghost use Rattle.std.specs.Prelude.{◌≡◌, ◌≤◌, Some, true, length, IfOk};
+ghost use Rattle.std.specs.Prelude.{◌≡◌, ◌<◌, ◌≤◌, Some, true, length, IfOk};
 ghost use Rattle.bar_window.specs.Window.{IsWindowOf};
 ghost use Rattle.bar_window.specs.Terms.{plain_terms};
-ghost use Rattle.bar_terms.specs.Windows.{AreAligned};
+ghost use Rattle.bar_terms.specs.Windows.{AreAligned, AreWindowsOf};
 ghost use Rattle.bar_terms.specs.Terms.{can_promise};
 ghost use Rattle.bar_case.specs.Items.{promised_len};
 
@@ -9,7 +9,7 @@ use crate::cipher::keystream;
 use crate::findings::Opening;
 use crate::sealing::seal;
 use crate::unsealing::unseal;
-use bar_terms::{Table, terms_ok};
+use bar_terms::{Table, promise, push_answer, terms_ok};
 use bar_window::{Blocks, Exchange, Role, Terms, UpdateId, Window, XKind};
 use sha2::{Digest, Sha256};
 use std::alloc::{AllocError, Global};
@@ -58,6 +58,19 @@ fn window_with(rt: &impl Abort, ids: &[(u32, u8)]) -> Window
     window
 }
 
+/// Twenty updates of one round, in the window of round 16, where updates live for sixteen rounds.
+fn twenty_of(round: u32) -> Window
+    requires first { 1 ≤ round }
+    requires last { round ≤ 16 }
+    ensures { IsWindowOf 16 16 result }
+{
+    let mut window = Window::empty(16, 16);
+    for index in 0..20 {
+        window.put(UpdateId { round, index });
+    }
+    window
+}
+
 const PUSH: Exchange = Exchange {
     round: 6,
     kind: XKind::Push,
@@ -73,15 +86,42 @@ const TRADE: Exchange = Exchange {
 };
 
 /// The briefcase of a side, in which each update has the block of the content `hi`.
-fn sealed(alloc: Global, x: Exchange, terms: &Terms, role: Role) -> Result<Vec<u8>, AllocError>
+fn sealed(
+    alloc: Global,
+    x: Exchange,
+    terms: &Terms,
+    role: Role,
+    cap: u8,
+) -> Result<Vec<u8>, AllocError>
     requires windows { AreAligned terms.now }
-    requires valid { can_promise 4 (plain_terms terms.now) ≡ true }
-    ensures { IfOk result (λ v. length v.items ≡ promised_len 4 (plain_terms terms.now) role) }
+    requires valid { can_promise cap (plain_terms terms.now) ≡ true }
+    requires cap { cap ≤ 16 }
+    ensures { IfOk result (λ v. length v.items ≡ promised_len cap (plain_terms terms.now) role) }
 {
     let mut out = vec![in alloc; 0; 20480]?;
-    let len = seal(&ID, x, terms, role, 4, &KEY, &hi(), &mut out);
+    let len = seal(&ID, x, terms, role, cap, &KEY, &hi(), &mut out);
     out.truncate(len);
     Ok(out)
+}
+
+/// How many items a side promises by its terms, and how many bytes its cipher has: none where the terms aren't valid.
+#[tactic(auto, using(bar_terms::proofs::Equal::terms_promise))]
+fn sizes(
+    alloc: Global,
+    x: Exchange,
+    terms: &Terms,
+    role: Role,
+    cap: u8,
+    life: u8,
+) -> Result<(u8, usize), AllocError>
+    requires windows { AreWindowsOf life x.round terms.now }
+    requires cap { cap ≤ 16 }
+{
+    if !terms_ok(terms, x, cap, life, &Table::make(alloc, x.round, 64)?) {
+        return Ok((0, 0));
+    }
+    let cipher = sealed(alloc, x, terms, role, cap)?;
+    Ok((promise(terms, role, cap).len, cipher.len()))
 }
 
 /// What a key shows of a briefcase, and the first block that it opens.
@@ -139,7 +179,7 @@ fn junk_opens_with_its_own_key_alone(rt: HostRuntime) -> Result<(), Fail> {
     };
     let table = Table::make(rt.alloc(), 10, 8)?;
     assert!(rt; terms_ok(&terms, PUSH, 4, 4, &table));
-    let cipher = sealed(rt.alloc(), PUSH, &terms, Role::Responder)?;
+    let cipher = sealed(rt.alloc(), PUSH, &terms, Role::Responder, 4)?;
     assert_eq!(rt; cipher.len(), 2560);
     assert!(rt; stands_at(&cipher, 0, &[189, 171, 16, 215, 5, 128, 5, 0]));
     assert!(rt; stands_at(&cipher, 1280, &[176, 172, 206, 6, 208, 141, 58, 160]));
@@ -162,7 +202,7 @@ fn an_update_is_told_by_its_digest(rt: HostRuntime) -> Result<(), Fail> {
     };
     let mut table = Table::make(rt.alloc(), 10, 8)?;
     assert!(rt; terms_ok(&terms, TRADE, 4, 4, &table));
-    let cipher = sealed(rt.alloc(), TRADE, &terms, Role::Initiator)?;
+    let cipher = sealed(rt.alloc(), TRADE, &terms, Role::Initiator, 4)?;
     assert_eq!(rt; cipher.len(), 1024);
     assert!(rt; stands_at(&cipher, 0, &[244, 2, 250, 17, 87, 170, 246, 65]));
     let (unknown, block) = opened(TRADE, &terms, Role::Initiator, &cipher, &KEY, &table);
@@ -172,5 +212,37 @@ fn an_update_is_told_by_its_digest(rt: HostRuntime) -> Result<(), Fail> {
     assert!(rt; table.extend(3, &digest));
     let (good, _) = opened(TRADE, &terms, Role::Initiator, &cipher, &KEY, &table);
     assert_eq!(rt; good, Opening::Good(1));
+    Ok(())
+}
+
+#[test]
+fn a_briefcase_has_the_length_of_its_items(rt: HostRuntime) -> Result<(), Fail> {
+    let trade = Terms::Balanced {
+        nonce: [0; 32],
+        ha: twenty_of(1),
+        hb: twenty_of(2),
+    };
+    let late = Exchange { round: 16, ..TRADE };
+    for role in [Role::Initiator, Role::Responder] {
+        assert_eq!(rt; sizes(rt.alloc(), late, &trade, role, 16, 16)?, (16, 16384));
+    }
+    let young = window_with(&rt, &[(5, 0), (5, 1)]);
+    let aged = window_with(&rt, &[(3, 1)]);
+    let answer = push_answer(&young, &aged, &window_with(&rt, &[]), 4);
+    let push = Terms::Push {
+        young,
+        aged,
+        want: answer.want,
+        give: answer.give,
+        junk: answer.junk,
+    };
+    assert_eq!(rt;
+        sizes(rt.alloc(), PUSH, &push, Role::Responder, 4, 4)?,
+        (2, 2560)
+    );
+    assert_eq!(rt;
+        sizes(rt.alloc(), PUSH, &push, Role::Initiator, 4, 4)?,
+        (2, 2048)
+    );
     Ok(())
 }

@@ -1,10 +1,15 @@
 pub mod ReplayLemmas
+pub mod EndLemmas
+pub mod StatusLemmas
+pub mod ReplayCases
 pub mod Rows
+pub mod KeygenLemmas
+pub mod KeygenRows
+pub mod KeygenFronts
 pub mod KeyLemmas
 pub mod KeepLemmas
 pub mod AdmitLemmas
 pub mod PlayLemmas
 pub mod TakeLemmas
-pub mod ReadingLemmas
 pub mod PlayedSoFar
 pub mod SendLemmas

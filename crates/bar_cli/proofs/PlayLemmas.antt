@@ -10,29 +10,29 @@ use Rattle.std.specs.declared.alloc.Global.{Global}
 use Rattle.std.proofs.lemmas.List.{map-append}
 use Rattle.bar_cli.specs.Represents.{texts}
 use Rattle.bar_rules.specs.Log.{Log}
-use Rattle.bar_rules.specs.Run.{content_at, contents_of_round}
+use Rattle.bar_rules.specs.Ticks.{content_at, contents_of_round}
 
 -- the contents of a round's updates below an index
-unfoldable pub contents_below : Log → ℕ → ℕ → List (List ℕ)
-contents_below log round n = flat_map (content_at log) (map (λ index. record { round = round; index = index }) (range_with_len 0 n))
+unfoldable pub contents_below : Member → Log → ℕ → ℕ → List (List ℕ)
+contents_below me log round n = flat_map (content_at me log) (map (λ index. record { round = round; index = index }) (range_with_len 0 n))
 
 -- one update more
-pub contents_more : (log : Log) (round n : ℕ) → contents_below log round (n + 1) ≡ contents_below log round n ++ content_at log (record { round = round; index = n })
+pub contents_more : (me : Member) (log : Log) (round n : ℕ) → contents_below me log round (n + 1) ≡ contents_below me log round n ++ content_at me log (record { round = round; index = n })
 unfolding contents_below
-contents_more log round n =
+contents_more me log round n =
     let id : ℕ → UpdateId = λ index. record { round = round; index = index } in
-    ap (flat_map (content_at log)) (map-range_with_len_more id 0 n n (omega arith))
-    ∙ (flat_map-append (content_at log) (map id (range_with_len 0 n)) (id n ∷ [])
-    ∙ ap (λ (xs : List (List ℕ)). contents_below log round n ++ xs) (append-nil (content_at log (id n))))
+    ap (flat_map (content_at me log)) (map-range_with_len_more id 0 n n (omega arith))
+    ∙ (flat_map-append (content_at me log) (map id (range_with_len 0 n)) (id n ∷ [])
+    ∙ ap (λ (xs : List (List ℕ)). contents_below me log round n ++ xs) (append-nil (content_at me log (id n))))
 
 -- all updates of the round
-pub contents_all : (me : Member) (log : Log) (round n : ℕ) → n ≡ 64 → contents_below log round n ≡ contents_of_round me log round
+pub contents_all : (me : Member) (log : Log) (round n : ℕ) → n ≡ 64 → contents_below me log round n ≡ contents_of_round me log round
 unfolding contents_of_round contents_below
 contents_all me log round n all = rw all refl
 
-pub contents_none : (log : Log) (round : ℕ) → contents_below log round 0 ≡ []
+pub contents_none : (me : Member) (log : Log) (round : ℕ) → contents_below me log round 0 ≡ []
 unfolding contents_below
-contents_none log round = refl
+contents_none me log round = refl
 
 -- the content of one more vector
 pub texts_more : (xs : List (Vec ℕ Global)) (x : Vec ℕ Global) → texts (xs ++ x ∷ []) ≡ texts xs ++ x.items ∷ []

@@ -6,7 +6,7 @@ use Rattle.bar_outside.proofs.Following.{Ran-nothing}
 use Rattle.bar_wire.specs.Inputs.{Input}
 use Rattle.bar_rules.specs.Member.{Member}
 use Rattle.bar_rules.specs.Log.{Log}
-use Rattle.bar_rules.specs.Run.{contents_of, step}
+use Rattle.bar_rules.specs.Listening.{contents_heard, listened}
 use Rattle.bar_cli.specs.declared.listener.Listener.{Listener}
 use Rattle.bar_cli.specs.Represents.{Represents}
 use Rattle.bar_cli.specs.ReplayPlan.{turn, turns}
@@ -17,7 +17,7 @@ pub record SoFar (me : Member) (log : Log) (inputs left : List Input) (p : Liste
   pub now : Log
   pub played : List (List (List ℕ))
   pub stands : Represents me now p
-  pub split : contents_of me log inputs ≡ played ++ contents_of me now left
+  pub split : contents_heard me log inputs ≡ played ++ contents_heard me now left
   pub done : IsDone played
 
 pub nothing_done : (old : World) → Follows {T = Unit {0}} [] old old (Ok tt)
@@ -32,11 +32,11 @@ nothing_done old = record {
 
 -- one input more is taken
 pub taken : (me : Member) (log now : Log) (inputs left rest : List Input) (input : Input) (played : List (List (List ℕ))) →
-    contents_of me log inputs ≡ played ++ contents_of me now left → left ≡ input ∷ rest →
-    contents_of me log inputs ≡ (played ++ (step me now input).contents ∷ []) ++ contents_of me (step me now input).log rest
+    contents_heard me log inputs ≡ played ++ contents_heard me now left → left ≡ input ∷ rest →
+    contents_heard me log inputs ≡ (played ++ (listened me now input).contents ∷ []) ++ contents_heard me (listened me now input).log rest
 taken me log now inputs left rest input played split e =
-    split ∙ ap (λ xs. played ++ contents_of me now xs) e
-    ∙ sym (append_assoc played ((step me now input).contents ∷ []) (contents_of me (step me now input).log rest))
+    split ∙ ap (λ xs. played ++ contents_heard me now xs) e
+    ∙ sym (append_assoc played ((listened me now input).contents ∷ []) (contents_heard me (listened me now input).log rest))
 
 pub turns-one : (path : List ℕ) (played : List (List (List ℕ))) (contents : List (List ℕ)) →
     turns path (played ++ contents ∷ []) ≡ turns path played ++ turn path contents
@@ -44,15 +44,15 @@ turns-one path played contents = turns-append path played (contents ∷ []) ∙ 
 
 -- all turns: those before, that of the next input, and those behind it
 pub turns-of : (path : List ℕ) (me : Member) (log now : Log) (inputs left rest : List Input) (input : Input) (played : List (List (List ℕ))) →
-    contents_of me log inputs ≡ played ++ contents_of me now left → left ≡ input ∷ rest →
-    turns path (contents_of me log inputs)
-    ≡ (turns path played ++ turn path (step me now input).contents) ++ turns path (contents_of me (step me now input).log rest)
+    contents_heard me log inputs ≡ played ++ contents_heard me now left → left ≡ input ∷ rest →
+    turns path (contents_heard me log inputs)
+    ≡ (turns path played ++ turn path (listened me now input).contents) ++ turns path (contents_heard me (listened me now input).log rest)
 turns-of path me log now inputs left rest input played split e =
     ap (turns path) (taken me log now inputs left rest input played split e)
-    ∙ turns-append path (played ++ (step me now input).contents ∷ []) (contents_of me (step me now input).log rest)
-    ∙ ap (λ xs. xs ++ turns path (contents_of me (step me now input).log rest)) (turns-one path played (step me now input).contents)
+    ∙ turns-append path (played ++ (listened me now input).contents ∷ []) (contents_heard me (listened me now input).log rest)
+    ∙ ap (λ xs. xs ++ turns path (contents_heard me (listened me now input).log rest)) (turns-one path played (listened me now input).contents)
 
 -- at the end all was played
 pub all-played : (me : Member) (log now : Log) (inputs left : List Input) (played : List (List (List ℕ))) →
-    contents_of me log inputs ≡ played ++ contents_of me now left → left ≡ [] → contents_of me log inputs ≡ played
-all-played me log now inputs left played split e = split ∙ ap (λ xs. played ++ contents_of me now xs) e ∙ append-nil played
+    contents_heard me log inputs ≡ played ++ contents_heard me now left → left ≡ [] → contents_heard me log inputs ≡ played
+all-played me log now inputs left played split e = split ∙ ap (λ xs. played ++ contents_heard me now xs) e ∙ append-nil played

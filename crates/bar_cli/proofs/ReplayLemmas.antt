@@ -1,10 +1,14 @@
 -- The turns of a replay, one more, and what they leave.
-use Rattle.std.proofs.Common.{◌≡◌, ◌≢◌, ◌<◌, ℕ, ◌+◌, List, [], ◌∷◌, ◌++◌, Some, refl, sym, ap, ◌∙◌, map, length, take, drop, get_or, append-nil, append_assoc, IsSome, Vec, inl, inr, subst, min, ◌≤◌, arith}
+use Rattle.std.proofs.Common.{Option, None, Ok, Err, option_map, ◌≡◌, ◌≢◌, ◌<◌, ℕ, ◌+◌, List, [], ◌∷◌, ◌++◌, Some, refl, sym, ap, ◌∙◌, map, length, take, drop, get_or, append-nil, append_assoc, IsSome, Vec, inl, inr, subst, min, ◌≤◌, arith}
 use Rattle.std.proofs.lemmas.List.{take-append-le, take_min}
 use Rattle.std.proofs.lemmas.List.Folds.{concat-append}
 use Rattle.std.proofs.Math.Seq.{take-append-add}
 use Rattle.std.specs.declared.alloc.Global.{Global}
 use Rattle.std.specs.List.{concat}
+use Rattle.std.specs.Option.{ok_or}
+use Rattle.bar_wire.specs.Inputs.{Input}
+use Rattle.bar_record.specs.Inputs.{inputs_left}
+use Rattle.bar_record.specs.declared.items.Items.{Items}
 use Rattle.std.proofs.lemmas.List.{take_more, take-append-drop}
 use Rattle.std.proofs.lemmas.Grind.{flat_map-append}
 use Rattle.bar_outside.specs.Disk.{Content, appended, created}
@@ -138,3 +142,13 @@ pub front-turns : (played : List ℕ) (contents : List (List (List ℕ))) (conte
 front-turns played contents content done there b =
     let p = front-turn played [] (joined contents) content done there (subst (λ plan. Begun plan done) (turns-joined played contents) b) in
     (p.0, p.1 ∙ ap (λ bytes. Some (take p.0 bytes)) (concat-joined contents))
+
+-- what was read stands for these inputs, and so it is accepted
+pub found : (result : Option Items) (items : Items) (meant : Option (List Input)) → result ≡ Some items → option_map inputs_left result ≡ meant →
+    ok_or {E = Unit {0}} meant tt ≡ Ok (inputs_left items)
+found result items meant is means = ap (λ (o : Option (List Input)). ok_or {E = Unit {0}} o tt) (sym means ∙ ap (option_map inputs_left) is)
+
+-- nothing was read, and so it is refused
+pub unfound : (result : Option Items) (meant : Option (List Input)) → result ≡ None → option_map inputs_left result ≡ meant →
+    ok_or {E = Unit {0}} meant tt ≡ Err tt
+unfound result meant is means = ap (λ (o : Option (List Input)). ok_or {E = Unit {0}} o tt) (sym means ∙ ap (option_map inputs_left) is)

@@ -1,7 +1,9 @@
+pub mod Refusals
 pub mod Replay
 pub mod ReplayPlan
+pub mod KeygenPlan
+pub mod Words
 pub mod Line
 pub mod Views
 pub mod Status
 pub mod Represents
-pub mod Recordings

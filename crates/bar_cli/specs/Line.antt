@@ -1,26 +1,17 @@
 -- Which words are a line, and what they ask for.
-use Rattle.std.specs.Prelude.{◌==◌, ◌++◌, ℕ, List, [], ◌∷◌, Option, None, Some, if◌then◌else◌, length, codes}
-use Rattle.std.specs.Option.{option_and_then, option_map}
+use Rattle.std.specs.Prelude.{◌==◌, ◌||◌, ◌++◌, ℕ, Bool, List, [], ◌∷◌, Option, None, Some, if◌then◌else◌, length, codes}
+use Rattle.std.specs.Option.{option_and_then}
 use Rattle.std.specs.Str.{bytes_eq}
 use Rattle.bar_outside.specs.Disk.{Content}
 use Rattle.bar_outside.specs.Plan.{Plan, ending}
+use Rattle.bar_cli.specs.Words.{values_of, number_in, id_of, types_of}
 use Rattle.bar_cli.specs.ReplayPlan.{ReplayFiles, replay_plan}
+use Rattle.bar_cli.specs.KeygenPlan.{Keygen, keygen_plan}
 
 -- one constructor for each command
 pub data Line : Type 0 where
   replay : (names : ReplayFiles) → Line
-
--- the value behind the first option of this name, where the words go in pairs
-abbrev pub value_of : List ℕ → List (List ℕ) → Option (List ℕ)
-value_of name [] = None
-value_of name (key ∷ []) = None
-value_of name (key ∷ value ∷ others) = if bytes_eq key name then Some value else value_of name others
-
--- the values of these options in order, where the words are just these options, each with its value:
--- as there are two words for each option, each stands once
-abbrev pub values_of : List (List ℕ) → List (List ℕ) → Option (List (List ℕ))
-values_of [] words = Some []
-values_of (name ∷ names) words = option_and_then (λ value. option_map (λ values. value ∷ values) (values_of names words)) (value_of name words)
+  keygen : (asked : Keygen) → Line
 
 abbrev pub replay_options : List (List ℕ)
 replay_options = codes "--session" ∷ codes "--key" ∷ codes "--recording" ∷ codes "--played" ∷ codes "--found" ∷ []
@@ -34,10 +25,34 @@ replay_files _ = None
 abbrev pub replay_line : List (List ℕ) → Option Line
 replay_line words = if length words == 10 then option_and_then replay_files (values_of replay_options words) else None
 
--- the line that the words are, if they are one
+abbrev pub keygen_options : List (List ℕ)
+keygen_options = codes "--party" ∷ codes "--id" ∷ codes "--rounds" ∷ codes "--lms" ∷ codes "--ots" ∷ codes "--secret" ∷ codes "--key" ∷ []
+
+infixl 10 ◌>>=◌
+abbrev ◌>>=◌ : {A B : Type 0} → Option A → (A → Option B) → Option B
+o >>= f = option_and_then f o
+
+-- the numbers are in their ranges, and an id has sixteen hex digits
+abbrev pub keygen_values : List (List ℕ) → Option Line
+keygen_values (party_word ∷ id_word ∷ rounds_word ∷ lms ∷ ots ∷ secret ∷ key ∷ []) = do
+  party ← number_in 0 200 party_word
+  id ← id_of id_word
+  rounds ← number_in 1 1820 rounds_word
+  params ← types_of lms ots
+  Some (keygen (record { party = party; id = id; rounds = rounds; params = params; secret = secret; key = key }))
+keygen_values _ = None
+
+-- seven options, each once and in any order, each followed by its value
+abbrev pub keygen_line : List (List ℕ) → Option Line
+keygen_line words = if length words == 14 then option_and_then keygen_values (values_of keygen_options words) else None
+
+-- the line that the words are, if they are one; the first word names the command
 abbrev pub line_of : List (List ℕ) → Option Line
 line_of [] = None
-line_of (name ∷ options) = if bytes_eq name (codes "replay") then replay_line options else None
+line_of (name ∷ options) =
+    if bytes_eq name (codes "replay") then replay_line options
+    else if bytes_eq name (codes "keygen") then keygen_line options
+    else None
 
 abbrev pub usage : List ℕ
 usage = codes "bar: usage" ++ 10 ∷ []
@@ -46,3 +61,10 @@ usage = codes "bar: usage" ++ 10 ∷ []
 abbrev pub plan_of : Option Line → Content → Plan
 plan_of None = ending 2 usage
 plan_of (Some (replay names)) = replay_plan names
+plan_of (Some (keygen asked)) = keygen_plan asked
+
+-- the statuses that come at words
+abbrev pub is_status_of : Option Line → ℕ → Bool
+is_status_of None status = status == 2 || status == 70
+is_status_of (Some (replay names)) status = status == 0 || status == 3 || status == 4 || status == 5 || status == 8 || status == 70
+is_status_of (Some (keygen asked)) status = status == 0 || status == 3 || status == 4 || status == 7 || status == 8 || status == 70

@@ -1,14 +1,19 @@
 -- What `replay` does.
-use Rattle.std.specs.Prelude.{◌≡◌, ◌≢◌, ◌⊎◌, ℕ, List, [], ◌∷◌, ◌++◌, Some, map, take, codes}
+use Rattle.std.specs.Prelude.{◌≡◌, ◌≢◌, ◌⊎◌, ℕ, List, [], ◌∷◌, Some, Ok, map, take}
 use Rattle.std.specs.List.{flat_map, concat}
+use Rattle.std.specs.Option.{ok_or}
 use Rattle.bar_outside.specs.Disk.{Content, Failure, readable}
 use Rattle.bar_outside.specs.declared.files.CallKind.TheVariants.{Read, Create, Append}
 use Rattle.bar_outside.specs.Plan.{World, Action, Plan, reading, accepting, ending, doing}
 use Rattle.bar_outside.specs.Plan.Action.{create, append}
+use Rattle.bar_wire.specs.Inputs.{Input}
+use Rattle.bar_seeds.specs.declared.secrets.Secrets.{Secrets}
 use Rattle.bar_roster.specs.SessionText.{SessionData}
+use Rattle.bar_roster.specs.KeyFile.{Fits}
 use Rattle.bar_rules.specs.Member.{Member}
-use Rattle.bar_rules.specs.Run.{played_by, sends_of}
-use Rattle.bar_cli.specs.Replay.{Recorded, session_of, recording_of, member_of, contents_of}
+use Rattle.bar_rules.specs.Listening.{played_by_listener, sends_of_listener}
+use Rattle.bar_cli.specs.Refusals.{session_refused, key_refused, input_refused}
+use Rattle.bar_cli.specs.Replay.{session_of, key_of, recording_of, member_of, contents_of}
 
 -- the files of a replay
 pub record ReplayFiles : Type 0 where
@@ -29,56 +34,69 @@ turns played contents = flat_map (turn played) contents
 abbrev pub played_bytes : List (List (List ℕ)) → List ℕ
 played_bytes contents = flat_map concat contents
 
-abbrev pub session_refused : List ℕ
-session_refused = codes "bar: session refused" ++ 10 ∷ []
-
-abbrev pub input_refused : List ℕ
-input_refused = codes "bar: input refused" ++ 10 ∷ []
-
 -- the played file is created, and what the inputs play is appended
 abbrev pub replay_actions : ReplayFiles → List (List (List ℕ)) → List Action
 replay_actions names contents = create names.played ∷ turns names.played contents
 
-abbrev pub run_plan : ReplayFiles → SessionData → Recorded → Content → Plan
-run_plan names session recording = doing (replay_actions names (contents_of session recording)) 0 []
+abbrev pub run_plan : ReplayFiles → SessionData → Secrets → List Input → Content → Plan
+run_plan names session secrets inputs = doing (replay_actions names (contents_of session secrets inputs)) 0 []
 
--- the recording is read, and accepted or refused
-abbrev pub recording_plan : ReplayFiles → SessionData → Content → Plan
-recording_plan names session =
-    reading names.recording (λ bytes. accepting (recording_of session bytes) (run_plan names session) (ending 8 input_refused))
+-- the recording of the key's party is read, and accepted or refused
+abbrev pub recording_plan : ReplayFiles → SessionData → Secrets → Content → Plan
+recording_plan names session secrets =
+    reading names.recording (λ bytes. accepting (ok_or (recording_of session secrets.party bytes) (tt {0})) (run_plan names session secrets) (λ _. ending 8 input_refused))
+
+-- the key file is read, and accepted or refused
+abbrev pub key_plan : ReplayFiles → SessionData → Content → Plan
+key_plan names session =
+    reading names.key (λ bytes. accepting (key_of session bytes) (recording_plan names session) (λ fault. ending 5 (key_refused fault)))
 
 -- the session is read, and accepted or refused
 abbrev pub replay_plan : ReplayFiles → Content → Plan
 replay_plan names =
-    reading names.session (λ text. accepting (session_of text) (recording_plan names) (ending 4 session_refused))
+    reading names.session (λ text. accepting (session_of text) (key_plan names) (λ fault. ending 4 (session_refused fault)))
 
--- the session and the recording are there and accepted
-pub record Accepted (names : ReplayFiles) (content : Content) : Type 0 where
+-- the session's text is there and accepted
+pub record SessionAccepted (names : ReplayFiles) (content : Content) (session : SessionData) : Type 0 where
   pub text : List ℕ
-  pub session : SessionData
-  pub bytes : List ℕ
-  pub recording : Recorded
-  pub session_read : readable content names.session ≡ Some text
-  pub session_is : session_of text ≡ Some session
-  pub recording_read : readable content names.recording ≡ Some bytes
-  pub recording_is : recording_of session bytes ≡ Some recording
+  pub read : readable content names.session ≡ Some text
+  pub is : session_of text ≡ Ok session
 
--- the peer whose recording it is
+-- so is the key file, which holds these secrets
+pub record KeyAccepted (names : ReplayFiles) (content : Content) (session : SessionData) (secrets : Secrets) : Type 0 where
+  pub in_session : SessionAccepted names content session
+  pub bytes : List ℕ
+  pub read : readable content names.key ≡ Some bytes
+  pub is : key_of session bytes ≡ Ok secrets
+
+-- and so is the recording, which holds these inputs
+pub record Accepted (names : ReplayFiles) (content : Content) : Type 0 where
+  pub session : SessionData
+  pub secrets : Secrets
+  pub inputs : List Input
+  pub by_key : KeyAccepted names content session secrets
+  pub bytes : List ℕ
+  pub read : readable content names.recording ≡ Some bytes
+  pub is : recording_of session secrets.party bytes ≡ Some inputs
+
+-- the peer whose key it is
 abbrev pub peer_of : (names : ReplayFiles) (content : Content) → Accepted names content → Member
-peer_of names content accepted = member_of accepted.session accepted.recording.party
+peer_of names content accepted = member_of accepted.session accepted.secrets
 
 -- the bytes that the peer plays over the recording's inputs
 abbrev pub bytes_of : (names : ReplayFiles) (content : Content) → Accepted names content → List ℕ
-bytes_of names content accepted = played_by (peer_of names content accepted) accepted.recording.inputs
+bytes_of names content accepted = played_by_listener (peer_of names content accepted) accepted.inputs
 
--- both were accepted, the played file has exactly what the peer plays over the recording's inputs, and the peer sends nothing
+-- all were accepted, the session holds the public key and the anchor that come from the key file's secret,
+-- the played file has exactly what the peer plays over the recording's inputs, and the peer sends nothing
 pub record Replayed (names : ReplayFiles) (old new : World) : Type 0 where
   pub accepted : Accepted names old.files.content
+  pub fits : Fits accepted.session accepted.secrets.party accepted.secrets.secret
   pub played : new.files.content names.played ≡ Some (bytes_of names old.files.content accepted)
-  pub sent : sends_of (peer_of names old.files.content accepted) accepted.recording.inputs ≡ []
+  pub sent : sends_of_listener (peer_of names old.files.content accepted) accepted.inputs ≡ []
   pub others : (path : List ℕ) → path ≢ names.played → new.files.content path ≡ old.files.content path
 
--- both were accepted, and the played file has a front of what the recording's inputs play
+-- all were accepted, and the played file has a front of what the recording's inputs play
 pub record PlayedFront (names : ReplayFiles) (old new : World) : Type 0 where
   pub accepted : Accepted names old.files.content
   pub count : ℕ
@@ -87,5 +105,6 @@ pub record PlayedFront (names : ReplayFiles) (old new : World) : Type 0 where
 -- a call that a replay makes: a read of a file that it reads, or a create or an append of the one that it writes
 abbrev pub IsReplayCall : ReplayFiles → Failure → Type 0
 IsReplayCall names call =
-    ((call ≡ record { kind = Read; path = names.session }) ⊎ (call ≡ record { kind = Read; path = names.recording }))
+    ((call ≡ record { kind = Read; path = names.session })
+    ⊎ ((call ≡ record { kind = Read; path = names.key }) ⊎ (call ≡ record { kind = Read; path = names.recording })))
     ⊎ ((call ≡ record { kind = Create; path = names.played }) ⊎ (call ≡ record { kind = Append; path = names.played }))

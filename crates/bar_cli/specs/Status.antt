@@ -1,20 +1,22 @@
 -- The exit statuses, and the line of each.
-use Rattle.std.specs.Prelude.{ℕ, Bool, ◌==◌, ◌||◌, List, [], Result, Ok, Err}
+use Rattle.std.specs.Prelude.{ℕ, Bool, true, false, List, [], Result, Ok, Err}
 use Rattle.bar_outside.specs.Plan as plan
 use Rattle.bar_outside.specs.Faults.{code_of_fault, line_of_fault}
 use Rattle.bar_outside.specs.declared.fault.Fault.{Fault}
 use Rattle.bar_cli.specs.declared.status.Status.{Status}
-use Rattle.bar_cli.specs.declared.status.Status.TheVariants.{Done, Usage, FileFailed, SessionRefused, OutputFailed, InputRefused, NoMemory}
+use Rattle.bar_cli.specs.declared.status.Status.TheVariants.{Done, Usage, FileFailed, SessionRefused, KeyRefused, OutputFailed, InputRefused, SecretRefused, NoMemory}
 use Rattle.bar_cli.specs.Line.{usage}
-use Rattle.bar_cli.specs.ReplayPlan.{session_refused, input_refused}
+use Rattle.bar_cli.specs.Refusals.{session_refused, key_refused, input_refused, secret_refused}
 
 abbrev pub code_of : Status → ℕ
 code_of Done = 0
 code_of Usage = 2
 code_of FileFailed = 3
-code_of SessionRefused = 4
+code_of (SessionRefused fault) = 4
+code_of (KeyRefused fault) = 5
 code_of OutputFailed = 7
 code_of InputRefused = 8
+code_of (SecretRefused len) = 8
 code_of NoMemory = 70
 
 -- the line that is printed at a status
@@ -22,9 +24,11 @@ abbrev pub said_at : Status → List ℕ
 said_at Done = []
 said_at Usage = usage
 said_at FileFailed = plan.file_failed
-said_at SessionRefused = session_refused
+said_at (SessionRefused fault) = session_refused fault
+said_at (KeyRefused fault) = key_refused fault
 said_at OutputFailed = plan.output_failed
 said_at InputRefused = input_refused
+said_at (SecretRefused len) = secret_refused len
 said_at NoMemory = plan.no_memory
 
 -- the status and the line of a command that a fault may stop
@@ -36,6 +40,26 @@ abbrev pub said_by_run : Result Status Fault → List ℕ
 said_by_run (Ok status) = said_at status
 said_by_run (Err fault) = line_of_fault fault
 
--- the statuses that the commands have
-abbrev pub is_status : ℕ → Bool
-is_status status = status == 0 || status == 2 || status == 3 || status == 4 || status == 8 || status == 70
+-- how a replay ends where no fault stops it
+abbrev pub is_replay_end : Status → Bool
+is_replay_end Done = true
+is_replay_end (SessionRefused fault) = true
+is_replay_end (KeyRefused fault) = true
+is_replay_end InputRefused = true
+is_replay_end Usage = false
+is_replay_end FileFailed = false
+is_replay_end OutputFailed = false
+is_replay_end (SecretRefused len) = false
+is_replay_end NoMemory = false
+
+-- how `keygen` ends where no fault stops it
+abbrev pub is_keygen_end : Status → Bool
+is_keygen_end Done = true
+is_keygen_end (SessionRefused fault) = true
+is_keygen_end (SecretRefused len) = true
+is_keygen_end (KeyRefused fault) = false
+is_keygen_end InputRefused = false
+is_keygen_end Usage = false
+is_keygen_end FileFailed = false
+is_keygen_end OutputFailed = false
+is_keygen_end NoMemory = false

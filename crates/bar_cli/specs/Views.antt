@@ -1,7 +1,11 @@
--- What the names of a command's files in the code stand for.
+-- What a command in the code stands for.
 use Rattle.bar_cli.specs.declared.line.ReplayNames.{ReplayNames}
+use Rattle.bar_cli.specs.declared.keygen_words.KeygenWords.{KeygenWords}
+use Rattle.bar_cli.specs.declared.line.Command.{Command}
+use Rattle.bar_cli.specs.declared.line.Command.TheVariants.{Replay, Keygen}
 use Rattle.bar_cli.specs.ReplayPlan.{ReplayFiles}
-use Rattle.bar_cli.specs.Line.{Line, replay}
+use Rattle.bar_cli.specs.KeygenPlan as plan
+use Rattle.bar_cli.specs.Line.{Line, replay, keygen}
 
 abbrev pub names_view : ReplayNames → ReplayFiles
 names_view names =
@@ -13,5 +17,23 @@ names_view names =
       found = names.found.now;
     }
 
-abbrev pub line_view : ReplayNames → Line
-line_view names = replay (names_view names)
+abbrev pub keygen_view : KeygenWords → plan.Keygen
+keygen_view asked =
+    record {
+      party = asked.party;
+      id = asked.id;
+      rounds = asked.rounds;
+      params = asked.params;
+      secret = asked.secret.now;
+      key = asked.key.now;
+    }
+
+abbrev pub replay_view : ReplayNames → Line
+replay_view names = replay (names_view names)
+
+abbrev pub asked_view : KeygenWords → Line
+asked_view asked = keygen (keygen_view asked)
+
+abbrev pub command_view : Command → Line
+command_view (Replay names) = replay_view names
+command_view (Keygen asked) = asked_view asked

@@ -1,5 +1,5 @@
-//! Which datagrams a listener admits.
-ghost use Rattle.std.specs.Prelude.{◌≡◌, ◌≤◌, ℕ, List, Some};
+//! Which datagrams a listener hears.
+ghost use Rattle.std.specs.Prelude.{◌≡◌, ◌==◌, ◌≤◌, ℕ, List, Some};
 ghost use Rattle.std.specs.Str.{bytes_eq};
 ghost use Rattle.sha2.specs.Sha256.{sha256};
 ghost use Rattle.bar_lms.specs.Acceptance.{is_accepted_under};
@@ -7,8 +7,10 @@ ghost use Rattle.bar_wire.specs.Datagram.{Manifest, Block};
 ghost use Rattle.bar_wire.specs.Views.{datagram, plain, signature_bytes, IsView};
 ghost use Rattle.bar_rules.specs.Member.{Member, is_alive, key_of};
 ghost use Rattle.bar_terms.specs.Table.{digest_in, digest_of};
-ghost use Rattle.bar_rules.specs.Log.{Log, table, is_held, round_now, has_heard, has_kind_and_round};
-ghost use Rattle.bar_rules.specs.Admission.{has_digest, is_admitted, is_for, is_row_met};
+ghost use Rattle.bar_rules.specs.Log.{Log, table, round_now, has_heard, has_kind_and_round};
+ghost use Rattle.bar_rules.specs.Holdings.{is_held};
+ghost use Rattle.bar_rules.specs.Admission.{everyone, has_digest, is_admitted, is_row_met};
+ghost use Rattle.bar_rules.specs.Listening.{hears};
 ghost use Rattle.bar_cli.specs.Represents.{Represents};
 
 use crate::genuine::is_accepted_under;
@@ -28,6 +30,13 @@ fn signature_of<'a>(view: &View<'a>) -> &'a [u8]
         Some(sig) => sig,
         None => &[],
     }
+}
+
+/// Whether all peers are the receiver.
+fn is_to_all(to: u16) -> bool
+    ensures { result ≡ (to == everyone) }
+{
+    to == EVERYONE
 }
 
 /// Whether a block has the digest at an index of a round's list.
@@ -71,7 +80,7 @@ impl Listener {
 
     /// Whether an update's block is held.
     fn is_held(&self, id: UpdateId) -> bool
-        ensures { (me : Member) (log : Log) → Represents me log self.now → result ≡ is_held log id }
+        ensures { (me : Member) (log : Log) → Represents me log self.now → result ≡ is_held me.session log id }
     {
         self.held.contains_key(&id)
     }
@@ -90,11 +99,11 @@ impl Listener {
         self.is_alive(id.round)
     }
 
-    /// Whether a datagram for this receiver is for this party.
-    fn is_for(&self, to: u16) -> bool
-        ensures { (me : Member) (log : Log) → Represents me log self.now → result ≡ is_for me to }
+    /// Whether this party is the receiver.
+    fn is_receiver(&self, to: u16) -> bool
+        ensures { (me : Member) (log : Log) → Represents me log self.now → result ≡ (to == me.party) }
     {
-        to == self.party || to == EVERYONE
+        to == self.party
     }
 
     /// Whether the manifest of a round was admitted.
@@ -118,7 +127,7 @@ impl Listener {
             → IsView me.session.shape bytes view.now → plain view.now.body ≡ Manifest round digests
             → result ≡ is_admitted me log (datagram me.session.shape view.now) }
     {
-        if !self.is_for(view.to) {
+        if !is_to_all(view.to) {
             return false;
         }
         if !self.is_by_broadcaster(view.message, signature_of(view)) {
@@ -135,16 +144,16 @@ impl Listener {
         ensures { (me : Member) (log : Log) → Represents me log self.now → plain view.now.body ≡ Block id block.now
             → result ≡ is_admitted me log (datagram me.session.shape view.now) }
     {
-        if !self.is_for(view.to) {
+        if !self.is_receiver(view.to) {
             return false;
         }
         self.may_hold(id, block)
     }
 
-    /// Whether a datagram is admitted.
-    pub fn admits(&self, view: &View<'_>) -> bool
+    /// Whether a datagram is heard.
+    pub fn hears(&self, view: &View<'_>) -> bool
         ensures { (me : Member) (log : Log) (bytes : List ℕ) → Represents me log self.now
-            → IsView me.session.shape bytes view.now → result ≡ is_admitted me log (datagram me.session.shape view.now) }
+            → IsView me.session.shape bytes view.now → result ≡ hears me log (datagram me.session.shape view.now) }
     {
         match view.body {
             Body::Manifest { round, .. } => self.admits_manifest(view, round),

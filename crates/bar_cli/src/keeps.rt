@@ -3,8 +3,9 @@ ghost use Rattle.std.specs.Prelude.{◌≡◌, ◌*◌, ◌<◌, ◌∷◌, ℕ,
 ghost use Rattle.bar_wire.specs.Datagram.{Datagram, Manifest, Block};
 ghost use Rattle.bar_wire.specs.Places.{chunks};
 ghost use Rattle.bar_rules.specs.Member.{Member};
-ghost use Rattle.bar_rules.specs.Log.{Log, Heard, Ticked, has_heard, has_kind_and_round, block_of};
-ghost use Rattle.bar_rules.specs.Admission.{is_admitted};
+ghost use Rattle.bar_rules.specs.Log.{Log, Heard, Ticked, has_heard, has_kind_and_round};
+ghost use Rattle.bar_rules.specs.Holdings.{block_of};
+ghost use Rattle.bar_rules.specs.Listening.{hears};
 ghost use Rattle.bar_wire.specs.Views.{datagram, AreWhole};
 ghost use Rattle.bar_cli.specs.Represents.{Represents};
 
@@ -36,7 +37,7 @@ impl Listener {
     /// Keeps a block of an update that wasn't held.
     pub fn keep_block(&mut self, id: UpdateId, block: Box<[u8; 1024]>) -> Result<(), AllocError>
         ensures { IfOk result (λ _. (me : Member) (log : Log) (d : Datagram) → Represents me log self.old
-            → block_of log id ≡ None → d.message.body ≡ Block id block.value
+            → block_of me.session log id ≡ None → d.message.body ≡ Block id block.value
             → Represents me (Heard d ∷ log) self.new) }
     {
         self.held.insert(id, block)?;
@@ -51,11 +52,11 @@ impl Listener {
         self.ticks += 1;
     }
 
-    /// Keeps what an admitted datagram says.
+    /// Keeps what a datagram says that is heard.
     pub fn hear(&mut self, alloc: Global, view: &View<'_>) -> Result<(), AllocError>
         requires { AreWhole view.now.body }
         ensures { IfOk result (λ _. (me : Member) (log : Log) → Represents me log self.old
-            → is_admitted me log (datagram me.session.shape view.now) ≡ true
+            → hears me log (datagram me.session.shape view.now) ≡ true
             → Represents me (Heard (datagram me.session.shape view.now) ∷ log) self.new) }
     {
         match view.body {

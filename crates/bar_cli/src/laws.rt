@@ -1,23 +1,32 @@
 //! What each exit status of a replay means, and what then stands.
-ghost use Rattle.std.specs.Prelude.{◌≡◌, ◌≢◌, ◌⊎◌, ℕ, List, Some, None, IsTrue, IsSomeAnd, IsSome, true, []};
+ghost use Rattle.std.specs.Prelude.{◌≡◌, ◌≢◌, ◌⊎◌, ℕ, List, [], Some, None, Err, IsTrue, IsSomeAnd, true};
 ghost use Rattle.bar_outside.specs.Causes.{Rose};
-ghost use Rattle.bar_outside.specs.Disk.{readable};
+ghost use Rattle.bar_outside.specs.Disk.{Content, readable};
 ghost use Rattle.bar_outside.specs.Follows.{IsReliable};
 ghost use Rattle.bar_outside.specs.Plan.{World, is_stop, ending, line_at};
 ghost use Rattle.bar_outside.specs.Ends.{Ends};
-ghost use Rattle.bar_cli.specs.Line.{usage};
+ghost use Rattle.bar_seeds.specs.declared.secrets.Secrets.{Secrets};
+ghost use Rattle.bar_roster.specs.declared.fault.SessionFault.{SessionFault};
+ghost use Rattle.bar_roster.specs.declared.key_fault.KeyFileFault.{KeyFileFault};
 ghost use Rattle.bar_roster.specs.SessionText.{SessionData};
-ghost use Rattle.bar_cli.specs.Replay.{session_of, recording_of};
-ghost use Rattle.bar_cli.specs.ReplayPlan.{ReplayFiles, Accepted, Replayed, PlayedFront, IsReplayCall, replay_plan, session_refused, input_refused};
+ghost use Rattle.bar_cli.specs.Line.{usage};
+ghost use Rattle.bar_cli.specs.Refusals.{session_refused, key_refused, input_refused};
+ghost use Rattle.bar_cli.specs.Replay.{session_of, key_of, recording_of};
+ghost use Rattle.bar_cli.specs.ReplayPlan.{ReplayFiles, SessionAccepted, KeyAccepted, Accepted, Replayed, PlayedFront, IsReplayCall, replay_plan};
 
-/// 0 comes exactly where both files are accepted, but for a fault or want of memory; then all inputs were played.
+use bar_roster::laws::accepted_secrets_are_held;
+
+/// 0 comes exactly where all files are accepted, but for a fault or want of memory; then all inputs were played.
 pub fn done_exactly()
     ensures only { (names : ReplayFiles) (old new : World) → Ends (replay_plan names) old new 0 → IsTrue old.files.told → Replayed names old new }
     ensures then { (names : ReplayFiles) (old new : World) (status : ℕ) → Ends (replay_plan names) old new status → IsTrue old.files.told →
         Accepted names old.files.content → (status ≡ 0) ⊎ (is_stop status ≡ true) }
-{}
+    ensures line { (names : ReplayFiles) (content : Content) → Accepted names content → line_at (replay_plan names content) 0 ≡ [] }
+{
+    accepted_secrets_are_held();
+}
 
-/// Where both files are accepted and no count rose, the status is 0, but for want of memory. So it is where nothing fails by itself.
+/// Where all files are accepted and no count rose, the status is 0, but for want of memory. So it is where nothing fails by itself.
 pub fn done_where_all_is_accepted()
     ensures without_faults { (names : ReplayFiles) (old new : World) (status : ℕ) → Ends (replay_plan names) old new status → IsTrue old.files.told →
         Accepted names old.files.content → (Rose old.files.faults new.files.faults → ⊥) → (Rose old.out.faults new.out.faults → ⊥) →
@@ -32,39 +41,48 @@ pub fn file_failed_only()
         Rose old.files.faults new.files.faults × IsSomeAnd new.files.failed (IsReplayCall names) }
     ensures no_session { (names : ReplayFiles) (old new : World) (status : ℕ) → Ends (replay_plan names) old new status → IsTrue old.files.told →
         readable old.files.content names.session ≡ None → is_stop status ≡ true }
-    ensures no_recording { (names : ReplayFiles) (old new : World) (status : ℕ) (text : List ℕ) (session : SessionData) →
-        Ends (replay_plan names) old new status → IsTrue old.files.told →
-        readable old.files.content names.session ≡ Some text → session_of text ≡ Some session →
+    ensures no_key { (names : ReplayFiles) (old new : World) (status : ℕ) (session : SessionData) →
+        Ends (replay_plan names) old new status → IsTrue old.files.told → SessionAccepted names old.files.content session →
+        readable old.files.content names.key ≡ None → is_stop status ≡ true }
+    ensures no_recording { (names : ReplayFiles) (old new : World) (status : ℕ) (session : SessionData) (secrets : Secrets) →
+        Ends (replay_plan names) old new status → IsTrue old.files.told → KeyAccepted names old.files.content session secrets →
         readable old.files.content names.recording ≡ None → is_stop status ≡ true }
 {}
 
-/// 4 comes exactly where the session is there and refused, but for a fault or want of memory.
+/// 4 comes exactly where the session is there and refused, but for a fault or want of memory; its line has the first fault.
 pub fn session_refused_exactly()
     ensures only { (names : ReplayFiles) (old new : World) → Ends (replay_plan names) old new 4 → IsTrue old.files.told →
-        (text : List ℕ) × (readable old.files.content names.session ≡ Some text) × (session_of text ≡ None) }
-    ensures then { (names : ReplayFiles) (old new : World) (status : ℕ) (text : List ℕ) → Ends (replay_plan names) old new status → IsTrue old.files.told →
-        readable old.files.content names.session ≡ Some text → session_of text ≡ None → (status ≡ 4) ⊎ (is_stop status ≡ true) }
+        (text : List ℕ) × (fault : SessionFault) × (readable old.files.content names.session ≡ Some text) × (session_of text ≡ Err fault) }
+    ensures then { (names : ReplayFiles) (old new : World) (status : ℕ) (text : List ℕ) (fault : SessionFault) → Ends (replay_plan names) old new status → IsTrue old.files.told →
+        readable old.files.content names.session ≡ Some text → session_of text ≡ Err fault → (status ≡ 4) ⊎ (is_stop status ≡ true) }
+    ensures line { (names : ReplayFiles) (content : Content) (text : List ℕ) (fault : SessionFault) →
+        readable content names.session ≡ Some text → session_of text ≡ Err fault → line_at (replay_plan names content) 4 ≡ session_refused fault }
 {}
 
-/// 8 comes exactly where the session is accepted, and the recording is there and refused, but for a fault or want of memory.
+/// 5 comes exactly where the session is accepted, and the key file is there and refused, but for a fault or want of memory; its line has the first fault.
+pub fn key_refused_exactly()
+    ensures only { (names : ReplayFiles) (old new : World) → Ends (replay_plan names) old new 5 → IsTrue old.files.told →
+        (session : SessionData) × (bytes : List ℕ) × (fault : KeyFileFault) × SessionAccepted names old.files.content session
+        × (readable old.files.content names.key ≡ Some bytes) × (key_of session bytes ≡ Err fault) }
+    ensures then { (names : ReplayFiles) (old new : World) (status : ℕ) (session : SessionData) (bytes : List ℕ) (fault : KeyFileFault) →
+        Ends (replay_plan names) old new status → IsTrue old.files.told → SessionAccepted names old.files.content session →
+        readable old.files.content names.key ≡ Some bytes → key_of session bytes ≡ Err fault → (status ≡ 5) ⊎ (is_stop status ≡ true) }
+    ensures line { (names : ReplayFiles) (content : Content) (session : SessionData) (bytes : List ℕ) (fault : KeyFileFault) →
+        SessionAccepted names content session → readable content names.key ≡ Some bytes → key_of session bytes ≡ Err fault →
+        line_at (replay_plan names content) 5 ≡ key_refused fault }
+{}
+
+/// 8 comes exactly where the session and the key are accepted, and the recording is there and refused, but for a fault or want of memory.
 pub fn input_refused_exactly()
     ensures only { (names : ReplayFiles) (old new : World) → Ends (replay_plan names) old new 8 → IsTrue old.files.told →
-        (text : List ℕ) × (session : SessionData) × (bytes : List ℕ) × (readable old.files.content names.session ≡ Some text) × (session_of text ≡ Some session)
-        × (readable old.files.content names.recording ≡ Some bytes) × (recording_of session bytes ≡ None) }
-    ensures then { (names : ReplayFiles) (old new : World) (status : ℕ) (text : List ℕ) (session : SessionData) (bytes : List ℕ) →
-        Ends (replay_plan names) old new status → IsTrue old.files.told →
-        readable old.files.content names.session ≡ Some text → session_of text ≡ Some session →
-        readable old.files.content names.recording ≡ Some bytes → recording_of session bytes ≡ None → (status ≡ 8) ⊎ (is_stop status ≡ true) }
-{}
-
-/// The line of each status that is no stop.
-pub fn lines_exactly()
-    ensures done { (names : ReplayFiles) (old new : World) → Ends (replay_plan names) old new 0 → IsTrue old.files.told →
-        line_at (replay_plan names old.files.content) 0 ≡ [] }
-    ensures session { (names : ReplayFiles) (old new : World) → Ends (replay_plan names) old new 4 → IsTrue old.files.told →
-        line_at (replay_plan names old.files.content) 4 ≡ session_refused }
-    ensures input { (names : ReplayFiles) (old new : World) → Ends (replay_plan names) old new 8 → IsTrue old.files.told →
-        line_at (replay_plan names old.files.content) 8 ≡ input_refused }
+        (session : SessionData) × (secrets : Secrets) × (bytes : List ℕ) × KeyAccepted names old.files.content session secrets
+        × (readable old.files.content names.recording ≡ Some bytes) × (recording_of session secrets.party bytes ≡ None) }
+    ensures then { (names : ReplayFiles) (old new : World) (status : ℕ) (session : SessionData) (secrets : Secrets) (bytes : List ℕ) →
+        Ends (replay_plan names) old new status → IsTrue old.files.told → KeyAccepted names old.files.content session secrets →
+        readable old.files.content names.recording ≡ Some bytes → recording_of session secrets.party bytes ≡ None → (status ≡ 8) ⊎ (is_stop status ≡ true) }
+    ensures line { (names : ReplayFiles) (content : Content) (session : SessionData) (secrets : Secrets) (bytes : List ℕ) →
+        KeyAccepted names content session secrets → readable content names.recording ≡ Some bytes → recording_of session secrets.party bytes ≡ None →
+        line_at (replay_plan names content) 8 ≡ input_refused }
 {}
 
 /// Whatever the status, only the played file is changed.
@@ -77,6 +95,7 @@ pub fn only_played_is_changed()
 pub fn refusals_change_nothing()
     ensures usage { (old new : World) (status : ℕ) → Ends (ending 2 usage) old new status → IsTrue old.files.told → new.files.content ≡ old.files.content }
     ensures session { (names : ReplayFiles) (old new : World) → Ends (replay_plan names) old new 4 → IsTrue old.files.told → new.files.content ≡ old.files.content }
+    ensures key { (names : ReplayFiles) (old new : World) → Ends (replay_plan names) old new 5 → IsTrue old.files.told → new.files.content ≡ old.files.content }
     ensures input { (names : ReplayFiles) (old new : World) → Ends (replay_plan names) old new 8 → IsTrue old.files.told → new.files.content ≡ old.files.content }
 {}
 

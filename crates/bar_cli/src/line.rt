@@ -1,8 +1,11 @@
 //! The words of the command line.
 ghost use Rattle.std.specs.Prelude.{◌≡◌, map, string_bytes};
-ghost use Rattle.std.specs.Option.{option_map, option_copied};
-ghost use Rattle.bar_cli.specs.Line.{value_of, line_of, replay_line};
-ghost use Rattle.bar_cli.specs.Views.{line_view};
+ghost use Rattle.std.specs.Option.{option_map};
+ghost use Rattle.bar_cli.specs.Line.{keygen_line, line_of, replay_line};
+ghost use Rattle.bar_cli.specs.Views.{asked_view, command_view, replay_view};
+
+use crate::keygen_words::KeygenWords;
+use crate::words::{id_of, number_in, option_value, types_of};
 
 /// The files of a replay.
 #[derive(Clone, Copy, Debug)]
@@ -14,20 +17,28 @@ pub struct ReplayNames<'a> {
     pub found: &'a str,
 }
 
-/// The replay that the words ask for, if they are a line. The first word names the command.
-pub fn replay_of(words: &[String]) -> Option<ReplayNames<'_>>
-    ensures { option_map line_view result ≡ line_of (map string_bytes words.now) }
+/// A command, with what its words say.
+#[derive(Clone, Copy, Debug)]
+pub enum Command<'a> {
+    Replay(ReplayNames<'a>),
+    Keygen(KeygenWords<'a>),
+}
+
+/// The command that the words ask for, if they are a line. The first word names it.
+pub fn command_of(words: &[String]) -> Option<Command<'_>>
+    ensures { option_map command_view result ≡ line_of (map string_bytes words.now) }
 {
     let (name, options) = words.split_first()?;
     match name.as_str() {
-        "replay" => replay_options(options),
+        "replay" => Some(Command::Replay(replay_words(options)?)),
+        "keygen" => Some(Command::Keygen(keygen_words(options)?)),
         _ => None,
     }
 }
 
 // The options of a replay, each once and in any order.
-fn replay_options(words: &[String]) -> Option<ReplayNames<'_>>
-    ensures { option_map line_view result ≡ replay_line (map string_bytes words.now) }
+fn replay_words(words: &[String]) -> Option<ReplayNames<'_>>
+    ensures { option_map replay_view result ≡ replay_line (map string_bytes words.now) }
 {
     if words.len() != 10 {
         return None;
@@ -46,16 +57,30 @@ fn replay_options(words: &[String]) -> Option<ReplayNames<'_>>
     })
 }
 
-// The value behind the first option of this name, where the words go in pairs.
-fn option_value<'a>(words: &'a [String], name: &str) -> Option<&'a str>
-    ensures { option_copied result ≡ value_of name.now (map string_bytes words.now) }
+// The options of `keygen`, each once and in any order.
+fn keygen_words(words: &[String]) -> Option<KeygenWords<'_>>
+    ensures { option_map asked_view result ≡ keygen_line (map string_bytes words.now) }
 {
-    let mut rest = words;
-    while let [key, value, others @ ..] = rest {
-        if key.as_str() == name {
-            return Some(value.as_str());
-        }
-        rest = others;
+    if words.len() != 14 {
+        return None;
     }
-    None
+    let party = option_value(words, "--party")?;
+    let id = option_value(words, "--id")?;
+    let rounds = option_value(words, "--rounds")?;
+    let lms = option_value(words, "--lms")?;
+    let ots = option_value(words, "--ots")?;
+    let secret = option_value(words, "--secret")?;
+    let key = option_value(words, "--key")?;
+    let party = number_in(party, 0, 200)? as u16;
+    let id = id_of(id)?;
+    let rounds = number_in(rounds, 1, 1820)? as u32;
+    let params = types_of(lms, ots)?;
+    Some(KeygenWords {
+        party,
+        id,
+        rounds,
+        params,
+        secret,
+        key,
+    })
 }

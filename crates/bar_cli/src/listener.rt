@@ -25,7 +25,7 @@ impl Listener {
 
     /// A party of the session that has taken nothing.
     pub fn start(alloc: Global, session: Session, party: u16) -> Listener
-        ensures { Represents (record { session = session; party = party }) [] result }
+        ensures { (secret : List ℕ) → Represents (record { session = session; party = party; secret = secret }) [] result }
     {
         Listener {
             session,

@@ -3,7 +3,7 @@ ghost use Rattle.std.specs.Prelude.{◌≡◌, ◌++◌, ℕ, List, IfOk, map, l
 ghost use Rattle.std.specs.Option.{option_copied};
 ghost use Rattle.bar_rules.specs.Member.{Member, slot_after};
 ghost use Rattle.bar_rules.specs.Log.{Log};
-ghost use Rattle.bar_rules.specs.Run.{content_of, content_at, contents_of_round, contents_at_tick};
+ghost use Rattle.bar_rules.specs.Ticks.{content_of, content_at, contents_of_round, contents_at_tick};
 ghost use Rattle.bar_cli.specs.Represents.{Represents, texts};
 
 use crate::listener::Listener;
@@ -37,7 +37,7 @@ impl Listener {
 
     /// The content of an update, where it is held.
     fn content(&self, id: UpdateId) -> Option<&[u8]>
-        ensures { (me : Member) (log : Log) → Represents me log self.now → option_to_list (option_copied result) ≡ content_at log id }
+        ensures { (me : Member) (log : Log) → Represents me log self.now → option_to_list (option_copied result) ≡ content_at me log id }
     {
         match self.held.get(&id) {
             Some(block) => content_of(block),
@@ -52,7 +52,7 @@ impl Listener {
         id: UpdateId,
         contents: &mut Vec<Vec<u8>>,
     ) -> Result<(), AllocError>
-        ensures { IfOk result (λ _. (me : Member) (log : Log) → Represents me log self.now → texts contents.new.items ≡ texts contents.old.items ++ content_at log id) }
+        ensures { IfOk result (λ _. (me : Member) (log : Log) → Represents me log self.now → texts contents.new.items ≡ texts contents.old.items ++ content_at me log id) }
     {
         let Some(content) = self.content(id) else {
             return Ok(());

@@ -1,18 +1,20 @@
 //! The top call.
-ghost use Rattle.std.specs.Prelude.{◌≡◌, ◌≢◌, ◌⊎◌, ◌||◌, None, Some, map, string_bytes, IsTrue};
+ghost use Rattle.std.specs.Prelude.{◌≡◌, ◌⊎◌, ◌||◌, None, Some, map, string_bytes, IsTrue};
 ghost use Rattle.bar_outside.specs.Plan.{world};
-ghost use Rattle.bar_outside.specs.Stream.{Stream};
 ghost use Rattle.bar_outside.specs.Ends.{Ends, EndsWith, Says, is_plain};
-ghost use Rattle.bar_cli.specs.Line.{line_of, plan_of};
+ghost use Rattle.bar_cli.specs.Line.{line_of, plan_of, is_status_of};
 ghost use Rattle.bar_cli.specs.Line as line;
-ghost use Rattle.bar_cli.specs.Status.{code_of, said_at, is_status};
-ghost use Rattle.bar_cli.specs.Views.{line_view};
+ghost use Rattle.bar_cli.specs.Status.{code_of, said_at};
+ghost use Rattle.bar_cli.specs.Views.{command_view};
 ghost use Rattle.bar_cli.specs.ReplayPlan.{ReplayFiles, Replayed};
+ghost use Rattle.bar_cli.specs.KeygenPlan.{Keygen, KeyMade};
 
-use crate::line::{ReplayNames, replay_of};
+use crate::keygen::keygen;
+use crate::line::{Command, command_of};
 use crate::replay::replay;
-use crate::status::{Status, report};
+use crate::status::{Status, report, status_of};
 use bar_outside::{Files, Sink};
+use bar_roster::laws::accepted_secrets_are_held;
 use std::alloc::Global;
 
 /// Does what the words say, the first of which names the command, and answers the exit status.
@@ -28,7 +30,7 @@ pub fn bar_run<F: Files, K: Sink>(
     ensures no_line { line_of (map string_bytes words.now) ≡ None → (result ≡ 2) ⊎ (result ≡ 70) }
 
     // no other status comes
-    ensures statuses { IsTrue (is_status result) }
+    ensures statuses { IsTrue (is_status_of (line_of (map string_bytes words.now)) result) }
 
     // what was done, and which status comes when
     ensures ends { Ends (plan_of (line_of (map string_bytes words.now)))
@@ -38,29 +40,41 @@ pub fn bar_run<F: Files, K: Sink>(
     ensures said { IsTrue ((F.disk files.old).told || is_plain result) →
         Says (plan_of (line_of (map string_bytes words.now)) (F.disk files.old).content) result (K.stream err.old) (K.stream err.new) }
 
-    // a listening peer sends nothing, so nothing is printed
-    ensures silent { K.stream out.new ≡ K.stream out.old }
+    // nothing is printed but by `keygen`: a listening peer sends nothing
+    ensures silent { ((asked : Keygen) → line_of (map string_bytes words.now) ≡ Some (line.keygen asked) → ⊥) → K.stream out.new ≡ K.stream out.old }
 
     // a replay that ends with 0 has played what the recording's inputs play
     ensures headline { (names : ReplayFiles) → line_of (map string_bytes words.now) ≡ Some (line.replay names) →
         IsTrue (F.disk files.old).told → result ≡ 0 →
         Replayed names (world (F.disk files.old) (K.stream out.old)) (world (F.disk files.new) (K.stream out.new)) }
+
+    // a key that was made has its file and its lines
+    ensures key_made { (asked : Keygen) → line_of (map string_bytes words.now) ≡ Some (line.keygen asked) →
+        IsTrue (F.disk files.old).told → result ≡ 0 →
+        KeyMade asked (world (F.disk files.old) (K.stream out.old)) (world (F.disk files.new) (K.stream out.new)) }
 {
-    let Some(names) = replay_of(words) else {
-        return report(Status::Usage, err);
+    accepted_secrets_are_held();
+    let Some(command) = command_of(words) else {
+        return report(alloc, &Status::Usage, err);
     };
-    let status = run_replay(alloc, &names, files);
-    report(status, err)
+    let status = run_command(alloc, &command, files, out);
+    report(alloc, &status, err)
 }
 
-// Replays, and says how it ended.
-fn run_replay<F: Files>(alloc: Global, names: &ReplayNames<'_>, files: &mut F) -> Status
-    ensures ends { (out : Stream) → EndsWith (plan_of (Some (line_view names.now)))
-        (world (F.disk files.old) out) (world (F.disk files.new) out) (code_of result) (said_at result) }
-    ensures no_usage { result ≢ Status.Usage }
+// Does a command, and says how it ended.
+fn run_command<F: Files, K: Sink>(
+    alloc: Global,
+    command: &Command<'_>,
+    files: &mut F,
+    out: &mut K,
+) -> Status
+    ensures ends { EndsWith (plan_of (Some (command_view command.now)))
+        (world (F.disk files.old) (K.stream out.old)) (world (F.disk files.new) (K.stream out.new)) (code_of result) (said_at result) }
+    ensures statuses { IsTrue (is_status_of (Some (command_view command.now)) (code_of result)) }
+    ensures silent { ((asked : Keygen) → command_view command.now ≡ line.keygen asked → ⊥) → K.stream out.new ≡ K.stream out.old }
 {
-    match replay(alloc, names, files) {
-        Ok(status) => status,
-        Err(fault) => Status::from(fault),
+    match command {
+        Command::Replay(names) => status_of(replay(alloc, names, files)),
+        Command::Keygen(asked) => status_of(keygen(alloc, asked, files, out)),
     }
 }

@@ -1,53 +1,50 @@
 //! How the program ends, and what it says of it.
-ghost use Rattle.std.specs.Prelude.{◌≡◌, ◌⊎◌, Err};
+ghost use Rattle.std.specs.Prelude.{◌≡◌, ◌⊎◌, ℕ, List, IfOk, Err, string_bytes};
 ghost use Rattle.bar_outside.specs.Ends.{Prints};
+ghost use Rattle.bar_cli.specs.Refusals.{session_refused, key_refused, secret_refused};
 ghost use Rattle.bar_cli.specs.Status.{code_of, said_at, code_of_run, said_by_run};
 
 use bar_outside::{Fault, Sink, SinkFault};
+use bar_roster::{KeyFileFault, SessionFault};
+use std::alloc::{AllocError, Global};
+
+/// The exit status where memory is wanting.
+const NO_MEMORY: u8 = 70;
 
 /// How the program ends.
-#[derive(Clone, Copy, Debug, PartialEq, Eq)]
+#[derive(Debug, PartialEq, Eq, Drop)]
 pub enum Status {
     /// The command was done.
     Done,
     /// The words aren't a line.
     Usage,
     FileFailed,
-    SessionRefused,
+    /// The session's text is refused, or there are too few leaves for a key's rounds.
+    SessionRefused(SessionFault),
+    KeyRefused(KeyFileFault),
     OutputFailed,
     /// The recording is refused.
     InputRefused,
+    /// The secret has so many bytes.
+    SecretRefused(usize),
     NoMemory,
 }
 
 impl Status {
     /// The program's exit status.
-    pub fn code(self) -> u8
-        ensures { result ≡ code_of self }
+    pub fn code(&self) -> u8
+        ensures { result ≡ code_of self.now }
     {
         match self {
             Status::Done => 0,
             Status::Usage => 2,
             Status::FileFailed => 3,
-            Status::SessionRefused => 4,
+            Status::SessionRefused(_) => 4,
+            Status::KeyRefused(_) => 5,
             Status::OutputFailed => 7,
             Status::InputRefused => 8,
-            Status::NoMemory => 70,
-        }
-    }
-
-    // The line that is printed for it.
-    fn line(self) -> &'static str
-        ensures { result.now ≡ said_at self }
-    {
-        match self {
-            Status::Done => "",
-            Status::Usage => "bar: usage\n",
-            Status::FileFailed => "bar: file failed\n",
-            Status::SessionRefused => "bar: session refused\n",
-            Status::OutputFailed => "bar: output failed\n",
-            Status::InputRefused => "bar: input refused\n",
-            Status::NoMemory => "bar: no memory\n",
+            Status::SecretRefused(_) => 8,
+            Status::NoMemory => NO_MEMORY,
         }
     }
 }
@@ -65,17 +62,73 @@ impl From<Fault> for Status {
     }
 }
 
-/// Prints the line of the status. A failed write changes nothing; want of memory makes it 70.
-pub fn report<K: Sink>(status: Status, err: &mut K) -> u8
-    ensures code { (result ≡ code_of status) ⊎ (result ≡ 70) }
-    ensures said { Prints (said_at status) result (K.stream err.old) (K.stream err.new) }
+/// How a command ended that a fault may have stopped.
+pub fn status_of(ended: Result<Status, Fault>) -> Status
+    ensures code { code_of result ≡ code_of_run ended }
+    ensures line { said_at result ≡ said_by_run ended }
 {
-    if status == Status::Done {
-        return status.code();
+    match ended {
+        Ok(status) => status,
+        Err(fault) => Status::from(fault),
     }
-    match err.write(status.line().as_bytes()) {
-        Ok(()) => status.code(),
-        Err(SinkFault::Failed) => status.code(),
-        Err(SinkFault::NoMemory) => Status::NoMemory.code(),
+}
+
+// Prints a line. A failed write changes nothing; want of memory makes the status 70.
+fn print_line<K: Sink>(line: &[u8], code: u8, err: &mut K) -> u8
+    ensures code { (result ≡ code) ⊎ (result ≡ 70) }
+    ensures said { Prints line.now result (K.stream err.old) (K.stream err.new) }
+{
+    match err.write(line) {
+        Ok(()) => code,
+        Err(SinkFault::Failed) => code,
+        Err(SinkFault::NoMemory) => NO_MEMORY,
+    }
+}
+
+// Prints a line that was made, or nothing for want of memory.
+fn print_text<K: Sink>(text: Result<String, AllocError>, code: u8, err: &mut K) -> u8
+    ensures code { (result ≡ code) ⊎ (result ≡ 70) }
+    ensures said { (line : List ℕ) → IfOk text (λ text. string_bytes text ≡ line) → Prints line result (K.stream err.old) (K.stream err.new) }
+{
+    match text {
+        Ok(text) => print_line(text.as_bytes(), code, err),
+        Err(_) => NO_MEMORY,
+    }
+}
+
+fn session_refusal(alloc: Global, fault: &SessionFault) -> Result<String, AllocError>
+    ensures { IfOk result (λ line. string_bytes line ≡ session_refused fault.now) }
+{
+    format!(in alloc; "bar: session refused: {fault}\n")
+}
+
+fn key_refusal(alloc: Global, fault: KeyFileFault) -> Result<String, AllocError>
+    ensures { IfOk result (λ line. string_bytes line ≡ key_refused fault) }
+{
+    format!(in alloc; "bar: key refused: {fault}\n")
+}
+
+fn secret_refusal(alloc: Global, len: usize) -> Result<String, AllocError>
+    ensures { IfOk result (λ line. string_bytes line ≡ secret_refused len) }
+{
+    format!(in alloc; "bar: input refused: secret length {len}\n")
+}
+
+/// Prints the line of the status. A failed write changes nothing; want of memory makes it 70.
+pub fn report<K: Sink>(alloc: Global, status: &Status, err: &mut K) -> u8
+    ensures code { (result ≡ code_of status.now) ⊎ (result ≡ 70) }
+    ensures said { Prints (said_at status.now) result (K.stream err.old) (K.stream err.new) }
+{
+    let code = status.code();
+    match status {
+        Status::Done => code,
+        Status::Usage => print_line(b"bar: usage\n", code, err),
+        Status::FileFailed => print_line(b"bar: file failed\n", code, err),
+        Status::SessionRefused(fault) => print_text(session_refusal(alloc, fault), code, err),
+        Status::KeyRefused(fault) => print_text(key_refusal(alloc, *fault), code, err),
+        Status::OutputFailed => print_line(b"bar: output failed\n", code, err),
+        Status::InputRefused => print_line(b"bar: input refused\n", code, err),
+        Status::SecretRefused(len) => print_text(secret_refusal(alloc, *len), code, err),
+        Status::NoMemory => print_line(b"bar: no memory\n", code, err),
     }
 }

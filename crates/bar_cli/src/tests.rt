@@ -1,4 +1,4 @@
-//! The commands over files and sinks in memory.
+//! Replays over files and sinks in memory. The keys and the signatures are by a Python program written from RFC 8554.
 use crate::bar_run;
 use bar_outside::{MemFiles, MemSink};
 use sha2::{Digest, Sha256};
@@ -21,7 +21,7 @@ const LINE: [&str; 11] = [
 
 const ID: [u8; 8] = [0x00, 0x11, 0x22, 0x33, 0x44, 0x55, 0x66, 0x77];
 
-// A session of two peers and ten rounds. Its keys and the signatures below are by a Python program written from RFC 8554.
+// A session of two peers and ten rounds, and the key file of its second peer.
 const SESSION: &str = "version = 1\nid = \"0011223344556677\"\nrounds = 10\nlife = 4\ncap = 4\n\
     per_round = 8\nfanout = 1\nport = 20000\ntick_ms = 20\nlms = 6\nots = 4\n\
     key = \"00000006000000048d1e3644fdcc75d960cb49ec94696848dd05823833a56f5ac63061df7770db1bfbc282df417853c4907357eccb7c925f\"\n\n[[peer]]\n\
@@ -29,6 +29,10 @@ const SESSION: &str = "version = 1\nid = \"0011223344556677\"\nrounds = 10\nlife
     anchor = \"0f6658ab7e90dda684f49951ffa7345a50488289b1681527c9b1fba610ef4502\"\n\n[[peer]]\n\
     key = \"0000000600000004d87398929b1937843f54974546a2b8d69b190ddc534c8aa140c0cb0e6ff6b6ad588117979b2c07fdc2c8b5349e811f42\"\n\
     anchor = \"22d984a93475a329dd35bccd254007ee8d81f582aaf64ee95e3bfea93bfbea63\"\n";
+
+const KEY: &str = "version = 1\nid = \"0011223344556677\"\nparty = 2\nrounds = 10\n\
+    lms = 6\nots = 4\n\
+    secret = \"0909090909090909090909090909090909090909090909090909090909090909\"\nspent = false\n";
 
 // The broadcaster's signature of the manifest of round 1 with a block that holds `hi`.
 const SIGNATURE: &str =
@@ -64,7 +68,59 @@ const SIGNATURE: &str =
     2fa6144e7273f4769d2c1a14d2eb6b51ddeaec0285a5ed2d24db6aacd28af2d805a19ed1d1b68fee34fbfc95b8128ec3\
     f8f2249d16039aaf647f0406";
 
-// Its signature of the manifest of round 1 with a block that holds `ho`, and one whose length is above the most.
+// A session of one round with a small tree, whose keys are quickly made, and key files of its second peer and its broadcaster.
+const SMALL_SESSION: &str =
+    "version = 1\nid = \"0011223344556677\"\nrounds = 1\nlife = 4\ncap = 4\n\
+    per_round = 8\nfanout = 1\nport = 20000\ntick_ms = 20\nlms = 5\nots = 4\n\
+    key = \"00000005000000048d1e3644fdcc75d960cb49ec9469684855d80022f946f6a3fe6e69fd38c4e6da8abc3355c589089eab49998762e7de01\"\n\n[[peer]]\n\
+    key = \"00000005000000042ef17295b2b2463d8d9beef9c2b84a15d83df9a99f5b121d9021a8715332dcdcbc69f029b3dced28192a8c46128f3ed3\"\n\
+    anchor = \"5d6a62cf004c1b80701330f5616ac970374c1888c96a47915e57cf54d60241f9\"\n\n[[peer]]\n\
+    key = \"0000000500000004d87398929b1937843f54974546a2b8d6d2221cbe51c92bd40c40c2996d8e8adf1ba5f6298bd1b7957edb7d343317f01c\"\n\
+    anchor = \"4d31893edc44a4dcff2b4a2837c85d4dd4385677072cca05466f250426f8080d\"\n";
+
+const SMALL_KEY: &str = "version = 1\nid = \"0011223344556677\"\nparty = 2\nrounds = 1\n\
+    lms = 5\nots = 4\n\
+    secret = \"0909090909090909090909090909090909090909090909090909090909090909\"\nspent = false\n";
+
+const SPENT_KEY: &str = "version = 1\nid = \"0011223344556677\"\nparty = 2\nrounds = 1\n\
+    lms = 5\nots = 4\n\
+    secret = \"0909090909090909090909090909090909090909090909090909090909090909\"\nspent = true\n";
+
+const CASTER_KEY: &str = "version = 1\nid = \"0011223344556677\"\nparty = 0\nrounds = 1\n\
+    lms = 5\nots = 4\n\
+    secret = \"0707070707070707070707070707070707070707070707070707070707070707\"\nspent = false\n";
+
+// Its broadcaster's signature of the manifest of round 1 with a block that holds `hi`.
+const SMALL_SIGNATURE: &str =
+    "0000000000000004615ea58a222c2d5164948c0753ac7f993577798d57946bcc64d639115f8bbc606d209e892be1944a\
+    255512d52dab798d7b028bb0d38b43f3d2270a3e428c564d2d647dc8fdd89f3ece86d2f36bdd395fed89b10e9bffb730\
+    5d29d774ced556fd831b0da2ed399e048426abaa0827f6e9c09f494d67fed2e196f910d9840cebb4c5d6456236c56de2\
+    4365822021dbaa8e5fc952a5f9eefdd33dc5b887e5b7ad0fa19fb54d78500170531a5a965b2ab395c65e942636379481\
+    a4bf619a58b69eee0d5424b3ceecdd6829a08f34e6fcee5c4da9d8892d0a68bd4bb779dd1eebb83cd96788d4f546ae66\
+    0cbab78de64765110df78e989f14e1b8b6d885169bcd6236c706017e0965cb6276e53909c5904e43a384ec33d47f39f6\
+    4e05a1218df5842bdd2ed14b53a85fab8d273caf55909cf7b94cb71b795b16130ee4c098628bbc6a1e75081c9a84cf76\
+    7eb37459185053585389c4682d1fb61f64758c6d7d93513523c083eb9c81229d7acfba8c674a2a6f7ae2197849f852f3\
+    62c7cbb94f104ee64e584f5c958c60761584a11011407eaf8e03bef2183df6484a68c7b727e44f8b2ce95a8e106acfbf\
+    d5ef031d0b3bffc464fa202967822c5b346326dc6d0999b7bbeae92e83428897144ab6b71ee2a47e0e9e6ea845872497\
+    a92aeae9cb998f5eb7f8f5a473125bc65da2a3f3c448d451e545accebc10fc5e3598d40c64b70a2ca214505f7997f6da\
+    e13ee0d1e87e0ae98a48b8d5e8b0423ac76038b6e2297320b54d7599f44b3eb3b09df33a0bf2a322174e8424ca1027d2\
+    3aa2de5e71ca74423e1dd8057044f16a4b9fb87505ec7ebcd5b5e39f2c484e0b7f212e2a9e37af7736b3767c75019469\
+    a953558b95d4ac806c3913129336db18b0cf806adc2c149a8a02f3cf851f177ca9b39aea8248f8b06be2f27cc71beca3\
+    e4c5db3d61c9bdc7ad19c994682831957a0c4e3d4555773df68f484135e1115ef319e20e2fe1b68ee0fbda03934047ba\
+    d47dad2f0ba0838197d7cacd119929698eb7b82852a95ffb96aa12308000bba3a69360d3d4af085ab233ec2bce0105eb\
+    86fccca944f587a20d7b52c1f72fcb03c8f22bacf51e9b8d78fd4ac5cf335a753b2c3e09a78b1385e0ffb2c666ff2490\
+    fbfb32ca745b6b0f5239c2b3ebe27ee17a8e8f7cbe35390061167c85b9bde5e1387efe03fcd9ae059c0230d683f650ee\
+    63cc6f5c69e968b9fb27c12187b13b46dc506b9a57edf17e383632ee3d0665cfd331dd5494dfbd272eb9ec94f7c7f0ed\
+    940da1321a7b51119cda1315c89d172098b322060062f36f811d00b130f5db7394f184e8c092f8da6f8457dce269a893\
+    d7019132da49792d22ef20f7904e37546f6aeb18d1b39e529f7990f6e7fcffcfb019cfeeab79cac5b8314466bf067284\
+    daf076d77adc7f18f014f286933455dd222fc55d48c03a110a24d13683dd1af2c60a775a7348d297f3f56d401ac51421\
+    46c83f8235f5427b05a0ebef51fec7602033753325e32aecf471d809befe7d2b13ab36d59db2310f9f7cecfdd774db15\
+    e8878cce72183a945918cba5a95c63fa66566607b71405d400000005963917f1ede5b98c882b635ae526a244c9ae9b89\
+    9f92d063111a8a2c450ac330c48ef017773518d5e9a95c6f5f975959006016a0c6c98809992c58221ce6f0a432b7457e\
+    8e0473e8b2f923c208f87256d323ff0a65cfc1d3921c6d87501437eeab1979e64a049527d3797b976cb77ed0d96c7485\
+    23e63753faab98c459442972368fb574ea7a8780ed023207258598d822577706bc434241f49eeeb3acd1b717";
+
+// And of the manifest of round 1 with a block that holds `ho`, and one whose length is above the most.
 const OTHER_SIGNATURE: &str =
     "0000000000000004615ea58a222c2d5164948c0753ac7f993577798d57946bcc64d639115f8bbc60d820a8571b4b06d4\
     4975a9344358c0b42bc4bb8b4ac4021e2de5e26eaf34b25ab213a4424bcec7ed7bf58ea382c09acfd0036911ed3f4bd6\
@@ -89,14 +145,10 @@ const OTHER_SIGNATURE: &str =
     0dd4c5c76ce47296718c27724ef544a2d55c87e70704db37e1a8754cc4c495c380820618bcc460769715abd235dc6a24\
     e07a9ca30f3d2290c326765865270a80e0326c739a489446c3b7b5c0fa45d0303be964c630ad33211b0a7d44cd6bafa5\
     d9eb4f78375359a04b7fb9e0d4e5d20a01553ec5fd1976189220f3b1b3538b972e73180d588db9d5ee975101772ffa5c\
-    1e8e02f87ec3f65af7bc4c6cff0e0872b3ed92951f9924eb000000069f6f113e6e32df0ee890f7305f3e64c0fba68827\
-    169655fb46e15f3465525f51caa697d92f2723d0371eed9b6648bfc85fbbe3e3da3b6a2b8e2657775fb0bab4e41ab905\
-    53a8c7e62dbbc17b7ad7261d3565ca905d5a0ebec22eb67d0cb0bd3659812fefaa42ea6f722f1d5909521ea0c5406ec7\
-    f68bc4183cf12860ef549315ac5df56d4c8b1f0f51c44da191c0b1647662a3982514cdd1fabf3a478b03edcd13da3e4c\
-    a715021a794ec147df460e9c7880719e5f16fe0845970fc486d72c1abaff9604896bcfb09bf6d78dbc62d71c48434fbf\
-    38170c2593b7ba502100c06f2a547b587a53fec0bea2e55cd3a5edd538d3fdd10562ad42fd1f78c1f4d1afd489915769\
-    2fa6144e7273f4769d2c1a14d2eb6b51ddeaec0285a5ed2d24db6aacd28af2d805a19ed1d1b68fee34fbfc95b8128ec3\
-    f8f2249d16039aaf647f0406";
+    1e8e02f87ec3f65af7bc4c6cff0e0872b3ed92951f9924eb00000005963917f1ede5b98c882b635ae526a244c9ae9b89\
+    9f92d063111a8a2c450ac330c48ef017773518d5e9a95c6f5f975959006016a0c6c98809992c58221ce6f0a432b7457e\
+    8e0473e8b2f923c208f87256d323ff0a65cfc1d3921c6d87501437eeab1979e64a049527d3797b976cb77ed0d96c7485\
+    23e63753faab98c459442972368fb574ea7a8780ed023207258598d822577706bc434241f49eeeb3acd1b717";
 
 fn words(alloc: Global, texts: &[&str]) -> Result<Vec<String>, AllocError> {
     let mut all = Vec::new(alloc);
@@ -167,11 +219,11 @@ struct Streams {
     long_block: Vec<u8>,
 }
 
-fn signed_streams(alloc: Global) -> Result<Streams, Fail> {
+fn signed_streams(alloc: Global, signature: &str) -> Result<Streams, Fail> {
     let hi = block_with(2, *b"hi");
     let ho = block_with(2, *b"ho");
     let long = block_with(1023, *b"no");
-    let manifest = manifest_of(alloc, &[hi], SIGNATURE)?;
+    let manifest = manifest_of(alloc, &[hi], signature)?;
     let mut changed = manifest.to_vec(alloc)?;
     if let Some(byte) = changed.last_mut() {
         *byte ^= 1;
@@ -233,16 +285,18 @@ struct Left {
     err: MemSink,
 }
 
-// A run of the line over these two files, where these calls of the files and this many writes to err fail.
+// A run of the line over these files, where these calls of the files and these writes to err fail.
 fn run(
     alloc: Global,
-    session: &[u8],
+    session: &str,
+    key: &str,
     recording: &[u8],
     fail_files: &[u64],
     fail_err: &[u64],
 ) -> Result<Left, AllocError> {
     let mut files = MemFiles::make(alloc, fail_files.to_vec(alloc)?);
-    files.put("ses", session)?;
+    files.put("ses", session.as_bytes())?;
+    files.put("k", key.as_bytes())?;
     files.put("rec", recording)?;
     let mut out = MemSink::make(alloc, Vec::new(alloc));
     let mut err = MemSink::make(alloc, fail_err.to_vec(alloc)?);
@@ -325,10 +379,10 @@ const PLAYED: [(&[Entry], &[u8]); 11] = [
 #[test]
 fn streams_are_played(rt: HostRuntime) -> Result<(), Fail> {
     let alloc = rt.alloc();
-    let streams = signed_streams(alloc)?;
+    let streams = signed_streams(alloc, SMALL_SIGNATURE)?;
     for (entries, played) in PLAYED {
         let bytes = recording(alloc, &streams, entries)?;
-        let left = run(alloc, SESSION.as_bytes(), &bytes, &[], &[])?;
+        let left = run(alloc, SMALL_SESSION, SMALL_KEY, &bytes, &[], &[])?;
         assert_eq!(rt; left.status, 0);
         assert_eq!(rt; left.files.get("p").unwrap_or(b"none".as_slice()), played);
         assert_eq!(rt;
@@ -341,18 +395,139 @@ fn streams_are_played(rt: HostRuntime) -> Result<(), Fail> {
     Ok(())
 }
 
-// Whether the session's text and the recording are right, the failing calls of the files and of err, and the status, what err
-// has and what was played.
-const ENDS: [(bool, bool, &[u64], &[u64], u8, &str, &[u8]); 8] = [
-    (true, true, &[], &[], 0, "", b"hi"),
-    (false, true, &[], &[], 4, "bar: session refused\n", b"none"),
-    (true, false, &[], &[], 8, "bar: input refused\n", b"none"),
-    (true, true, &[1], &[], 3, "bar: file failed\n", b"none"),
-    (true, true, &[2], &[], 3, "bar: file failed\n", b"none"),
-    (true, true, &[3], &[], 3, "bar: file failed\n", b"none"),
-    (true, true, &[4], &[], 3, "bar: file failed\n", b"h"),
-    (false, true, &[], &[1], 4, "bar: sessi", b"none"),
+#[test]
+fn a_session_of_ten_rounds_plays_hi(rt: HostRuntime) -> Result<(), Fail> {
+    let alloc = rt.alloc();
+    let streams = signed_streams(alloc, SIGNATURE)?;
+    let entries = [START, Entry::Manifest, Entry::Block, END];
+    let bytes = recording(alloc, &streams, &entries)?;
+    let left = run(alloc, SESSION, KEY, &bytes, &[], &[])?;
+    assert_eq!(rt; left.status, 0);
+    assert_eq!(rt;
+        left.files.get("p").unwrap_or(b"none".as_slice()),
+        b"hi".as_slice()
+    );
+    Ok(())
+}
+
+// The session's text and the key file, whether the recording is whole, the failing calls of the files and of err, and the status,
+// what err has and what was played.
+const ENDS: [(&str, &str, bool, &[u64], &[u64], u8, &str, &[u8]); 13] = [
+    (SMALL_SESSION, SPENT_KEY, true, &[], &[], 0, "", b"hi"),
+    (
+        "version = 1",
+        SMALL_KEY,
+        true,
+        &[],
+        &[],
+        4,
+        "bar: session refused: Missing id\n",
+        b"none",
+    ),
+    (
+        "version",
+        SMALL_KEY,
+        true,
+        &[],
+        &[],
+        4,
+        "bar: session refused: NotToml\n",
+        b"none",
+    ),
+    (
+        SMALL_SESSION,
+        "version",
+        true,
+        &[],
+        &[],
+        5,
+        "bar: key refused: NotToml\n",
+        b"none",
+    ),
+    (
+        SMALL_SESSION,
+        "version = 1",
+        true,
+        &[],
+        &[],
+        5,
+        "bar: key refused: BadValue\n",
+        b"none",
+    ),
+    (
+        SMALL_SESSION,
+        CASTER_KEY,
+        true,
+        &[],
+        &[],
+        5,
+        "bar: key refused: NotInRoster\n",
+        b"none",
+    ),
+    (
+        SMALL_SESSION,
+        SMALL_KEY,
+        false,
+        &[],
+        &[],
+        8,
+        "bar: input refused\n",
+        b"none",
+    ),
+    (
+        SMALL_SESSION,
+        SMALL_KEY,
+        true,
+        &[1],
+        &[],
+        3,
+        FAILED,
+        b"none",
+    ),
+    (
+        SMALL_SESSION,
+        SMALL_KEY,
+        true,
+        &[2],
+        &[],
+        3,
+        FAILED,
+        b"none",
+    ),
+    (
+        SMALL_SESSION,
+        SMALL_KEY,
+        true,
+        &[3],
+        &[],
+        3,
+        FAILED,
+        b"none",
+    ),
+    (
+        SMALL_SESSION,
+        SMALL_KEY,
+        true,
+        &[4],
+        &[],
+        3,
+        FAILED,
+        b"none",
+    ),
+    (SMALL_SESSION, SMALL_KEY, true, &[5], &[], 3, FAILED, b"h"),
+    (
+        "version = 2",
+        SMALL_KEY,
+        true,
+        &[],
+        &[1],
+        4,
+        "bar: session refu",
+        b"none",
+    ),
 ];
+
+const FAILED: &str = "bar: file failed\n";
 
 fn either<'a>(first: bool, one: &'a [u8], other: &'a [u8]) -> &'a [u8] {
     if first { one } else { other }
@@ -361,16 +536,12 @@ fn either<'a>(first: bool, one: &'a [u8], other: &'a [u8]) -> &'a [u8] {
 #[test]
 fn statuses_and_lines(rt: HostRuntime) -> Result<(), Fail> {
     let alloc = rt.alloc();
-    let streams = signed_streams(alloc)?;
-    let whole = recording(
-        alloc,
-        &streams,
-        &[START, Entry::Manifest, Entry::Block, END],
-    )?;
-    for (session_right, recording_right, fail_files, fail_err, status, said, played) in ENDS {
-        let session = either(session_right, SESSION.as_bytes(), b"version = 2");
-        let bytes = either(recording_right, &whole, b"BARL");
-        let left = run(alloc, session, bytes, fail_files, fail_err)?;
+    let streams = signed_streams(alloc, SMALL_SIGNATURE)?;
+    let entries = [START, Entry::Manifest, Entry::Block, END];
+    let whole = recording(alloc, &streams, &entries)?;
+    for (session, key, is_whole, fail_files, fail_err, status, said, played) in ENDS {
+        let bytes = either(is_whole, &whole, b"BARL");
+        let left = run(alloc, session, key, bytes, fail_files, fail_err)?;
         assert_eq!(rt; left.status, status);
         assert_eq!(rt; left.err.bytes(), said.as_bytes());
         assert_eq!(rt; left.files.get("p").unwrap_or(b"none".as_slice()), played);
@@ -380,76 +551,33 @@ fn statuses_and_lines(rt: HostRuntime) -> Result<(), Fail> {
     Ok(())
 }
 
+// The recording of party 1 is not that of party 2, whose key it is.
 #[test]
-fn files_that_are_not_there(rt: HostRuntime) -> Result<(), Fail> {
-    let alloc = rt.alloc();
-    for name in ["ses", "rec"] {
-        let mut files = MemFiles::make(alloc, Vec::new(alloc));
-        files.put(name, SESSION.as_bytes())?;
-        let mut out = MemSink::make(alloc, Vec::new(alloc));
-        let mut err = MemSink::make(alloc, Vec::new(alloc));
-        let all = words(alloc, &LINE)?;
-        assert_eq!(rt; bar_run(alloc, &all, &mut files, &mut out, &mut err), 3);
-        assert_eq!(rt; err.bytes(), b"bar: file failed\n".as_slice());
-    }
+fn recordings_of_other_parties_are_refused(rt: HostRuntime) -> Result<(), Fail> {
+    let recording = b"BARL\x01\x00\x11\x22\x33\x44\x55\x66\x77\x00\x01\x00";
+    let left = run(rt.alloc(), SMALL_SESSION, SMALL_KEY, recording, &[], &[])?;
+    assert_eq!(rt; left.status, 8);
+    assert_eq!(rt; left.err.bytes(), b"bar: input refused\n".as_slice());
     Ok(())
 }
 
 #[test]
-fn words_that_are_no_line(rt: HostRuntime) -> Result<(), Fail> {
+fn files_that_are_not_there(rt: HostRuntime) -> Result<(), Fail> {
     let alloc = rt.alloc();
-    let cases: [&[&str]; 5] = [
-        &[],
-        &["judge", "--session", "s", "--table", "t", "--evidence", "e"],
-        // an option is missing
-        &[
-            "replay",
-            "--recording",
-            "r",
-            "--session",
-            "s",
-            "--found",
-            "f",
-            "--played",
-            "p",
-        ],
-        // an option stands twice
-        &[
-            "replay",
-            "--recording",
-            "r",
-            "--session",
-            "s",
-            "--found",
-            "f",
-            "--played",
-            "p",
-            "--played",
-            "q",
-        ],
-        // a word too many
-        &[
-            "replay",
-            "--recording",
-            "r",
-            "--session",
-            "s",
-            "--found",
-            "f",
-            "--played",
-            "p",
-            "--key",
-            "k",
-            "x",
-        ],
-    ];
-    for texts in cases {
+    for (name, other) in [
+        ("none", "none"),
+        ("ses", "none"),
+        ("ses", "k"),
+        ("rec", "k"),
+    ] {
         let mut files = MemFiles::make(alloc, Vec::new(alloc));
+        files.put(name, SMALL_SESSION.as_bytes())?;
+        files.put(other, SMALL_KEY.as_bytes())?;
         let mut out = MemSink::make(alloc, Vec::new(alloc));
         let mut err = MemSink::make(alloc, Vec::new(alloc));
-        let all = words(alloc, texts)?;
-        assert_eq!(rt; bar_run(alloc, &all, &mut files, &mut out, &mut err), 2);
-        assert_eq!(rt; err.bytes(), b"bar: usage\n".as_slice());
+        let all = words(alloc, &LINE)?;
+        assert_eq!(rt; bar_run(alloc, &all, &mut files, &mut out, &mut err), 3);
+        assert_eq!(rt; err.bytes(), FAILED.as_bytes());
     }
     Ok(())
 }

@@ -2,27 +2,27 @@
 use Rattle.bar_window.specs.declared.update.UpdateId.{UpdateId}
 use Rattle.bar_window.specs.declared.exchange.Exchange.{Exchange}
 use Rattle.bar_window.specs.declared.exchange.Role.{Role}
-use Rattle.bar_window.specs.declared.exchange.Role.TheVariants.{Initiator, Responder}
+use Rattle.bar_window.specs.declared.exchange.Role.TheVariants.{Initiator}
 use Rattle.bar_window.specs.declared.exchange.XKind.{XKind}
 use Rattle.bar_window.specs.declared.exchange.XKind.TheVariants.{Balanced, Push}
-use Rattle.bar_wire.specs.Datagram.{Message, Datagram, Body, Manifest, Block, Request, Response, Divulge, Query, Reply, Case, KeyRequest, Key, Evidence, Evict, KeyGiven, is_of, kind_number, part_of, exchange_by, round_of}
+use Rattle.bar_wire.specs.Datagram.{Message, Datagram, Body, Request, Response, Divulge, Query, Reply, Case, KeyRequest, Key, is_of, kind_number, exchange_by, round_of}
 use Rattle.bar_rules.specs.Agreement.{AgreesWith, IsRecent, IsFresh}
-use Rattle.bar_rules.specs.Evidence.{kept, kept_in}
+use Rattle.bar_rules.specs.Evidence.{kept_in}
 use Rattle.bar_rules.specs.Holdings.{block_in, block_from, block_opened, block_of, is_held, history, case_for, briefcase_in}
-use Rattle.bar_rules.specs.Log.{Log, Entry, Ticked, Heard, Said, Kept, earliest, heard_in, said_in, if_passes, first_heard, first_said, has_heard, has_said, count_heard, has_kind_and_round, ticks, ticks_in, round_now, table, manifest_in, names_party}
+use Rattle.bar_rules.specs.Log.{Log, Entry, Ticked, Heard, Said, Kept, heard_in, said_in, if_passes, count_heard, has_kind_and_round, ticks_in, round_now, manifest_in, names_party}
 use Rattle.bar_rules.specs.Member.{Member, round_after, is_alive}
 use Rattle.bar_rules.specs.Secrets.{nonce_of}
-use Rattle.bar_rules.specs.Terms.{seat, seat_in, asking_kind, revealed, revealed_in}
+use Rattle.bar_rules.specs.Terms.{asking_kind, revealed_in}
 use Rattle.bar_rules.specs.Ticks.{open_exchanges, opened, with_exchange, exchange_said, inserted}
 use Rattle.bar_rules.specs.Values.{window_of}
-use Rattle.std.proofs.Common.{◌≡◌, ℕ, ◌<◌, ◌≤◌, ◌+◌, Bool, true, false, List, [], ◌∷◌, ◌++◌, refl, sym, ap, ◌∙◌, subst, arith, cond}
+use Rattle.std.proofs.Common.{◌≡◌, ℕ, ◌≤◌, ◌+◌, Bool, true, false, List, [], ◌∷◌, ◌++◌, refl, sym, ap, ◌∙◌, subst, arith, cond}
 use Rattle.std.specs.Prelude.{Option, Some, None, is_some, filter, nat_le, option_map, option_and_then}
 use Rattle.std.specs.Option.{option_or}
 use Rattle.std.specs.Bool.{then_some}
-use Rattle.std.specs.List.{list_all, AllByRecursion}
+use Rattle.std.specs.List.{AllByRecursion}
 use Rattle.std.proofs.lemmas.Bool.{and_parts, leb-true, le-leb, both_ways}
 use Rattle.bar_laws.proofs.Elsewhere.{is_of-is}
-use Rattle.bar_laws.proofs.InLife.{InLife, is_since, of-round, history-in-life, window-in-life}
+use Rattle.bar_laws.proofs.InLife.{InLife, of-round, window-in-life, by-round}
 use Rattle.bar_laws.proofs.Once.{part-round}
 use Rattle.bar_laws.proofs.OpenList.{IsRising, opened-rising, picked-inserted}
 
@@ -81,10 +81,6 @@ IsInTime life now (KeyRequest r kind role) = now ≤ r + life
 IsInTime life now (Key k) = now ≤ k.round + life
 IsInTime life now _ = Unit {0}
 
-pub by-round : (r : ℕ) (k : XKind) (role : Role) (f t : ℕ) → (exchange_by r k role f t).round ≡ r
-by-round r k Initiator f t = refl
-by-round r k Responder f t = refl
-
 module _ (me : Member) (one two : Log) (same : AgreesWith me one two) where
   pub now : round_now one ≡ round_now two
   now = ap round_after same.time
@@ -129,7 +125,7 @@ module _ (me : Member) (one two : Log) (same : AgreesWith me one two) where
       let times : later ≡ round_now (e ∷ two) = ap (λ t. round_after (t + ticks_in e)) same.time in
       let old : open_at life n (opened one) ≡ open_at life n (opened two) = same.opens ∙ ap (λ t. open_at life t (opened two)) (sym now) in
       let new : open_at life later (opened one) ≡ open_at life later (opened two) =
-          sym (open-later life n later (opened one) grows) ∙ ap (λ xs. open_at life later xs) old ∙ open-later life n later (opened two) grows
+      sym (open-later life n later (opened one) grows) ∙ ap (λ xs. open_at life later xs) old ∙ open-later life n later (opened two) grows
       in
       open-with life later (exchange_said (said_in e)) (opened one) (opened two) (opened-rising one) (opened-rising two) new
       ∙ ap (λ t. open_at life t (opened (e ∷ two))) times

@@ -131,15 +131,15 @@ said-terms me log x role h e =
         }
 
 -- A briefcase that was admitted can be opened: its terms are valid, its counts those of the promise, which is within the table.
-record HeardBriefcase (me : Member) (log : Log) (x : Exchange) (role : Role) (d : Datagram) : Type 0 where
-  case : Briefcase
-  body : d.message.body ≡ Case case
-  exchange : exchange_by case.round case.kind case.role d.message.from d.message.to ≡ x
-  side : case.role ≡ role
-  allowed : (before : Log) × Allows me before (Heard d)
-  valid : terms_ok me.session [] x case.terms ≡ true
-  counts : counts_ok me.session case ≡ true
-  within : is_within (table log) (promised_updates me.session.cap case.terms case.role) ≡ true
+pub record HeardBriefcase (me : Member) (log : Log) (x : Exchange) (role : Role) (d : Datagram) : Type 0 where
+  pub case : Briefcase
+  pub body : d.message.body ≡ Case case
+  pub exchange : exchange_by case.round case.kind case.role d.message.from d.message.to ≡ x
+  pub side : case.role ≡ role
+  pub allowed : (before : Log) × Allows me before (Heard d)
+  pub valid : terms_ok me.session [] x case.terms ≡ true
+  pub counts : counts_ok me.session case ≡ true
+  pub within : is_within (table log) (promised_updates me.session.cap case.terms case.role) ≡ true
 
 terms-are : (t : Terms) (o : Option Terms) → are_terms t o ≡ true → o ≡ Some t
 terms-are t (Some u) e = ap Some (same_terms-is u t e)
@@ -148,7 +148,7 @@ terms-are t None e = cc
 empty-extends : (t : Table) → Extends [] t
 empty-extends t = record { same = λ round ds e. cc }
 
-heard-briefcase : (me : Member) (log : Log) (x : Exchange) (role : Role) (d : Datagram) → IsObedient me log → WasHeard log d → is_of 8 x role d.message ≡ true → HeardBriefcase me log x role d
+pub heard-briefcase : (me : Member) (log : Log) (x : Exchange) (role : Role) (d : Datagram) → IsObedient me log → WasHeard log d → is_of 8 x role d.message ≡ true → HeardBriefcase me log x role d
 heard-briefcase me log x role d h w e =
     let c : IsCaseOf x role d.message = is_of-case x role d.message e in
     let al = allowed-at me log w.before (Heard d) w.place h in
@@ -171,7 +171,7 @@ heard-briefcase me log x role d h w e =
 
 -- ---- a key that opens badly
 
-heard-signed : (me : Member) (before : Log) (d : Datagram) → is_admitted me before d ≡ true → is_signed d.message.body ≡ true → is_signed_by me.session d ≡ true
+pub heard-signed : (me : Member) (before : Log) (d : Datagram) → is_admitted me before d ≡ true → is_signed d.message.body ≡ true → is_signed_by me.session d ≡ true
 unfolding is_admitted
 heard-signed me before d e signed =
     let genuine : is_genuine me.session d ≡ true = (and_parts _ _ (and_parts _ _ (and_parts _ _ e).0).0).1 in
@@ -182,7 +182,7 @@ unfolding is_admitted
 heard-unannounced me before d e = (and_parts _ _ (and_parts _ _ (and_parts _ _ (and_parts _ _ e).0).0).0).1
 
 -- a key's row: a briefcase was heard from its side, and the exchange is recent
-key-row : (me : Member) (before : Log) (e : Datagram) (k : KeyGiven) → is_admitted me before e ≡ true → e.message.body ≡ Key k
+pub key-row : (me : Member) (before : Log) (e : Datagram) (k : KeyGiven) → is_admitted me before e ≡ true → e.message.body ≡ Key k
     → (has_heard (is_of 8 (exchange_by k.round k.kind k.role e.message.from e.message.to) k.role) before ≡ true) × (nat_le (round_now before) (k.round + me.session.shape.life) ≡ true)
 key-row me before e k admitted is =
     let row : is_row_met me before e.message.from e.message.to (Key k) ≡ true = subst (λ b. is_row_met me before e.message.from e.message.to b ≡ true) is (admitted-row me before e admitted) in

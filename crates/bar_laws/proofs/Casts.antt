@@ -10,12 +10,17 @@ use Rattle.bar_rules.specs.World.{inside}
 use Rattle.bar_window.specs.declared.update.UpdateId.{UpdateId}
 use Rattle.bar_wire.specs.Datagram.{Datagram, Body, Manifest, Block, Evidence, Evict, kind_number}
 use Rattle.bar_wire.specs.Inputs.{Input, Tick, Came}
-use Rattle.std.proofs.Common.{◌≡◌, ℕ, Bool, true, false, List, [], ◌∷◌, zero, suc, ◌+◌, ◌-◌, ◌*◌, ◌≤◌, not, length, arith, refl, sym, ap, subst, inl, inr}
+use Rattle.std.proofs.Common.{◌≡◌, ℕ, Bool, true, false, List, [], ◌∷◌, zero, suc, ◌+◌, ◌-◌, ◌*◌, ◌^◌, ◌<◌, ◌≤◌, not, length, arith, refl, sym, ap, subst, inl, inr}
 use Rattle.std.specs.Prelude.{Option, Some, None, is_some, cond, nat_le, nat_lt, filter, Contains}
 use Rattle.bar_laws.proofs.Later.{first_said-was}
 use Rattle.bar_laws.proofs.Unique.{SaidIn, said-in}
 use Rattle.bar_laws.proofs.Adds.{Adds, SentBy, adds-send, all-map, all-snoc, sent-said, came}
 use Rattle.bar_laws.proofs.Runs.{ticked-low}
+use Rattle.bar_laws.proofs.Accepted.{signed-accepted}
+use Rattle.bar_lms.specs.Params.{levels}
+use Rattle.bar_roster.specs.KeyFile.{Fits}
+use Rattle.bar_rules.specs.Broadcaster.{caster_message}
+use Rattle.bar_rules.specs.Values.{is_signed_by}
 use Rattle.bar_laws.proofs.CasterFits.{manifest-fits, evict-fits, block-fits, served-are-peers, blocks-are-whole, blocks-are-few}
 use Rattle.bar_roster.specs.Sessions.{IsSession}
 use Rattle.bar_wire.specs.Grammar.{IsDatagram}
@@ -42,6 +47,13 @@ pub record IsOwnMessage (s : Session) (stream : List ℕ) (party : ℕ) (d : Dat
   pub from : d.message.from ≡ party
   pub body : IsOwnBody s stream d.message.body
   pub fits : IsDatagram s.shape d
+  pub accepted : is_signed_by s d ≡ true
+
+-- the member is the broadcaster of its session, which holds the key that comes from its secret
+pub record IsCaster (me : Member) : Type 0 where
+  pub session : IsSession me.session
+  pub party : me.party ≡ 0
+  pub fits : Fits me.session 0 me.secret
 
 -- the broadcaster's own messages
 abbrev pub AreOwn : Session → List ℕ → Log → Type 0
@@ -87,9 +99,9 @@ casts-all : (me : Member) (stream : List ℕ) (log : Log) (o : Option Datagram) 
 casts-all me stream log o [] out d a s = a
 casts-all me stream log o (p ∷ ps) out d a s = casts-all me stream log o ps (sending out p d) d (casts-send me stream log o out p d a (inl s) (a.own d s).0.fits) s
 
-casts-announce : (me : Member) (stream : List ℕ) (log : Log) (o : Option Datagram) (out : Out) (leaf round : ℕ) (body : Body) → IsOwnBody me.session stream body → IsBegun out.log body → IsDatagram me.session.shape (caster_signed me leaf body)
+casts-announce : (me : Member) (stream : List ℕ) (log : Log) (o : Option Datagram) (out : Out) (leaf round : ℕ) (body : Body) → IsOwnBody me.session stream body → IsBegun out.log body → IsDatagram me.session.shape (caster_signed me leaf body) → is_signed_by me.session (caster_signed me leaf body) ≡ true
     → Casts me stream log o out → Casts me stream log o (announce me out leaf round body)
-casts-announce me stream log o out leaf round body plain begun fits a = go (first_said (has_kind_and_round (kind_number body) round) out.log) refl
+casts-announce me stream log o out leaf round body plain begun fits accepted a = go (first_said (has_kind_and_round (kind_number body) round) out.log) refl
   where
     d : Datagram
     d = caster_signed me leaf body
@@ -101,7 +113,7 @@ casts-announce me stream log o out leaf round body plain begun fits a = go (firs
     own e (inl h) =
         let same : d ≡ e = cc in
         subst (λ z. IsOwnMessage me.session stream 0 z × IsBegun (Said d ∷ out.log) z.message.body) same
-        (record { from = refl; body = plain; fits = fits }, begun-grows (Said d) out.log body begun)
+        (record { from = refl; body = plain; fits = fits; accepted = accepted }, begun-grows (Said d) out.log body begun)
     own e (inr h) = let o = a.own e h in (o.0, begun-grows (Said d) out.log e.message.body o.1)
 
     grown : Casts me stream log o said
@@ -154,19 +166,29 @@ casts-blocks me stream log o m i (b ∷ blocks) out z s low high few whole a =
     (λ p peer. block-fits me.session (record { round = m; index = i }) b p s low high (omega (arith, few)) whole.0 peer.0 peer.1)
     (all-kept (IsPeerOf me.session) (is_in_fanout me (record { round = m; index = i })) (served me.session out.log) (all-of (IsPeerOf me.session) (served me.session out.log) (served-are-peers me.session out.log))) a)
 
-casts-tick : (me : Member) (stream : List ℕ) (log : Log) (o : Option Datagram) (out : Out) → me.party ≡ 0 → IsSession me.session → 1 ≤ round_now out.log → Casts me stream log o out → Casts me stream log o (caster_tick me stream out)
-casts-tick me stream log o out z s low a = go (not (nat_le m me.session.shape.rounds)) refl _ _ _
+caster-accepted : (me : Member) (leaf : ℕ) (body : Body) → IsCaster me → leaf < 2 ^ levels me.session.params.height → is_signed_by me.session (caster_signed me leaf body) ≡ true
+caster-accepted me leaf body is below = signed-accepted me.session 0 me.secret leaf (caster_message body) is.fits refl below
+
+casts-tick : (me : Member) (stream : List ℕ) (log : Log) (o : Option Datagram) (out : Out) → IsCaster me → 1 ≤ round_now out.log → Casts me stream log o out → Casts me stream log o (caster_tick me stream out)
+casts-tick me stream log o out is low a = go (not (nat_le m me.session.shape.rounds)) refl _ _ _
   where
     m : ℕ
     m = round_now out.log
 
+    below : m ≤ me.session.shape.rounds → 2 * (m - 1) < 2 ^ levels me.session.params.height
+    below high = let few : 18 * me.session.shape.rounds ≤ 2 ^ levels me.session.params.height = is.session.leaves in omega (arith, few, low, high)
+
+    above : m ≤ me.session.shape.rounds → 2 * (m - 1) + 1 < 2 ^ levels me.session.params.height
+    above high = let few : 18 * me.session.shape.rounds ≤ 2 ^ levels me.session.params.height = is.session.leaves in omega (arith, few, low, high)
+
     manifest : m ≤ me.session.shape.rounds → Casts me stream log o (announce_manifest me stream m out)
-    manifest high = casts-announce me stream log o out (2 * (m - 1)) m (Manifest m (manifest_list me.session stream m)) refl (omega arith) (manifest-fits me stream m s low high) a
+    manifest high = casts-announce me stream log o out (2 * (m - 1)) m (Manifest m (manifest_list me.session stream m)) refl (omega arith) (manifest-fits me stream m is.session low high) (caster-accepted me (2 * (m - 1)) (Manifest m (manifest_list me.session stream m)) is (below high)) a
 
     evictions : m ≤ me.session.shape.rounds → (out : Out) → Casts me stream log o out → (b : Bool) → nat_lt 0 (length (evicted me.session out.log)) ≡ b
         → Casts me stream log o (cond b (announce me out (2 * (m - 1) + 1) m (Evict m (evicted me.session out.log))) out)
     evictions high out a true some =
-        casts-announce me stream log o out (2 * (m - 1) + 1) m (Evict m (evicted me.session out.log)) tt tt (evict-fits me out.log m s low high (ltb-true 0 (length (evicted me.session out.log)) some)) a
+        casts-announce me stream log o out (2 * (m - 1) + 1) m (Evict m (evicted me.session out.log)) tt tt (evict-fits me out.log m is.session low high (ltb-true 0 (length (evicted me.session out.log)) some))
+        (caster-accepted me (2 * (m - 1) + 1) (Evict m (evicted me.session out.log)) is (above high)) a
     evictions high out a false some = a
 
     within : not (nat_le m me.session.shape.rounds) ≡ false → m ≤ me.session.shape.rounds
@@ -185,7 +207,7 @@ casts-tick me stream log o out z s low a = go (not (nat_le m me.session.shape.ro
     go false e true r t = evictions (within e) (announce_manifest me stream m out) (manifest (within e)) _ refl
     go false e false true t = manifest (within e)
     go false e false false true =
-        casts-blocks me stream log o m 0 (round_blocks me.session stream m) out z s low (within e) (few-blocks e)
+        casts-blocks me stream log o m 0 (round_blocks me.session stream m) out is.party is.session low (within e) (few-blocks e)
         (all-of (λ (block : List ℕ). length block ≡ 1024) (round_blocks me.session stream m) (blocks-are-whole me.session stream m)) a
     go false e false false false = a
 
@@ -208,9 +230,9 @@ casts-judge me stream log d (Evidence ev) e own fair = casts-evict me stream log
 casts-judge me stream log d _ e own fair = casts-begun me stream log (Some d) own fair
 
 -- the broadcaster's step
-pub caster-casts : (me : Member) (stream : List ℕ) (log : Log) (i : Input) → me.party ≡ 0 → IsSession me.session → AreOwn me.session stream log → IsFair me stream log → Casts me stream log (came me i) (caster_step me stream log i)
+pub caster-casts : (me : Member) (stream : List ℕ) (log : Log) (i : Input) → IsCaster me → AreOwn me.session stream log → IsFair me stream log → Casts me stream log (came me i) (caster_step me stream log i)
 unfolding caster_step
-caster-casts me stream log i z s own fair = go (nat_le (last_tick me.session) (ticks log)) i
+caster-casts me stream log i is own fair = go (nat_le (last_tick me.session) (ticks log)) i
   where
     ticked : AreOwn me.session stream (Ticked ∷ log)
     ticked = own-grows me.session stream Ticked log (λ d e. cc) own
@@ -221,5 +243,5 @@ caster-casts me stream log i z s own fair = go (nat_le (last_tick me.session) (t
 
     go : (b : Bool) (i : Input) → Casts me stream log (came me i) (cond b (begun log) (caster_take me stream log i))
     go true i = casts-begun me stream log (came me i) own fair
-    go false Tick = casts-tick me stream log None (begun (Ticked ∷ log)) z s (ticked-low log) (record { adds = record { new = Ticked ∷ []; split = refl; added = (tt, tt); sent = tt }; own = ticked; fair = fair; fits = tt })
+    go false Tick = casts-tick me stream log None (begun (Ticked ∷ log)) is (ticked-low log) (record { adds = record { new = Ticked ∷ []; split = refl; added = (tt, tt); sent = tt }; own = ticked; fair = fair; fits = tt })
     go false (Came bytes) = datagram (datagram_of me.session bytes)

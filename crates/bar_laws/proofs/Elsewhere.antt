@@ -1,9 +1,6 @@
 -- What is heard comes from another party, what is said goes to another, and where the terms of an exchange are complete the own side's first
 -- message is said.
-use Rattle.bar_wire.specs.declared.shape.Shape.{Shape}
-use Rattle.bar_wire.specs.Grammar as grammar
-use Rattle.bar_wire.specs.Grammar.{IsPeer, SpellsDatagram}
-use Rattle.bar_wire.specs.Datagram.{Message, Datagram, Body, Manifest, Block, Request, Response, Divulge, Query, Reply, Case, KeyRequest, Key, Evidence, Evict, Briefcase, is_of, kind_of, kind_number, part_of, exchange_by}
+use Rattle.bar_wire.specs.Datagram.{Message, Datagram, Body, Request, Response, Query, Reply, Case, Key, Briefcase, is_of, kind_number, part_of, exchange_by}
 use Rattle.bar_window.specs.Exchange.{same_exchange, same_role, party_on, other_role}
 use Rattle.bar_window.specs.Terms.{Terms}
 use Rattle.bar_window.specs.declared.exchange.Exchange.{Exchange}
@@ -12,24 +9,23 @@ use Rattle.bar_window.specs.declared.exchange.Role.TheVariants.{Initiator, Respo
 use Rattle.bar_window.specs.declared.exchange.XKind.{XKind}
 use Rattle.bar_window.specs.declared.exchange.XKind.TheVariants.{Balanced, Push}
 use Rattle.bar_window.specs.declared.update.UpdateId.{UpdateId}
-use Rattle.bar_rules.specs.Admission.{is_admitted, is_row_met, is_for, is_to_all}
 use Rattle.bar_rules.specs.Holdings.{history, briefcase_in, case_given}
-use Rattle.bar_rules.specs.Log.{Log, Entry, Ticked, Heard, Said, Kept, heard_in, said_in, if_passes, first_heard, first_said, has_heard, has_said}
+use Rattle.bar_rules.specs.Log.{Log, Entry, Ticked, Heard, Said, Kept, first_said, has_heard, has_said}
 use Rattle.bar_rules.specs.Member.{Member}
-use Rattle.bar_rules.specs.Rules.{IsObedient, Allows}
+use Rattle.bar_rules.specs.Rules.{IsObedient}
 use Rattle.bar_rules.specs.Secrets.{nonce_of}
 use Rattle.bar_rules.specs.Signing.{MaySign, MaySay}
-use Rattle.bar_rules.specs.Terms.{role_of, asking_kind, answer_kind, first_kind, first_on, body_on, revealed, revealed_in, terms_of, terms_by, trade_terms, offer_terms, answered, offered, taken, divulged}
-use Rattle.std.proofs.Common.{◌≡◌, ℕ, ◌<◌, ◌≤◌, Bool, true, false, List, refl, sym, ap, ◌∙◌, subst, inl, inr, ◌&&◌, ◌||◌, eqb, arith}
-use Rattle.std.specs.Prelude.{Option, Some, None, ◌⊎◌, is_some, option_map, option_and_then, cond}
+use Rattle.bar_rules.specs.Terms.{role_of, asking_kind, first_kind, body_on, revealed, revealed_in, terms_of, terms_by, trade_terms, offer_terms, answered, offered, taken, divulged}
+use Rattle.std.proofs.Common.{◌≡◌, ℕ, Bool, true, false, List, refl, sym, ap, ◌∙◌, subst, ◌&&◌, eqb}
+use Rattle.std.specs.Prelude.{Option, Some, None, is_some, option_map, option_and_then, cond}
 use Rattle.std.specs.Bool.{then_some}
 use Rattle.std.specs.Option.{option_map_or}
-use Rattle.std.proofs.lemmas.Bool.{and_parts, and_from, eqb-true, eq-eqb, or_cases, ne_eqb}
+use Rattle.std.proofs.lemmas.Bool.{and_parts, and_from, eqb-true, eq-eqb, ne_eqb}
 use Rattle.bar_laws.proofs.Earliest.{IsEntry, IsFind, find-of, allowed-at}
-use Rattle.bar_laws.proofs.Facts.{only_told, partner_other}
-use Rattle.bar_laws.proofs.Later.{WasSaid, WasHeard, IsLater, later-entry, some-is, first_said-was, first_heard-was, said-rule, find-later}
+use Rattle.bar_laws.proofs.Facts.{partner_other}
+use Rattle.bar_laws.proofs.Later.{WasSaid, WasHeard, some-is, first_said-was, first_heard-was}
 use Rattle.bar_laws.proofs.Grammar.{was-heard-own}
-use Rattle.bar_laws.proofs.Once.{parts-of, said-found, eqb_refl, same_role_refl, same_exchange_refl}
+use Rattle.bar_laws.proofs.Once.{said-found, eqb_refl, same_role_refl, same_exchange_refl}
 use Rattle.bar_laws.proofs.Same.{same_exchange-is, same_role-is}
 use Rattle.bar_laws.proofs.Spoken.{first_on-own}
 
@@ -188,9 +184,6 @@ no-self me log x h self e =
     not-ten : (k : XKind) (n : ℕ) → n ≡ asking_kind k → eqb n 10 ≡ false
     not-ten Balanced n e = rw e refl
     not-ten Push n e = rw e refl
-
-first_initiator : (k : XKind) → first_kind k Initiator ≡ asking_kind k
-first_initiator k = refl
 
 -- where the terms of an exchange with a party are complete, that party is another
 terms-elsewhere : (me : Member) (log : Log) (r : ℕ) (k : XKind) (role : Role) (to : ℕ) (t : Terms) → IsObedient me log → terms_of me log (exchange_by r k role me.party to) ≡ Some t → to ≡ me.party → ⊥

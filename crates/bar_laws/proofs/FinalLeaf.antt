@@ -1,10 +1,10 @@
 -- The leaf that signed a message is the one that every later log tells.
 use Rattle.bar_rules.specs.Log.{Log, Said}
 use Rattle.bar_rules.specs.Member.{Member}
-use Rattle.bar_rules.specs.Rules.{IsObedient, Allows}
+use Rattle.bar_rules.specs.Rules.{IsObedient}
 use Rattle.bar_rules.specs.Secrets.{signature_of}
 use Rattle.bar_rules.specs.Signing.{leaf_of, seat_by, signed}
-use Rattle.bar_rules.specs.Terms.{seat, seat_in, first_kind}
+use Rattle.bar_rules.specs.Terms.{seat, seat_in}
 use Rattle.bar_rules.specs.Values.{message_bytes}
 use Rattle.bar_seal.specs.Leaves as leaves
 use Rattle.bar_roster.specs.Sessions.{IsSession}
@@ -15,8 +15,8 @@ use Rattle.bar_window.specs.declared.exchange.Role.TheVariants.{Initiator, Respo
 use Rattle.bar_window.specs.declared.exchange.XKind.{XKind}
 use Rattle.bar_window.specs.declared.exchange.XKind.TheVariants.{Balanced, Push}
 use Rattle.bar_wire.specs.Datagram.{Message, Datagram, Body, Manifest, Evict, part_of, exchange_by}
-use Rattle.std.proofs.Common.{◌≡◌, ℕ, zero, suc, ◌<◌, List, [], ◌∷◌, length, refl, sym, ap, ◌∙◌, arith}
-use Rattle.std.specs.Prelude.{Option, Some, None, unwrap_or, Contains, slice_index_or}
+use Rattle.std.proofs.Common.{◌≡◌, ℕ, zero, suc, ◌<◌, [], ◌∷◌, length, refl, sym, ap, ◌∙◌, arith}
+use Rattle.std.specs.Prelude.{Some, Contains, slice_index_or}
 use Rattle.bar_laws.proofs.Earliest.{allowed-at}
 use Rattle.bar_laws.proofs.Later.{WasSaid, IsLater, later-entry, find-later}
 use Rattle.bar_laws.proofs.OneLeaf.{Placed, placed, has-seat, one-leaf, leaf-below}
@@ -36,7 +36,7 @@ seat_of-later : (log before : Log) (x : Exchange) (n : ℕ) → IsLater log befo
 seat_of-later log before x n later e = find-later (λ before e. seat_in before x e) log before n later e
 
 -- the leaf of a message that may be signed stays, whatever comes after
-pub leaf-stays : (me : Member) (log before : Log) (m : Message) → IsLater log before → Placed me before m → m.from ≡ me.party → leaf_of before m ≡ leaf_of log m
+leaf-stays : (me : Member) (log before : Log) (m : Message) → IsLater log before → Placed me before m → m.from ≡ me.party → leaf_of before m ≡ leaf_of log m
 leaf-stays me log before m later x mine = go x.role refl
   where
     seat_at : Log → ℕ
@@ -56,7 +56,7 @@ leaf-stays me log before m later x mine = go x.role refl
     go Responder e = ap (λ s. leaves.leaf_of m.body s) (seated Responder e refl)
 
 -- what was said is what the last log would sign
-pub said-sealed : (me : Member) (log : Log) (d : Datagram) → IsObedient me log → WasSaid log d → d ≡ signed me log d.message
+said-sealed : (me : Member) (log : Log) (d : Datagram) → IsObedient me log → WasSaid log d → d ≡ signed me log d.message
 said-sealed me log d h w =
     let al = allowed-at me log w.before (Said d) w.place h in
     let leaf : leaf_of w.before d.message ≡ leaf_of log d.message = leaf-stays me log w.before d.message (later-entry log w.before (Said d) w.place) (placed me w.before d.message al.1 al.0.rule) al.0.rule.mine in

@@ -1,7 +1,7 @@
 -- The windows that a log tells: each update of one is of a round so near to the window's that it is alive in it.
 use Rattle.bar_terms.specs.Table.{is_known, digest_of}
 use Rattle.bar_terms.specs.Terms.{promised_updates, trade_count}
-use Rattle.bar_window.specs.Updates.{is_of_rounds, minus, IsSetOf}
+use Rattle.bar_window.specs.Updates.{is_of_rounds, minus}
 use Rattle.bar_window.specs.Terms.{Terms, Trade, Offer}
 use Rattle.bar_window.specs.declared.update.UpdateId.{UpdateId}
 use Rattle.bar_window.specs.declared.exchange.Exchange.{Exchange}
@@ -10,23 +10,23 @@ use Rattle.bar_window.specs.declared.exchange.Role.TheVariants.{Initiator, Respo
 use Rattle.bar_window.specs.declared.exchange.XKind.{XKind}
 use Rattle.bar_window.specs.declared.exchange.XKind.TheVariants.{Balanced, Push}
 use Rattle.bar_wire.specs.Grammar.{HasForm, IsWindowSet}
-use Rattle.bar_wire.specs.Datagram.{Message, Datagram, Body, Manifest, Block, Request, Response, Divulge, Query, Reply, Case, KeyRequest, Key, Evidence, Evict, is_of, part_of, exchange_by}
+use Rattle.bar_wire.specs.Datagram.{Message, Datagram, Body, Response, Divulge, Query, Reply, is_of, part_of, exchange_by}
 use Rattle.bar_rules.specs.Choices.{young_of, aged_of, wanted_of, given_of}
 use Rattle.bar_rules.specs.Holdings.{is_held, history}
 use Rattle.bar_rules.specs.Log.{Log, Entry, Ticked, Heard, Said, Kept, table}
 use Rattle.bar_rules.specs.Member.{Session, Member}
 use Rattle.bar_rules.specs.Rules.{IsObedient, Allows}
 use Rattle.bar_rules.specs.Secrets.{nonce_of}
-use Rattle.bar_rules.specs.Signing.{MaySign, MaySay}
+use Rattle.bar_rules.specs.Signing.{MaySay}
 use Rattle.bar_rules.specs.Terms.{body_on, first_on, revealed, revealed_in, answered, offered, taken, divulged, trade_terms, offer_terms, terms_by, terms_of}
 use Rattle.bar_rules.specs.Values.{window_of, updates_from, first_round}
-use Rattle.std.proofs.Common.{◌≡◌, ℕ, zero, suc, ◌<◌, ◌≤◌, ◌+◌, ◌-◌, not, Bool, true, false, List, [], ◌∷◌, ◌++◌, length, take, refl, sym, ap, ◌∙◌, subst, ◌&&◌, arith, cond}
+use Rattle.std.proofs.Common.{◌≡◌, ℕ, zero, suc, ◌<◌, ◌≤◌, ◌+◌, ◌-◌, not, Bool, true, false, List, [], ◌∷◌, ◌++◌, length, refl, sym, ap, ◌∙◌, subst, ◌&&◌, arith, cond}
 use Rattle.std.specs.Prelude.{Option, Some, None, max, filter, ◌/◌, Contains, slice_index_or, nat_le, option_map, option_and_then}
 use Rattle.std.specs.Bool.{then_some}
 use Rattle.std.specs.List.{list_all, AllByRecursion}
 use Rattle.std.proofs.lemmas.Bool.{and_parts, and_from, leb-true, le-leb}
 use Rattle.bar_laws.proofs.Earliest.{IsEntry, IsFind, find-of}
-use Rattle.bar_laws.proofs.Elsewhere.{IsOf, is_of-is}
+use Rattle.bar_laws.proofs.Elsewhere.{is_of-is}
 use Rattle.bar_laws.proofs.Grammar.{heard-fits}
 use Rattle.bar_laws.proofs.Spoken.{WasSpoken, spoken_in, first_on-was}
 use Rattle.bar_laws.proofs.Valid.{all-take, all-filtered, updates_from-rounds}
@@ -60,7 +60,7 @@ all-contained p (x ∷ xs) f =
 
 -- ---- windows
 
-rounds-in-life : (life round first last : ℕ) (us : List UpdateId) → round + 1 ≤ first + life → is_of_rounds first last us ≡ true → InLife life round us
+pub rounds-in-life : (life round first last : ℕ) (us : List UpdateId) → round + 1 ≤ first + life → is_of_rounds first last us ≡ true → InLife life round us
 rounds-in-life life round first last us h e =
     all-if (λ (u : UpdateId). nat_le first u.round && nat_le u.round last) (is_since life round) us
     (λ u z. le-leb (round + 1) (u.round + life) (let low : first ≤ u.round = leb-true first u.round (and_parts _ _ z).0 in omega (arith, low, h))) e
@@ -153,7 +153,7 @@ spoken-in-life life log d w h = go w.entry w.found (place-in-life life log w.bef
 
 -- ---- what is read of an exchange
 
-by-round : (r : ℕ) (k : XKind) (role : Role) (f t : ℕ) → (exchange_by r k role f t).round ≡ r
+pub by-round : (r : ℕ) (k : XKind) (role : Role) (f t : ℕ) → (exchange_by r k role f t).round ≡ r
 by-round r k Initiator f t = refl
 by-round r k Responder f t = refl
 
@@ -270,9 +270,9 @@ terms-in-life me log x t h e = go x.kind e
 said-in-life : (me : Member) (log : Log) (to : ℕ) (b : Body) → 2 ≤ me.session.shape.life → LogInLife me.session.shape.life log → MaySay me log to b → BodyInLife me.session.shape.life b
 said-in-life me log to (Response r hb) two h rule = subst (λ us. InLife me.session.shape.life r us) (sym rule.held) (history-in-life me log r)
 said-in-life me log to (Query r seed young aged) two h rule = (
-      subst (λ us. InLife me.session.shape.life r us) (sym rule.offers) (young-in-life me log r two),
-      subst (λ us. InLife me.session.shape.life r us) (sym rule.asks) (aged-in-life me log r),
-    )
+  subst (λ us. InLife me.session.shape.life r us) (sym rule.offers) (young-in-life me log r two),
+  subst (λ us. InLife me.session.shape.life r us) (sym rule.asks) (aged-in-life me log r),
+)
 said-in-life me log to (Reply r want give junk) two h rule =
     let life : ℕ = me.session.shape.life in
     let w = offered-in-life me life log 6 (exchange_by r Push Responder me.party to) Initiator (rule.young, rule.aged) h rule.offers in (

@@ -21,6 +21,10 @@ mod FinalLeaf
 mod InLife
 mod OpenList
 mod AgreeLogs
+mod AgreeRows
+mod AgreeOrders
+mod AgreeReplies
+mod AgreeTicks
 mod Stays
 mod Accuses
 mod Parts
@@ -43,3 +47,10 @@ mod Holds
 mod Sets
 mod Whole
 mod Unframed
+mod Accepted
+mod Evictions
+mod GoodOpenings
+mod Openings
+mod Pools
+mod Released
+mod Trusted

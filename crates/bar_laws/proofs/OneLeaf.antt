@@ -2,35 +2,34 @@
 use Rattle.bar_lms.specs.Params.{levels}
 use Rattle.bar_roster.specs.Sessions.{IsSession}
 use Rattle.bar_rules.specs.Admission.{is_row_met}
-use Rattle.bar_rules.specs.Log.{Log, Entry, Heard, Said, heard_in, if_passes, first_heard, first_said, has_heard, has_said, count_heard, has_kind_and_round}
-use Rattle.bar_rules.specs.Member.{Member, IsMember}
+use Rattle.bar_rules.specs.Log.{Log, Heard, Said, heard_in, if_passes, first_heard, first_said, has_heard, has_said, count_heard, has_kind_and_round}
+use Rattle.bar_rules.specs.Member.{Member}
 use Rattle.bar_rules.specs.Rules.{IsObedient, Allows}
 use Rattle.bar_rules.specs.Signing.{MaySign, MaySay, leaf_of, seat_by, signed}
 use Rattle.bar_rules.specs.Terms.{seat, seat_in, asking_kind, answer_kind, first_kind, terms_of}
-use Rattle.bar_seal.specs.Leaves as leaves
-use Rattle.bar_window.specs.Exchange.{same_exchange, same_role, party_on, kind_code, role_code}
+use Rattle.bar_window.specs.Exchange.{same_exchange, same_role, kind_code, role_code}
 use Rattle.bar_window.specs.Terms.{Terms}
 use Rattle.bar_window.specs.declared.exchange.Exchange.{Exchange}
 use Rattle.bar_window.specs.declared.exchange.Role.{Role}
 use Rattle.bar_window.specs.declared.exchange.Role.TheVariants.{Initiator, Responder}
 use Rattle.bar_window.specs.declared.exchange.XKind.{XKind}
 use Rattle.bar_window.specs.declared.exchange.XKind.TheVariants.{Balanced, Push}
-use Rattle.bar_wire.specs.Datagram.{Message, Datagram, Body, Manifest, Request, Response, Query, Reply, Case, Key, Evict, is_of, is_signed, kind_number, part_of, exchange_by, identity_of, named, round_of}
+use Rattle.bar_wire.specs.Datagram.{Message, Datagram, Body, Request, Response, Query, Reply, Case, Key, is_of, is_signed, kind_number, part_of, exchange_by, identity_of, named, round_of}
 use Rattle.std.specs.Option.{option_or}
-use Rattle.std.proofs.Common.{◌≡◌, ℕ, ◌<◌, ◌≤◌, ◌^◌, ◌*◌, Bool, true, false, List, [], ◌∷◌, refl, sym, ap, ◌∙◌, subst, inl, inr, ◌&&◌, ◌||◌, eqb, cond, arith}
+use Rattle.std.proofs.Common.{◌≡◌, ℕ, ◌<◌, ◌≤◌, ◌^◌, ◌*◌, Bool, true, false, List, [], ◌∷◌, refl, sym, ap, ◌∙◌, subst, inl, inr, ◌&&◌, ◌||◌, eqb, arith}
 use Rattle.std.specs.Prelude.{Option, Some, None, ◌⊎◌, is_some, option_map, unwrap_or, if◌then◌else◌}
 use Rattle.std.specs.Option.{option_map_or}
 use Rattle.std.proofs.lemmas.Bool.{and_parts, ltb-true}
 use Rattle.bar_laws.proofs.Earliest.{option_or-cases, allowed-at}
 use Rattle.bar_laws.proofs.Obeys.{said-more, heard-more}
 use Rattle.bar_laws.proofs.Tables.{admitted-row}
-use Rattle.bar_laws.proofs.Elsewhere.{party-on, kind-on, is_of-is, is_of-own, receiver-on, sender-on, terms-said, role-own, sign-elsewhere, SaidCase, said-case}
+use Rattle.bar_laws.proofs.Elsewhere.{party-on, kind-on, is_of-is, is_of-own, terms-said, role-own, sign-elsewhere, SaidCase, said-case}
 use Rattle.bar_laws.proofs.Facts.{leaves_few, peers_named}
-use Rattle.bar_laws.proofs.Later.{WasSaid, IsLater, later-entry, some-is, heard_in-is, first_said-was, said-rule}
+use Rattle.bar_laws.proofs.Later.{WasSaid, later-entry, some-is, heard_in-is, first_said-was, said-rule}
 use Rattle.bar_laws.proofs.Once.{parts-of, part-round, said-found}
 use Rattle.bar_laws.proofs.Same.{same_exchange-is}
 use Rattle.bar_laws.proofs.Seats.{new-seat, seat-unique}
-use Rattle.bar_laws.proofs.Unique.{SaidIn, was-said, said-in, unique}
+use Rattle.bar_laws.proofs.Unique.{SaidIn, said-in, unique}
 
 -- ---- a request that was heard has a seat below two
 
@@ -110,7 +109,7 @@ key-begun me before r k role to h w =
     let of = is_of-is 8 x role d.message w.1.of in
     let part = parts-of (c.round, c.kind, c.role) (of.round, of.sort, role) (sym (ap part_of w.1.body) ∙ of.part) in
     let same : exchange_by c.round c.kind c.role me.party d.message.to ≡ x =
-        (λ i. exchange_by (part.0 i) (part.1 i) (part.2 i) (sym al.0.rule.mine i) d.message.to) ∙ of.exchange
+    (λ i. exchange_by (part.0 i) (part.1 i) (part.2 i) (sym al.0.rule.mine i) d.message.to) ∙ of.exchange
     in
     let sort : c.kind ≡ k = sym (kind-on c.round c.kind c.role me.party d.message.to) ∙ ap (λ (z : Exchange). z.kind) same ∙ kind-on r k role me.party to in
     said-more (is_of (first_kind k role) x role) before w.1.was.before (later-entry before w.1.was.before (Said d) w.1.was.place)

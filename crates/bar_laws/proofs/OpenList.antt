@@ -1,16 +1,14 @@
 -- The exchanges in which messages were signed stand in order, and those that may still be asked about are the same whether they are picked
 -- before one more is put in or after.
-use Rattle.bar_window.specs.Exchange.{kind_code, same_kind, same_exchange}
+use Rattle.bar_window.specs.Exchange.{kind_code, same_exchange}
 use Rattle.bar_window.specs.declared.exchange.Exchange.{Exchange}
-use Rattle.bar_window.specs.declared.exchange.XKind.{XKind}
-use Rattle.bar_rules.specs.Log.{Log, Entry, said_in}
+use Rattle.bar_rules.specs.Log.{Log, said_in}
 use Rattle.bar_rules.specs.Ticks.{precedes, inserted, with_exchange, exchange_said, opened}
-use Rattle.std.proofs.Common.{◌≡◌, ℕ, ◌<◌, ◌≤◌, Bool, true, false, List, [], ◌∷◌, refl, sym, ap, ◌∙◌, subst, inl, inr, ◌&&◌, ◌||◌, eqb, arith, cond}
+use Rattle.std.proofs.Common.{◌≡◌, ℕ, ◌<◌, ◌≤◌, Bool, true, false, List, [], ◌∷◌, refl, sym, ◌∙◌, subst, inl, inr, ◌&&◌, ◌||◌, eqb, arith, cond}
 use Rattle.std.specs.Prelude.{Option, Some, None, ◌⊎◌, filter, nat_lt}
 use Rattle.std.specs.List.{AllByRecursion}
-use Rattle.std.proofs.lemmas.Bool.{and_parts, and_from, or_cases, or_left, or_right, eqb-true, eq-eqb, ltb-true, ltb-false, lt-ltb, both_ways, ne_eqb}
+use Rattle.std.proofs.lemmas.Bool.{and_parts, and_from, or_cases, or_left, or_right, eqb-true, eq-eqb, ltb-true, ltb-false, lt-ltb, both_ways}
 use Rattle.bar_laws.proofs.Same.{same_exchange-is}
-use Rattle.bar_laws.proofs.Once.{same_exchange_refl}
 
 -- ---- one place after another
 

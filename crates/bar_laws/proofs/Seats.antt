@@ -4,11 +4,11 @@ use Rattle.bar_rules.specs.Terms.{asking_kind, seat}
 use Rattle.bar_window.specs.Exchange.{same_exchange, same_role}
 use Rattle.bar_window.specs.declared.exchange.Exchange.{Exchange}
 use Rattle.bar_window.specs.declared.exchange.Role.{Role}
-use Rattle.bar_window.specs.declared.exchange.Role.TheVariants.{Initiator, Responder}
+use Rattle.bar_window.specs.declared.exchange.Role.TheVariants.{Initiator}
 use Rattle.bar_window.specs.declared.exchange.XKind.{XKind}
 use Rattle.bar_window.specs.declared.exchange.XKind.TheVariants.{Balanced, Push}
 use Rattle.bar_wire.specs.Datagram.{Message, Datagram, Body, Request, Query, is_of, kind_number, part_of, exchange_by, round_of}
-use Rattle.std.proofs.Common.{◌≡◌, ℕ, ◌<◌, ◌≤◌, ◌+◌, ◌*◌, Bool, true, false, [], ◌∷◌, refl, sym, ap, ◌∙◌, subst, inl, inr, ◌&&◌, eqb, arith}
+use Rattle.std.proofs.Common.{◌≡◌, ℕ, ◌<◌, ◌≤◌, ◌+◌, Bool, true, false, [], ◌∷◌, refl, sym, ap, ◌∙◌, subst, inl, inr, ◌&&◌, eqb, arith}
 use Rattle.std.specs.Prelude.{Option, Some, None, ◌⊎◌, option_map}
 use Rattle.std.specs.Option.{option_map_or}
 use Rattle.std.proofs.lemmas.Bool.{and_parts, eq-eqb}
@@ -32,7 +32,7 @@ asks-counts x m e = go x.kind m.body e
     go Push _ e = cc
 
 -- one message asks for one exchange
-pub asks-one : (x y : Exchange) (m : Message) → x.kind ≡ y.kind → is_of (asking_kind x.kind) x Initiator m ≡ true → is_of (asking_kind y.kind) y Initiator m ≡ true → x ≡ y
+asks-one : (x y : Exchange) (m : Message) → x.kind ≡ y.kind → is_of (asking_kind x.kind) x Initiator m ≡ true → is_of (asking_kind y.kind) y Initiator m ≡ true → x ≡ y
 asks-one x y m k e f = go (part_of m.body) (and_parts _ _ e).1 (and_parts _ _ f).1
   where
     go : (o : Option (ℕ × XKind × Role)) → option_map_or (λ p. same_exchange (exchange_by p.0 p.1 p.2 m.from m.to) x && same_role p.2 Initiator) o false ≡ true
@@ -57,7 +57,7 @@ count-one : (p : Message → Bool) (e : Entry) (log : Log) (d : Datagram) → he
 count-one p e log d h k = rw (h, k) refl
 
 -- a seat is below the count of requests
-pub seat-below : (log : Log) (x : Exchange) (n : ℕ) → seat log x ≡ Some n → n < count_heard (has_kind_and_round (asking_kind x.kind) x.round) log
+seat-below : (log : Log) (x : Exchange) (n : ℕ) → seat log x ≡ Some n → n < count_heard (has_kind_and_round (asking_kind x.kind) x.round) log
 seat-below [] x n e = cc
 seat-below (e ∷ log) x n h = go (option_or-cases (seat log x) _ n h) (seat-below log x n)
   where

@@ -73,7 +73,7 @@ own-opens me log two to c h agree other rule =
     subst (λ (cipher : List ℕ). is_bad (opening.opening me.session.shape.id x me.session.cap c.terms c.role cipher key two) ≡ false) (sym rule.cipher) good
 
 -- a said briefcase and a said key for it open to nothing bad
-never-opens_bad : (me : Member) (log : Log) (two : Table) (m n : Datagram) (c : Briefcase) (k : KeyGiven) → IsObedient me log → SaidIn log m → SaidIn log n → m.message.body ≡ Case c → n.message.body ≡ Key k → Agrees (table log) two
+pub never-opens_bad : (me : Member) (log : Log) (two : Table) (m n : Datagram) (c : Briefcase) (k : KeyGiven) → IsObedient me log → SaidIn log m → SaidIn log n → m.message.body ≡ Case c → n.message.body ≡ Key k → Agrees (table log) two
     → key_fits m.message c n.message k ≡ true → is_bad (opening_of me.session two (exchange_by c.round c.kind c.role m.message.from m.message.to) c k.key) ≡ false
 never-opens_bad me log two m n c k h p q e f agree fits =
     let w : WasSaid log m = was-said log m p in

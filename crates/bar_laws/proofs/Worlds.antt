@@ -7,7 +7,7 @@ use Rattle.bar_rules.specs.Rules.{IsObedient}
 use Rattle.bar_rules.specs.Run.{step}
 use Rattle.bar_rules.specs.Signing.{MaySay}
 use Rattle.bar_rules.specs.Values.{datagram_bytes, datagram_of}
-use Rattle.bar_rules.specs.World.{Cast, World, opened, played_by, Move, TickOf, Deliver, Hostile, member, step_of, spelled, takes, takes_by, delivered, happens, run, HasSaid, IsGenuine, AllGenuine, IsUnforged, AreUnforged, inside}
+use Rattle.bar_rules.specs.World.{Cast, IsCast, World, opened, played_by, Move, TickOf, Deliver, Hostile, member, step_of, spelled, takes, takes_by, delivered, happens, run, HasSaid, IsGenuine, AllGenuine, IsUnforged, AreUnforged, inside}
 use Rattle.bar_wire.specs.Datagram.{Message, Datagram, Body, Evidence, Manifest, is_signed}
 use Rattle.bar_wire.specs.Inputs.{Input, Tick, Came}
 use Rattle.std.proofs.Common.{◌≡◌, ℕ, zero, suc, Bool, true, false, List, [], ◌∷◌, ◌++◌, refl, sym, ap, ◌∙◌, subst, inl, inr, map, eqb, arith, ◌<◌, ◌≤◌, ◌+◌, length}
@@ -19,11 +19,11 @@ use Rattle.bar_laws.proofs.Earliest.{option_or-cases}
 use Rattle.bar_laws.proofs.Later.{IsLater, said-rule}
 use Rattle.bar_laws.proofs.Adds.{Adds, AddedBy, SentBy, IsSource, HeardIn, came, step-adds}
 use Rattle.bar_laws.proofs.Runs.{step-obedient}
-use Rattle.bar_laws.proofs.Casts.{IsFair, IsOwnBody, IsOwnMessage, AreOwn, AllFit, own-inside, caster-casts}
+use Rattle.bar_laws.proofs.Casts.{IsFair, IsOwnBody, IsOwnMessage, AreOwn, AllFit, IsCaster, own-inside, caster-casts}
+use Rattle.bar_laws.proofs.Accepted.{said-accepted}
 use Rattle.bar_laws.proofs.Grammar.{spells, fits-reads}
 use Rattle.bar_laws.proofs.PeerFits.{said-fits, step-fits}
 use Rattle.bar_rules.specs.Member.{IsMember}
-use Rattle.bar_roster.specs.Sessions.{IsSession}
 use Rattle.bar_laws.proofs.Unique.{SaidIn, was-said}
 
 -- ---- lists
@@ -43,6 +43,16 @@ set-same : {X : Type 0} (xs : List X) (p : ℕ) (x y : X) → slice_get xs p ≡
 set-same [] p x y e = cc
 set-same (z ∷ xs) zero x y e = refl
 set-same (z ∷ xs) (suc p) x y e = set-same xs p x y e
+
+set-length : {X : Type 0} (xs : List X) (p : ℕ) (y : X) → length (slice_set xs p y) ≡ length xs
+set-length [] p y = refl
+set-length (x ∷ xs) zero y = refl
+set-length (x ∷ xs) (suc p) y = ap (λ n. suc n) (set-length xs p y)
+
+get-below : {X : Type 0} (xs : List X) (p : ℕ) → p < length xs → (x : X) × (slice_get xs p ≡ Some x)
+get-below [] p h = absurd (omega (arith, h))
+get-below (x ∷ xs) zero h = (x, refl)
+get-below (x ∷ xs) (suc p) h = get-below xs p (omega (arith, h))
 
 -- ---- growth
 
@@ -100,6 +110,7 @@ IsProper cast p log =
     × (eqb p 0 ≡ true → IsFair (member cast 0) cast.stream log × AreOwn cast.session cast.stream log)
 
 pub record IsSound (cast : Cast) (trusted : ℕ → Bool) (w : World) : Type 0 where
+  pub all : length w.logs ≡ cast.session.shape.peers + 1
   pub peers : (p : ℕ) (log : Log) → slice_get w.logs p ≡ Some log → p ≤ cast.session.shape.peers
   pub proper : (p : ℕ) (log : Log) → slice_get w.logs p ≡ Some log → IsProper cast p log
   pub heard : (p : ℕ) (log : Log) (d : Datagram) → slice_get w.logs p ≡ Some log → HeardIn log d → IsGenuine cast trusted w (datagram_bytes cast.session d)
@@ -247,6 +258,7 @@ module _ (cast : Cast) (trusted : ℕ → Bool) (w : World) (p : ℕ) (log : Log
   -- one input of one party keeps the world sound
   pub after-sound : IsSound cast trusted after
   after-sound = record {
+    all = set-length w.logs p out.log ∙ sound.all;
     peers = λ q l e. pe q l (set-cases w.logs p q out.log l e);
     proper = λ q l e. ob q l (set-cases w.logs p q out.log l e);
     heard = λ q l d e h. genuine-wider cast trusted after w (datagram_bytes cast.session d) wider (he q l d (set-cases w.logs p q out.log l e) h);
@@ -275,13 +287,17 @@ module _ (cast : Cast) (trusted : ℕ → Bool) (w : World) (p : ℕ) (log : Log
       mi q l d (inr h) s = sound.mine q l d h s
       mi q l d (inl h) s = subst (λ z. IsOwnMessage cast.session cast.stream z d) (sym h.0) (st.mine d (subst (λ z. SaidIn z d) h.1 s))
 
+-- each party has a log
+pub has-log : (cast : Cast) (trusted : ℕ → Bool) (w : World) (p : ℕ) → IsSound cast trusted w → p ≤ cast.session.shape.peers → (log : Log) × (slice_get w.logs p ≡ Some log)
+has-log cast trusted w p sound low = let all : length w.logs ≡ cast.session.shape.peers + 1 = sound.all in get-below w.logs p (omega (arith, all, low))
+
 -- ---- every list of moves
 
 -- what a step of each party is, where its log is as it should be
 abbrev pub StepsKeep : Cast → Type 0
 StepsKeep cast = (p : ℕ) (log : Log) (i : Input) → p ≤ cast.session.shape.peers → IsProper cast p log → IsStep cast p log i (step_of cast p log i)
 
-takes-sound : (cast : Cast) (trusted : ℕ → Bool) (w : World) (p : ℕ) (i : Input) → StepsKeep cast → IsSound cast trusted w → CameUnforged cast trusted w i → IsSound cast trusted (takes cast w p i)
+pub takes-sound : (cast : Cast) (trusted : ℕ → Bool) (w : World) (p : ℕ) (i : Input) → StepsKeep cast → IsSound cast trusted w → CameUnforged cast trusted w i → IsSound cast trusted (takes cast w p i)
 takes-sound cast trusted w p i laws sound fresh = go (slice_get w.logs p) refl
   where
     go : (o : Option Log) → slice_get w.logs p ≡ o → IsSound cast trusted (takes_by cast w p i o)
@@ -295,7 +311,7 @@ pool-at cast trusted w [] k d a e = cc
 pool-at cast trusted w (x ∷ pool) zero d a e = let same : x ≡ d = cc in subst (λ z. IsUnforged cast trusted w z.1) same a.0
 pool-at cast trusted w (x ∷ pool) (suc k) d a e = pool-at cast trusted w pool k d a.1 e
 
-deliver-sound : (cast : Cast) (trusted : ℕ → Bool) (w : World) (k : ℕ) → StepsKeep cast → IsSound cast trusted w → IsSound cast trusted (happens cast w (Deliver k))
+pub deliver-sound : (cast : Cast) (trusted : ℕ → Bool) (w : World) (k : ℕ) → StepsKeep cast → IsSound cast trusted w → IsSound cast trusted (happens cast w (Deliver k))
 deliver-sound cast trusted w k laws sound = go (slice_get w.pool k) refl
   where
     go : (o : Option (ℕ × List ℕ)) → slice_get w.pool k ≡ o → IsSound cast trusted (delivered cast w o)
@@ -324,28 +340,45 @@ peer-keeps cast p log i n is h =
     own o d s =
         let w = was-said (step (member cast p) log i).log d s in
         let r = (said-rule (member cast p) (step (member cast p) log i).log d w o).rule in
-        record { from = r.mine; body = body w.before d.message.to d.message.body r.rule; fits = said-fits (member cast p) (step (member cast p) log i).log d is o s }
+        record {
+          from = r.mine;
+          body = body w.before d.message.to d.message.body r.rule;
+          fits = said-fits (member cast p) (step (member cast p) log i).log d is o s;
+          accepted = said-accepted (member cast p) (step (member cast p) log i).log d is o s;
+        }
 
 -- the broadcaster's step is such a step too
-caster-keeps : (cast : Cast) (log : Log) (i : Input) → IsSession cast.session → IsFair (member cast 0) cast.stream log → AreOwn cast.session cast.stream log
+caster-keeps : (cast : Cast) (log : Log) (i : Input) → IsCaster (member cast 0) → IsFair (member cast 0) cast.stream log → AreOwn cast.session cast.stream log
     → IsStep cast 0 log i (caster_step (member cast 0) cast.stream log i)
 caster-keeps cast log i s fair own =
-    let c = caster-casts (member cast 0) cast.stream log i refl s own fair in
+    let c = caster-casts (member cast 0) cast.stream log i s own fair in
     record { adds = c.adds; proper = (λ n. cc, λ z. (c.fair, c.own)); mine = λ d said. (c.own d said).0; fits = c.fits }
 
+-- ---- casts
+
+pub cast-member : (cast : Cast) (p : ℕ) → IsCast cast → 1 ≤ p → p ≤ cast.session.shape.peers → IsMember (member cast p)
+cast-member cast p is low high = record { session = is.session; peer = (omega (arith, low), high); fits = is.fits p high }
+
+cast-caster : (cast : Cast) → IsCast cast → IsCaster (member cast 0)
+cast-caster cast is = record { session = is.session; party = refl; fits = is.fits 0 (omega arith) }
+
 -- each party's step, where the session fits each party's secret
-pub steps-keep : (cast : Cast) → IsSession cast.session → ((p : ℕ) → 1 ≤ p → p ≤ cast.session.shape.peers → IsMember (member cast p)) → StepsKeep cast
-steps-keep cast s members zero log i low o = let f = o.1 refl in caster-keeps cast log i s f.0 f.1
-steps-keep cast s members (suc p) log i low o =
+pub steps-keep : (cast : Cast) → IsCast cast → StepsKeep cast
+steps-keep cast is zero log i low o = let f = o.1 refl in caster-keeps cast log i (cast-caster cast is) f.0 f.1
+steps-keep cast is (suc p) log i low o =
     let n : eqb (suc p) 0 ≡ false = ne_eqb (suc p) 0 (λ z. absurd (omega arith)) in
     let out : step_of cast (suc p) log i ≡ step (member cast (suc p)) log i = rw n refl in
-    subst (λ z. IsStep cast (suc p) log i z) (sym out) (peer-keeps cast (suc p) log i n (members (suc p) (omega arith) low) (o.0 n))
+    subst (λ z. IsStep cast (suc p) log i z) (sym out) (peer-keeps cast (suc p) log i n (cast-member cast (suc p) is (omega arith) low) (o.0 n))
 
 -- the world at the beginning is sound
 opened-log : (secrets : List (List ℕ)) (p : ℕ) (log : Log) → ◌≡◌ {A = Option Log} (slice_get (map (λ secret. []) secrets) p) (Some log) → ◌≡◌ {A = Log} [] log
 opened-log [] p log e = cc
 opened-log (s ∷ secrets) zero log e = cc
 opened-log (s ∷ secrets) (suc p) log e = opened-log secrets p log e
+
+opened-length : (secrets : List (List ℕ)) → length (map {A = List ℕ} {B = Log} (λ secret. []) secrets) ≡ length secrets
+opened-length [] = refl
+opened-length (s ∷ secrets) = ap (λ n. suc n) (opened-length secrets)
 
 opened-few : (secrets : List (List ℕ)) (p : ℕ) (log : Log) → ◌≡◌ {A = Option Log} (slice_get (map (λ secret. []) secrets) p) (Some log) → p < length secrets
 opened-few [] p log e = cc
@@ -354,6 +387,7 @@ opened-few (s ∷ secrets) (suc p) log e = let deep : p < length secrets = opene
 
 pub opened-sound : (cast : Cast) (trusted : ℕ → Bool) → length cast.secrets ≡ cast.session.shape.peers + 1 → IsSound cast trusted (opened cast)
 opened-sound cast trusted all = record {
+  all = opened-length cast.secrets ∙ all;
   peers = λ p log e. (let few : p < length cast.secrets = opened-few cast.secrets p log e in omega (arith, few, all));
   proper = λ p log e. subst (λ l. IsProper cast p l) (opened-log cast.secrets p log e) (λ z. tt, λ z. (tt, λ d s. absurd s));
   heard = λ p log d e h. absurd (subst (λ l. HeardIn l d) (sym (opened-log cast.secrets p log e)) h);
@@ -361,3 +395,22 @@ opened-sound cast trusted all = record {
   mine = λ p log d e h. absurd (subst (λ l. SaidIn l d) (sym (opened-log cast.secrets p log e)) h);
   pool = tt;
 }
+
+-- ---- whatever the moves are
+
+-- nobody is trusted
+abbrev pub nobody : ℕ → Bool
+nobody p = false
+
+pub nobody-genuine : (cast : Cast) (w : World) (b : List ℕ) → IsGenuine cast nobody w b
+nobody-genuine cast w b = λ d log reads sign trust. cc
+
+pub all-nobody : (cast : Cast) (w : World) (bs : List (List ℕ)) → AllGenuine cast nobody w bs
+all-nobody cast w [] = tt
+all-nobody cast w (b ∷ bs) = (nobody-genuine cast w b, all-nobody cast w bs)
+
+pub nobody-unforged : (cast : Cast) (w : World) (moves : List Move) → AreUnforged cast nobody w moves
+nobody-unforged cast w [] = tt
+nobody-unforged cast w (TickOf p ∷ ms) = nobody-unforged cast (happens cast w (TickOf p)) ms
+nobody-unforged cast w (Deliver k ∷ ms) = nobody-unforged cast (happens cast w (Deliver k)) ms
+nobody-unforged cast w (Hostile to b ∷ ms) = ((nobody-genuine cast w b, λ d reads. all-nobody cast w (inside d.message.body)), nobody-unforged cast (happens cast w (Hostile to b)) ms)

@@ -4,3 +4,5 @@ pub mod Leaves
 pub mod Verdicts
 pub mod Evidence
 pub mod Framing
+pub mod Agreement
+pub mod Worlds

@@ -236,14 +236,14 @@ EndsWith-unread path others old mid out file.Failed reads = record { ends = Ends
 EndsWith-unread path others old mid out file.NoMemory reads = record { ends = Ends-unread path others old mid out file.NoMemory reads; line_is = λ either. refl }
 
 -- what was read stands for something
-pub EndsWith-accepted : {A : Type 0} (o : Option A) (meant : A) (others : A → Content → Plan) (refused : Content → Plan) (old new : World) (status : ℕ) (line : List ℕ) →
-    o ≡ Some meant → EndsWith (others meant) old new status line → EndsWith (accepting o others refused) old new status line
-EndsWith-accepted o meant others refused old new status line e h = subst (λ x. EndsWith (accepting x others refused) old new status line) (sym e) h
+pub EndsWith-accepted : {A E : Type 0} (r : Result A E) (meant : A) (others : A → Content → Plan) (refused : E → Content → Plan) (old new : World) (status : ℕ) (line : List ℕ) →
+    r ≡ Ok meant → EndsWith (others meant) old new status line → EndsWith (accepting r others refused) old new status line
+EndsWith-accepted r meant others refused old new status line e h = subst (λ x. EndsWith (accepting x others refused) old new status line) (sym e) h
 
 -- what was read is refused
-pub EndsWith-refused : {A : Type 0} (o : Option A) (others : A → Content → Plan) (refused : Content → Plan) (old new : World) (status : ℕ) (line : List ℕ) →
-    o ≡ None → EndsWith refused old new status line → EndsWith (accepting o others refused) old new status line
-EndsWith-refused o others refused old new status line e h = subst (λ x. EndsWith (accepting x others refused) old new status line) (sym e) h
+pub EndsWith-refused : {A E : Type 0} (r : Result A E) (fault : E) (others : A → Content → Plan) (refused : E → Content → Plan) (old new : World) (status : ℕ) (line : List ℕ) →
+    r ≡ Err fault → EndsWith (refused fault) old new status line → EndsWith (accepting r others refused) old new status line
+EndsWith-refused r fault others refused old new status line e h = subst (λ x. EndsWith (accepting x others refused) old new status line) (sym e) h
 
 -- memory was wanting before anything more was done
 pub EndsWith-memory : (plan : Content → Plan) (old : World) → EndsWith plan old old 70 no_memory

@@ -1,5 +1,5 @@
 -- What a command does to the outside: a list of actions, in order.
-use Rattle.std.specs.Prelude.{◌≡◌, ◌⊎◌, ℕ, List, [], ◌∷◌, ◌++◌, IsTrue, IsSome, take, Bool, Option, None, Some, ◌==◌, ◌||◌, if◌then◌else◌, codes}
+use Rattle.std.specs.Prelude.{◌≡◌, ◌⊎◌, ℕ, List, [], ◌∷◌, ◌++◌, IsTrue, IsSome, take, Bool, Option, None, Some, Result, Ok, Err, ◌==◌, ◌||◌, if◌then◌else◌, codes}
 use Rattle.bar_outside.specs.Disk.{Disk, Content, Failure, readable, created, appended}
 use Rattle.bar_outside.specs.Stream.{Stream}
 use Rattle.bar_outside.specs.declared.files.CallKind.TheVariants.{Read, Create, Append}
@@ -110,10 +110,10 @@ read_then path others content (Some bytes) = before (read path) (others bytes co
 abbrev pub reading : List ℕ → (List ℕ → Content → Plan) → Content → Plan
 reading path others content = read_then path others content (readable content path)
 
--- what was read stands for something, and the rest goes by it; or it is refused
-abbrev pub accepting : {A : Type 0} → Option A → (A → Content → Plan) → (Content → Plan) → Content → Plan
-accepting None others refused = refused
-accepting (Some meant) others refused = others meant
+-- what was read stands for something, and the rest goes by it; or it is refused, and the end goes by the fault
+abbrev pub accepting : {A E : Type 0} → Result A E → (A → Content → Plan) → (E → Content → Plan) → Content → Plan
+accepting (Ok meant) others refused = others meant
+accepting (Err fault) others refused = refused fault
 
 -- nothing more is done
 abbrev pub ending : ℕ → List ℕ → Content → Plan

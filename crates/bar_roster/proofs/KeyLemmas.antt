@@ -1,5 +1,5 @@
 -- Keys that belong to a session.
-use Rattle.std.proofs.Common.{◌≡◌, ℕ, zero, suc, ◌-◌, ◌≤◌, ◌==◌, Bool, true, false, List, Option, Some, None, refl, sym, ap, subst, arith, slice_get, true≢false}
+use Rattle.std.proofs.Common.{◌≡◌, ℕ, zero, suc, ◌-◌, ◌≤◌, ◌==◌, ◌&&◌, not, cond, Bool, true, false, List, Option, Some, None, Result, Ok, Err, refl, sym, ap, subst, arith, slice_get, true≢false}
 use Rattle.std.proofs.lemmas.Option.{none-some}
 use Rattle.std.specs.Option.{option_map_or}
 use Rattle.std.proofs.lemmas.Bool.Decides.{nat_tests}
@@ -13,7 +13,12 @@ use Rattle.bar_seeds.specs.declared.secrets.Secrets.{Secrets}
 use Rattle.bar_roster.specs.declared.key_fields.KeyData.{KeyData}
 use Rattle.bar_roster.specs.declared.key_file.KeyFile.{KeyFile}
 use Rattle.bar_roster.specs.SessionText.{SessionData}
-use Rattle.bar_roster.specs.KeyFile.{Fits, fits, is_at, is_of_session, secrets_in, signing_secret, IsMadeFor, IsKeyFileOf}
+use Rattle.bar_roster.specs.KeyFile.{Fits, fits, is_at, is_of_session, secrets_in, signing_secret, checked_key, checked_table, key_file_of, IsHeldBy, IsMadeFor, IsKeyFileOf}
+use Rattle.bar_roster.specs.Fields.{document}
+use Rattle.bar_roster.specs.KeyText.{key_fields}
+use Rattle.bar_roster.specs.declared.key_fault.KeyFileFault.{KeyFileFault}
+use Rattle.bar_roster.specs.declared.key_fault.KeyFileFault.TheVariants.{NotInRoster, Spent}
+use Rattle.toml.specs.Data.{Members}
 
 at_test : (o : Option (List ℕ)) (row : List ℕ) → Decides (option_map_or (λ held. bytes_eq held row) o false) (o ≡ Some row)
 at_test None row = (λ h. absurd (true≢false (sym h)), λ e. absurd (none-some row e))
@@ -68,3 +73,25 @@ key_file_of_session s caster k file ours made held =
       made = subst of_secret (sym secret) (subst of_party (sym party) made);
       fits = (fits_test s file.secrets.party file.secrets.secret).0 held;
     }
+
+-- an accepted key text has a secret that the session holds
+held_key : (s : SessionData) (caster fresh : Bool) (o : Option KeyData) (k : Secrets) → checked_key s caster fresh o ≡ Ok k → IsHeldBy s caster k
+held_key s caster fresh None k h = cc
+held_key s caster fresh (Some d) k h = by_tests (is_of_session s caster d && fits s d.party d.secret) (d.spent && fresh) refl h
+  where
+    by_tests : (ours used : Bool) → (is_of_session s caster d && fits s d.party d.secret) ≡ ours →
+        ◌≡◌ {A = Result Secrets KeyFileFault} (cond (not ours) (Err NotInRoster) (cond used (Err Spent) (Ok (secrets_in s d.party d.secret)))) (Ok k) → IsHeldBy s caster k
+    by_tests false used is e = cc
+    by_tests true true is e = cc
+    by_tests true false is e =
+        let parts = and_parts _ _ is in
+        let role = of_session s caster d parts.0 in
+        let same : secrets_in s d.party d.secret ≡ k = cc in
+        subst (IsHeldBy s caster) same (record { id = refl; party = role.1; role = role.0; fits = (fits_test s d.party d.secret).0 parts.1 })
+
+pub held_where_accepted : (s : SessionData) (caster fresh : Bool) (bytes : List ℕ) (k : Secrets) → key_file_of s caster fresh bytes ≡ Ok k → IsHeldBy s caster k
+held_where_accepted s caster fresh bytes k h = by_table (document bytes) h
+  where
+    by_table : (o : Option Members) → checked_table s caster fresh o ≡ Ok k → IsHeldBy s caster k
+    by_table None e = cc
+    by_table (Some ms) e = held_key s caster fresh (key_fields ms) k e

@@ -61,6 +61,13 @@ checked_table s caster fresh (Some ms) = checked_key s caster fresh (key_fields 
 abbrev pub key_file_of : SessionData → Bool → Bool → List ℕ → Result Secrets KeyFileFault
 key_file_of s caster fresh bytes = checked_table s caster fresh (document bytes)
 
+-- The secret is of the broadcaster or of a peer of the session, as asked for, and the session holds the public key and the anchor that come from it.
+pub record IsHeldBy (s : SessionData) (caster : Bool) (k : Secrets) : Type 0 where
+  pub id : k.id ≡ s.shape.id
+  pub party : k.party ≤ s.shape.peers
+  pub role : MatchBool caster (k.party ≡ 0) (1 ≤ k.party)
+  pub fits : Fits s k.party k.secret
+
 -- ---- what is made of it
 
 -- The secrets, the signing key and the chain are those of a party's secret.

@@ -1,10 +1,16 @@
 //! What holds of all session and key texts. These functions do nothing: what they ensure is a law.
 
-ghost use Rattle.std.specs.Prelude.{◌≡◌, ℕ, ◌↔◌, List, Some, IsTrue};
+ghost use Rattle.std.specs.Prelude.{◌≡◌, ℕ, ◌↔◌, Bool, List, Ok, Some, IsTrue};
 ghost use Rattle.bar_roster.specs.SessionText.{SessionData};
-ghost use Rattle.bar_roster.specs.KeyFile.{Fits, fits};
+ghost use Rattle.bar_seeds.specs.declared.secrets.Secrets.{Secrets};
+ghost use Rattle.bar_roster.specs.KeyFile.{Fits, IsHeldBy, fits, key_file_of};
 
 /// The test of a secret is true exactly where the session holds the key, and for a peer the anchor, that come from it.
 pub fn secrets_are_tested()
     ensures { (s : SessionData) (party : ℕ) (secret : List ℕ) → IsTrue (fits s party secret) ↔ Fits s party secret }
+{}
+
+/// A key text is accepted only where the session holds the public key, and for a peer the anchor, that come from its secret.
+pub fn accepted_secrets_are_held()
+    ensures { (s : SessionData) (caster fresh : Bool) (bytes : List ℕ) (k : Secrets) → key_file_of s caster fresh bytes ≡ Ok k → IsHeldBy s caster k }
 {}

@@ -95,8 +95,8 @@ fn shape_of(numbers: &Numbers, params: Params, peers: u16) -> Shape
     }
 }
 
-/// Whether there is a leaf for each message of the rounds.
-fn check_leaves(rounds: u32, height: Height) -> Result<(), SessionFault>
+/// Whether there is a leaf for each message of the rounds, of which there are at most 1,820; else `TooFewLeaves` with both numbers.
+pub fn check_leaves(rounds: u32, height: Height) -> Result<(), SessionFault>
     requires rounds { rounds ≤ 1820 }
     ensures value { result ≡ enough_leaves rounds height }
     ensures enough { OnOk result (18 * rounds ≤ 2 ^ levels height) }

@@ -1,5 +1,5 @@
 -- Which datagrams a peer admits: the common part, and a row for each kind.
-use Rattle.std.specs.Prelude.{ℕ, ◌+◌, ◌==◌, ◌&&◌, ◌||◌, not, Bool, true, false, List, length, Option, Some, None, nat_le, nat_lt, option_and_then, option_map, if◌then◌else◌}
+use Rattle.std.specs.Prelude.{ℕ, ◌+◌, ◌==◌, ◌&&◌, not, Bool, true, false, List, length, Option, Some, None, nat_le, nat_lt, option_and_then, option_map, if◌then◌else◌}
 use Rattle.std.specs.Option.{option_map_or}
 use Rattle.std.specs.Str.{bytes_eq}
 use Rattle.sha2.specs.Sha256.{sha256}
@@ -13,10 +13,10 @@ use Rattle.bar_window.specs.Exchange.{other_role}
 use Rattle.bar_window.specs.Updates.{same_updates}
 use Rattle.bar_window.specs.Terms.{Terms, Trade, Offer}
 use Rattle.bar_terms.specs.Table.{Digest, Known, PastEnd, NoManifest, digest_of, is_within}
-use Rattle.bar_terms.specs.Terms.{offer_ok, wanted}
+use Rattle.bar_terms.specs.Terms.{offer_ok}
 use Rattle.bar_wire.specs.Datagram.{Message, Datagram, Body, Manifest, Block, Request, Response, Divulge, Query, Reply, Case, KeyRequest, Key, Evidence, Evict, is_signed, kind_number, round_of, part_of, exchange_by, is_of}
 use Rattle.bar_rules.specs.Member.{Session, Member, is_alive}
-use Rattle.bar_rules.specs.Values.{terms_ok, counts_ok, is_signed_by, updates_from}
+use Rattle.bar_rules.specs.Values.{terms_ok, counts_ok, is_signed_by}
 use Rattle.bar_rules.specs.Secrets.{is_seed, partner_of, commitment_of}
 use Rattle.bar_rules.specs.Log.{Log, table, round_now, has_heard, has_said, first_heard, first_said, count_heard, has_kind_and_round, is_announced}
 use Rattle.bar_rules.specs.Holdings.{is_held}

@@ -12,7 +12,7 @@ use Rattle.bar_window.specs.Terms.{Terms, Trade, Offer}
 use Rattle.bar_terms.specs.Table.{is_within}
 use Rattle.bar_wire.specs.Datagram.{Message, Datagram, Body, Request, Response, Query, Reply, Case, Key, Briefcase, KeyGiven, is_of, identity_of, exchange_by, part_of, round_of}
 use Rattle.bar_seal.specs.Leaves as leaves
-use Rattle.bar_rules.specs.Member.{Session, Member}
+use Rattle.bar_rules.specs.Member.{Member}
 use Rattle.bar_rules.specs.Values.{terms_ok, counts_ok, sealed, message_bytes}
 use Rattle.bar_rules.specs.Secrets.{nonce_of, briefcase_key, commitment_of, seed_of, partner_of, signature_of}
 use Rattle.bar_rules.specs.Log.{Log, table, round_now, has_heard, has_said}

@@ -12,7 +12,7 @@ use Rattle.bar_wire.specs.Datagram.{Datagram, exchange_of, is_of}
 use Rattle.bar_rules.specs.Member.{Member, slot_after}
 use Rattle.bar_rules.specs.Values.{updates_of}
 use Rattle.bar_rules.specs.Secrets.{seed_of, partner_of}
-use Rattle.bar_rules.specs.Log.{Log, Entry, Ticked, Heard, Said, Kept, said_in, ticks, round_now, has_heard, has_said, is_announced}
+use Rattle.bar_rules.specs.Log.{Log, said_in, ticks, round_now, has_heard, has_said, is_announced}
 use Rattle.bar_rules.specs.Holdings.{block_of}
 use Rattle.bar_rules.specs.Terms.{role_of, partner_in, asking_kind, answer_kind}
 use Rattle.bar_rules.specs.Choices.{young_of}

@@ -1,3 +1,4 @@
 pub mod Under
 pub mod Named
 pub mod Slots
+mod Worked

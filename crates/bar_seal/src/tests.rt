@@ -1,6 +1,8 @@
-ghost use Rattle.std.specs.Prelude.{◌≡◌, ◌<◌, true, IsSome};
+ghost use Rattle.std.specs.Prelude.{◌≡◌, ◌+◌, ◌<◌, ◌≤◌, true, length, IsSome};
 ghost use Rattle.bar_wire.specs.Datagram.{is_signed, round_of};
-ghost use Rattle.bar_wire.specs.Views.{plain};
+ghost use Rattle.bar_wire.specs.Views.{plain, IsBody, AreTermWindows};
+ghost use Rattle.bar_wire.specs.Writing.{terms_written, body_written};
+ghost use Rattle.bar_wire.specs.declared.shape.Shape.{Shape};
 
 use crate::checker::Checker;
 use crate::identities::Identity;
@@ -10,8 +12,9 @@ use crate::naming::identity;
 use crate::scheme::{Scheme, Verifier};
 use bar_bytes::Steps;
 use bar_lms::{Height, Ots, Params, SecretKey};
-use bar_window::Window;
-use bar_wire::{Body, View};
+use bar_window::{Role, Terms, Window, XKind};
+use bar_wire::{Body, Shape, View, decode, encode};
+use std::alloc::{AllocError, Global};
 use std::marker::Brand;
 use std::sync::ledger::{Blank, Ledger};
 use std::test::Fail;
@@ -164,4 +167,104 @@ fn each_message_of_a_round_has_its_leaf(rt: HostRuntime) {
     assert_eq!(rt; leaf_of(&reply, 0), 48);
     assert_eq!(rt; leaf_of(&key_of(1, 1), 1), 53);
     assert_eq!(rt; leaf_of(&notice, 0), 5);
+}
+
+/// Terms with empty windows of round 16.
+fn terms_of(kind: XKind, life: u8) -> Terms
+    requires some { 0 < life }
+    requires few { life ≤ 16 }
+    ensures windows { (s : Shape) → s.life ≡ life → AreTermWindows s 16 result }
+    ensures written { (s : Shape) → s.life ≡ life → terms_written s result ≤ 513 }
+{
+    let none = Window::empty(16, life);
+    match kind {
+        XKind::Balanced => Terms::Balanced {
+            nonce: [0; 32],
+            ha: none,
+            hb: none,
+        },
+        XKind::Push => Terms::Push {
+            young: none,
+            aged: none,
+            want: none,
+            give: none,
+            junk: 0,
+        },
+    }
+}
+
+/// How many bytes the datagram of a body has, with what stands behind the message in `out` as its signature: 0 where it can't be read.
+fn datagram_len(body: &Body<'_>, shape: &Shape, out: &mut [u8]) -> usize
+    requires body { IsBody shape.now body.now }
+    requires room { 16 + body_written shape.now body.now ≤ length out.old }
+{
+    let len = encode(1, 2, body, shape, out).saturating_add(shape.sig_len);
+    match out.get(..len) {
+        Some(bytes) if decode(bytes, shape).is_ok() => len,
+        _ => 0,
+    }
+}
+
+/// A session of sixteen rounds whose signatures are of LMS of types 6 and 4.
+fn session_with(life: u8) -> Shape
+    requires some { 0 < life }
+    requires few { life ≤ 16 }
+    ensures { result.life ≡ life }
+{
+    let params = Params {
+        height: Height::H10,
+        ots: Ots::W8,
+    };
+    Shape {
+        version: 1,
+        id: ID,
+        peers: 2,
+        rounds: 16,
+        life,
+        per_round: 64,
+        sig_len: LmsVerifier::new(params).sig_len(),
+    }
+}
+
+/// How many bytes the datagram of a briefcase has whose cipher has so many, where updates live for so many rounds.
+fn case_len(
+    alloc: Global,
+    life: u8,
+    kind: XKind,
+    role: Role,
+    updates: u8,
+    junk: u8,
+    cipher: usize,
+) -> Result<usize, AllocError>
+    requires some { 0 < life }
+    requires few { life ≤ 16 }
+    requires room { cipher ≤ 20480 }
+{
+    let cipher = vec![in alloc; 0; cipher]?;
+    let body = Body::Case {
+        round: 16,
+        xkind: kind.code(),
+        role: role.code(),
+        updates,
+        junk,
+        terms: terms_of(kind, life),
+        cipher: &cipher,
+    };
+    let mut out = vec![in alloc; 0; 65507]?;
+    Ok(datagram_len(&body, &session_with(life), &mut out))
+}
+
+#[test]
+fn a_briefcase_is_as_long_as_its_items_say(rt: HostRuntime) -> Result<(), Fail> {
+    let (balanced, push) = (XKind::Balanced, XKind::Push);
+    let (initiator, responder) = (Role::Initiator, Role::Responder);
+    let traded = case_len(rt.alloc(), 4, balanced, initiator, 1, 0, 1024)?;
+    assert_eq!(rt; traded, 2596);
+    let full = case_len(rt.alloc(), 16, balanced, responder, 16, 0, 16384)?;
+    assert_eq!(rt; full, 18148);
+    let padded = case_len(rt.alloc(), 4, push, responder, 0, 2, 2560)?;
+    assert_eq!(rt; padded, 4165);
+    let offered = case_len(rt.alloc(), 4, push, initiator, 2, 0, 2048)?;
+    assert_eq!(rt; offered, 3653);
+    Ok(())
 }

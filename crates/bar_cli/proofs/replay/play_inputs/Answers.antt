@@ -3,7 +3,7 @@ use Rattle.std.proofs.lemmas.Result.{err_from_is_err_and}
 use Rattle.bar_outside.proofs.Following.{followed, stopped}
 use Rattle.bar_record.specs.Inputs.{inputs_left}
 use Rattle.bar_wire.specs.Inputs.{plain_input}
-use Rattle.bar_rules.specs.Run.{step}
+use Rattle.bar_rules.specs.Listening.{listened}
 use Rattle.bar_cli.proofs.PlayedSoFar.{nothing_done, taken, turns-one, turns-of, all-played}
 use Rattle.bar_cli.proofs.replay.play_inputs.Goals as goal
 
@@ -30,12 +30,12 @@ loop-input-preserved g c = (
   λ me log stands.
       let before = c.loop-input.invariant.2 me log stands in
       record {
-        now = (step me before.now (plain_input c.in-Some.input)).log;
+        now = (listened me before.now (plain_input c.in-Some.input)).log;
         played = _;
         stands = c.in_ok-play_input.ensures.after me before.now before.stands;
         split = taken me log before.now (inputs_left c.args.items) (inputs_left c.loop-input.input-iterator) (inputs_left c.next.new.self)
             (plain_input c.in-Some.input) before.played before.split c.in-Some.ensures.steps;
-        done = λ out. rw (turns-one c.args.played.now before.played (step me before.now (plain_input c.in-Some.input)).contents)
+        done = λ out. rw (turns-one c.args.played.now before.played (listened me before.now (plain_input c.in-Some.input)).contents)
             (followed _ _ _ _ _ _ (before.done out) _ (c.in_ok-play_input.ensures.follows me before.now before.stands out));
       },
 )

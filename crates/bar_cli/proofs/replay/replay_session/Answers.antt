@@ -1,27 +1,40 @@
-use Rattle.std.proofs.Common.{Ok, Err, refl}
+use Rattle.std.proofs.Common.{◌≡◌, ◌⊎◌, inl, inr, false, refl}
+use Rattle.std.proofs.lemmas.Bool.{false≢true}
+use denote.Enum.Bare.{sameb}
+use Rattle.bar_roster.specs.contracts.key_fault.KeyFileFault.{the_type}
+use Rattle.bar_roster.specs.declared.key_fault.KeyFileFault.{KeyFileFault}
+use Rattle.bar_roster.specs.declared.key_fault.KeyFileFault.TheVariants.{NoMemory}
+use Rattle.bar_cli.specs.Refusals.{key_refused}
 use Rattle.std.proofs.lemmas.Result.{err_from_is_err_and}
-use Rattle.bar_outside.proofs.Ending.{EndsWith-reading, EndsWith-accepted, EndsWith-doing}
-use Rattle.bar_cli.specs.Recordings.{recording_view}
-use Rattle.bar_cli.specs.Replay.{contents_of}
-use Rattle.bar_cli.specs.ReplayPlan.{replay_actions}
-use Rattle.bar_cli.specs.Views.{names_view}
-use Rattle.bar_cli.proofs.ReplayLemmas.{can-replay}
-use Rattle.bar_cli.proofs.ReadingLemmas.{is-some}
+use Rattle.bar_outside.proofs.Ending.{EndsWith-reading, EndsWith-accepted, EndsWith-refused, EndsWith-ending, EndsWith-memory, EndsWith-unread}
 use Rattle.bar_cli.proofs.replay.replay_session.Goals as goal
 
-pub returns-in_err-replay_recording-clause-ends : goal.returns-in_err-replay_recording-clause-ends
-returns-in_err-replay_recording-clause-ends g c = λ out.
-    let p = err_from_is_err_and c.from_residual-in_err-replay_recording.result c.from_residual-in_err-replay_recording.ensures.1 in
-    let accepted = is-some c.read_recording.result c.in-Some.recording _ c.in-Some.is (rw c.deref.ensures.value at c.read_recording.ensures) in
-    rw (p.1, p.2) (EndsWith-reading _ _ (g.F.Files.disk c.args.files.now) (g.F.Files.disk c.read_file.new.files) out
-    _ c.in_ok-bytes.bytes _ _ c.in_ok-bytes.ensures (EndsWith-accepted _ _ _ _ _ _ _ _ accepted
-    (EndsWith-doing (replay_actions (names_view c.args.names.now) (contents_of c.args.session (recording_view c.in-Some.recording))) 0 _ _ _
-    (λ told. can-replay (names_view c.args.names.now) (contents_of c.args.session (recording_view c.in-Some.recording)) _) refl (Err c.in_err-replay_recording.field-0.0) (c.in_err-replay_recording.ensures out))))
+-- a fault that the test tells from want of memory
+is-other : (fault : KeyFileFault) (P : Type 0) → false ≡ sameb the_type fault NoMemory → (fault ≡ NoMemory) ⊎ P → P
+is-other fault P test (inl e) = absurd (false≢true (rw e at test))
+is-other fault P test (inr p) = p
 
-pub returns-clause-ends : goal.returns-clause-ends
-returns-clause-ends g c = λ out.
-    let accepted = is-some c.read_recording.result c.in-Some.recording _ c.in-Some.is (rw c.deref.ensures.value at c.read_recording.ensures) in
+pub returns-in-Ok-clause-ends : goal.returns-in-Ok-clause-ends
+returns-in-Ok-clause-ends g c = λ out.
+    let accepted = rw c.deref.ensures.value at c.in-Ok.ensures.ok in
     EndsWith-reading _ _ (g.F.Files.disk c.args.files.now) (g.F.Files.disk c.read_file.new.files) out
-    _ c.in_ok-bytes.bytes _ _ c.in_ok-bytes.ensures (EndsWith-accepted _ _ _ _ _ _ _ _ accepted
-    (EndsWith-doing (replay_actions (names_view c.args.names.now) (contents_of c.args.session (recording_view c.in-Some.recording))) 0 _ _ _
-    (λ told. can-replay (names_view c.args.names.now) (contents_of c.args.session (recording_view c.in-Some.recording)) _) refl (Ok tt) (c.in_ok-replay_recording.ensures out)))
+    _ c.in_ok-bytes.bytes _ _ c.in_ok-bytes.ensures (EndsWith-accepted _ _ _ _ _ _ _ _ accepted (c.replay_key.ensures.ends out))
+
+pub returns-in_err-bytes-clause-ends : goal.returns-in_err-bytes-clause-ends
+returns-in_err-bytes-clause-ends g c = λ out.
+    let p = err_from_is_err_and c.from_residual.result c.from_residual.ensures.1 in
+    let r = c.in_err-bytes.ensures in
+    rw (p.1, p.2, r.2) (EndsWith-unread _ _ _ _ out r.0 r.1)
+
+pub returns-then-eq-clause-ends : goal.returns-then-eq-clause-ends
+returns-then-eq-clause-ends g c = λ out.
+    EndsWith-reading _ _ (g.F.Files.disk c.args.files.now) (g.F.Files.disk c.read_file.new.files) out
+    _ c.in_ok-bytes.bytes _ _ c.in_ok-bytes.ensures (EndsWith-memory _ _)
+
+pub returns-else-eq-clause-ends : goal.returns-else-eq-clause-ends
+returns-else-eq-clause-ends g c = λ out.
+    let refused = is-other _ _ (c.if-eq.ensures) (c.in-Err.ensures.err) in
+    let told = rw c.deref.ensures.value at refused in
+    EndsWith-reading _ _ (g.F.Files.disk c.args.files.now) (g.F.Files.disk c.read_file.new.files) out
+    _ c.in_ok-bytes.bytes _ _ c.in_ok-bytes.ensures
+    (EndsWith-refused _ c.in-Err.fault _ _ _ _ _ _ told (EndsWith-ending 5 (key_refused c.in-Err.fault) _ refl))

@@ -1,13 +1,11 @@
-use Rattle.std.proofs.Common.{◌≡◌, ◌∙◌, length, rules}
-use Rattle.std.proofs.Math.Seq.{take-length}
-use Rattle.bar_cli.specs.Status.{said_at}
+use Rattle.bar_cli.specs.Refusals.{session_refused, key_refused, secret_refused}
 use Rattle.bar_cli.proofs.status.report.Goals as goal
 
-pub returns-in-Ok-clause-said : goal.returns-in-Ok-clause-said
-returns-in-Ok-clause-said g c =
-    let text : c.as_bytes.result.now ≡ said_at c.args.status = c.as_bytes.ensures.value ∙ c.line.ensures in
-    record {
-      later = search rules;
-      whole = search rules;
-      front = λ told. (length (said_at c.args.status), rw (take-length (said_at c.args.status), ← text) (c.in-Ok.ensures.added told));
-    }
+pub returns-in-SessionRefused-clause-said : goal.returns-in-SessionRefused-clause-said
+returns-in-SessionRefused-clause-said g c = rw c.in-SessionRefused.is (c.print_text.ensures.said (session_refused c.in-SessionRefused.fault) c.session_refusal.ensures)
+
+pub returns-in-KeyRefused-clause-said : goal.returns-in-KeyRefused-clause-said
+returns-in-KeyRefused-clause-said g c = rw c.in-KeyRefused.is (c.print_text-in-KeyRefused.ensures.said (key_refused c.in-KeyRefused.fault) c.key_refusal.ensures)
+
+pub returns-in-SecretRefused-clause-said : goal.returns-in-SecretRefused-clause-said
+returns-in-SecretRefused-clause-said g c = rw c.in-SecretRefused.is (c.print_text-in-SecretRefused.ensures.said (secret_refused c.in-SecretRefused.len) c.secret_refusal.ensures)

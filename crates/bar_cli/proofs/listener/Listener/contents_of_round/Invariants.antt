@@ -6,4 +6,4 @@ use Rattle.bar_cli.proofs.PlayLemmas.{contents_below}
 use Rattle.bar_cli.proofs.listener.Listener.contents_of_round.Given as goal
 
 abbrev pub invariant-loop-index : goal.invariant-loop-index
-invariant-loop-index l = (me : Member) (log : Log) → Represents me log l.self → texts l.contents.items ≡ contents_below log l.round l.index
+invariant-loop-index l = (me : Member) (log : Log) → Represents me log l.self → texts l.contents.items ≡ contents_below me log l.round l.index

@@ -10,7 +10,7 @@ returns-in_ok-keep_manifest-in-Manifest c me log h admitted =
     ap plain c.in-Manifest.is ∙ ap (Manifest c.in-Manifest.round) (sym c.in_ok-digests-in-Manifest.ensures)
     in
     c.in_ok-keep_manifest-in-Manifest.ensures me log (datagram me.session.shape c.args.view.now) h
-    (admitted_first me log (datagram me.session.shape c.args.view.now) c.in-Manifest.round c.in_ok-digests-in-Manifest.digests.items body admitted) body
+    (admitted_first me log (datagram me.session.shape c.args.view.now) c.in-Manifest.round c.in_ok-digests-in-Manifest.digests.items body (h.announced c.args.view.now.from) admitted) body
 
 pub returns-in_ok-keep_block-in-Block : goal.returns-in_ok-keep_block-in-Block
 returns-in_ok-keep_block-in-Block c me log h admitted =
@@ -18,4 +18,4 @@ returns-in_ok-keep_block-in-Block c me log h admitted =
     ap plain c.in-Block.is ∙ ap (Block (record { round = c.in-Block.round; index = c.in-Block.index })) (sym c.in_ok-block-in-Block.ensures.ok)
     in
     c.in_ok-keep_block-in-Block.ensures me log (datagram me.session.shape c.args.view.now) h
-    (admitted_new me log (datagram me.session.shape c.args.view.now) (record { round = c.in-Block.round; index = c.in-Block.index }) c.in_ok-block-in-Block.block.value body admitted) body
+    (admitted_new me log (datagram me.session.shape c.args.view.now) (record { round = c.in-Block.round; index = c.in-Block.index }) c.in_ok-block-in-Block.block.value body (h.announced c.args.view.now.from) admitted) body

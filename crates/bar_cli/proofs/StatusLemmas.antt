@@ -1,0 +1,67 @@
+-- The statuses that each command has.
+use Rattle.std.proofs.Common.{◌≡◌, ◌⊎◌, ◌==◌, ℕ, List, [], Bool, true, false, Option, Some, None, Result, Ok, Err, IfOk, IsTrue, refl, subst, inl, inr, arith}
+use Rattle.bar_outside.specs.Causes.{Rose}
+use Rattle.bar_outside.specs.Disk.{Disk, Content}
+use Rattle.bar_outside.specs.Stream.{Stream}
+use Rattle.bar_outside.specs.Plan.{World, world, Plan}
+use Rattle.bar_outside.specs.Ends.{EndsWith}
+use Rattle.bar_outside.specs.declared.fault.Fault.{Fault}
+use Rattle.bar_outside.specs.declared.fault.Fault.TheVariants.{File, Output, NoMemory as WantOfMemory}
+use Rattle.bar_cli.specs.Line.{Line, replay, keygen, is_status_of}
+use Rattle.bar_cli.specs.Status.{code_of_run, is_replay_end, is_keygen_end}
+use Rattle.bar_cli.specs.declared.status.Status.{Status}
+use Rattle.bar_cli.specs.declared.status.Status.TheVariants.{Done, Usage, FileFailed, SessionRefused, KeyRefused, OutputFailed, InputRefused, SecretRefused, NoMemory}
+use Rattle.bar_cli.specs.ReplayPlan.{ReplayFiles}
+use Rattle.bar_cli.specs.KeygenPlan.{Keygen}
+
+quiet : Stream
+quiet = record { told = false; reliable = false; bytes = []; faults = 0 }
+
+-- a command that holds over any output doesn't end with 7
+pub never-output : (plan : Content → Plan) (old new : Disk) (status : ℕ) (line : List ℕ) →
+    ((out : Stream) → EndsWith plan (world old out) (world new out) status line) → status ≡ 7 → ⊥
+unfolding quiet
+never-output plan old new status line ends e = let h : Rose 0 0 = (ends quiet).ends.output_rose e in absurd (omega arith)
+
+-- the statuses of a replay
+pub replay-statuses : (names : ReplayFiles) (ended : Result Status Fault) → IfOk ended (λ status. IsTrue (is_replay_end status)) → (code_of_run ended ≡ 7 → ⊥) →
+    IsTrue (is_status_of (Some (replay names)) (code_of_run ended))
+replay-statuses names (Ok Done) h none = refl
+replay-statuses names (Ok Usage) h none = absurd cc
+replay-statuses names (Ok FileFailed) h none = absurd cc
+replay-statuses names (Ok (SessionRefused fault)) h none = refl
+replay-statuses names (Ok (KeyRefused fault)) h none = refl
+replay-statuses names (Ok OutputFailed) h none = absurd cc
+replay-statuses names (Ok InputRefused) h none = refl
+replay-statuses names (Ok (SecretRefused len)) h none = absurd cc
+replay-statuses names (Ok NoMemory) h none = absurd cc
+replay-statuses names (Err File) h none = refl
+replay-statuses names (Err Output) h none = absurd (none refl)
+replay-statuses names (Err WantOfMemory) h none = refl
+
+-- those of `keygen`
+pub keygen-statuses : (asked : Keygen) (ended : Result Status Fault) → IfOk ended (λ status. IsTrue (is_keygen_end status)) →
+    IsTrue (is_status_of (Some (keygen asked)) (code_of_run ended))
+keygen-statuses asked (Ok Done) h = refl
+keygen-statuses asked (Ok Usage) h = absurd cc
+keygen-statuses asked (Ok FileFailed) h = absurd cc
+keygen-statuses asked (Ok (SessionRefused fault)) h = refl
+keygen-statuses asked (Ok (KeyRefused fault)) h = absurd cc
+keygen-statuses asked (Ok OutputFailed) h = absurd cc
+keygen-statuses asked (Ok InputRefused) h = absurd cc
+keygen-statuses asked (Ok (SecretRefused len)) h = refl
+keygen-statuses asked (Ok NoMemory) h = absurd cc
+keygen-statuses asked (Err File) h = refl
+keygen-statuses asked (Err Output) h = refl
+keygen-statuses asked (Err WantOfMemory) h = refl
+
+-- want of memory may come in place of any
+pub or-memory : (line : Line) (status result : ℕ) → IsTrue (is_status_of (Some line) status) → (result ≡ status) ⊎ (result ≡ 70) → IsTrue (is_status_of (Some line) result)
+or-memory line status result h (inl e) = rw e h
+or-memory (replay names) status result h (inr e) = rw e refl
+or-memory (keygen asked) status result h (inr e) = rw e refl
+
+-- a command has not the status of words that are no line
+pub no-usage : (line : Line) (status : ℕ) → IsTrue (is_status_of (Some line) status) → status ≡ 2 → ⊥
+no-usage (replay names) status h e = let k : IsTrue (is_status_of (Some (replay names)) 2) = subst (λ n. IsTrue (is_status_of (Some (replay names)) n)) e h in cc
+no-usage (keygen asked) status h e = let k : IsTrue (is_status_of (Some (keygen asked)) 2) = subst (λ n. IsTrue (is_status_of (Some (keygen asked)) n)) e h in cc

@@ -1,0 +1,32 @@
+use Rattle.std.proofs.Common.{[], Ok, Err, refl}
+use Rattle.std.proofs.lemmas.Result.{err_from_is_err_and}
+use Rattle.bar_outside.proofs.Ending.{EndsWith-reading, EndsWith-accepted, EndsWith-doing, EndsWith-unread}
+use Rattle.bar_cli.specs.KeygenPlan.{keygen_actions}
+use Rattle.bar_cli.specs.Views.{keygen_view}
+use Rattle.bar_cli.proofs.KeygenLemmas.{can-keygen, as-asked}
+use Rattle.bar_cli.proofs.keygen.keygen_by_secret.Goals as goal
+
+pub returns-in_err-bytes-clause-ends : goal.returns-in_err-bytes-clause-ends
+returns-in_err-bytes-clause-ends g c =
+    let p = err_from_is_err_and c.from_residual.result c.from_residual.ensures.1 in
+    let r = c.in_err-bytes.ensures in
+    rw (p.1, p.2, r.2) (EndsWith-unread _ _ _ _ _ r.0 r.1)
+
+pub returns-in_err-write_key-clause-ends : goal.returns-in_err-write_key-clause-ends
+returns-in_err-write_key-clause-ends g c =
+    let p = err_from_is_err_and c.from_residual-in_err-write_key.result c.from_residual-in_err-write_key.ensures.1 in
+    let accepted = rw c.deref.ensures.value at c.in-Some.ensures.some in
+    rw (p.1, p.2) (EndsWith-reading _ _ (g.F.Files.disk c.args.files.now) (g.F.Files.disk c.read_file.new.files) (g.K.Sink.stream c.args.out.now)
+    _ c.in_ok-bytes.bytes _ _ c.in_ok-bytes.ensures (EndsWith-accepted _ _ _ _ _ _ _ _ accepted
+    (EndsWith-doing (keygen_actions (keygen_view c.args.asked.now) c.in-Some.secret) 0 [] _ _ (λ told. can-keygen (keygen_view c.args.asked.now) c.in-Some.secret _) refl
+    (Err c.in_err-write_key.field-0.0)
+    (as-asked (keygen_view c.args.asked.now) c.in-Some.secret _ _ _ _ _ c.in_ok-made.ensures.text c.in_ok-made.ensures.lines c.in_err-write_key.ensures))))
+
+pub returns-clause-ends : goal.returns-clause-ends
+returns-clause-ends g c =
+    let accepted = rw c.deref.ensures.value at c.in-Some.ensures.some in
+    EndsWith-reading _ _ (g.F.Files.disk c.args.files.now) (g.F.Files.disk c.read_file.new.files) (g.K.Sink.stream c.args.out.now)
+    _ c.in_ok-bytes.bytes _ _ c.in_ok-bytes.ensures (EndsWith-accepted _ _ _ _ _ _ _ _ accepted
+    (EndsWith-doing (keygen_actions (keygen_view c.args.asked.now) c.in-Some.secret) 0 [] _ _ (λ told. can-keygen (keygen_view c.args.asked.now) c.in-Some.secret _) refl
+    (Ok tt)
+    (as-asked (keygen_view c.args.asked.now) c.in-Some.secret _ _ _ _ _ c.in_ok-made.ensures.text c.in_ok-made.ensures.lines c.in_ok-write_key.ensures)))

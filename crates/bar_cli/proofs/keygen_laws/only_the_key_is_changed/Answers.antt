@@ -1,0 +1,7 @@
+use Rattle.bar_outside.proofs.Untouched.{untouched}
+use Rattle.bar_cli.proofs.KeygenRows.{touched}
+use Rattle.bar_cli.specs.KeygenPlan.{keygen_plan}
+use Rattle.bar_cli.proofs.keygen_laws.only_the_key_is_changed.Goals as goal
+
+pub returns : goal.returns
+returns c = λ asked old new status path ends told differs. untouched (keygen_plan asked) old new status path ends told (λ h. differs (touched asked old.files.content path h))

@@ -1,0 +1,95 @@
+-- What `keygen` does.
+use Rattle.std.specs.Prelude.{◌≡◌, ◌≢◌, ◌⊎◌, ◌==◌, ℕ, false, List, [], ◌∷◌, ◌++◌, Some, Ok, Err, Result, take, length, codes, if◌then◌else◌, IsTrue}
+use Rattle.hex.specs.Hex.{encode_lower}
+use Rattle.bar_lms.specs.declared.params.Params.{Params}
+use Rattle.bar_lms.specs.Params.{lms_type, ots_type}
+use Rattle.bar_lms.specs.Secret.{public_key}
+use Rattle.bar_seeds.specs.Seeds.{anchor_of}
+use Rattle.bar_roster.specs.declared.key_fields.KeyData.{KeyData}
+use Rattle.bar_roster.specs.KeyText.{key_data, key_text_of}
+use Rattle.bar_roster.specs.SessionText.{enough_leaves}
+use Rattle.bar_outside.specs.Disk.{Content, Failure, readable}
+use Rattle.bar_outside.specs.declared.files.CallKind.TheVariants.{Read, Create, Append}
+use Rattle.bar_outside.specs.Plan.{World, Action, Plan, reading, accepting, ending, doing}
+use Rattle.bar_outside.specs.Plan.Action.{create, append, show}
+use Rattle.bar_cli.specs.Refusals.{session_refused, secret_refused}
+
+-- what is asked for: the key of a party in a session with this id, of so many rounds, with signatures of these types;
+-- the file that holds the secret, and the key file
+pub record Keygen : Type 0 where
+  pub party : ℕ
+  pub id : List ℕ
+  pub rounds : ℕ
+  pub params : Params
+  pub secret : List ℕ
+  pub key : List ℕ
+
+-- the secret that a file's bytes are, or how many there are instead of 32
+abbrev pub secret_of : List ℕ → Result (List ℕ) ℕ
+secret_of bytes = if length bytes == 32 then Ok bytes else Err (length bytes)
+
+-- what the key file says of a secret, fresh
+abbrev pub key_made : Keygen → List ℕ → KeyData
+key_made asked secret = key_data asked.party asked.id asked.rounds (lms_type asked.params.height) (ots_type asked.params.ots) secret false
+
+-- the public key of a secret, and the end of its chain of seeds
+unfoldable pub public_of : Keygen → List ℕ → List ℕ
+public_of asked secret = public_key (record { params = asked.params; id = asked.id; secret = secret })
+
+unfoldable pub anchor_for : Keygen → List ℕ → List ℕ
+anchor_for asked secret = anchor_of (record { id = asked.id; party = asked.party; secret = secret }) asked.rounds
+
+abbrev pub key_line : List ℕ → List ℕ
+key_line key = codes "key = \"" ++ (encode_lower key ++ codes "\"\n")
+
+abbrev pub anchor_line : List ℕ → List ℕ
+anchor_line anchor = codes "anchor = \"" ++ (encode_lower anchor ++ codes "\"\n")
+
+-- what a session's text says of a party: its key, and for a peer its anchor
+abbrev pub lines_of : Keygen → List ℕ → List ℕ
+lines_of asked secret = key_line (public_of asked secret) ++ (if asked.party == 0 then [] else anchor_line (anchor_for asked secret))
+
+-- the key file is created and written, and the lines are printed
+abbrev pub keygen_actions : Keygen → List ℕ → List Action
+keygen_actions asked secret = create asked.key ∷ append asked.key (key_text_of (key_made asked secret)) ∷ show (lines_of asked secret) ∷ []
+
+abbrev pub making_plan : Keygen → List ℕ → Content → Plan
+making_plan asked secret = doing (keygen_actions asked secret) 0 []
+
+-- the secret is read, and accepted or refused
+abbrev pub secret_plan : Keygen → Content → Plan
+secret_plan asked = reading asked.secret (λ bytes. accepting (secret_of bytes) (making_plan asked) (λ len. ending 8 (secret_refused len)))
+
+-- too few leaves are refused before anything is read
+abbrev pub keygen_plan : Keygen → Content → Plan
+keygen_plan asked =
+    accepting (enough_leaves asked.rounds asked.params.height) (λ _. secret_plan asked) (λ fault. ending 4 (session_refused fault))
+
+-- there is a leaf for each message, and the secret is there and has 32 bytes
+pub record KeygenAccepted (asked : Keygen) (content : Content) : Type 0 where
+  pub secret : List ℕ
+  pub leaves : enough_leaves asked.rounds asked.params.height ≡ Ok tt
+  pub read : readable content asked.secret ≡ Some secret
+  pub long : length secret ≡ 32
+
+-- both were accepted, the key file has exactly the text of the fresh key, and its lines were printed
+pub record KeyMade (asked : Keygen) (old new : World) : Type 0 where
+  pub accepted : KeygenAccepted asked old.files.content
+  pub written : new.files.content asked.key ≡ Some (key_text_of (key_made asked accepted.secret))
+  pub printed : IsTrue old.out.told → new.out.bytes ≡ old.out.bytes ++ lines_of asked accepted.secret
+  pub others : (path : List ℕ) → path ≢ asked.key → new.files.content path ≡ old.files.content path
+
+-- both were accepted, the key file has a front of the text, and behind the whole text a front of the lines was printed
+pub record KeyBegun (asked : Keygen) (old new : World) : Type 0 where
+  pub accepted : KeygenAccepted asked old.files.content
+  pub written_count : ℕ
+  pub printed_count : ℕ
+  pub written : new.files.content asked.key ≡ Some (take written_count (key_text_of (key_made asked accepted.secret)))
+  pub printed : IsTrue old.out.told → new.out.bytes ≡ old.out.bytes ++ take printed_count (lines_of asked accepted.secret)
+  pub order : (printed_count ≡ 0) ⊎ (new.files.content asked.key ≡ Some (key_text_of (key_made asked accepted.secret)))
+
+-- a call that `keygen` makes: the read of the secret, or a create or an append of the key file
+abbrev pub IsKeygenCall : Keygen → Failure → Type 0
+IsKeygenCall asked call =
+    (call ≡ record { kind = Read; path = asked.secret })
+    ⊎ ((call ≡ record { kind = Create; path = asked.key }) ⊎ (call ≡ record { kind = Append; path = asked.key }))

@@ -1,0 +1,163 @@
+//! The command `keygen`.
+ghost use Rattle.std.specs.Prelude.{◌≡◌, ◌++◌, ◌∷◌, ℕ, List, Ok, Err, [], None, length, IfOk, IfSome, IsTrue, string_bytes};
+ghost use Rattle.bar_outside.specs.Disk.{Disk};
+ghost use Rattle.bar_outside.specs.Stream.{Stream};
+ghost use Rattle.bar_outside.specs.Plan.{world};
+ghost use Rattle.bar_outside.specs.Plan.Action.{create, append, show};
+ghost use Rattle.bar_outside.specs.Follows.{Follows};
+ghost use Rattle.bar_outside.specs.Ends.{EndsWith};
+ghost use Rattle.bar_roster.specs.KeyText.{key_text_of};
+ghost use Rattle.bar_cli.specs.KeygenPlan.{anchor_for, anchor_line, key_line, key_made, keygen_plan, lines_of, public_of, secret_of, secret_plan};
+ghost use Rattle.bar_cli.specs.Status.{code_of_run, said_by_run, is_keygen_end};
+ghost use Rattle.bar_cli.specs.Views.{keygen_view};
+
+use crate::keygen_words::KeygenWords;
+use crate::status::Status;
+use bar_lms::SecretKey;
+use bar_outside::{Fault, Files, Sink, append_file, create_file, read_file, show_bytes};
+use bar_roster::{check_leaves, key_text};
+use bar_seeds::SeedChain;
+use std::alloc::{AllocError, Global};
+
+/// What is written and printed of a key.
+#[derive(Drop)]
+struct MadeKey {
+    /// The text of the key file.
+    text: Vec<u8>,
+    /// What a session's text says of the party.
+    lines: String,
+}
+
+/// Refuses too few leaves, and goes on.
+pub fn keygen<F: Files, K: Sink>(
+    alloc: Global,
+    asked: &KeygenWords<'_>,
+    files: &mut F,
+    out: &mut K,
+) -> Result<Status, Fault>
+    ensures ends { EndsWith (keygen_plan (keygen_view asked.now))
+        (world (F.disk files.old) (K.stream out.old)) (world (F.disk files.new) (K.stream out.new)) (code_of_run result) (said_by_run result) }
+    ensures answers { IfOk result (λ status. IsTrue (is_keygen_end status)) }
+{
+    match check_leaves(asked.rounds, asked.params.height) {
+        Ok(()) => keygen_by_secret(alloc, asked, files, out),
+        Err(fault) => Ok(Status::SessionRefused(fault)),
+    }
+}
+
+// Reads the secret and goes on, if it has its length.
+fn keygen_by_secret<F: Files, K: Sink>(
+    alloc: Global,
+    asked: &KeygenWords<'_>,
+    files: &mut F,
+    out: &mut K,
+) -> Result<Status, Fault>
+    ensures ends { EndsWith (secret_plan (keygen_view asked.now))
+        (world (F.disk files.old) (K.stream out.old)) (world (F.disk files.new) (K.stream out.new)) (code_of_run result) (said_by_run result) }
+    ensures answers { IfOk result (λ status. IsTrue (is_keygen_end status)) }
+{
+    let bytes = read_file(files, asked.secret)?;
+    let Some(secret) = secret_of(&bytes) else {
+        return Ok(Status::SecretRefused(bytes.len()));
+    };
+    let made = made_key(alloc, asked, &secret)?;
+    write_key(&made, asked.key, files, out)?;
+    Ok(Status::Done)
+}
+
+// The secret that bytes are, where there are 32 of them.
+fn secret_of(bytes: &[u8]) -> Option<[u8; 32]>
+    ensures some { IfSome result (λ secret. secret_of bytes.now ≡ Ok secret) }
+    ensures none { result ≡ None → secret_of bytes.now ≡ Err (length bytes.now) }
+{
+    <[u8; 32]>::try_from(bytes).ok()
+}
+
+// Creates and writes the key file, and prints the lines.
+fn write_key<F: Files, K: Sink>(
+    made: &MadeKey,
+    key: &str,
+    files: &mut F,
+    out: &mut K,
+) -> Result<(), Fault>
+    ensures { Follows (create key.now ∷ append key.now made.now.text.items ∷ show (string_bytes made.now.lines) ∷ [])
+        (world (F.disk files.old) (K.stream out.old)) (world (F.disk files.new) (K.stream out.new)) result }
+{
+    create_file(files, key)?;
+    append_file(files, key, &made.text)?;
+    show_bytes(out, made.lines.as_bytes())
+}
+
+// The key of a secret.
+fn made_key(
+    alloc: Global,
+    asked: &KeygenWords<'_>,
+    secret: &[u8; 32],
+) -> Result<MadeKey, AllocError>
+    ensures text { IfOk result (λ made. made.text.items ≡ key_text_of (key_made (keygen_view asked.now) secret.now)) }
+    ensures lines { IfOk result (λ made. string_bytes made.lines ≡ lines_of (keygen_view asked.now) secret.now) }
+{
+    let text = key_text(
+        alloc,
+        asked.party,
+        &asked.id,
+        asked.rounds,
+        asked.params.lms(),
+        asked.params.ots(),
+        secret,
+        false,
+    )?;
+    let lines = lines_of(alloc, asked, secret)?;
+    Ok(MadeKey { text, lines })
+}
+
+// The line of the public key, and for a peer that of the anchor.
+fn lines_of(alloc: Global, asked: &KeygenWords<'_>, secret: &[u8; 32]) -> Result<String, AllocError>
+    ensures { IfOk result (λ lines. string_bytes lines ≡ lines_of (keygen_view asked.now) secret.now) }
+{
+    let mut lines = key_line(alloc, &public_of(alloc, asked, secret)?)?;
+    if asked.party != 0 {
+        lines.push_str(anchor_line(alloc, &anchor_for(alloc, asked, secret)?)?.as_str())?;
+    }
+    Ok(lines)
+}
+
+// The public key of a secret (RFC 8554, 5.3).
+#[tactic(auto, unfolding(crate::specs::KeygenPlan::public_of))]
+fn public_of(
+    alloc: Global,
+    asked: &KeygenWords<'_>,
+    secret: &[u8; 32],
+) -> Result<[u8; 56], AllocError>
+    ensures { IfOk result (λ key. key ≡ public_of (keygen_view asked.now) secret.now) }
+{
+    let key = SecretKey::make(alloc, asked.params, &asked.id, secret)?;
+    Ok(key.public())
+}
+
+// The end of the secret's chain of seeds.
+#[tactic(auto, unfolding(crate::specs::KeygenPlan::anchor_for))]
+fn anchor_for(
+    alloc: Global,
+    asked: &KeygenWords<'_>,
+    secret: &[u8; 32],
+) -> Result<[u8; 32], AllocError>
+    ensures { IfOk result (λ anchor. anchor ≡ anchor_for (keygen_view asked.now) secret.now) }
+{
+    let chain = SeedChain::make(alloc, &asked.id, asked.party, asked.rounds, secret)?;
+    Ok(chain.anchor())
+}
+
+fn key_line(alloc: Global, key: &[u8; 56]) -> Result<String, AllocError>
+    ensures { IfOk result (λ line. string_bytes line ≡ key_line key.now) }
+{
+    let key = hex::encode(alloc, key.as_slice())?;
+    format!(in alloc; "key = \"{key}\"\n")
+}
+
+fn anchor_line(alloc: Global, anchor: &[u8; 32]) -> Result<String, AllocError>
+    ensures { IfOk result (λ line. string_bytes line ≡ anchor_line anchor.now) }
+{
+    let anchor = hex::encode(alloc, anchor.as_slice())?;
+    format!(in alloc; "anchor = \"{anchor}\"\n")
+}

@@ -1,0 +1,16 @@
+//! What `keygen` is asked for.
+ghost use Rattle.std.specs.Prelude.{◌≤◌};
+
+use bar_lms::Params;
+
+/// The key of a party in a session, the file that holds its secret, and the key file.
+#[derive(Clone, Copy, Debug)]
+pub struct KeygenWords<'a> {
+    pub party: u16,
+    pub id: [u8; 8],
+    pub rounds: u32,
+    pub params: Params,
+    pub secret: &'a str,
+    pub key: &'a str,
+    ghost in_range: { rounds ≤ 1820 },
+}

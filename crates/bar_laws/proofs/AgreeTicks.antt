@@ -1,0 +1,214 @@
+-- Logs that agree in what a peer keeps send and play alike at a tick, and so at every input.
+use Rattle.bar_window.specs.Exchange.{other_role}
+use Rattle.bar_window.specs.declared.exchange.Exchange.{Exchange}
+use Rattle.bar_window.specs.declared.exchange.Role.{Role}
+use Rattle.bar_window.specs.declared.exchange.Role.TheVariants.{Initiator, Responder}
+use Rattle.bar_window.specs.declared.exchange.XKind.{XKind}
+use Rattle.bar_window.specs.declared.exchange.XKind.TheVariants.{Balanced, Push}
+use Rattle.bar_wire.specs.Datagram.{Datagram}
+use Rattle.bar_wire.specs.Grammar.{words_of}
+use Rattle.bar_wire.specs.Inputs.{Input, Tick, Came}
+use Rattle.bar_rules.specs.Agreement.{AgreesWith, IsRecent}
+use Rattle.bar_rules.specs.Log.{Log, Ticked, round_now, ticks, is_announced}
+use Rattle.bar_rules.specs.Member.{Member, slot_after, last_tick}
+use Rattle.bar_rules.specs.Orders.{Order, Ask, AskKey, Resend, Report, begun, perform_all}
+use Rattle.bar_rules.specs.Replies.{orders_when, take_datagram}
+use Rattle.bar_rules.specs.Rules.{IsObedient}
+use Rattle.bar_rules.specs.Run.{take_input, step, contents_at}
+use Rattle.bar_rules.specs.Secrets.{seed_of, partner_of}
+use Rattle.bar_rules.specs.Terms.{role_of, partner_in, asking_kind, answer_kind}
+use Rattle.bar_rules.specs.Ticks.{open_exchanges, opened, is_initiator, reveals, lacks_answer, lacks_case, lacks_key, again, asking_partner, new_requests, reports, orders_at_tick, content_of, content_at, contents_of_round, contents_at_tick}
+use Rattle.bar_rules.specs.Values.{datagram_of, updates_of}
+use Rattle.std.proofs.Common.{◌≡◌, ℕ, ◌≤◌, ◌+◌, ◌-◌, Bool, true, false, List, [], ◌∷◌, ◌++◌, length, refl, sym, ap, ◌∙◌, subst, ◌&&◌, not, eqb, cond, arith}
+use Rattle.std.specs.Prelude.{Option, Some, None, is_some, nat_le, nat_lt, map, flat_map, filter, option_to_list, ◌*◌}
+use Rattle.std.specs.List.{AllByRecursion, range_with_len}
+use Rattle.std.proofs.lemmas.Bool.{leb-true}
+use Rattle.bar_laws.specs.Agreement.{AnswersAlike}
+use Rattle.bar_laws.proofs.AgreeLogs.{now, ticked-agree}
+use Rattle.bar_laws.proofs.AgreeRows.{said-same, heard-same}
+use Rattle.bar_laws.proofs.AgreeOrders.{IsTimely, IsAlike, perform_all-alike, young-same}
+use Rattle.bar_laws.proofs.AgreeReplies.{begun-alike, taken-alike, when-timely}
+use Rattle.bar_laws.proofs.Grammar.{read-fits}
+use Rattle.bar_laws.proofs.InLife.{LogInLife, form-in-life, obedient-in-life}
+
+flat-same : {X Y : Type 0} (f g : X → List Y) (xs : List X) → AllByRecursion (λ x. f x ≡ g x) xs → flat_map f xs ≡ flat_map g xs
+flat-same f g [] h = refl
+flat-same f g (x ∷ xs) h = λ i. h.0 i ++ flat-same f g xs h.1 i
+
+all-both : {X : Type 0} (P : X → Type 0) (xs ys : List X) → AllByRecursion P xs → AllByRecursion P ys → AllByRecursion P (xs ++ ys)
+all-both P [] ys a b = b
+all-both P (x ∷ xs) ys a b = (a.0, all-both P xs ys a.1 b)
+
+all-that : {X : Type 0} (P : X → Type 0) (p : X → Bool) (xs : List X) → ((x : X) → p x ≡ true → P x) → AllByRecursion P (filter p xs)
+all-that P p [] f = tt
+all-that P p (x ∷ xs) f = go (p x) refl (all-that P p xs f)
+  where
+    go : (b : Bool) → p x ≡ b → AllByRecursion P (filter p xs) → AllByRecursion P (cond b (x ∷ filter p xs) (filter p xs))
+    go true e h = (f x e, h)
+    go false e h = h
+
+all-flat-map : {X Y : Type 0} (P : X → Type 0) (Q : Y → Type 0) (f : X → List Y) (xs : List X) → ((x : X) → P x → AllByRecursion Q (f x)) → AllByRecursion P xs → AllByRecursion Q (flat_map f xs)
+all-flat-map P Q f [] k h = tt
+all-flat-map P Q f (x ∷ xs) k h = all-both Q (f x) (flat_map f xs) (k x h.0) (all-flat-map P Q f xs k h.1)
+
+all-mapped : {X Y : Type 0} (P : Y → Type 0) (f : X → Y) (xs : List X) → ((x : X) → P (f x)) → AllByRecursion P (map f xs)
+all-mapped P f [] k = tt
+all-mapped P f (x ∷ xs) k = (k x, all-mapped P f xs k)
+
+all-if : {X : Type 0} (P Q : X → Type 0) (xs : List X) → ((x : X) → P x → Q x) → AllByRecursion P xs → AllByRecursion Q xs
+all-if P Q [] f h = tt
+all-if P Q (x ∷ xs) f h = (f x h.0, all-if P Q xs f h.1)
+
+cond-same : {X : Type 0} (b : Bool) (x y z : X) → (b ≡ true → x ≡ y) → cond b x z ≡ cond b y z
+cond-same true x y z f = f refl
+cond-same false x y z f = refl
+
+-- the open exchanges are of recent rounds
+open-recent : (me : Member) (log : Log) → AllByRecursion (λ x. IsRecent me log x.round) (open_exchanges me log)
+open-recent me log = all-that (λ x. IsRecent me log x.round) (λ x. nat_le (round_now log) (x.round + me.session.shape.life)) (opened log) (λ x e. leb-true (round_now log) (x.round + me.session.shape.life) e)
+
+-- ---- orders in time
+
+again-timely : (me : Member) (log : Log) (x : Exchange) → IsRecent me log x.round → AllByRecursion (IsTimely me.session.shape.life (round_now log)) (again me log x)
+again-timely me log x r = go (lacks_answer me log x) (lacks_case me log x) (lacks_key me log x) x.kind (role_of me x)
+  where
+    shown : (k : XKind) (role : Role) → AllByRecursion (IsTimely me.session.shape.life (round_now log)) (reveals k role x ++ Resend 8 x ∷ [])
+    shown Balanced Initiator = (r, (r, tt))
+    shown Balanced Responder = (r, tt)
+    shown Push Initiator = (r, tt)
+    shown Push Responder = (r, tt)
+
+    go : (a b c : Bool) (k : XKind) (role : Role) → AllByRecursion (IsTimely me.session.shape.life (round_now log)) (cond a (Resend (asking_kind x.kind) x ∷ []) (cond b (reveals k role x ++ Resend 8 x ∷ []) (cond c (AskKey x ∷ []) [])))
+    go true b c k role = (r, tt)
+    go false true c k role = shown k role
+    go false false true k role = (tt, tt)
+    go false false false k role = tt
+
+asking-timely : (me : Member) (log : Log) (life : ℕ) (kind : XKind) → AllByRecursion (IsTimely life (round_now log)) (asking_partner me log (round_now log) kind)
+asking-timely me log life kind =
+    when-timely life (round_now log) _ (Ask (record { round = round_now log; kind = kind; initiator = me.party; responder = partner_of me.session (seed_of me (round_now log)) kind me.party }) ∷ []) (λ h. (omega arith, tt))
+
+reports-timely : (life at : ℕ) (qs : List ℕ) → AllByRecursion (IsTimely life at) (map Report qs)
+reports-timely life at [] = tt
+reports-timely life at (q ∷ qs) = (tt, reports-timely life at qs)
+
+tick-timely : (me : Member) (log : Log) → AllByRecursion (IsTimely me.session.shape.life (round_now log)) (orders_at_tick me log)
+tick-timely me log =
+    all-both P _ _
+    (all-both P _ _
+    (all-flat-map (λ x. IsRecent me log x.round) P (λ x. orders_when (not (is_announced log (partner_in me x))) (again me log x)) (open_exchanges me log)
+    (λ x r. when-timely life n (not (is_announced log (partner_in me x))) (again me log x) (λ h. again-timely me log x r)) (open-recent me log))
+    (when-timely life n _ (new_requests me log n)
+    (λ h. all-both P _ _ (asking-timely me log life Balanced) (when-timely life n _ (asking_partner me log n Push) (λ k. asking-timely me log life Push)))))
+    (when-timely life n _ (reports me log) (λ h. reports-timely life n _))
+  where
+    life : ℕ
+    life = me.session.shape.life
+
+    n : ℕ
+    n = round_now log
+
+    P : Order → Type 0
+    P o = IsTimely life n o
+
+-- ---- a tick
+
+module _ (me : Member) (one two : Log) (same : AgreesWith me one two) (life : 2 ≤ me.session.shape.life) where
+  again-same : (x : Exchange) → IsRecent me one x.round → again me one x ≡ again me two x
+  again-same x r =
+      let role : Role = role_of me x in
+      let other : Role = other_role role in
+      let now_is : round_now one ≡ round_now two = now me one two same in
+      let answer : lacks_answer me one x ≡ lacks_answer me two x =
+      (λ i. is_initiator role && not (heard-same me one two same (answer_kind x.kind) x Responder r i) && nat_le (now_is i) (x.round + 1))
+      in
+      let case : lacks_case me one x ≡ lacks_case me two x =
+      (λ i. said-same me one two same 8 x role r i && not (heard-same me one two same 8 x other r i) && nat_le (now_is i) (x.round + 2))
+      in
+      let key : lacks_key me one x ≡ lacks_key me two x =
+      (λ i. said-same me one two same 8 x role r i && heard-same me one two same 8 x other r i && not (heard-same me one two same 10 x other r i) && nat_le (now_is i) (x.round + me.session.shape.life))
+      in
+      (λ i. cond (answer i) (Resend (asking_kind x.kind) x ∷ []) (cond (case i) (reveals x.kind role x ++ Resend 8 x ∷ []) (cond (key i) (AskKey x ∷ []) [])))
+
+  open-same : flat_map (λ x. orders_when (not (is_announced one (partner_in me x))) (again me one x)) (open_exchanges me one) ≡ flat_map (λ x. orders_when (not (is_announced two (partner_in me x))) (again me two x)) (open_exchanges me two)
+  open-same =
+      flat-same (λ x. orders_when (not (is_announced one (partner_in me x))) (again me one x)) (λ x. orders_when (not (is_announced two (partner_in me x))) (again me two x)) (open_exchanges me one)
+      (all-if (λ x. IsRecent me one x.round) (λ x. orders_when (not (is_announced one (partner_in me x))) (again me one x) ≡ orders_when (not (is_announced two (partner_in me x))) (again me two x)) (open_exchanges me one)
+      (λ x r i. orders_when (not (same.announced (partner_in me x) i)) (again-same x r i)) (open-recent me one))
+      ∙ ap (λ xs. flat_map (λ x. orders_when (not (is_announced two (partner_in me x))) (again me two x)) xs) same.opens
+
+  asking-same : (round : ℕ) (kind : XKind) → asking_partner me one round kind ≡ asking_partner me two round kind
+  asking-same round kind =
+      let to : ℕ = partner_of me.session (seed_of me round) kind me.party in
+      ap (λ b. orders_when (not b) (Ask (record { round = round; kind = kind; initiator = me.party; responder = to }) ∷ [])) (same.announced to)
+
+  requests-same : (round : ℕ) → round_now one ≤ round + 2 → new_requests me one round ≡ new_requests me two round
+  requests-same round h = λ i. asking-same round Balanced i ++ orders_when (nat_lt 0 (length (young-same me one two same round life h i))) (asking-same round Push i)
+
+  new-same : new_requests me one (round_now one) ≡ new_requests me two (round_now two)
+  new-same = requests-same (round_now one) (omega arith) ∙ ap (new_requests me two) (now me one two same)
+
+  reports-same : reports me one ≡ reports me two
+  reports-same = λ i. map Report (filter (λ q. is_some (same.evidence q i) && not (same.announced q i)) (range_with_len 1 me.session.shape.peers))
+
+  tick-same : orders_at_tick me one ≡ orders_at_tick me two
+  tick-same =
+      λ i.
+      open-same i
+      ++ orders_when (eqb (slot_after (same.time i)) 0 && (nat_le 1 (now me one two same i) && nat_le (now me one two same i) me.session.shape.rounds)) (new-same i)
+      ++ orders_when (eqb (slot_after (same.time i)) 7) (reports-same i)
+
+  -- ---- played contents
+
+  round-same : (round : ℕ) → round_now one ≤ round + me.session.shape.life + 1 → contents_of_round me one round ≡ contents_of_round me two round
+  unfolding contents_of_round
+  round-same round h =
+      flat-same (content_at me one) (content_at me two) (updates_of me.session round)
+      (all-mapped (λ u. content_at me one u ≡ content_at me two u) (λ n. record { round = round; index = n }) (range_with_len 0 (64 * words_of me.session.shape))
+      (λ n. ap (λ o. flat_map content_of (option_to_list o)) (same.blocks (record { round = round; index = n }) h)))
+
+  contents-same : contents_at_tick me one ≡ contents_at_tick me two
+  contents-same =
+      let s = me.session in
+      let round : ℕ = round_now one - s.shape.life in
+      cond-same (eqb (slot_after (ticks one)) 0 && (nat_le 1 round && nat_le round s.shape.rounds)) (contents_of_round me one round) (contents_of_round me two round) [] (λ b. round-same round (omega arith))
+      ∙ (λ i.
+      let r : ℕ = now me one two same i - s.shape.life in
+      cond (eqb (slot_after (same.time i)) 0 && (nat_le 1 r && nat_le r s.shape.rounds)) (contents_of_round me two r) [])
+
+-- ---- one input
+
+-- an input is taken alike
+taken : (me : Member) (one two : Log) (input : Input) → AgreesWith me one two → 2 ≤ me.session.shape.life → LogInLife me.session.shape.life one → (at : ℕ) × IsAlike me at (take_input me one input) (take_input me two input)
+taken me one two Tick same life lives =
+    let agree : AgreesWith me (Ticked ∷ one) (Ticked ∷ two) = ticked-agree me one two same in
+    let at : ℕ = round_now (Ticked ∷ one) in (
+      at,
+      subst (λ os. IsAlike me at (perform_all me (begun (Ticked ∷ one)) (orders_at_tick me (Ticked ∷ one))) (perform_all me (begun (Ticked ∷ two)) os)) (tick-same me (Ticked ∷ one) (Ticked ∷ two) agree life)
+          (perform_all-alike me at (orders_at_tick me (Ticked ∷ one)) (begun (Ticked ∷ one)) (begun (Ticked ∷ two)) life (begun-alike me (Ticked ∷ one) (Ticked ∷ two) agree life (tt, lives)) (tick-timely me (Ticked ∷ one))),
+    )
+taken me one two (Came bytes) same life lives = (round_now one, go (datagram_of me.session bytes) refl)
+  where
+    go : (o : Option Datagram) → datagram_of me.session bytes ≡ o → IsAlike me (round_now one) (take_datagram me one o) (take_datagram me two o)
+    go None e = begun-alike me one two same life lives
+    go (Some d) e = taken-alike me one two d same life lives (form-in-life me.session d.message.body (read-fits me.session bytes d e).form)
+
+played : (me : Member) (one two : Log) (input : Input) → AgreesWith me one two → 2 ≤ me.session.shape.life → contents_at me one input ≡ contents_at me two input
+played me one two Tick same life = contents-same me (Ticked ∷ one) (Ticked ∷ two) (ticked-agree me one two same) life
+played me one two (Came bytes) same life = refl
+
+pub answers-alike : (me : Member) (one two : Log) (input : Input) → AgreesWith me one two → 2 ≤ me.session.shape.life → IsObedient me one → AnswersAlike me one two input
+unfolding step
+answers-alike me one two input same life h = go (nat_le (last_tick me.session) (ticks one)) refl
+  where
+    lives : LogInLife me.session.shape.life one
+    lives = obedient-in-life me one life h
+
+    last : (b : Bool) → nat_le (last_tick me.session) (ticks one) ≡ b → nat_le (last_tick me.session) (ticks two) ≡ b
+    last b e = ap (λ t. nat_le (last_tick me.session) t) (sym same.time) ∙ e
+
+    go : (b : Bool) → nat_le (last_tick me.session) (ticks one) ≡ b → AnswersAlike me one two input
+    go true e = record { sends = rw (e, last true e) refl; contents = rw (e, last true e) refl; agree = rw (e, last true e) same }
+    go false e =
+        let w = (taken me one two input same life lives).1 in
+        record { sends = rw (e, last false e) w.sends; contents = rw (e, last false e) (played me one two input same life); agree = rw (e, last false e) w.agree }

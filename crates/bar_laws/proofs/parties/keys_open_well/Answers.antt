@@ -1,0 +1,5 @@
+use Rattle.bar_laws.proofs.Trusted.{keys-open-well}
+use Rattle.bar_laws.proofs.parties.keys_open_well.Goals as goal
+
+pub returns : goal.returns
+returns c = keys-open-well

@@ -1,0 +1,5 @@
+use Rattle.bar_laws.proofs.Trusted.{nobody-accused}
+use Rattle.bar_laws.proofs.parties.nobody_is_accused.Goals as goal
+
+pub returns : goal.returns
+returns c = nobody-accused

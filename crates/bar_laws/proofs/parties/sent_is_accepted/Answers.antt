@@ -1,0 +1,5 @@
+use Rattle.bar_laws.proofs.Trusted.{sent-accepted}
+use Rattle.bar_laws.proofs.parties.sent_is_accepted.Goals as goal
+
+pub returns : goal.returns
+returns c = sent-accepted

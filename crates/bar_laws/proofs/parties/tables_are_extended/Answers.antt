@@ -1,0 +1,5 @@
+use Rattle.bar_laws.proofs.Trusted.{tables-extended}
+use Rattle.bar_laws.proofs.parties.tables_are_extended.Goals as goal
+
+pub returns : goal.returns
+returns c = tables-extended

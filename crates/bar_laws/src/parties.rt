@@ -1,0 +1,26 @@
+//! What holds among several parties, whatever the network and hostile parties do.
+//!
+//! Each function's contract speaks of a set of trusted parties with the broadcaster in it, and of any list of moves that forges no signature that
+//! is accepted as one of theirs. That signatures can't be forged is this premise, and no theorem.
+
+ghost use Rattle.bar_laws.specs.Worlds.{NobodyIsAccused, KeysOpenWell, TablesAreExtended, SentIsAccepted};
+
+/// No trusted party, the broadcaster among them, keeps evidence against a trusted peer: so none of them is evicted.
+pub fn nobody_is_accused()
+    ensures { NobodyIsAccused }
+{}
+
+/// A key between two trusted peers that one of them admitted opens well, and the receiver then holds each promised update that is alive.
+pub fn keys_open_well()
+    ensures { KeysOpenWell }
+{}
+
+/// The broadcaster's table extends the table of each trusted peer.
+pub fn tables_are_extended()
+    ensures { TablesAreExtended }
+{}
+
+/// Whatever is forged, each signed datagram that a party sends is accepted under its key (RFC 8554, 5.4.2).
+pub fn sent_is_accepted()
+    ensures { SentIsAccepted }
+{}
