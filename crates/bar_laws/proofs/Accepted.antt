@@ -1,21 +1,20 @@
 -- What a party signs is accepted under its key.
 use Rattle.bar_lms.specs.Params.{levels}
 use Rattle.bar_lms.specs.Secret.{public_key}
-use Rattle.bar_lms.specs.Acceptance.{is_accepted_under}
 use Rattle.bar_roster.specs.KeyFile.{Fits, signing_secret}
 use Rattle.bar_rules.specs.Log.{Log, Said}
 use Rattle.bar_rules.specs.Member.{Session, Member, IsMember, key_of}
 use Rattle.bar_rules.specs.Rules.{IsObedient}
 use Rattle.bar_rules.specs.Secrets.{signature_of}
-use Rattle.bar_rules.specs.Signing.{leaf_of, signed}
+use Rattle.bar_rules.specs.Signing.{leaf_of}
 use Rattle.bar_rules.specs.Values.{message_bytes, is_signed_by}
 use Rattle.bar_wire.specs.Datagram.{Message, Datagram}
 use Rattle.bar_laws.specs.Leaves.{KeepsLeaves}
-use Rattle.std.proofs.Common.{◌≡◌, ◌∙◌, ℕ, ◌<◌, ◌^◌, true, List, [], refl, sym, ap, subst}
-use Rattle.std.specs.Prelude.{Option, Some, None, slice_get, unwrap_or, Contains}
+use Rattle.std.proofs.Common.{◌≡◌, ◌∙◌, ℕ, ◌<◌, ◌^◌, true, List, [], sym, ap, subst}
+use Rattle.std.specs.Prelude.{Option, Some, slice_get, unwrap_or, Contains}
 use Rattle.bar_laws.proofs.Facts.{lms_signed_is_accepted}
 use Rattle.bar_laws.proofs.FinalLeaf.{keeps-leaves}
-use Rattle.bar_laws.proofs.Later.{WasSaid, said-rule}
+use Rattle.bar_laws.proofs.Later.{said-rule}
 use Rattle.bar_laws.proofs.Sends.{said-contains}
 use Rattle.bar_laws.proofs.Unique.{SaidIn, was-said}
 

@@ -13,14 +13,13 @@ use Rattle.bar_window.specs.declared.update.UpdateId.{UpdateId}
 use Rattle.bar_wire.specs.Datagram.{Manifest, Block, Evict}
 use Rattle.bar_wire.specs.Grammar.{IsDatagram, RisesTo}
 use Rattle.sha2.specs.Sha256.{sha256}
-use Rattle.sha2.proofs.Facts256.{length-sha256}
+use Rattle.bar_laws.proofs.Facts.{length-sha256, lms_signed_has_its_length}
 use Rattle.std.proofs.Common.{◌≡◌, ℕ, zero, suc, ◌+◌, ◌*◌, ◌-◌, ◌<◌, ◌≤◌, ◌^◌, Bool, true, false, List, [], ◌∷◌, length, refl, sym, ◌∙◌, cond, arith, length-append, length-take}
 use Rattle.std.specs.Prelude.{Contains, map, filter, is_some, is_none, nat_lt}
 use Rattle.std.specs.List.{AllByRecursion, range_with_len}
 use Rattle.std.proofs.lemmas.List.{length-map, length-replicate}
 use Rattle.std.proofs.lemmas.List.FromFn.{length-range_with_len}
 use Rattle.std.proofs.lemmas.List.Elements.{All-from_recursion, All-contains}
-use Rattle.bar_laws.proofs.Facts.{lms_signed_has_its_length}
 use Rattle.bar_laws.proofs.Short.{length-u16}
 
 -- ---- lists

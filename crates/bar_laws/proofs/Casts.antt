@@ -10,7 +10,7 @@ use Rattle.bar_rules.specs.World.{inside}
 use Rattle.bar_window.specs.declared.update.UpdateId.{UpdateId}
 use Rattle.bar_wire.specs.Datagram.{Datagram, Body, Manifest, Block, Evidence, Evict, kind_number}
 use Rattle.bar_wire.specs.Inputs.{Input, Tick, Came}
-use Rattle.std.proofs.Common.{◌≡◌, ℕ, Bool, true, false, List, [], ◌∷◌, zero, suc, ◌+◌, ◌-◌, ◌*◌, ◌^◌, ◌<◌, ◌≤◌, not, length, arith, refl, sym, ap, subst, inl, inr}
+use Rattle.std.proofs.Common.{◌≡◌, ℕ, Bool, true, false, List, [], ◌∷◌, suc, ◌+◌, ◌-◌, ◌*◌, ◌^◌, ◌<◌, ◌≤◌, not, length, arith, refl, sym, ap, subst, inl, inr}
 use Rattle.std.specs.Prelude.{Option, Some, None, is_some, cond, nat_le, nat_lt, filter, Contains}
 use Rattle.bar_laws.proofs.Later.{first_said-was}
 use Rattle.bar_laws.proofs.Unique.{SaidIn, said-in}

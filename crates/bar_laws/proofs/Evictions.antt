@@ -5,7 +5,7 @@ use Rattle.bar_rules.specs.Evidence.{kept, kept_in, names}
 use Rattle.bar_rules.specs.Log.{Log, table, Entry, Ticked, Heard, Said, Kept, manifest_of, round_now}
 use Rattle.bar_rules.specs.Member.{Session, Member, IsMember}
 use Rattle.bar_rules.specs.Rules.{IsObedient, Allows}
-use Rattle.bar_rules.specs.Values.{datagram_of, is_signed_by, datagram_bytes}
+use Rattle.bar_rules.specs.Values.{datagram_of, is_signed_by}
 use Rattle.bar_rules.specs.Verdict.{Verdict, Shown, NotShown, Malformed, NotSigned, Fault, verdict, verdict_on, all_read, fault_of, judged, sender_of, are_of_one_peer, is_peer_kind}
 use Rattle.bar_rules.specs.World.{Cast, World, member, HasSaid, AllGenuine}
 use Rattle.bar_terms.specs.Table.{Table, Agrees, digests_of}
@@ -16,7 +16,7 @@ use Rattle.std.specs.List.{AllByRecursion, list_all}
 use Rattle.std.proofs.lemmas.Bool.{and_parts, eqb-true}
 use Rattle.bar_laws.proofs.Worlds.{IsSound}
 use Rattle.std.proofs.Common.{zero, suc, ◌+◌, ◌++◌, inl, inr, map, append-nil}
-use Rattle.std.specs.Prelude.{◌⊎◌, ◌||◌, min, cond}
+use Rattle.std.specs.Prelude.{◌⊎◌, min, cond}
 use Rattle.std.specs.List.{range_with_len}
 use Rattle.std.specs.Bool.{then_some}
 use Rattle.bar_laws.proofs.Adds.{HeardIn}

@@ -16,3 +16,7 @@ pub use Rattle.bar_seal.specs.LmsLaws.{lms_signed_is_accepted, lms_signed_has_it
 -- of bar_wire: the_datagram_is_spelled, the_test_tells_a_datagram, bytes_spell_one
 pub use Rattle.bar_wire.proofs.Told.{only_told, is_told}
 pub use Rattle.bar_wire.proofs.RangeTests.{datagram_tells}
+-- of bar_window: sets_pass_their_test, bytes_are_those_of_the_words
+pub use Rattle.bar_window.proofs.Spelling.{set_test, set_passes, length_window_bytes}
+-- of the library sha2: a digest has 32 bytes
+pub use Rattle.sha2.proofs.Facts256.{length-sha256}

@@ -1,16 +1,12 @@
 -- An opening that isn't bad, of updates that the table knows, is good; and a good opening has a block for each update.
-use Rattle.bar_case.specs.Items.{item_len, junk_key, junk_item}
+use Rattle.bar_case.specs.Items.{junk_key, junk_item}
 use Rattle.bar_case.specs.Opened.{is_bad, is_broken, is_untold, sound_if, digest_finding, item_finding, findings, opening_by, opened, opened_blocks}
 use Rattle.bar_case.specs.Opened as opening
 use Rattle.bar_case.specs.declared.findings.Finding.{Finding}
-use Rattle.bar_case.specs.declared.findings.Finding.TheVariants.{Sound, Broken, Untold}
-use Rattle.bar_case.specs.declared.findings.Opening.{Opening}
-use Rattle.bar_case.specs.declared.findings.Opening.TheVariants.{Good, Bad, Unknown}
 use Rattle.bar_rules.specs.Member.{Session}
 use Rattle.bar_rules.specs.Values.{opening_of, is_good, opened_block}
 use Rattle.bar_terms.specs.Table.{Table, Digest, Known, PastEnd, NoManifest, digest_of, is_known, is_within}
 use Rattle.bar_terms.specs.Terms.{promised_updates, promised_junk, promise}
-use Rattle.bar_terms.specs.declared.items.Item.{Item}
 use Rattle.bar_terms.specs.declared.items.Item.TheVariants.{Update, Junk}
 use Rattle.bar_window.specs.Updates.{same_update}
 use Rattle.bar_window.specs.declared.exchange.Exchange.{Exchange}
@@ -22,7 +18,7 @@ use Rattle.std.specs.Prelude.{Option, Some, None, is_some, option_map, find, zip
 use Rattle.std.specs.List.{list_all, prefix_len, position_or_len, range_with_len}
 use Rattle.std.specs.Simd.{first_chunks}
 use Rattle.std.specs.Str.{bytes_eq}
-use Rattle.std.proofs.lemmas.Bool.{and_parts, and_from, eq-eqb, ltb-true, false_from_ne_true}
+use Rattle.std.proofs.lemmas.Bool.{and_parts, and_from, ltb-true, false_from_ne_true}
 use Rattle.bar_laws.proofs.Once.{eqb_refl}
 
 -- ---- where none passes there is no place

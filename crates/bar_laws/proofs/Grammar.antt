@@ -1,5 +1,5 @@
 -- What the grammar says of an admitted datagram: its parties, its round, and that it reads back.
-use Rattle.bar_rules.specs.Admission.{is_admitted, is_for, is_to_all, everyone}
+use Rattle.bar_rules.specs.Admission.{is_for, is_to_all, everyone}
 use Rattle.bar_rules.specs.Log.{Log, Heard}
 use Rattle.bar_rules.specs.Member.{Session, Member}
 use Rattle.bar_rules.specs.Rules.{Allows, IsObedient}
@@ -8,9 +8,9 @@ use Rattle.bar_window.specs.declared.exchange.Role.{Role}
 use Rattle.bar_window.specs.declared.exchange.XKind.{XKind}
 use Rattle.bar_wire.specs.declared.shape.Shape.{Shape}
 use Rattle.bar_wire.specs.Datagram.{Message, Datagram, Body, Request, Response, Divulge, Query, Reply, Case, KeyRequest, Key, kind_of, part_of}
-use Rattle.bar_wire.specs.Grammar.{IsDatagram, SpellsDatagram, InRange, IsRound, IsPeer, MaySend}
-use Rattle.std.proofs.Common.{◌≡◌, ◌≢◌, ℕ, ◌≤◌, ◌<◌, true, false, Bool, List, refl, sym, ap, ◌∙◌, subst, eqb, cond, arith}
-use Rattle.std.specs.Prelude.{Option, Some, None}
+use Rattle.bar_wire.specs.Grammar.{IsDatagram, InRange, IsRound, IsPeer, MaySend}
+use Rattle.std.proofs.Common.{◌≡◌, ◌≢◌, ℕ, ◌≤◌, true, false, Bool, List, refl, sym, ◌∙◌, subst, eqb, cond, arith}
+use Rattle.std.specs.Prelude.{Some}
 use Rattle.std.proofs.lemmas.Bool.{eqb-true}
 use Rattle.bar_laws.proofs.Facts.{only_told, is_told}
 use Rattle.bar_laws.proofs.Earliest.{allowed-at}

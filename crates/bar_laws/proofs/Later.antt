@@ -1,18 +1,9 @@
 -- What a log says, each later log says.
-use Rattle.bar_rules.specs.Holdings.{case_for, briefcase_in}
 use Rattle.bar_rules.specs.Log.{Log, Entry, Heard, Said, earliest, heard_in, said_in, if_passes, first_heard, first_said}
 use Rattle.bar_rules.specs.Member.{Member}
 use Rattle.bar_rules.specs.Rules.{IsObedient, MaySend}
-use Rattle.bar_rules.specs.Terms.{terms_of, terms_by, trade_terms, offer_terms, revealed_in, answered, offered, taken}
-use Rattle.bar_window.specs.Terms.{Terms}
-use Rattle.bar_window.specs.declared.exchange.Exchange.{Exchange}
-use Rattle.bar_window.specs.declared.exchange.Role.{Role}
-use Rattle.bar_window.specs.declared.exchange.Role.TheVariants.{Initiator, Responder}
-use Rattle.bar_window.specs.declared.exchange.XKind.{XKind}
-use Rattle.bar_window.specs.declared.exchange.XKind.TheVariants.{Balanced, Push}
-use Rattle.bar_window.specs.declared.update.UpdateId.{UpdateId}
-use Rattle.bar_wire.specs.Datagram.{Message, Datagram, Body, Briefcase, is_of}
-use Rattle.std.proofs.Common.{◌≡◌, ℕ, Bool, true, false, List, [], ◌∷◌, ◌++◌, refl, sym, ap, ◌∙◌, subst}
+use Rattle.bar_wire.specs.Datagram.{Message, Datagram}
+use Rattle.std.proofs.Common.{◌≡◌, Bool, true, false, [], ◌∷◌, ◌++◌, refl, sym, ap, ◌∙◌, subst}
 use Rattle.std.specs.Prelude.{Option, Some, None, is_some, option_and_then, option_map}
 use Rattle.std.specs.Bool.{then_some}
 use Rattle.bar_laws.proofs.Earliest.{earliest-more, IsEntry, find-of, allowed-at}

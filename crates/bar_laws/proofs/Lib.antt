@@ -34,7 +34,6 @@ mod SaidOnce
 mod Casts
 mod CasterFits
 mod Rising
-mod WindowFacts
 mod WindowSets
 mod Short
 mod Formed

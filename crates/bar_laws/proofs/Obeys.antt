@@ -10,7 +10,7 @@ use Rattle.bar_rules.specs.Rules.{IsObedient, Allows}
 use Rattle.bar_rules.specs.Secrets.{partner_of, seed_of}
 use Rattle.bar_rules.specs.Signing.{MaySign, MaySay, signed, has_same_identity, asking}
 use Rattle.bar_rules.specs.Terms.{terms_of, terms_by, offer_terms, role_of, answer_kind, asking_kind, offered, body_on, partner_in}
-use Rattle.bar_rules.specs.Values.{updates_from, counts_ok, datagram_bytes}
+use Rattle.bar_rules.specs.Values.{updates_from, counts_ok}
 use Rattle.bar_terms.specs.Terms.{promised_updates, promised_junk}
 use Rattle.bar_window.specs.Exchange.{same_exchange, same_role, other_role, party_on}
 use Rattle.bar_window.specs.Terms.{Terms, Offer}
@@ -23,19 +23,17 @@ use Rattle.bar_window.specs.declared.update.UpdateId.{UpdateId}
 use Rattle.bar_wire.specs.Datagram.{round_of, Message, Datagram, Body, Request, Response, Divulge, Query, Reply, Case, KeyRequest, Briefcase, is_of, kind_number, part_of, exchange_by, identity_of, named}
 use Rattle.std.specs.Option.{option_or}
 use Rattle.std.specs.Str.{bytes_eq}
-use Rattle.std.proofs.Common.{◌≡◌, ℕ, ◌<◌, ◌≤◌, Bool, true, false, List, [], ◌∷◌, ◌++◌, refl, sym, ap, ◌∙◌, subst, inl, inr, ◌&&◌, eqb, length, ◌-◌, not}
+use Rattle.std.proofs.Common.{◌≡◌, ℕ, ◌<◌, ◌≤◌, Bool, true, false, List, [], ◌∷◌, ◌++◌, refl, sym, ap, ◌∙◌, subst, inl, inr, ◌&&◌, eqb, length, ◌-◌}
 use Rattle.std.specs.Prelude.{nat_lt, filter, max}
 use Rattle.std.proofs.Common.{take, add-zero}
 use Rattle.std.specs.Prelude.{Option, Some, None, ◌⊎◌, is_some, option_map, option_and_then}
 use Rattle.std.specs.List.{AllByRecursion}
 use Rattle.std.specs.Bool.{then_some}
 use Rattle.std.specs.Option.{option_map_or}
-use Rattle.std.proofs.lemmas.Bool.{and_parts, and_from, eqb-true, eq-eqb, both_ways, ltb-true, ne_eqb, or_cases, not-true}
+use Rattle.std.proofs.lemmas.Bool.{and_parts, and_from, eqb-true, eq-eqb, both_ways, ltb-true, ne_eqb}
 use Rattle.bar_laws.proofs.Valid.{terms-valid, IsValid}
 use Rattle.bar_laws.proofs.Earliest.{allowed-at}
 use Rattle.bar_laws.proofs.Grammar.{IsOwn, heard-own, heard-round}
-use Rattle.std.specs.Prelude.{nat_le}
-use Rattle.std.proofs.lemmas.Bool.{leb-true}
 use Rattle.bar_laws.proofs.Once.{part-round, eqb_refl, same_role_refl, same_exchange_refl, once-whole, is_whole, said-found}
 use Rattle.bar_laws.proofs.Later.{IsLater, later-entry, some-is, WasHeard, first_heard-was, first_said-was, said-rule, find-later}
 use Rattle.bar_laws.proofs.LaterTerms.{terms_of-later, said-later}

@@ -1,27 +1,24 @@
 -- A key between two trusted peers opens well.
-use Rattle.bar_rules.specs.Broadcaster.{manifest_list}
-use Rattle.bar_rules.specs.Holdings.{case_for, briefcase_in, block_of, block_in, block_opened, is_held}
+use Rattle.bar_rules.specs.Holdings.{case_for, briefcase_in, block_of, block_in, is_held}
 use Rattle.bar_rules.specs.Log.{Log, Heard, table, round_now, first_heard, has_heard}
-use Rattle.bar_rules.specs.Member.{Session, Member, IsMember, is_alive}
+use Rattle.bar_rules.specs.Member.{Member, is_alive}
 use Rattle.bar_rules.specs.Rules.{IsObedient, Allows}
-use Rattle.bar_rules.specs.Values.{opening_of, is_good, opened_block, is_signed_by}
-use Rattle.bar_rules.specs.World.{Cast, World, member, HasSaid, IsGenuine}
+use Rattle.bar_rules.specs.Values.{opening_of, is_good}
+use Rattle.bar_rules.specs.World.{Cast, World, member}
 use Rattle.bar_case.specs.Opened.{is_bad}
-use Rattle.bar_terms.specs.Table.{Table, Agrees, digests_of}
+use Rattle.bar_terms.specs.Table.{Agrees}
 use Rattle.bar_terms.specs.Terms.{promised_updates}
-use Rattle.bar_window.specs.Exchange.{same_exchange, same_role, party_on}
+use Rattle.bar_window.specs.Exchange.{same_exchange, same_role}
 use Rattle.bar_window.specs.declared.exchange.Exchange.{Exchange}
-use Rattle.bar_window.specs.declared.exchange.Role.{Role}
 use Rattle.bar_window.specs.declared.update.UpdateId.{UpdateId}
-use Rattle.bar_wire.specs.Datagram.{Message, Datagram, Body, Case, Key, Briefcase, KeyGiven, is_signed, is_of, exchange_by}
+use Rattle.bar_wire.specs.Datagram.{Datagram, Key, Briefcase, KeyGiven, is_signed, is_of, exchange_by}
 use Rattle.bar_laws.specs.Worlds.{OpensWell}
 use Rattle.std.specs.Option.{option_or}
-use Rattle.std.proofs.Common.{◌≡◌, ◌∙◌, ℕ, Bool, true, false, List, [], ◌∷◌, ◌++◌, inr, refl, sym, ap, subst, eqb, ◌+◌, ◌&&◌}
+use Rattle.std.proofs.Common.{◌≡◌, ◌∙◌, ℕ, Bool, true, false, [], ◌∷◌, ◌++◌, inr, refl, sym, ap, subst, eqb, ◌+◌, ◌&&◌}
 use Rattle.std.specs.Prelude.{Option, Some, None, is_some, option_and_then, slice_get, nat_le, Contains}
-use Rattle.std.proofs.lemmas.Bool.{and_parts, and_from, eq-eqb}
+use Rattle.std.proofs.lemmas.Bool.{and_from, eq-eqb}
 use Rattle.bar_laws.proofs.Earliest.{IsEntry, allowed-at}
 use Rattle.bar_laws.proofs.Later.{IsLater, later-entry, WasHeard, first_heard-was, some-is}
-use Rattle.bar_laws.proofs.Same.{same_exchange-is}
 use Rattle.bar_laws.proofs.Once.{same_exchange_refl, same_role_refl}
 use Rattle.bar_laws.proofs.Tables.{table-later}
 use Rattle.bar_laws.proofs.Unique.{SaidIn}

@@ -1,13 +1,12 @@
 -- What is sent is accepted, whatever is forged.
 use Rattle.bar_rules.specs.Log.{Log}
-use Rattle.bar_rules.specs.Orders.{Out}
-use Rattle.bar_rules.specs.Values.{datagram_of, datagram_bytes, is_signed_by}
+use Rattle.bar_rules.specs.Values.{datagram_bytes, is_signed_by}
 use Rattle.bar_rules.specs.World.{Cast, IsCast, World, Move, TickOf, Deliver, Hostile, member, step_of, spelled, takes, takes_by, delivered, happens, opened, run}
 use Rattle.bar_wire.specs.Datagram.{Datagram, is_signed}
 use Rattle.bar_wire.specs.Inputs.{Input, Tick, Came}
 use Rattle.bar_wire.specs.Grammar.{IsDatagram}
 use Rattle.bar_laws.specs.Worlds.{IsAccepted}
-use Rattle.std.proofs.Common.{◌≡◌, ℕ, Bool, true, false, List, [], ◌∷◌, ◌++◌, inl, inr, refl, sym, subst}
+use Rattle.std.proofs.Common.{◌≡◌, ℕ, true, List, [], ◌∷◌, ◌++◌, inl, inr, refl, sym, subst}
 use Rattle.std.specs.Prelude.{Option, Some, None, slice_get}
 use Rattle.std.specs.List.{AllByRecursion}
 use Rattle.std.proofs.lemmas.Bool.{both_ways}
@@ -15,7 +14,7 @@ use Rattle.bar_laws.proofs.Adds.{SentBy}
 use Rattle.bar_laws.proofs.Casts.{AllFit, IsOwnMessage}
 use Rattle.bar_laws.proofs.Grammar.{fits-reads}
 use Rattle.bar_laws.proofs.Unique.{SaidIn}
-use Rattle.bar_laws.proofs.Worlds.{IsStep, IsSound, StepsKeep, steps-keep, takes-sound, deliver-sound, opened-sound, nobody, nobody-genuine, all-nobody, CameUnforged}
+use Rattle.bar_laws.proofs.Worlds.{IsStep, IsSound, StepsKeep, steps-keep, takes-sound, opened-sound, nobody, nobody-genuine, all-nobody, CameUnforged}
 
 all-both : {X : Type 0} (P : X → Type 0) (xs ys : List X) → AllByRecursion P xs → AllByRecursion P ys → AllByRecursion P (xs ++ ys)
 all-both P [] ys a b = b

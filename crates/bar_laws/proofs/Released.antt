@@ -1,16 +1,15 @@
 -- The broadcaster's table has each list that a trusted peer has.
 use Rattle.bar_rules.specs.Broadcaster.{caster_table, manifest_list}
 use Rattle.bar_rules.specs.Log.{Log, table, round_now}
-use Rattle.bar_rules.specs.Member.{Session, Member}
-use Rattle.bar_rules.specs.Rules.{IsObedient}
+use Rattle.bar_rules.specs.Member.{Session}
 use Rattle.bar_rules.specs.World.{Cast, World, member, HasSaid}
 use Rattle.bar_terms.specs.Table.{Table, Extends, digests_of}
-use Rattle.bar_wire.specs.Datagram.{Message, Datagram, Body, Manifest, is_signed}
+use Rattle.bar_wire.specs.Datagram.{Datagram, Manifest, is_signed}
 use Rattle.bar_wire.specs.Grammar.{InRange, IsRound}
-use Rattle.std.proofs.Common.{◌≡◌, ◌∙◌, ℕ, zero, suc, ◌+◌, ◌<◌, ◌≤◌, Bool, true, false, List, [], ◌∷◌, refl, sym, ap, subst, cond, eqb, map, arith}
-use Rattle.std.specs.Prelude.{Option, Some, None, slice_get, min}
+use Rattle.std.proofs.Common.{◌≡◌, ◌∙◌, ℕ, zero, suc, ◌+◌, ◌<◌, ◌≤◌, Bool, true, false, List, refl, sym, ap, subst, cond, eqb, map, arith}
+use Rattle.std.specs.Prelude.{Some, slice_get, min}
 use Rattle.std.specs.List.{range_with_len}
-use Rattle.std.proofs.lemmas.Bool.{eqb-true, eq-eqb, ne_eqb}
+use Rattle.std.proofs.lemmas.Bool.{eqb-true, eq-eqb}
 use Rattle.bar_laws.proofs.Casts.{IsOwnMessage, IsBegun, IsOwnBody}
 use Rattle.bar_laws.proofs.Grammar.{heard-fits}
 use Rattle.bar_laws.proofs.Unframed.{said-message}

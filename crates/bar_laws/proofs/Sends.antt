@@ -1,5 +1,5 @@
 -- What a run sends.
-use Rattle.bar_rules.specs.Log.{Log, Entry, Ticked, Heard, Said, first_said, ticks}
+use Rattle.bar_rules.specs.Log.{Log, Ticked, Heard, Said, first_said, ticks}
 use Rattle.bar_rules.specs.Admission.{is_admitted}
 use Rattle.bar_rules.specs.Evidence.{completed}
 use Rattle.bar_rules.specs.Signing.{signed}
@@ -16,17 +16,17 @@ use Rattle.bar_laws.specs.Obedience.{IsSentByRule}
 use Rattle.bar_laws.specs.Balance.{key_was_sent, totals_of, IsEven, GoesToPartner}
 use Rattle.bar_window.specs.declared.exchange.Exchange.{Exchange}
 use Rattle.bar_window.specs.declared.exchange.Role.{Role}
-use Rattle.bar_wire.specs.Datagram.{Message, Datagram, Body, KeyRequest, Key, is_signed, is_of}
+use Rattle.bar_wire.specs.Datagram.{Message, Datagram, Body, KeyRequest, is_signed, is_of}
 use Rattle.bar_wire.specs.Inputs.{Input, Tick, Came}
-use Rattle.std.proofs.Common.{◌≡◌, ℕ, zero, suc, ◌+◌, ◌<◌, Bool, true, false, List, [], ◌∷◌, ◌++◌, length, refl, sym, ap, ◌∙◌, subst, inl, inr, arith}
-use Rattle.std.specs.Prelude.{Option, Some, None, ◌⊎◌, map, cond, nat_le, Contains, slice_index_or}
+use Rattle.std.proofs.Common.{◌≡◌, ℕ, suc, ◌+◌, Bool, true, false, List, [], ◌∷◌, ◌++◌, refl, sym, ap, ◌∙◌, subst, inl, inr, arith}
+use Rattle.std.specs.Prelude.{Option, Some, None, ◌⊎◌, map, cond, nat_le, Contains}
 use Rattle.std.specs.List.{AllByRecursion, list_any}
 use Rattle.std.proofs.lemmas.Bool.{or_cases, both_ways}
 use Rattle.bar_laws.proofs.Later.{IsLater, later-same, first_said-was}
 use Rattle.bar_laws.proofs.Unique.{SaidIn, was-said}
 use Rattle.bar_laws.proofs.Once.{said-found}
 use Rattle.bar_laws.proofs.Balance.{IsKeyOf, is_of-key, IsBalanced, balance}
-use Rattle.bar_laws.proofs.Adds.{Adds, SentBy, IsPlain, step-adds, is_of-to, all-map, all-snoc}
+use Rattle.bar_laws.proofs.Adds.{SentBy, IsPlain, step-adds, is_of-to, all-map, all-snoc}
 
 -- ---- logs grow
 

@@ -19,7 +19,7 @@ use Rattle.bar_wire.specs.declared.shape.Shape.{Shape}
 use Rattle.bar_wire.specs.Kinds.{is_signed_kind}
 use Rattle.std.proofs.Common.{◌≡◌, ℕ, ◌+◌, ◌≤◌, Bool, true, false, List, length, refl, cond, arith, length-append}
 use Rattle.std.specs.List.{concat}
-use Rattle.bar_laws.proofs.WindowFacts.{length_window_bytes}
+use Rattle.bar_laws.proofs.Facts.{length_window_bytes}
 use Rattle.bar_bytes.specs.Bytes.{u16_bytes, u32_bytes}
 
 -- ---- the parts

@@ -6,10 +6,10 @@ use Rattle.bar_window.specs.Exchange.{same_role}
 use Rattle.bar_window.specs.declared.exchange.Exchange.{Exchange}
 use Rattle.bar_window.specs.declared.exchange.Role.{Role}
 use Rattle.bar_window.specs.declared.exchange.Role.TheVariants.{Initiator, Responder}
-use Rattle.bar_wire.specs.Datagram.{Message, Datagram, Body, is_of}
-use Rattle.std.proofs.Common.{◌≡◌, ℕ, Bool, true, false, List, [], ◌∷◌, ◌++◌, refl, sym, ap, ◌∙◌, subst}
-use Rattle.std.specs.Prelude.{Option, Some, None, is_some, option_and_then, option_map, cond, if◌then◌else◌}
-use Rattle.bar_laws.proofs.Earliest.{IsEntry, find-of}
+use Rattle.bar_wire.specs.Datagram.{Datagram, Body, is_of}
+use Rattle.std.proofs.Common.{◌≡◌, ℕ, Bool, true, false, refl}
+use Rattle.std.specs.Prelude.{Option, Some, None, cond}
+use Rattle.bar_laws.proofs.Earliest.{IsEntry}
 use Rattle.bar_laws.proofs.Later.{IsLater, find-later, WasSaid, WasHeard, first_said-was, first_heard-was, map-later}
 
 abbrev pub spoken_in : Entry → Option Datagram

@@ -4,7 +4,7 @@ use Rattle.bar_case.specs.declared.findings.Opening.{Opening}
 use Rattle.bar_case.specs.declared.findings.Opening.TheVariants.{Good, Bad, Unknown}
 use Rattle.bar_rules.specs.Admission.{is_admitted, is_for, is_row_met, has_digest}
 use Rattle.bar_rules.specs.Holdings.{block_in, block_from, block_opened, block_of, is_held, case_for, history}
-use Rattle.bar_rules.specs.Log.{Log, Entry, Heard, table, manifest_in, manifest_of, round_now}
+use Rattle.bar_rules.specs.Log.{Log, Entry, Heard, table, manifest_in, round_now}
 use Rattle.bar_rules.specs.Member.{Session, Member, is_alive}
 use Rattle.bar_rules.specs.Rules.{IsObedient}
 use Rattle.bar_rules.specs.Values.{window_of, opening_of, is_good, opened_block}
@@ -13,10 +13,9 @@ use Rattle.bar_terms.specs.Terms.{promised_updates}
 use Rattle.bar_window.specs.Updates.{same_update}
 use Rattle.bar_window.specs.declared.exchange.Exchange.{Exchange}
 use Rattle.bar_window.specs.declared.update.UpdateId.{UpdateId}
-use Rattle.bar_wire.specs.Datagram.{Message, Datagram, Body, Manifest, Block, Key, Briefcase, exchange_by}
+use Rattle.bar_wire.specs.Datagram.{Message, Datagram, Body, Block, Key, Briefcase, exchange_by}
 use Rattle.sha2.specs.Sha256.{sha256}
-use Rattle.std.specs.Str.{bytes_eq}
-use Rattle.std.proofs.Common.{◌≡◌, ℕ, Bool, true, false, List, [], ◌∷◌, ◌++◌, refl, sym, ap, ◌∙◌, subst, inl, inr, take, drop, eqb, cond, length}
+use Rattle.std.proofs.Common.{◌≡◌, ℕ, Bool, true, false, List, [], ◌∷◌, ◌++◌, refl, sym, ap, ◌∙◌, subst, inl, inr, eqb, cond}
 use Rattle.std.specs.Prelude.{Option, Some, None, ◌⊎◌, option_map, find, filter, zip}
 use Rattle.std.specs.Bool.{then_some}
 use Rattle.std.specs.List.{list_all}

@@ -1,11 +1,7 @@
 -- What holds among trusted parties after any moves.
-use Rattle.bar_rules.specs.Log.{Log, Heard}
-use Rattle.bar_rules.specs.Member.{Member}
-use Rattle.bar_rules.specs.World.{Cast, World, Move, member, opened, run}
-use Rattle.bar_wire.specs.Datagram.{Datagram, Key, KeyGiven}
-use Rattle.bar_laws.specs.Worlds.{after, IsHonest, IsTrusted, OpensWell, NobodyIsAccused, KeysOpenWell, TablesAreExtended, SentIsAccepted}
-use Rattle.std.proofs.Common.{◌≡◌, ℕ, zero, suc, ◌+◌, ◌<◌, ◌≤◌, Bool, true, false, List, [], ◌∷◌, length, refl, sym, ap, subst, eqb, arith}
-use Rattle.std.specs.Prelude.{Option, Some, None, slice_get}
+use Rattle.bar_rules.specs.World.{Cast, Move, opened}
+use Rattle.bar_laws.specs.Worlds.{after, IsHonest, NobodyIsAccused, KeysOpenWell, TablesAreExtended, SentIsAccepted}
+use Rattle.std.proofs.Common.{◌≡◌, ℕ, zero, suc, ◌≤◌, Bool, false, List, eqb, arith}
 use Rattle.std.proofs.lemmas.Bool.{ne_eqb}
 use Rattle.bar_laws.proofs.Worlds.{IsSound, steps-keep, run-sound, opened-sound, cast-member, has-log}
 use Rattle.bar_laws.proofs.Evictions.{caster-keeps-none, peer-keeps-none}

@@ -12,7 +12,7 @@ use Rattle.bar_window.specs.declared.update.UpdateId.{UpdateId}
 use Rattle.bar_wire.specs.Datagram.{Message, Datagram, Case, Briefcase, identity_of, exchange_by}
 use Rattle.std.specs.Str.{bytes_eq}
 use Rattle.std.proofs.Common.{◌≡◌, ℕ, Bool, true, false, List, [], ◌∷◌, ◌++◌, refl, sym, ap, subst, inl, inr, ◌&&◌, not}
-use Rattle.std.specs.Prelude.{Option, Some, None, ◌⊎◌, cond}
+use Rattle.std.specs.Prelude.{Option, Some, None, ◌⊎◌}
 use Rattle.std.proofs.lemmas.Bool.{and_parts, and_from, both_ways, not_from_true}
 use Rattle.bar_laws.proofs.Later.{WasSaid, said-rule, later-entry}
 use Rattle.bar_laws.proofs.Once.{said-found, eqb_refl}

@@ -2,7 +2,7 @@
 use Rattle.bar_rules.specs.Admission.{is_row_met, is_for, is_to_all, everyone, terms_with, body_said}
 use Rattle.bar_rules.specs.Choices.{young_of, aged_of, wanted_of, given_of}
 use Rattle.bar_rules.specs.Holdings.{history, is_held}
-use Rattle.bar_rules.specs.Log.{Log, Entry, Heard, Said, table, if_passes}
+use Rattle.bar_rules.specs.Log.{Log, Entry, Heard, Said, table}
 use Rattle.bar_rules.specs.Member.{Session, Member}
 use Rattle.bar_rules.specs.Replies.{is_trade_worth}
 use Rattle.bar_rules.specs.Rules.{IsObedient, Allows}
@@ -24,14 +24,14 @@ use Rattle.bar_window.specs.declared.update.UpdateId.{UpdateId}
 use Rattle.bar_wire.specs.Grammar.{words_of}
 use Rattle.bar_wire.specs.Datagram.{Message, Datagram, Body, Response, Divulge, Query, Reply, is_of, kind_number, part_of, exchange_by, round_of}
 use Rattle.std.proofs.Common.{◌≡◌, ◌∙◌, ℕ, zero, suc, ◌+◌, ◌*◌, ◌-◌, ◌/◌, ◌<◌, ◌≤◌, Bool, true, false, List, [], ◌∷◌, ◌++◌, refl, ap, subst, ◌&&◌, eqb, length, take, not, arith, length-take}
-use Rattle.std.specs.Prelude.{Option, Some, None, option_map, option_and_then, cond, if◌then◌else◌, filter, map, flat_map, nat_le, max}
+use Rattle.std.specs.Prelude.{Option, Some, None, option_map, option_and_then, cond, filter, map, flat_map, nat_le, max}
 use Rattle.std.specs.List.{list_all, range_with_len}
 use Rattle.std.specs.Bool.{then_some}
 use Rattle.std.specs.Option.{option_map_or}
 use Rattle.std.proofs.lemmas.Bool.{and_parts, and_from, eq-eqb, le-leb, leb-true, eqb-true, or_right, or_left}
-use Rattle.bar_laws.proofs.Earliest.{IsEntry, IsFind, find-of, allowed-at}
+use Rattle.bar_laws.proofs.Earliest.{IsFind, find-of, allowed-at}
 use Rattle.bar_laws.proofs.Same.{same_exchange-is}
-use Rattle.bar_laws.proofs.Later.{IsLater, later-entry, if_passes-is, then-later}
+use Rattle.bar_laws.proofs.Later.{IsLater, later-entry, then-later}
 use Rattle.bar_laws.proofs.Spoken.{spoken_in, WasSpoken, first_on-was, body_on-later}
 use Rattle.bar_laws.proofs.Tables.{table-later, within-extends, history-within, held-within, admitted-row, admitted-for, all-filter}
 use Rattle.bar_laws.proofs.Once.{eqb_refl}

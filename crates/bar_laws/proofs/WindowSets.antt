@@ -15,7 +15,7 @@ use Rattle.std.specs.Prelude.{filter, max}
 use Rattle.std.proofs.lemmas.Bool.{and_parts, and_from}
 use Rattle.bar_laws.proofs.Rising.{rising-take, rising-filter, run_of, run-rises, run-inside}
 use Rattle.bar_laws.proofs.Valid.{all-take, all-filtered}
-use Rattle.bar_laws.proofs.WindowFacts.{set_test, set_passes}
+use Rattle.bar_laws.proofs.Facts.{set_test, set_passes}
 
 -- ---- some of a set
 

@@ -1,5 +1,5 @@
 -- What holds among several parties, whatever the network and hostile parties do.
-use Rattle.std.specs.Prelude.{◌≡◌, ℕ, ◌≤◌, Bool, true, List, [], ◌∷◌, ◌++◌, Option, Some, None, slice_get, Contains}
+use Rattle.std.specs.Prelude.{◌≡◌, ℕ, ◌≤◌, Bool, true, List, ◌∷◌, ◌++◌, Some, None, slice_get, Contains}
 use Rattle.std.specs.List.{AllByRecursion}
 use Rattle.bar_terms.specs.Table.{Extends}
 use Rattle.bar_terms.specs.Terms.{promised_updates}
