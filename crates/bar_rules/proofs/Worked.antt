@@ -263,6 +263,12 @@ block u = block_with u []
 a_holder_pays : reply_to me (block (update 5 1) ∷ block (update 3 1) ∷ []) 6 (young, aged) ≡ Some (Reply 6 (update 5 0 ∷ []) aged 0)
 a_holder_pays = refl
 
+-- where one update is wanted, one is given
+no_more_is_given_than_wanted :
+    reply_to me (block (update 5 1) ∷ block (update 4 0) ∷ block (update 3 1) ∷ []) 6 (young, update 3 1 ∷ update 4 0 ∷ [])
+    ≡ Some (Reply 6 (update 5 0 ∷ []) (update 3 1 ∷ []) 0)
+no_more_is_given_than_wanted = refl
+
 who_holds_nothing_pays_junk : reply_to me [] 6 (young, aged) ≡ Some (Reply 6 young [] 2)
 who_holds_nothing_pays_junk = refl
 
