@@ -3,7 +3,7 @@ use Rattle.std.proofs.Common.{◌≡◌, ℕ, List, [], ◌∷◌, ◌++◌, Som
 use Rattle.std.specs.Prelude.{length, replicate, map, nat_lt}
 use Rattle.bar_lms.specs.declared.params.Height.TheVariants.{H10}
 use Rattle.bar_lms.specs.declared.params.Ots.TheVariants.{W8}
-use Rattle.bar_bytes.specs.Bytes.{u64_bytes}
+use Rattle.bar_bytes.specs.Bytes.{u16_bytes, u64_bytes}
 use Rattle.bar_window.specs.declared.update.UpdateId.{UpdateId}
 use Rattle.bar_window.specs.declared.exchange.Exchange.{Exchange}
 use Rattle.bar_window.specs.declared.exchange.Role.{Role}
@@ -27,7 +27,7 @@ use Rattle.bar_rules.specs.Orders.{Answer, Reveal, GiveCase, AskKey, Resend, Rep
 use Rattle.bar_rules.specs.Replies.{orders_for}
 use Rattle.bar_rules.specs.Ticks.{opened, open_exchanges, again, orders_at_tick, content_of, contents_of_round}
 use Rattle.bar_rules.specs.Run.{step, contents_by, paced_from}
-use Rattle.bar_rules.specs.Broadcaster.{round_blocks, caster_step}
+use Rattle.bar_rules.specs.Broadcaster.{block_bytes, piece_of, round_blocks, caster_table, evicted, served, caster_step}
 use Rattle.bar_rules.specs.Verdict.{OtherHistory, NotShown, Malformed, Consistent, fault_of_two, verdict}
 use Rattle.bar_rules.specs.World.{Cast, TickOf, Deliver, Hostile}
 use Rattle.bar_rules.specs.World as world
@@ -263,6 +263,12 @@ block u = block_with u []
 a_holder_pays : reply_to me (block (update 5 1) ∷ block (update 3 1) ∷ []) 6 (young, aged) ≡ Some (Reply 6 (update 5 0 ∷ []) aged 0)
 a_holder_pays = refl
 
+-- where one update is wanted, one is given
+no_more_is_given_than_wanted :
+    reply_to me (block (update 5 1) ∷ block (update 4 0) ∷ block (update 3 1) ∷ []) 6 (young, update 3 1 ∷ update 4 0 ∷ [])
+    ≡ Some (Reply 6 (update 5 0 ∷ []) (update 3 1 ∷ []) 0)
+no_more_is_given_than_wanted = refl
+
 who_holds_nothing_pays_junk : reply_to me [] 6 (young, aged) ≡ Some (Reply 6 young [] 2)
 who_holds_nothing_pays_junk = refl
 
@@ -321,12 +327,28 @@ another_history_is_shown = refl
 
 -- ---- the broadcaster
 
+abbrev caster : Member
+caster = record { session = session; party = 0; secret = [] }
+
 -- 1,023 bytes are two blocks of the first round, and the second round has none
 blocks_of_rounds : map (λ round. length (round_blocks session (replicate 1023 7) round)) (1 ∷ 2 ∷ []) ≡ 2 ∷ 0 ∷ []
 blocks_of_rounds = refl
 
-abbrev caster : Member
-caster = record { session = session; party = 0; secret = [] }
+pieces_of_a_stream : map (λ b. length (piece_of (replicate 1023 7) b)) (0 ∷ 1 ∷ 2 ∷ []) ≡ 1022 ∷ 1 ∷ 0 ∷ []
+pieces_of_a_stream = refl
+
+a_block_has_its_length_first : block_bytes (0x68 ∷ 0x69 ∷ []) ≡ 0 ∷ 2 ∷ 0x68 ∷ 0x69 ∷ replicate 1020 0
+unfolding u16_bytes
+a_block_has_its_length_first = refl
+
+the_table_has_the_rounds_so_far : map (λ ticks. length (caster_table caster [] (after ticks))) (0 ∷ 9 ∷ 120 ∷ []) ≡ 0 ∷ 2 ∷ 10 ∷ []
+the_table_has_the_rounds_so_far = refl
+
+who_is_shown_is_evicted : map (evicted session) ([] ∷ (Kept 2 [] ∷ []) ∷ (Kept 1 [] ∷ Kept 2 [] ∷ []) ∷ []) ≡ [] ∷ (2 ∷ []) ∷ (1 ∷ 2 ∷ []) ∷ []
+who_is_shown_is_evicted = refl
+
+who_is_evicted_is_not_served : map (served session) ([] ∷ (Kept 2 [] ∷ []) ∷ (Kept 1 [] ∷ Kept 2 [] ∷ []) ∷ []) ≡ (1 ∷ 2 ∷ []) ∷ (1 ∷ []) ∷ [] ∷ []
+who_is_evicted_is_not_served = refl
 
 -- manifests go to each peer in slots 0 and 4, and in slot 1 no block is there
 manifests_in_two_slots : map (λ ticks. length (caster_step caster [] (after ticks) Tick).sends) (0 ∷ 1 ∷ 4 ∷ 80 ∷ []) ≡ 2 ∷ 0 ∷ 2 ∷ 0 ∷ []
