@@ -1,10 +1,10 @@
 -- What follows of how any command ended.
-use Rattle.std.proofs.Common.{◌≡◌, ◌⊎◌, ◌==◌, ℕ, Bool, true, false, refl, sym, ap, ◌∙◌, subst, IsTrue, inl, inr, rules, true≢false}
+use Rattle.std.proofs.Common.{◌≡◌, ◌⊎◌, ◌==◌, ℕ, true, false, sym, ap, ◌∙◌, IsTrue, inl, inr, rules, true≢false}
 use Rattle.std.proofs.lemmas.Bool.{cases_Bool}
 use Rattle.std.proofs.lemmas.Bool.Decides.{nat_tests}
 use Rattle.bar_outside.specs.Disk.{Content}
 use Rattle.bar_outside.specs.Plan.{World, Plan, is_stop}
-use Rattle.bar_outside.specs.Ends.{Ends, Carried}
+use Rattle.bar_outside.specs.Ends.{Ends}
 
 -- two numbers that a test tells apart
 pub differ : (a b : ℕ) → (a == b) ≡ false → a ≡ b → ⊥

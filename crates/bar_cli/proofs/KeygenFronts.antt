@@ -8,7 +8,7 @@ use Rattle.bar_outside.specs.Ends.{Ends}
 use Rattle.bar_outside.proofs.Contents.{put_at-same, appended-same}
 use Rattle.bar_outside.proofs.ActionLists.{Begun-none, Begun-cons}
 use Rattle.bar_roster.specs.KeyText.{key_text_of}
-use Rattle.bar_cli.specs.KeygenPlan.{Keygen, KeygenAccepted, KeyBegun, key_made, lines_of, keygen_actions, keygen_plan}
+use Rattle.bar_cli.specs.KeygenPlan.{Keygen, KeygenAccepted, KeyBegun, key_made, lines_of, keygen_plan}
 use Rattle.bar_cli.proofs.KeygenRows.{KeyCase, few_leaves, no_secret, refused_secret, accepted_secret, key_case, at-leaves, at-refused, refused-leaves, refused-secret}
 
 -- some actions changed no file and printed nothing

@@ -1,18 +1,16 @@
 -- The rows of the status table, from how `keygen` ended.
-use Rattle.std.proofs.Common.{◌≡◌, ◌≢◌, ◌⊎◌, ◌==◌, ℕ, List, [], ◌∷◌, ◌++◌, Bool, true, false, Option, Some, None, Result, Ok, Err, refl, sym, ap, ◌∙◌, subst, IsTrue, IsSomeAnd, inl, inr, take, length, append-nil, cond}
-use Rattle.std.proofs.lemmas.Bool.{cases_Bool, eqb-true}
-use Rattle.std.proofs.lemmas.List.{take_all}
-use Rattle.bar_outside.specs.Disk.{Content, Failure, readable, created, appended}
-use Rattle.bar_outside.specs.Plan.{World, Plan, Ran, Begun, Names, Touches, IsPartOf, content_after, shown, Action, accepting, read_then, before, ending, doing, file_failed}
+use Rattle.std.proofs.Common.{◌≡◌, ◌≢◌, ◌==◌, ℕ, List, [], ◌∷◌, ◌++◌, Bool, true, false, Option, Some, None, Result, Ok, Err, refl, ap, ◌∙◌, subst, IsTrue, IsSomeAnd, inl, inr, length, append-nil, cond}
+use Rattle.std.proofs.lemmas.Bool.{eqb-true}
+use Rattle.bar_outside.specs.Disk.{Content, Failure, readable, created}
+use Rattle.bar_outside.specs.Plan.{World, Plan, Ran, Names, Touches, content_after, accepting, read_then, before, ending, file_failed}
 use Rattle.bar_outside.specs.Plan.Action.{read, create, append, show}
 use Rattle.bar_outside.specs.Ends.{Ends, Carried}
 use Rattle.bar_outside.proofs.Contents.{put_at-same, put_at-other, appended-same, appended-other}
-use Rattle.bar_outside.proofs.ActionLists.{Begun-none, Begun-cons}
 use Rattle.bar_roster.specs.declared.fault.SessionFault.{SessionFault}
 use Rattle.bar_roster.specs.KeyText.{key_text_of}
 use Rattle.bar_roster.specs.SessionText.{enough_leaves}
 use Rattle.bar_cli.specs.Refusals.{session_refused, secret_refused}
-use Rattle.bar_cli.specs.KeygenPlan.{Keygen, KeygenAccepted, KeyMade, KeyBegun, IsKeygenCall, secret_of, key_made, lines_of, keygen_actions, making_plan, secret_plan, keygen_plan}
+use Rattle.bar_cli.specs.KeygenPlan.{Keygen, KeygenAccepted, KeyMade, IsKeygenCall, secret_of, key_made, lines_of, keygen_actions, making_plan, secret_plan, keygen_plan}
 use Rattle.bar_cli.proofs.EndLemmas.{differ}
 
 abbrev unread : List ℕ → Plan

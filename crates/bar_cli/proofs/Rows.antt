@@ -1,11 +1,9 @@
 -- The rows of the status table, from how a replay ended.
-use Rattle.std.proofs.Common.{◌≡◌, ◌≢◌, ◌⊎◌, ℕ, List, [], ◌∷◌, ◌++◌, Bool, false, Option, Some, None, Ok, Err, refl, sym, ap, ◌∙◌, subst, IsTrue, IsSomeAnd, inl, inr, arith, take}
-use Rattle.bar_outside.specs.Disk.{Disk, Content, Failure, readable, created}
-use Rattle.bar_outside.specs.Stream.{Stream}
-use Rattle.bar_outside.specs.Causes.{Rose}
-use Rattle.bar_outside.specs.Plan.{World, world, Plan, Ran, Begun, Names, Touches, content_after, Action}
+use Rattle.std.proofs.Common.{◌≡◌, ◌⊎◌, ℕ, List, [], ◌∷◌, ◌++◌, Bool, false, Option, Some, None, Ok, Err, refl, sym, ap, ◌∙◌, subst, IsTrue, IsSomeAnd, inl, inr, take}
+use Rattle.bar_outside.specs.Disk.{Content, Failure, readable, created}
+use Rattle.bar_outside.specs.Plan.{World, Plan, Ran, Begun, Names, Touches, content_after, Action}
 use Rattle.bar_outside.specs.Plan.Action.{read}
-use Rattle.bar_outside.specs.Ends.{Ends, EndsWith, Carried}
+use Rattle.bar_outside.specs.Ends.{Ends, Carried}
 use Rattle.bar_outside.proofs.Contents.{put_at-same}
 use Rattle.bar_outside.proofs.ActionLists.{Begun-none, Begun-read, Begun-create}
 use Rattle.bar_seeds.specs.declared.secrets.Secrets.{Secrets}
@@ -14,7 +12,7 @@ use Rattle.bar_roster.specs.declared.key_fault.KeyFileFault.{KeyFileFault}
 use Rattle.bar_roster.specs.SessionText.{SessionData}
 use Rattle.bar_roster.specs.KeyFile.{IsHeldBy, key_file_of}
 use Rattle.bar_cli.specs.Replay.{session_of, key_of, recording_of, member_of, contents_of}
-use Rattle.bar_cli.specs.ReplayPlan.{ReplayFiles, SessionAccepted, KeyAccepted, Accepted, Replayed, PlayedFront, IsReplayCall, turn, turns, played_bytes, replay_plan, replay_actions}
+use Rattle.bar_cli.specs.ReplayPlan.{ReplayFiles, SessionAccepted, KeyAccepted, Replayed, PlayedFront, IsReplayCall, turn, turns, played_bytes, replay_plan, replay_actions}
 use Rattle.bar_cli.proofs.EndLemmas.{differ}
 use Rattle.bar_cli.proofs.ReplayCases.{Case, no_session, refused_session, no_key, refused_key, no_recording, refused_recording, all_accepted, case_of}
 use Rattle.bar_cli.proofs.SendLemmas.{nothing-sent}

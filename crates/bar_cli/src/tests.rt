@@ -522,7 +522,7 @@ const ENDS: [(&str, &str, bool, &[u64], &[u64], u8, &str, &[u8]); 13] = [
         &[],
         &[1],
         4,
-        "bar: session refu",
+        "bar: session refuse",
         b"none",
     ),
 ];

@@ -1,4 +1,4 @@
-use Rattle.std.proofs.Common.{refl, ap}
+use Rattle.std.proofs.Common.{ap}
 use Rattle.bar_outside.specs.Plan.{Plan, line_at}
 use Rattle.std.proofs.Common.{Some}
 use Rattle.bar_cli.proofs.EndLemmas.{ended}

@@ -1,4 +1,4 @@
-use Rattle.std.proofs.Common.{◌≡◌, ◌||◌, ◌∙◌, Option, Some, IsTrue, ap, sym, subst}
+use Rattle.std.proofs.Common.{◌||◌, ◌∙◌, Option, Some, IsTrue, ap, sym, subst}
 use Rattle.bar_outside.specs.Plan.{world}
 use Rattle.bar_outside.specs.Ends.{Ends, Says, is_plain}
 use Rattle.bar_outside.proofs.Ending.{Ends-or_memory, said}

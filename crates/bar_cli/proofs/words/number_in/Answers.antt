@@ -1,4 +1,4 @@
-use Rattle.std.proofs.Common.{rules, arith, ◌≡◌, ◌∙◌, ap, ◌&&◌, ◌||◌, ◌==◌, sym, ◌<◌, ◌^◌, ℕ, List, [], ◌∷◌, true, not, length, None, Result, Err}
+use Rattle.std.proofs.Common.{rules, arith, ◌≡◌, ◌∙◌, ap, ◌||◌, ◌==◌, sym, ◌<◌, ◌^◌, ℕ, List, [], ◌∷◌, true, not, length, None, Result, Err}
 use Rattle.std.specs.List.{list_all}
 use Rattle.std.specs.Char.{is_ascii_digit}
 use Rattle.std.specs.Str.Parse.{ParsesUnsigned, digits_value}
