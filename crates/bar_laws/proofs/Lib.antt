@@ -53,3 +53,4 @@ mod Openings
 mod Pools
 mod Released
 mod Trusted
+mod GoingOn

@@ -10,7 +10,7 @@ use Rattle.bar_rules.specs.Values.{opening_of, is_good, datagram_of, is_signed_b
 use Rattle.bar_rules.specs.Log.{Log, Heard, table, round_now}
 use Rattle.bar_rules.specs.Holdings.{case_for, is_held}
 use Rattle.bar_rules.specs.Evidence.{kept}
-use Rattle.bar_rules.specs.Broadcaster.{caster_table}
+use Rattle.bar_rules.specs.Broadcaster.{caster_table, evicted}
 use Rattle.bar_rules.specs.World.{Cast, IsCast, World, Move, member, opened, run, AreUnforged}
 
 -- what a cast's parties have become after some moves
@@ -28,12 +28,19 @@ pub record IsTrusted (cast : Cast) (trusted : ℕ → Bool) (moves : List Move) 
   pub trust : trusted party ≡ true
   pub log_is : slice_get (after cast moves).logs party ≡ Some log
 
--- no trusted party keeps evidence against a trusted peer: so the broadcaster evicts none of them
+-- no trusted party keeps evidence against a trusted peer
 abbrev pub NobodyIsAccused : Type 0
 NobodyIsAccused =
     (cast : Cast) (trusted : ℕ → Bool) (moves : List Move) → IsHonest cast trusted moves
     → (accuser accused : ℕ) (mine theirs : Log) → IsTrusted cast trusted moves accuser mine → IsTrusted cast trusted moves accused theirs → 1 ≤ accused
     → kept mine accused ≡ None
+
+-- a trusted peer is none of those whom the broadcaster has evicted
+abbrev pub NobodyIsEvicted : Type 0
+NobodyIsEvicted =
+    (cast : Cast) (trusted : ℕ → Bool) (moves : List Move) → IsHonest cast trusted moves
+    → (peer : ℕ) (log caster : Log) → IsTrusted cast trusted moves peer log → 1 ≤ peer → slice_get (after cast moves).logs 0 ≡ Some caster
+    → Contains (evicted cast.session caster) peer → ⊥
 
 -- A key that was admitted opens the partner's briefcase well, and afterwards the receiver holds each promised update that is alive then.
 pub record OpensWell (me : Member) (before : Log) (d : Datagram) (k : KeyGiven) : Type 0 where

@@ -3,9 +3,14 @@
 //! Each function's contract speaks of a set of trusted parties with the broadcaster in it, and of any list of moves that forges no signature that
 //! is accepted as one of theirs. That signatures can't be forged is this premise, and no theorem.
 
-ghost use Rattle.bar_laws.specs.Worlds.{NobodyIsAccused, KeysOpenWell, TablesAreExtended, SentIsAccepted};
+ghost use Rattle.bar_laws.specs.Worlds.{NobodyIsEvicted, NobodyIsAccused, KeysOpenWell, TablesAreExtended, SentIsAccepted};
 
-/// No trusted party, the broadcaster among them, keeps evidence against a trusted peer: so none of them is evicted.
+/// No trusted peer is evicted.
+pub fn nobody_is_evicted()
+    ensures { NobodyIsEvicted }
+{}
+
+/// No trusted party, the broadcaster among them, keeps evidence against a trusted peer.
 pub fn nobody_is_accused()
     ensures { NobodyIsAccused }
 {}

@@ -1,5 +1,11 @@
+use Rattle.std.proofs.Common.{[]}
+use Rattle.bar_rules.specs.Run.{log_after}
 use Rattle.bar_laws.proofs.AgreeTicks.{answers-alike}
+use Rattle.bar_laws.proofs.Runs.{run-obedient}
 use Rattle.bar_laws.proofs.agreement.agreeing_logs_answer_alike.Goals as goal
 
-pub returns : goal.returns
-returns c = λ me is one two h same input. answers-alike me one two input same is.session.shape.life_low h
+pub returns-clause-run : goal.returns-clause-run
+returns-clause-run c = λ me is inputs two same input. answers-alike me (log_after me [] inputs) two input same is.session.shape.life_low (run-obedient me [] inputs tt)
+
+pub returns-clause-obedient : goal.returns-clause-obedient
+returns-clause-obedient c = λ me is one two h same input. answers-alike me one two input same is.session.shape.life_low h
