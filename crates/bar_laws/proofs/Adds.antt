@@ -30,6 +30,7 @@ use Rattle.std.specs.Bool.{then_some}
 use Rattle.bar_laws.proofs.Earliest.{option_or-some, option_or-cases}
 use Rattle.bar_laws.proofs.Later.{WasHeard, first_heard-was, first_said-was}
 use Rattle.bar_laws.proofs.Unique.{SaidIn, said-in}
+use Rattle.bar_laws.proofs.Lists.{all-snoc, all-map}
 
 -- the datagram is among those heard
 abbrev pub HeardIn : Log → Datagram → Type 0
@@ -59,14 +60,6 @@ pub record Adds (me : Member) (log : Log) (o : Option Datagram) (out : Out) : Ty
   pub split : out.log ≡ new ++ log
   pub added : AllByRecursion (AddedBy me log o) new
   pub sent : AllByRecursion (SentBy me out.log) out.sends
-
-pub all-snoc : {X : Type 0} (P : X → Type 0) (xs : List X) (x : X) → AllByRecursion P xs → P x → AllByRecursion P (xs ++ x ∷ [])
-all-snoc P [] x a p = (p, tt)
-all-snoc P (y ∷ xs) x a p = (a.0, all-snoc P xs x a.1 p)
-
-pub all-map : {X : Type 0} (P Q : X → Type 0) (xs : List X) → ((x : X) → P x → Q x) → AllByRecursion P xs → AllByRecursion Q xs
-all-map P Q [] f a = tt
-all-map P Q (x ∷ xs) f a = (f x a.0, all-map P Q xs f a.1)
 
 pub sent-said : (me : Member) (log : Log) (d : Datagram) (s : ℕ × Datagram) → SentBy me log s → SentBy me (Said d ∷ log) s
 sent-said me log d s (inl p) = inl (inr p)

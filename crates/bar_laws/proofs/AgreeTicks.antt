@@ -30,34 +30,11 @@ use Rattle.bar_laws.proofs.AgreeOrders.{IsTimely, IsAlike, perform_all-alike, yo
 use Rattle.bar_laws.proofs.AgreeReplies.{begun-alike, taken-alike, when-timely}
 use Rattle.bar_laws.proofs.Grammar.{read-fits}
 use Rattle.bar_laws.proofs.InLife.{LogInLife, form-in-life, obedient-in-life}
+use Rattle.bar_laws.proofs.Lists.{all-both, all-that, all-flat-map, all-mapped, all-map}
 
 flat-same : {X Y : Type 0} (f g : X → List Y) (xs : List X) → AllByRecursion (λ x. f x ≡ g x) xs → flat_map f xs ≡ flat_map g xs
 flat-same f g [] h = refl
 flat-same f g (x ∷ xs) h = λ i. h.0 i ++ flat-same f g xs h.1 i
-
-all-both : {X : Type 0} (P : X → Type 0) (xs ys : List X) → AllByRecursion P xs → AllByRecursion P ys → AllByRecursion P (xs ++ ys)
-all-both P [] ys a b = b
-all-both P (x ∷ xs) ys a b = (a.0, all-both P xs ys a.1 b)
-
-all-that : {X : Type 0} (P : X → Type 0) (p : X → Bool) (xs : List X) → ((x : X) → p x ≡ true → P x) → AllByRecursion P (filter p xs)
-all-that P p [] f = tt
-all-that P p (x ∷ xs) f = go (p x) refl (all-that P p xs f)
-  where
-    go : (b : Bool) → p x ≡ b → AllByRecursion P (filter p xs) → AllByRecursion P (cond b (x ∷ filter p xs) (filter p xs))
-    go true e h = (f x e, h)
-    go false e h = h
-
-all-flat-map : {X Y : Type 0} (P : X → Type 0) (Q : Y → Type 0) (f : X → List Y) (xs : List X) → ((x : X) → P x → AllByRecursion Q (f x)) → AllByRecursion P xs → AllByRecursion Q (flat_map f xs)
-all-flat-map P Q f [] k h = tt
-all-flat-map P Q f (x ∷ xs) k h = all-both Q (f x) (flat_map f xs) (k x h.0) (all-flat-map P Q f xs k h.1)
-
-all-mapped : {X Y : Type 0} (P : Y → Type 0) (f : X → Y) (xs : List X) → ((x : X) → P (f x)) → AllByRecursion P (map f xs)
-all-mapped P f [] k = tt
-all-mapped P f (x ∷ xs) k = (k x, all-mapped P f xs k)
-
-all-if : {X : Type 0} (P Q : X → Type 0) (xs : List X) → ((x : X) → P x → Q x) → AllByRecursion P xs → AllByRecursion Q xs
-all-if P Q [] f h = tt
-all-if P Q (x ∷ xs) f h = (f x h.0, all-if P Q xs f h.1)
 
 cond-same : {X : Type 0} (b : Bool) (x y z : X) → (b ≡ true → x ≡ y) → cond b x z ≡ cond b y z
 cond-same true x y z f = f refl
@@ -133,7 +110,7 @@ module _ (me : Member) (one two : Log) (same : AgreesWith me one two) (life : 2 
   open-same : flat_map (λ x. orders_when (not (is_announced one (partner_in me x))) (again me one x)) (open_exchanges me one) ≡ flat_map (λ x. orders_when (not (is_announced two (partner_in me x))) (again me two x)) (open_exchanges me two)
   open-same =
       flat-same (λ x. orders_when (not (is_announced one (partner_in me x))) (again me one x)) (λ x. orders_when (not (is_announced two (partner_in me x))) (again me two x)) (open_exchanges me one)
-      (all-if (λ x. IsRecent me one x.round) (λ x. orders_when (not (is_announced one (partner_in me x))) (again me one x) ≡ orders_when (not (is_announced two (partner_in me x))) (again me two x)) (open_exchanges me one)
+      (all-map (λ x. IsRecent me one x.round) (λ x. orders_when (not (is_announced one (partner_in me x))) (again me one x) ≡ orders_when (not (is_announced two (partner_in me x))) (again me two x)) (open_exchanges me one)
       (λ x r i. orders_when (not (same.announced (partner_in me x) i)) (again-same x r i)) (open-recent me one))
       ∙ ap (λ xs. flat_map (λ x. orders_when (not (is_announced two (partner_in me x))) (again me two x)) xs) same.opens
 

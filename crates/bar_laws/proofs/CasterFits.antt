@@ -15,22 +15,19 @@ use Rattle.bar_wire.specs.Grammar.{IsDatagram, RisesTo}
 use Rattle.sha2.specs.Sha256.{sha256}
 use Rattle.bar_laws.proofs.Facts.{length-sha256, lms_signed_has_its_length}
 use Rattle.std.proofs.Common.{◌≡◌, ℕ, zero, suc, ◌+◌, ◌*◌, ◌-◌, ◌<◌, ◌≤◌, ◌^◌, Bool, true, false, List, [], ◌∷◌, length, refl, sym, ◌∙◌, cond, arith, length-append, length-take}
-use Rattle.std.specs.Prelude.{Contains, map, filter, is_some, is_none, nat_lt}
+use Rattle.std.specs.Prelude.{Contains, filter, is_some, is_none, nat_lt}
 use Rattle.std.specs.List.{AllByRecursion, range_with_len}
 use Rattle.std.proofs.lemmas.List.{length-map, length-replicate}
 use Rattle.std.proofs.lemmas.List.FromFn.{length-range_with_len}
 use Rattle.std.proofs.lemmas.List.Elements.{All-from_recursion, All-contains}
 use Rattle.bar_laws.proofs.Short.{length-u16}
+use Rattle.bar_laws.proofs.Lists.{all-mapped}
 
 -- ---- lists
 
 -- what holds of each element holds of each that is there
 all-at : {X : Type 0} (P : X → Type 0) (xs : List X) (x : X) → AllByRecursion P xs → Contains xs x → P x
 all-at P xs x a c = All-contains P xs x (All-from_recursion P xs a) c
-
-all-mapped : {X Y : Type 0} (P : Y → Type 0) (f : X → Y) (xs : List X) → ((x : X) → P (f x)) → AllByRecursion P (map f xs)
-all-mapped P f [] h = tt
-all-mapped P f (x ∷ xs) h = (h x, all-mapped P f xs h)
 
 length-filtered : {X : Type 0} (p : X → Bool) (xs : List X) → length (filter p xs) ≤ length xs
 length-filtered p [] = omega arith

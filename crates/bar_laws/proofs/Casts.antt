@@ -10,11 +10,11 @@ use Rattle.bar_rules.specs.World.{inside}
 use Rattle.bar_window.specs.declared.update.UpdateId.{UpdateId}
 use Rattle.bar_wire.specs.Datagram.{Datagram, Body, Manifest, Block, Evidence, Evict, kind_number}
 use Rattle.bar_wire.specs.Inputs.{Input, Tick, Came}
-use Rattle.std.proofs.Common.{◌≡◌, ℕ, Bool, true, false, List, [], ◌∷◌, suc, ◌+◌, ◌-◌, ◌*◌, ◌^◌, ◌<◌, ◌≤◌, not, length, arith, refl, sym, ap, subst, inl, inr}
-use Rattle.std.specs.Prelude.{Option, Some, None, is_some, cond, nat_le, nat_lt, filter, Contains}
+use Rattle.std.proofs.Common.{◌≡◌, ℕ, Bool, true, false, List, [], ◌∷◌, ◌+◌, ◌-◌, ◌*◌, ◌^◌, ◌<◌, ◌≤◌, not, length, arith, refl, sym, ap, subst, inl, inr}
+use Rattle.std.specs.Prelude.{Option, Some, None, is_some, cond, nat_le, nat_lt, filter}
 use Rattle.bar_laws.proofs.Later.{first_said-was}
 use Rattle.bar_laws.proofs.Unique.{SaidIn, said-in}
-use Rattle.bar_laws.proofs.Adds.{Adds, SentBy, adds-send, all-map, all-snoc, sent-said, came}
+use Rattle.bar_laws.proofs.Adds.{Adds, SentBy, adds-send, sent-said, came}
 use Rattle.bar_laws.proofs.Runs.{ticked-low}
 use Rattle.bar_laws.proofs.Accepted.{signed-accepted}
 use Rattle.bar_lms.specs.Params.{levels}
@@ -26,6 +26,7 @@ use Rattle.bar_roster.specs.Sessions.{IsSession}
 use Rattle.bar_wire.specs.Grammar.{IsDatagram}
 use Rattle.std.specs.List.{AllByRecursion}
 use Rattle.std.proofs.lemmas.Bool.{leb-true, ltb-true}
+use Rattle.bar_laws.proofs.Lists.{all-of, all-kept, all-map, all-snoc}
 
 -- a body that a party signs: no evidence, and a manifest only as the stream has it
 abbrev pub IsOwnBody : Session → List ℕ → Body → Type 0
@@ -132,18 +133,6 @@ casts-announce me stream log o out leaf round body plain begun fits accepted a =
     go : (q : Option Datagram) → first_said (has_kind_and_round (kind_number body) round) out.log ≡ q → Casts me stream log o (announce_by me out leaf body q)
     go (Some c) e = casts-all me stream log o (served me.session out.log) out c a (said-in out.log c (first_said-was (has_kind_and_round (kind_number body) round) out.log c e).0)
     go None e = casts-all me stream log o (served me.session out.log) said d grown (inl refl)
-
-all-of : {X : Type 0} (P : X → Type 0) (xs : List X) → ((x : X) → Contains xs x → P x) → AllByRecursion P xs
-all-of P [] f = tt
-all-of P (x ∷ xs) f = (f x (0, omega arith, refl), all-of P xs (λ y c. f y (suc c.0, omega (arith, c.1), c.2)))
-
-all-kept : {X : Type 0} (P : X → Type 0) (p : X → Bool) (xs : List X) → AllByRecursion P xs → AllByRecursion P (filter p xs)
-all-kept P p [] a = tt
-all-kept P p (x ∷ xs) a = go (p x) (all-kept P p xs a.1)
-  where
-    go : (b : Bool) → AllByRecursion P (filter p xs) → AllByRecursion P (cond b (x ∷ filter p xs) (filter p xs))
-    go true r = (a.0, r)
-    go false r = r
 
 abbrev IsPeerOf : Session → ℕ → Type 0
 IsPeerOf s p = (1 ≤ p) × (p ≤ s.shape.peers)

@@ -87,15 +87,15 @@ own-unheard me log d kind x role h w e own =
 
 -- ---- complete terms
 
-trade-parts : (a : Option (List ℕ × List UpdateId)) (b : Option (List UpdateId)) (t : Terms) → trade_terms a b ≡ Some t → ((c : List ℕ × List UpdateId) × (a ≡ Some c)) × ((c : List UpdateId) × (b ≡ Some c))
-trade-parts (Some a) (Some b) t e = ((a, refl), (b, refl))
-trade-parts (Some a) None t e = cc
-trade-parts None b t e = cc
+trade-both : (a : Option (List ℕ × List UpdateId)) (b : Option (List UpdateId)) (t : Terms) → trade_terms a b ≡ Some t → ((c : List ℕ × List UpdateId) × (a ≡ Some c)) × ((c : List UpdateId) × (b ≡ Some c))
+trade-both (Some a) (Some b) t e = ((a, refl), (b, refl))
+trade-both (Some a) None t e = cc
+trade-both None b t e = cc
 
-offer-parts : (a : Option (List UpdateId × List UpdateId)) (b : Option (List UpdateId × List UpdateId × ℕ)) (t : Terms) → offer_terms a b ≡ Some t → ((c : List UpdateId × List UpdateId) × (a ≡ Some c)) × ((c : List UpdateId × List UpdateId × ℕ) × (b ≡ Some c))
-offer-parts (Some a) (Some b) t e = ((a, refl), (b, refl))
-offer-parts (Some a) None t e = cc
-offer-parts None b t e = cc
+offer-both : (a : Option (List UpdateId × List UpdateId)) (b : Option (List UpdateId × List UpdateId × ℕ)) (t : Terms) → offer_terms a b ≡ Some t → ((c : List UpdateId × List UpdateId) × (a ≡ Some c)) × ((c : List UpdateId × List UpdateId × ℕ) × (b ≡ Some c))
+offer-both (Some a) (Some b) t e = ((a, refl), (b, refl))
+offer-both (Some a) None t e = cc
+offer-both None b t e = cc
 
 -- where something of a body was read on the own side, it was said
 own-part : {A : Type 0} (f : Body → Option A) (me : Member) (log : Log) (kind : ℕ) (x : Exchange) (role : Role) (c : A) → role_of me x ≡ role → option_and_then f (body_on me log kind x role) ≡ Some c → has_said (is_of kind x role) log ≡ true
@@ -131,10 +131,10 @@ pub terms-said : (me : Member) (log : Log) (x : Exchange) (role : Role) (t : Ter
 terms-said me log x role t h own side e = go x.kind role own side e
   where
     go : (k : XKind) (role : Role) → party_on x role ≡ me.party → role_of me x ≡ role → terms_by k me log x ≡ Some t → has_said (is_of (first_kind k role) x role) log ≡ true
-    go Balanced Initiator own side e = let p = trade-parts _ _ t e in own-revealed me log x p.0.0 h own p.0.1
-    go Balanced Responder own side e = let p = trade-parts _ _ t e in own-part answered me log 4 x Responder p.1.0 side p.1.1
-    go Push Initiator own side e = let p = offer-parts _ _ t e in own-part offered me log 6 x Initiator p.0.0 side p.0.1
-    go Push Responder own side e = let p = offer-parts _ _ t e in own-part taken me log 7 x Responder p.1.0 side p.1.1
+    go Balanced Initiator own side e = let p = trade-both _ _ t e in own-revealed me log x p.0.0 h own p.0.1
+    go Balanced Responder own side e = let p = trade-both _ _ t e in own-part answered me log 4 x Responder p.1.0 side p.1.1
+    go Push Initiator own side e = let p = offer-both _ _ t e in own-part offered me log 6 x Initiator p.0.0 side p.0.1
+    go Push Responder own side e = let p = offer-both _ _ t e in own-part taken me log 7 x Responder p.1.0 side p.1.1
 
 -- ---- what is said goes to another
 
@@ -206,20 +206,20 @@ briefcase-is (Case d) c e = cc
 briefcase-is _ c e = cc
 
 -- a said CASE: its moment and its exchange
-pub record SaidCase (log : Log) (x : Exchange) (role : Role) (c : Briefcase) : Type 0 where
+pub record CaseMoment (log : Log) (x : Exchange) (role : Role) (c : Briefcase) : Type 0 where
   pub datagram : Datagram
   pub was : WasSaid log datagram
   pub body : datagram.message.body ≡ Case c
   pub of : is_of 8 x role datagram.message ≡ true
 
-pub said-case : (log : Log) (x : Exchange) (role : Role) (c : Briefcase) → case_given log x role ≡ Some c → SaidCase log x role c
-said-case log x role c e = go (first_said (is_of 8 x role) log) refl e
+pub case-moment : (log : Log) (x : Exchange) (role : Role) (c : Briefcase) → case_given log x role ≡ Some c → CaseMoment log x role c
+case-moment log x role c e = go (first_said (is_of 8 x role) log) refl e
   where
-    go : (o : Option Datagram) → first_said (is_of 8 x role) log ≡ o → option_and_then (λ d. briefcase_in d.message.body) o ≡ Some c → SaidCase log x role c
+    go : (o : Option Datagram) → first_said (is_of 8 x role) log ≡ o → option_and_then (λ d. briefcase_in d.message.body) o ≡ Some c → CaseMoment log x role c
     go None f g = cc
     go (Some d) f g = let w = first_said-was (is_of 8 x role) log d f in record { datagram = d; was = w.0; body = briefcase-is d.message.body c g; of = w.1 }
 
-case-elsewhere : (me : Member) (log : Log) (x : Exchange) (role : Role) (c : Briefcase) → IsObedient me log → SaidCase log x role c → party_on x (other_role role) ≡ me.party → ⊥
+case-elsewhere : (me : Member) (log : Log) (x : Exchange) (role : Role) (c : Briefcase) → IsObedient me log → CaseMoment log x role c → party_on x (other_role role) ≡ me.party → ⊥
 case-elsewhere me log x role c h w self =
     let al = allowed-at me log w.was.before (Said w.datagram) w.was.place h in
     let rule = subst (λ b. MaySay me w.was.before w.datagram.message.to b) w.body al.0.rule.rule in
@@ -233,7 +233,7 @@ may_say-elsewhere me before to (Reply r w g z) h rule e = first-elsewhere me bef
 may_say-elsewhere me before to (Case c) h rule e = terms-elsewhere me before c.round c.kind c.role to c.terms h rule.terms e
 may_say-elsewhere me before to (Key k) h rule e =
     let x : Exchange = exchange_by k.round k.kind k.role me.party to in
-    case-elsewhere me before x k.role rule.ours h (said-case before x k.role rule.ours rule.said) (party-over k.round k.kind k.role me.party to ∙ e)
+    case-elsewhere me before x k.role rule.ours h (case-moment before x k.role rule.ours rule.said) (party-over k.round k.kind k.role me.party to ∙ e)
 may_say-elsewhere me before to _ h rule e = rule
 
 pub sign-elsewhere : (me : Member) (before : Log) (m : Message) → IsObedient me before → MaySign me before m → m.to ≡ me.party → ⊥

@@ -6,7 +6,7 @@ use Rattle.bar_rules.specs.Log.{Log, table, Entry, Ticked, Heard, Said, Kept, ma
 use Rattle.bar_rules.specs.Member.{Session, Member, IsMember}
 use Rattle.bar_rules.specs.Rules.{IsObedient, Allows}
 use Rattle.bar_rules.specs.Values.{datagram_of, is_signed_by}
-use Rattle.bar_rules.specs.Verdict.{Verdict, Shown, NotShown, Malformed, NotSigned, Fault, verdict, verdict_on, all_read, fault_of, judged, sender_of, are_of_one_peer, is_peer_kind}
+use Rattle.bar_rules.specs.Verdict.{Shown, NotShown, Malformed, NotSigned, Fault, verdict, verdict_on, all_read, fault_of, judged, sender_of, are_of_one_peer, is_peer_kind}
 use Rattle.bar_rules.specs.World.{Cast, World, member, HasSaid, AllGenuine}
 use Rattle.bar_terms.specs.Table.{Table, Agrees, digests_of}
 use Rattle.bar_wire.specs.Datagram.{Datagram, Body, Request, Response, Query, Reply, Case, Key, is_signed, Manifest}
@@ -30,6 +30,7 @@ use Rattle.bar_wire.specs.Datagram.{Block, Divulge, KeyRequest, Evidence, Evict,
 use Rattle.bar_wire.specs.declared.kind.Kind.TheVariants as kinds
 use Rattle.bar_laws.proofs.Unframed.{said-message, no-framing}
 use Rattle.bar_laws.proofs.Worlds.{kept-in}
+use Rattle.bar_laws.proofs.Kept.{named-shown}
 
 -- what a shown verdict says of its datagrams
 pub record IsShown (s : Session) (t : Table) (evidence : List (List ℕ)) (party : ℕ) (f : Fault) : Type 0 where
@@ -265,10 +266,6 @@ obedient-kept me log q ev h e = go (find-of (λ before e. kept_in q e) log ev e)
     go : IsFind (λ before e. kept_in q e) log ev → (before : Log) × IsLater log before × (names q (verdict me.session (table before) ev) ≡ true)
     go w = by w.before w.entry w.place w.found
 
-named-shown : (q : ℕ) (v : Verdict) → names q v ≡ true → (f : Fault) × (v ≡ Shown q f)
-named-shown q (Shown p f) e = (f, ap (λ z. Shown z f) (eqb-true p q e))
-named-shown q (NotShown why) e = cc
-
 -- no trusted peer keeps evidence against a trusted peer
 pub peer-keeps-none : (cast : Cast) (trusted : ℕ → Bool) (w : World) (p q : ℕ) (mine log log0 : Log) → IsMember (member cast q) → IsSound cast trusted w → trusted 0 ≡ true → trusted q ≡ true → eqb p 0 ≡ false → eqb q 0 ≡ false
     → slice_get w.logs p ≡ Some mine → slice_get w.logs q ≡ Some log → slice_get w.logs 0 ≡ Some log0 → kept mine q ≡ None
@@ -277,7 +274,7 @@ peer-keeps-none cast trusted w p q mine log log0 is sound trust0 trust np nq atp
     no : (ev : List (List ℕ)) → kept mine q ≡ Some ev → ⊥
     no ev e =
         let k = obedient-kept (member cast p) mine q ev ((sound.proper p mine atp).0 np) e in
-        let f = named-shown q (verdict cast.session (table k.0) ev) k.2 in
+        let f = named-shown (verdict cast.session (table k.0) ev) q k.2 in
         not-shown cast trusted w q log (table k.0) ev f.0 is sound nq trust atq
         (agrees-with-stream cast trusted w q log log0 (table k.0) sound trust0 nq atq at0
         (λ r ds b. list-is cast trusted w p mine log0 r ds sound trust0 np atp at0 ((table-later mine k.0 k.1).same r ds b)))

@@ -128,7 +128,7 @@ run-watchful me log (input ∷ inputs) h = run-watchful me (step me log input).l
 
 -- ---- what is kept is shown
 
-named-shown : (v : Verdict) (q : ℕ) → names q v ≡ true → (fault : Fault) × (v ≡ Shown q fault)
+pub named-shown : (v : Verdict) (q : ℕ) → names q v ≡ true → (fault : Fault) × (v ≡ Shown q fault)
 named-shown (Shown p fault) q e = (fault, ap (λ z. Shown z fault) (eqb-true p q e))
 named-shown (NotShown why) q e = cc
 

@@ -1,4 +1,5 @@
 mod Earliest
+mod Lists
 mod Same
 mod Facts
 mod Later

@@ -40,6 +40,8 @@ use Rattle.bar_laws.proofs.LaterTerms.{terms_of-later, said-later}
 use Rattle.bar_laws.proofs.Balance.{IsCaseOf, is_of-case, said-case, some-same}
 use Rattle.bar_laws.proofs.Same.{same_terms-is}
 use Rattle.bar_laws.proofs.Tables.{admitted-row}
+use Rattle.bar_laws.proofs.Elsewhere.{role-initiator}
+use Rattle.bar_laws.proofs.Formed.{round-by}
 
 -- this member is on the side that its role says
 pub record IsParty (me : Member) (x : Exchange) : Type 0 where
@@ -253,9 +255,6 @@ answer-rule me log x b h s e = go x.kind refl e
 
 -- ---- requests
 
-role-initiator : (me : Member) (x : Exchange) → x.initiator ≡ me.party → role_of me x ≡ Initiator
-role-initiator me x e = rw (eq-eqb x.initiator me.party e) refl
-
 ask-round : (me : Member) (log : Log) (x : Exchange) → round_of (ask_body me log x x.kind) ≡ x.round
 ask-round me log x = go x.kind
   where
@@ -457,10 +456,6 @@ perform_all-obedient me (o ∷ os) out h s =
 partner-role : (me : Member) (r : ℕ) (k : XKind) (role : Role) (f t : ℕ) → t ≡ me.party → (f ≡ me.party → ⊥) → role_of me (exchange_by r k role f t) ≡ other_role role
 partner-role me r k Initiator f t e n = rw (ne_eqb f me.party n) refl
 partner-role me r k Responder f t e n = rw (eq-eqb t me.party e) refl
-
-round-by : (r : ℕ) (k : XKind) (role : Role) (f t : ℕ) → (exchange_by r k role f t).round ≡ r
-round-by r k Initiator f t = refl
-round-by r k Responder f t = refl
 
 partner-party : (me : Member) (r : ℕ) (k : XKind) (role : Role) (f t : ℕ) → t ≡ me.party → (f ≡ me.party → ⊥) → (1 ≤ r) × (r ≤ me.session.shape.rounds) → IsParty me (exchange_by r k role f t)
 partner-party me r k role f t e n b = record { on = go role (partner-role me r k role f t e n); low = rw (round-by r k role f t) b.0; high = rw (round-by r k role f t) b.1 }

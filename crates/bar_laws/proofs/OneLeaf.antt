@@ -23,7 +23,7 @@ use Rattle.std.proofs.lemmas.Bool.{and_parts, ltb-true}
 use Rattle.bar_laws.proofs.Earliest.{option_or-cases, allowed-at}
 use Rattle.bar_laws.proofs.Obeys.{said-more, heard-more}
 use Rattle.bar_laws.proofs.Tables.{admitted-row}
-use Rattle.bar_laws.proofs.Elsewhere.{party-on, kind-on, is_of-is, is_of-own, terms-said, role-own, sign-elsewhere, SaidCase, said-case}
+use Rattle.bar_laws.proofs.Elsewhere.{party-on, kind-on, is_of-is, is_of-own, terms-said, role-own, sign-elsewhere, CaseMoment, case-moment}
 use Rattle.bar_laws.proofs.Facts.{leaves_few, peers_named}
 use Rattle.bar_laws.proofs.Later.{WasSaid, later-entry, some-is, heard_in-is, first_said-was, said-rule}
 use Rattle.bar_laws.proofs.Once.{parts-of, part-round, said-found}
@@ -98,7 +98,7 @@ case-begun me before r k role to t h other e =
     (terms-said me before x role t h (party-on r k role me.party to) (role-own me r k role to other) e)
 
 -- a key that may be given: its briefcase was begun
-key-begun : (me : Member) (before : Log) (r : ℕ) (k : XKind) (role : Role) (to : ℕ) → IsObedient me before → (w : (c : _) × SaidCase before (exchange_by r k role me.party to) role c) → IsBegun before r k role me.party to
+key-begun : (me : Member) (before : Log) (r : ℕ) (k : XKind) (role : Role) (to : ℕ) → IsObedient me before → (w : (c : _) × CaseMoment before (exchange_by r k role me.party to) role c) → IsBegun before r k role me.party to
 key-begun me before r k role to h w =
     let x : Exchange = exchange_by r k role me.party to in
     let c = w.0 in
@@ -166,7 +166,7 @@ placed me before m h sign = go m.body refl sign.rule
     go (Response r hb) e rule = record { round = r; kind = Balanced; role = Responder; part = ap part_of e; signed = ap is_signed e; first = inl (ap kind_number e); asked = λ z. rule.asked }
     go (Reply r a g z) e rule = record { round = r; kind = Push; role = Responder; part = ap part_of e; signed = ap is_signed e; first = inl (ap kind_number e); asked = λ z. rule.asked }
     go (Case c) e rule = later-placed me before m c.round c.kind c.role h (ap part_of e) (ap is_signed e) (case-begun me before c.round c.kind c.role m.to c.terms h (sign-elsewhere me before m h sign) rule.terms)
-    go (Key k) e rule = later-placed me before m k.round k.kind k.role h (ap part_of e) (ap is_signed e) (key-begun me before k.round k.kind k.role m.to h (rule.ours, said-case before (exchange_by k.round k.kind k.role me.party m.to) k.role rule.ours rule.said))
+    go (Key k) e rule = later-placed me before m k.round k.kind k.role h (ap part_of e) (ap is_signed e) (key-begun me before k.round k.kind k.role m.to h (rule.ours, case-moment before (exchange_by k.round k.kind k.role me.party m.to) k.role rule.ours rule.said))
     go _ e rule = absurd rule
 
 -- ---- one partner

@@ -103,7 +103,7 @@ abbrev pub IsRising : List Exchange → Type 0
 IsRising [] = Unit {0}
 IsRising (x ∷ xs) = AllByRecursion (λ y. precedes x y ≡ true) xs × IsRising xs
 
-all-inserted : (P : Exchange → Type 0) (x : Exchange) (xs : List Exchange) → P x → AllByRecursion P xs → AllByRecursion P (inserted x xs)
+pub all-inserted : (P : Exchange → Type 0) (x : Exchange) (xs : List Exchange) → P x → AllByRecursion P xs → AllByRecursion P (inserted x xs)
 all-inserted P x [] h k = (h, tt)
 all-inserted P x (y ∷ ys) h k = go (same_exchange x y) (precedes x y) (all-inserted P x ys h k.1)
   where

@@ -10,9 +10,9 @@ use Rattle.bar_rules.specs.Rules.{IsObedient}
 use Rattle.bar_rules.specs.Run.{take_input, step}
 use Rattle.bar_rules.specs.Signing.{MaySay, leaf_of, signed}
 use Rattle.bar_rules.specs.Terms.{role_of, partner_in, asking_kind, revealed}
-use Rattle.bar_rules.specs.Ticks.{orders_at_tick, open_exchanges, opened, inserted, with_exchange, exchange_said, precedes, again, lacks_answer, lacks_case, lacks_key, reveals, asking_partner, new_requests, reports}
+use Rattle.bar_rules.specs.Ticks.{orders_at_tick, open_exchanges, opened, with_exchange, exchange_said, again, lacks_answer, lacks_case, lacks_key, reveals, asking_partner, new_requests, reports}
 use Rattle.bar_rules.specs.Values.{datagram_of, message_bytes}
-use Rattle.bar_window.specs.Exchange.{party_on, other_role, same_exchange}
+use Rattle.bar_window.specs.Exchange.{party_on, other_role}
 use Rattle.bar_window.specs.declared.exchange.Exchange.{Exchange}
 use Rattle.bar_window.specs.declared.exchange.Role.{Role}
 use Rattle.bar_window.specs.declared.exchange.Role.TheVariants.{Initiator, Responder}
@@ -24,10 +24,9 @@ use Rattle.bar_wire.specs.Grammar.{IsDatagram, IsPeer, MaySend}
 use Rattle.bar_wire.specs.Inputs.{Input, Tick, Came}
 use Rattle.bar_wire.specs.Kinds.{is_signed_kind}
 use Rattle.std.proofs.Common.{◌≡◌, ◌≢◌, ℕ, ◌+◌, ◌<◌, ◌≤◌, ◌^◌, Bool, true, false, List, [], ◌∷◌, ◌++◌, length, refl, sym, ap, ◌∙◌, subst, inl, eqb, cond, not, arith}
-use Rattle.std.specs.Prelude.{Option, Some, None, option_map, filter, map, flat_map, nat_le}
+use Rattle.std.specs.Prelude.{Option, Some, None, option_map, map, nat_le}
 use Rattle.std.specs.List.{AllByRecursion}
 use Rattle.std.proofs.lemmas.Bool.{eqb-true, eq-eqb, both_ways}
-use Rattle.bar_laws.proofs.Adds.{all-snoc}
 use Rattle.bar_laws.proofs.Earliest.{allowed-at}
 use Rattle.bar_laws.proofs.EvidenceFits.{evidence-fits}
 use Rattle.bar_laws.proofs.Facts.{lms_signed_has_its_length}
@@ -36,10 +35,12 @@ use Rattle.bar_laws.proofs.Formed.{IsFormed, IsBetween, between-by, party-peer, 
 use Rattle.bar_laws.proofs.Grammar.{heard-fits, was-heard-fits, part-in-range}
 use Rattle.bar_laws.proofs.Later.{first_said-was, said-rule}
 use Rattle.bar_laws.proofs.Obeys.{send_if-log}
-use Rattle.bar_laws.proofs.Runs.{step-obedient, repeated-heard}
+use Rattle.bar_laws.proofs.Runs.{step-obedient, repeated-heard, when-all}
 use Rattle.bar_laws.proofs.SaidFits.{sign-formed, all-formed, round-small}
 use Rattle.bar_laws.proofs.Sends.{said-contains}
 use Rattle.bar_laws.proofs.Unique.{SaidIn, was-said, said-in}
+use Rattle.bar_laws.proofs.Lists.{all-both, all-flat-map, all-kept, all-snoc}
+use Rattle.bar_laws.proofs.OpenList.{all-inserted}
 
 -- ---- what is signed
 
@@ -196,10 +197,6 @@ perform_all-fits me (o ∷ os) out is h p a =
 
 -- ---- the orders of a datagram
 
-when-all : (P : Order → Type 0) (b : Bool) (os : List Order) → AllByRecursion P os → AllByRecursion P (orders_when b os)
-when-all P true os a = a
-when-all P false os a = tt
-
 reply-proper : (me : Member) (log : Log) (is_new : Bool) (d : Datagram) → IsDatagram me.session.shape d → AllByRecursion (IsProperOrder me) (reply_orders me log is_new d)
 reply-proper me log is_new d fits = go d.message.body refl
   where
@@ -210,41 +207,16 @@ reply-proper me log is_new d fits = go d.message.body refl
         between-by me.session.shape p.0 p.1 p.2 d.message.from d.message.to (part-in-range me.session.shape d.message.body p part formed.range) formed.from formed.to formed.other
 
     go : (b : Body) → d.message.body ≡ b → AllByRecursion (IsProperOrder me) (orders_for me log is_new d.message.from d.message.to b)
-    go (Request r seed c) e = when-all (IsProperOrder me) _ (Answer (exchange_by r Balanced Initiator d.message.from d.message.to) ∷ []) (tt, tt)
-    go (Response r hb) e = when-all (IsProperOrder me) _ (Reveal (exchange_by r Balanced Responder d.message.from d.message.to) ∷ GiveCase (exchange_by r Balanced Responder d.message.from d.message.to) ∷ []) (tt, (tt, tt))
-    go (Divulge r nonce ha) e = when-all (IsProperOrder me) _ (GiveCase (exchange_by r Balanced Initiator d.message.from d.message.to) ∷ []) (tt, tt)
-    go (Query r seed young aged) e = when-all (IsProperOrder me) _ (Answer (exchange_by r Push Initiator d.message.from d.message.to) ∷ GiveCase (exchange_by r Push Initiator d.message.from d.message.to) ∷ []) (tt, (tt, tt))
-    go (Reply r want give junk) e = when-all (IsProperOrder me) _ (GiveCase (exchange_by r Push Responder d.message.from d.message.to) ∷ []) (tt, tt)
-    go (Case c) e = when-all (IsProperOrder me) _ (AskKey (exchange_by c.round c.kind c.role d.message.from d.message.to) ∷ []) (between (Case c) (c.round, c.kind, c.role) e refl, tt)
-    go (KeyRequest r k role) e = when-all (IsProperOrder me) _ (GiveKey (exchange_by r k role d.message.from d.message.to) ∷ []) (tt, tt)
+    go (Request r seed c) e = when-all (IsProperOrder me) _ (Answer (exchange_by r Balanced Initiator d.message.from d.message.to) ∷ []) (λ _. (tt, tt))
+    go (Response r hb) e = when-all (IsProperOrder me) _ (Reveal (exchange_by r Balanced Responder d.message.from d.message.to) ∷ GiveCase (exchange_by r Balanced Responder d.message.from d.message.to) ∷ []) (λ _. (tt, (tt, tt)))
+    go (Divulge r nonce ha) e = when-all (IsProperOrder me) _ (GiveCase (exchange_by r Balanced Initiator d.message.from d.message.to) ∷ []) (λ _. (tt, tt))
+    go (Query r seed young aged) e = when-all (IsProperOrder me) _ (Answer (exchange_by r Push Initiator d.message.from d.message.to) ∷ GiveCase (exchange_by r Push Initiator d.message.from d.message.to) ∷ []) (λ _. (tt, (tt, tt)))
+    go (Reply r want give junk) e = when-all (IsProperOrder me) _ (GiveCase (exchange_by r Push Responder d.message.from d.message.to) ∷ []) (λ _. (tt, tt))
+    go (Case c) e = when-all (IsProperOrder me) _ (AskKey (exchange_by c.round c.kind c.role d.message.from d.message.to) ∷ []) (λ _. (between (Case c) (c.round, c.kind, c.role) e refl, tt))
+    go (KeyRequest r k role) e = when-all (IsProperOrder me) _ (GiveKey (exchange_by r k role d.message.from d.message.to) ∷ []) (λ _. (tt, tt))
     go _ e = tt
 
 -- ---- the orders of a tick
-
-all-both : {X : Type 0} (P : X → Type 0) (xs ys : List X) → AllByRecursion P xs → AllByRecursion P ys → AllByRecursion P (xs ++ ys)
-all-both P [] ys a b = b
-all-both P (x ∷ xs) ys a b = (a.0, all-both P xs ys a.1 b)
-
-all-flat : {X Y : Type 0} (P : X → Type 0) (Q : Y → Type 0) (f : X → List Y) (xs : List X) → ((x : X) → P x → AllByRecursion Q (f x)) → AllByRecursion P xs → AllByRecursion Q (flat_map f xs)
-all-flat P Q f [] h a = tt
-all-flat P Q f (x ∷ xs) h a = all-both Q (f x) (flat_map f xs) (h x a.0) (all-flat P Q f xs h a.1)
-
-all-kept : {X : Type 0} (P : X → Type 0) (p : X → Bool) (xs : List X) → AllByRecursion P xs → AllByRecursion P (filter p xs)
-all-kept P p [] a = tt
-all-kept P p (x ∷ xs) a = go (p x) (all-kept P p xs a.1)
-  where
-    go : (b : Bool) → AllByRecursion P (filter p xs) → AllByRecursion P (cond b (x ∷ filter p xs) (filter p xs))
-    go true r = (a.0, r)
-    go false r = r
-
-all-inserted : (P : Exchange → Type 0) (x : Exchange) (ys : List Exchange) → P x → AllByRecursion P ys → AllByRecursion P (inserted x ys)
-all-inserted P x [] p a = (p, tt)
-all-inserted P x (y ∷ ys) p a = go (same_exchange x y) (precedes x y) (all-inserted P x ys p a.1)
-  where
-    go : (b c : Bool) → AllByRecursion P (inserted x ys) → AllByRecursion P (cond b (y ∷ ys) (cond c (x ∷ y ∷ ys) (y ∷ inserted x ys)))
-    go true c r = a
-    go false true r = (p, a)
-    go false false r = (a.0, r)
 
 -- each exchange in which a member signed a message is between peers
 opened-between : (me : Member) (log : Log) → IsMember me → IsObedient me log → AllByRecursion (IsBetween me.session.shape) (opened log)
@@ -281,7 +253,7 @@ again-proper me log x b = go (lacks_answer me log x) (lacks_case me log x) (lack
     go false false false k r = tt
 
 asking-proper : (me : Member) (log : Log) (kind : XKind) → AllByRecursion (IsProperOrder me) (asking_partner me log (round_now log) kind)
-asking-proper me log kind = when-all (IsProperOrder me) _ (Ask _ ∷ []) (tt, tt)
+asking-proper me log kind = when-all (IsProperOrder me) _ (Ask _ ∷ []) (λ _. (tt, tt))
 
 reports-proper : (me : Member) (qs : List ℕ) → AllByRecursion (IsProperOrder me) (map Report qs)
 reports-proper me [] = tt
@@ -291,12 +263,12 @@ tick-proper : (me : Member) (log : Log) → IsMember me → IsObedient me log �
 tick-proper me log is h =
     all-both (IsProperOrder me) _ _
     (all-both (IsProperOrder me) _ _
-    (all-flat (IsBetween me.session.shape) (IsProperOrder me) (λ x. orders_when (not (is_announced log (partner_in me x))) (again me log x)) (open_exchanges me log)
-    (λ x b. when-all (IsProperOrder me) (not (is_announced log (partner_in me x))) (again me log x) (again-proper me log x b))
+    (all-flat-map (IsBetween me.session.shape) (IsProperOrder me) (λ x. orders_when (not (is_announced log (partner_in me x))) (again me log x)) (open_exchanges me log)
+    (λ x b. when-all (IsProperOrder me) (not (is_announced log (partner_in me x))) (again me log x) (λ _. again-proper me log x b))
     (all-kept (IsBetween me.session.shape) (λ x. nat_le (round_now log) (x.round + me.session.shape.life)) (opened log) (opened-between me log is h)))
     (when-all (IsProperOrder me) _ (new_requests me log (round_now log))
-    (all-both (IsProperOrder me) _ _ (asking-proper me log Balanced) (when-all (IsProperOrder me) _ (asking_partner me log (round_now log) Push) (asking-proper me log Push)))))
-    (when-all (IsProperOrder me) _ (reports me log) (reports-proper me _))
+    (λ _. all-both (IsProperOrder me) _ _ (asking-proper me log Balanced) (when-all (IsProperOrder me) _ (asking_partner me log (round_now log) Push) (λ _. asking-proper me log Push)))))
+    (when-all (IsProperOrder me) _ (reports me log) (λ _. reports-proper me _))
 
 -- ---- one input
 

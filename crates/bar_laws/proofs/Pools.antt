@@ -6,7 +6,7 @@ use Rattle.bar_wire.specs.Datagram.{Datagram, is_signed}
 use Rattle.bar_wire.specs.Inputs.{Input, Tick, Came}
 use Rattle.bar_wire.specs.Grammar.{IsDatagram}
 use Rattle.bar_laws.specs.Worlds.{IsAccepted}
-use Rattle.std.proofs.Common.{◌≡◌, ℕ, true, List, [], ◌∷◌, ◌++◌, inl, inr, refl, sym, subst}
+use Rattle.std.proofs.Common.{◌≡◌, ℕ, true, List, [], ◌∷◌, inl, inr, refl, sym, subst}
 use Rattle.std.specs.Prelude.{Option, Some, None, slice_get}
 use Rattle.std.specs.List.{AllByRecursion}
 use Rattle.std.proofs.lemmas.Bool.{both_ways}
@@ -15,10 +15,7 @@ use Rattle.bar_laws.proofs.Casts.{AllFit, IsOwnMessage}
 use Rattle.bar_laws.proofs.Grammar.{fits-reads}
 use Rattle.bar_laws.proofs.Unique.{SaidIn}
 use Rattle.bar_laws.proofs.Worlds.{IsStep, IsSound, StepsKeep, steps-keep, takes-sound, opened-sound, nobody, nobody-genuine, all-nobody, CameUnforged}
-
-all-both : {X : Type 0} (P : X → Type 0) (xs ys : List X) → AllByRecursion P xs → AllByRecursion P ys → AllByRecursion P (xs ++ ys)
-all-both P [] ys a b = b
-all-both P (x ∷ xs) ys a b = (a.0, all-both P xs ys a.1 b)
+use Rattle.bar_laws.proofs.Lists.{all-both}
 
 -- what was said is accepted, and what is plain isn't signed
 sent-accepted : (cast : Cast) (p : ℕ) (log : Log) (s : ℕ × Datagram) → ((d : Datagram) → SaidIn log d → IsOwnMessage cast.session cast.stream p d) → SentBy (member cast p) log s → IsDatagram cast.session.shape s.1

@@ -24,7 +24,7 @@ use Rattle.bar_wire.specs.Inputs.{Input, Tick, Came}
 use Rattle.std.specs.Option.{option_or}
 use Rattle.std.proofs.Common.{◌≡◌, ℕ, ◌<◌, Bool, true, false, List, [], ◌∷◌, ◌++◌, refl, sym, subst, inl, inr, length, not}
 use Rattle.std.proofs.Common.{arith, ◌≤◌}
-use Rattle.std.specs.Prelude.{Option, Some, None, ◌⊎◌, is_some, cond, map, flat_map, nat_le}
+use Rattle.std.specs.Prelude.{Option, Some, None, ◌⊎◌, is_some, cond, map, nat_le}
 use Rattle.std.specs.List.{AllByRecursion}
 use Rattle.std.specs.Bool.{then_some}
 use Rattle.std.proofs.lemmas.Bool.{and_parts, leb-true, ltb-true}
@@ -32,16 +32,9 @@ use Rattle.bar_laws.proofs.Grammar.{reads-back}
 use Rattle.bar_laws.proofs.Earliest.{option_or-cases}
 use Rattle.bar_laws.proofs.Later.{WasHeard, first_heard-was}
 use Rattle.bar_laws.proofs.Obeys.{Stands, perform_all-obedient, orders-stand, send_if-log}
+use Rattle.bar_laws.proofs.Lists.{all-both, all-flat}
 
-all-both : {X : Type 0} (P : X → Type 0) (xs ys : List X) → AllByRecursion P xs → AllByRecursion P ys → AllByRecursion P (xs ++ ys)
-all-both P [] ys a b = b
-all-both P (x ∷ xs) ys a b = (a.0, all-both P xs ys a.1 b)
-
-all-flat : {X Y : Type 0} (P : Y → Type 0) (f : X → List Y) (xs : List X) → ((x : X) → AllByRecursion P (f x)) → AllByRecursion P (flat_map f xs)
-all-flat P f [] h = tt
-all-flat P f (x ∷ xs) h = all-both P (f x) (flat_map f xs) (h x) (all-flat P f xs h)
-
-when-all : (P : Order → Type 0) (b : Bool) (os : List Order) → (b ≡ true → AllByRecursion P os) → AllByRecursion P (orders_when b os)
+pub when-all : (P : Order → Type 0) (b : Bool) (os : List Order) → (b ≡ true → AllByRecursion P os) → AllByRecursion P (orders_when b os)
 when-all P true os f = f refl
 when-all P false os f = tt
 

@@ -26,7 +26,8 @@ use Rattle.bar_laws.proofs.Later.{IsLater, later-same, first_said-was}
 use Rattle.bar_laws.proofs.Unique.{SaidIn, was-said}
 use Rattle.bar_laws.proofs.Once.{said-found}
 use Rattle.bar_laws.proofs.Balance.{IsKeyOf, is_of-key, IsBalanced, balance}
-use Rattle.bar_laws.proofs.Adds.{SentBy, IsPlain, step-adds, is_of-to, all-map, all-snoc}
+use Rattle.bar_laws.proofs.Adds.{SentBy, IsPlain, step-adds, is_of-to}
+use Rattle.bar_laws.proofs.Lists.{all-both, all-map, all-snoc}
 
 -- ---- logs grow
 
@@ -138,10 +139,6 @@ all-sent me log (s ∷ sends) a b = (sent-by me log s a.0 b.0, all-sent me log s
 -- of a send with its input's number
 abbrev pub IsSentAs : Log → ℕ × ℕ × Datagram → Type 0
 IsSentAs log s = IsSent log (s.1, s.2)
-
-all-both : {X : Type 0} (P : X → Type 0) (xs ys : List X) → AllByRecursion P xs → AllByRecursion P ys → AllByRecursion P (xs ++ ys)
-all-both P [] ys a b = b
-all-both P (x ∷ xs) ys a b = (a.0, all-both P xs ys a.1 b)
 
 numbered : (log before : Log) (n : ℕ) (sends : List (ℕ × Datagram)) → IsLater log before → AllByRecursion (IsSent before) sends
     → AllByRecursion (IsSentAs log) (map (λ (s : ℕ × Datagram). (n, s.0, s.1)) sends)
