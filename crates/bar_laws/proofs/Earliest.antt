@@ -15,10 +15,6 @@ pub option_or-cases : {A : Type 0} (o p : Option A) (a : A) → option_or o p �
 option_or-cases None p a e = inr (refl, e)
 option_or-cases (Some b) p a e = inl e
 
-pub option_or-none : {A : Type 0} (o p : Option A) → option_or o p ≡ None → (o ≡ None) × (p ≡ None)
-option_or-none None p e = (refl, e)
-option_or-none (Some b) p e = cc
-
 -- what is found in a log is found in each longer one
 pub earliest-more : {A : Type 0} (f : Log → Entry → Option A) (new log : Log) (a : A) → earliest f log ≡ Some a → earliest f (new ++ log) ≡ Some a
 earliest-more f [] log a e = e

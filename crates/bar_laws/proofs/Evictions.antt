@@ -20,6 +20,7 @@ use Rattle.std.specs.Prelude.{◌⊎◌, min, cond}
 use Rattle.std.specs.List.{range_with_len}
 use Rattle.std.specs.Bool.{then_some}
 use Rattle.bar_laws.proofs.Adds.{HeardIn}
+use Rattle.bar_laws.proofs.Unique.{SaidIn}
 use Rattle.bar_laws.proofs.Casts.{IsFair, IsOwnBody}
 use Rattle.bar_laws.proofs.Earliest.{option_or-cases, IsEntry, IsFind, find-of, allowed-at}
 use Rattle.bar_laws.proofs.Later.{IsLater, later-entry}
@@ -106,7 +107,7 @@ not-shown cast trusted w q log t ev f is sound n trust at agree g e =
 -- ---- tables
 
 -- a list that a log's table has was heard in a manifest
-pub list-heard : (log : Log) (r : ℕ) (ds : List (List ℕ)) → digests_of (table log) r ≡ Some ds → (d : Datagram) × HeardIn log d × (d.message.body ≡ Manifest r ds)
+list-heard : (log : Log) (r : ℕ) (ds : List (List ℕ)) → digests_of (table log) r ≡ Some ds → (d : Datagram) × HeardIn log d × (d.message.body ≡ Manifest r ds)
 list-heard [] r ds e = cc
 list-heard (x ∷ log) r ds e = go x e (list-heard log r ds)
   where
@@ -154,10 +155,10 @@ list-heard (x ∷ log) r ds e = go x e (list-heard log r ds)
     go (Kept q f) e k = older (Kept q f) (k (plain e))
 
 -- a manifest comes from the broadcaster
-pub manifest-from : (s : Session) (d : Datagram) (r : ℕ) (ds : List (List ℕ)) → IsDatagram s.shape d → d.message.body ≡ Manifest r ds → d.message.from ≡ 0
+manifest-from : (s : Session) (d : Datagram) (r : ℕ) (ds : List (List ℕ)) → IsDatagram s.shape d → d.message.body ≡ Manifest r ds → d.message.from ≡ 0
 manifest-from s d r ds fits e = let may : MaySend s.shape kinds.Manifest d.message.from d.message.to = subst (λ b. MaySend s.shape (kind_of b) d.message.from d.message.to) e fits.may_send in may.0
 
-pub heard-allowed : (me : Member) (log : Log) (d : Datagram) → IsObedient me log → HeardIn log d → (before : Log) × Allows me before (Heard d)
+heard-allowed : (me : Member) (log : Log) (d : Datagram) → IsObedient me log → HeardIn log d → (before : Log) × Allows me before (Heard d)
 heard-allowed me [] d h e = absurd e
 heard-allowed me (x ∷ log) d h (inl e) = (log, subst (λ y. Allows me log y) e h.0)
 heard-allowed me (x ∷ log) d h (inr e) = heard-allowed me log d h.1 e
@@ -170,18 +171,24 @@ accepted me before d e s = go (is_signed d.message.body) (and_parts _ _ (and_par
     go true h s = h
     go false h s = cc
 
--- each list of a peer's table is the stream's
-pub list-is : (cast : Cast) (trusted : ℕ → Bool) (w : World) (q : ℕ) (log log0 : Log) (r : ℕ) (ds : List (List ℕ)) → IsSound cast trusted w → trusted 0 ≡ true → eqb q 0 ≡ false
-    → slice_get w.logs q ≡ Some log → slice_get w.logs 0 ≡ Some log0 → digests_of (table log) r ≡ Some ds → ds ≡ manifest_list cast.session cast.stream r
-list-is cast trusted w q log log0 r ds sound trust n at at0 e =
+-- each list of a peer's table was said by the broadcaster
+pub list-said : (cast : Cast) (trusted : ℕ → Bool) (w : World) (q : ℕ) (log log0 : Log) (r : ℕ) (ds : List (List ℕ)) → IsSound cast trusted w → trusted 0 ≡ true → eqb q 0 ≡ false
+    → slice_get w.logs q ≡ Some log → slice_get w.logs 0 ≡ Some log0 → digests_of (table log) r ≡ Some ds → (d : Datagram) × SaidIn log0 d × (d.message.body ≡ Manifest r ds)
+list-said cast trusted w q log log0 r ds sound trust n at at0 e =
     let h = list-heard log r ds e in
     let al = heard-allowed (member cast q) log h.0 ((sound.proper q log at).0 n) h.1 in
     let zero : h.0.message.from ≡ 0 = manifest-from cast.session h.0 r ds (heard-fits (member cast q) al.0 h.0 al.1) h.2 in
     let sign : is_signed h.0.message.body ≡ true = ap is_signed h.2 in
     let said : HasSaid log0 h.0.message = sound.heard q log h.0 at h.1 h.0 log0 al.1.1 sign (subst (λ z. trusted z ≡ true) (sym zero) trust) (accepted (member cast q) al.0 h.0 al.1.0 sign) (subst (λ z. slice_get w.logs z ≡ Some log0) (sym zero) at0) in
     let d = said-message log0 h.0.message said in
-    let own : IsOwnBody cast.session cast.stream d.0.message.body = (sound.mine 0 log0 d.0 at0 d.1).body in
-    subst (λ b. IsOwnBody cast.session cast.stream b) (ap (λ m. m.body) d.2 ∙ h.2) own
+    (d.0, d.1, ap (λ m. m.body) d.2 ∙ h.2)
+
+-- and is the stream's
+pub list-is : (cast : Cast) (trusted : ℕ → Bool) (w : World) (q : ℕ) (log log0 : Log) (r : ℕ) (ds : List (List ℕ)) → IsSound cast trusted w → trusted 0 ≡ true → eqb q 0 ≡ false
+    → slice_get w.logs q ≡ Some log → slice_get w.logs 0 ≡ Some log0 → digests_of (table log) r ≡ Some ds → ds ≡ manifest_list cast.session cast.stream r
+list-is cast trusted w q log log0 r ds sound trust n at at0 e =
+    let d = list-said cast trusted w q log log0 r ds sound trust n at at0 e in
+    subst (λ b. IsOwnBody cast.session cast.stream b) d.2 (sound.mine 0 log0 d.0 at0 d.1).body
 
 -- the broadcaster's table has the stream's lists
 caster-list : (cast : Cast) (a n r : ℕ) (ds : List (List ℕ)) → digests_of (map (λ r. (r, manifest_list cast.session cast.stream r)) (range_with_len a n)) r ≡ Some ds → ds ≡ manifest_list cast.session cast.stream r

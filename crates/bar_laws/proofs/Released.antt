@@ -2,19 +2,17 @@
 use Rattle.bar_rules.specs.Broadcaster.{caster_table, manifest_list}
 use Rattle.bar_rules.specs.Log.{Log, table, round_now}
 use Rattle.bar_rules.specs.Member.{Session}
-use Rattle.bar_rules.specs.World.{Cast, World, member, HasSaid}
+use Rattle.bar_rules.specs.World.{Cast, World, member}
 use Rattle.bar_terms.specs.Table.{Table, Extends, digests_of}
-use Rattle.bar_wire.specs.Datagram.{Datagram, Manifest, is_signed}
+use Rattle.bar_wire.specs.Datagram.{Datagram, Manifest}
 use Rattle.bar_wire.specs.Grammar.{InRange, IsRound}
 use Rattle.std.proofs.Common.{◌≡◌, ◌∙◌, ℕ, zero, suc, ◌+◌, ◌<◌, ◌≤◌, Bool, true, false, List, refl, sym, ap, subst, cond, eqb, map, arith}
 use Rattle.std.specs.Prelude.{Some, slice_get, min}
 use Rattle.std.specs.List.{range_with_len}
 use Rattle.std.proofs.lemmas.Bool.{eqb-true, eq-eqb}
 use Rattle.bar_laws.proofs.Casts.{IsOwnMessage, IsBegun, IsOwnBody}
-use Rattle.bar_laws.proofs.Grammar.{heard-fits}
-use Rattle.bar_laws.proofs.Unframed.{said-message}
 use Rattle.bar_laws.proofs.Worlds.{IsSound}
-use Rattle.bar_laws.proofs.Evictions.{list-heard, heard-allowed, manifest-from, accepted}
+use Rattle.bar_laws.proofs.Evictions.{list-said}
 
 -- a run of rounds has each of its rounds
 has-round : (s : Session) (stream : List ℕ) (a n r : ℕ) → a ≤ r → r < a + n → digests_of (map (λ r. (r, manifest_list s stream r)) (range_with_len a n)) r ≡ Some (manifest_list s stream r)
@@ -52,14 +50,9 @@ released-by cast log0 r ds d own begun e =
 pub list-released : (cast : Cast) (trusted : ℕ → Bool) (w : World) (q : ℕ) (log log0 : Log) (r : ℕ) (ds : List (List ℕ)) → IsSound cast trusted w → trusted 0 ≡ true → eqb q 0 ≡ false
     → slice_get w.logs q ≡ Some log → slice_get w.logs 0 ≡ Some log0 → digests_of (table log) r ≡ Some ds → IsReleased cast log0 r ds
 list-released cast trusted w q log log0 r ds sound trust n at at0 e =
-    let h = list-heard log r ds e in
-    let al = heard-allowed (member cast q) log h.0 ((sound.proper q log at).0 n) h.1 in
-    let zero : h.0.message.from ≡ 0 = manifest-from cast.session h.0 r ds (heard-fits (member cast q) al.0 h.0 al.1) h.2 in
-    let sign : is_signed h.0.message.body ≡ true = ap is_signed h.2 in
-    let said : HasSaid log0 h.0.message = sound.heard q log h.0 at h.1 h.0 log0 al.1.1 sign (subst (λ z. trusted z ≡ true) (sym zero) trust) (accepted (member cast q) al.0 h.0 al.1.0 sign) (subst (λ z. slice_get w.logs z ≡ Some log0) (sym zero) at0) in
-    let d = said-message log0 h.0.message said in
+    let d = list-said cast trusted w q log log0 r ds sound trust n at at0 e in
     let own = ((sound.proper 0 log0 at0).1 refl).1 d.0 d.1 in
-    released-by cast log0 r ds d.0 own.0 own.1 (ap (λ m. m.body) d.2 ∙ h.2)
+    released-by cast log0 r ds d.0 own.0 own.1 d.2
 
 pub table-extended : (cast : Cast) (trusted : ℕ → Bool) (w : World) (q : ℕ) (log log0 : Log) → IsSound cast trusted w → trusted 0 ≡ true → eqb q 0 ≡ false
     → slice_get w.logs q ≡ Some log → slice_get w.logs 0 ≡ Some log0 → Extends (table log) (caster_table (member cast 0) cast.stream log0)

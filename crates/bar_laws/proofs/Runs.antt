@@ -2,7 +2,7 @@
 use Rattle.bar_rules.specs.Admission.{is_admitted}
 use Rattle.bar_rules.specs.Choices.{young_of}
 use Rattle.bar_rules.specs.Evidence.{completed, names, if_names, pair_with, pairs_by, is_tried}
-use Rattle.bar_rules.specs.Log.{Log, Entry, Ticked, Heard, heard_in, first_heard, table, ticks, round_now, is_announced}
+use Rattle.bar_rules.specs.Log.{Log, Ticked, Heard, first_heard, table, ticks, round_now, is_announced}
 use Rattle.bar_rules.specs.Member.{Session, Member, last_tick}
 use Rattle.bar_rules.specs.Orders.{Order, Ask, AskKey, Resend, Report, Out, perform_all, begun}
 use Rattle.bar_rules.specs.Replies.{reply_orders, answered_to, answer_repeat, repeated, heard_like, if_same, orders_when, with_evidence, report_new, take_datagram}
@@ -137,10 +137,6 @@ evidence-obedient me log d (Some f) e h =
     (record { new = not_some _ (and_parts _ _ (and_parts _ _ c.0).0).1; shown = c.1 }, h)
 
 -- ---- one input
-
-pub heard-is : (e : Entry) (d : Datagram) → heard_in e ≡ Some d → e ≡ Heard d
-heard-is (Heard c) d e = cc
-heard-is _ d e = cc
 
 same-is : (s : Session) (d c : Datagram) (o : Option Datagram) → if_same s d o ≡ Some c → o ≡ Some c
 same-is s d c None e = cc

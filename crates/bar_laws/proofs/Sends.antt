@@ -31,9 +31,6 @@ use Rattle.bar_laws.proofs.Lists.{all-both, all-map, all-snoc}
 
 -- ---- logs grow
 
-append-later : (a b : Log) (log before : Log) → log ≡ a ++ before → before ≡ b → IsLater log b
-append-later a b log before e f = record { new = a; split = e ∙ ap (λ l. a ++ l) f }
-
 join-split : (a b c : Log) → a ++ (b ++ c) ≡ (a ++ b) ++ c
 join-split [] b c = refl
 join-split (x ∷ a) b c = ap (λ l. x ∷ l) (join-split a b c)

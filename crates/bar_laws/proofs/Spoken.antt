@@ -47,9 +47,6 @@ same-role Responder = refl
 pub first_on-own : (me : Member) (log : Log) (kind : ℕ) (x : Exchange) (role : Role) → role_of me x ≡ role → first_on me log kind x role ≡ first_said (is_of kind x role) log
 first_on-own me log kind x role own = rw (own, same-role role) refl
 
-pub first_on-other : (me : Member) (log : Log) (kind : ℕ) (x : Exchange) (role : Role) → same_role (role_of me x) role ≡ false → first_on me log kind x role ≡ first_heard (is_of kind x role) log
-first_on-other me log kind x role other = rw other refl
-
 pub first_on-later : (me : Member) (log before : Log) (kind : ℕ) (x : Exchange) (role : Role) (d : Datagram) → IsLater log before → first_on me before kind x role ≡ Some d → first_on me log kind x role ≡ Some d
 first_on-later me log before kind x role d later e = go (same_role (role_of me x) role) refl e
   where

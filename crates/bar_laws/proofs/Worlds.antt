@@ -408,9 +408,3 @@ nobody-genuine cast w b = λ d log reads sign trust. cc
 pub all-nobody : (cast : Cast) (w : World) (bs : List (List ℕ)) → AllGenuine cast nobody w bs
 all-nobody cast w [] = tt
 all-nobody cast w (b ∷ bs) = (nobody-genuine cast w b, all-nobody cast w bs)
-
-pub nobody-unforged : (cast : Cast) (w : World) (moves : List Move) → AreUnforged cast nobody w moves
-nobody-unforged cast w [] = tt
-nobody-unforged cast w (TickOf p ∷ ms) = nobody-unforged cast (happens cast w (TickOf p)) ms
-nobody-unforged cast w (Deliver k ∷ ms) = nobody-unforged cast (happens cast w (Deliver k)) ms
-nobody-unforged cast w (Hostile to b ∷ ms) = ((nobody-genuine cast w b, λ d reads. all-nobody cast w (inside d.message.body)), nobody-unforged cast (happens cast w (Hostile to b)) ms)
