@@ -113,9 +113,9 @@ abbrev pub exchange_of : Message → Option Exchange
 exchange_of m = option_map (λ p. exchange_by p.0 p.1 p.2 m.from m.to) (part_of m.body)
 
 -- whether a message is of this kind and exchange, and of this side
-abbrev pub is_of : ℕ → Exchange → Role → Message → Bool
+abbrev pub is_of : Kind → Exchange → Role → Message → Bool
 is_of kind x role m =
-    (kind_number m.body == kind)
+    (kind_number m.body == code_of kind)
     && option_map_or (λ p. same_exchange (exchange_by p.0 p.1 p.2 m.from m.to) x && same_role p.2 role) (part_of m.body) false
 
 -- the fields of a kind's identity
