@@ -1,5 +1,6 @@
 pub mod WindowLaws
 pub mod Codes
+pub mod Placed
 pub mod Peel
 pub mod Head
 pub mod Steps

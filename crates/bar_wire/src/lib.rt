@@ -25,8 +25,8 @@ pub use fault::WireFault;
 pub use input::Input;
 pub use kind::Kind;
 pub use laws::{
-    a_datagram_has_one_spelling, bytes_spell_one, no_spelling_begins_another,
-    the_datagram_is_spelled, the_test_tells_a_datagram,
+    a_datagram_has_one_spelling, a_place_is_an_exchange_and_a_side, bytes_spell_one,
+    no_spelling_begins_another, the_datagram_is_spelled, the_test_tells_a_datagram,
 };
 pub use reading::decode;
 pub use shape::Shape;
