@@ -1,6 +1,7 @@
 -- A key between two trusted peers opens well.
+use Rattle.bar_wire.specs.Bodies.{briefcase_in}
 use Rattle.bar_wire.specs.declared.kind.Kind.TheVariants as kinds
-use Rattle.bar_rules.specs.Holdings.{case_for, briefcase_in, block_of, block_in, is_held}
+use Rattle.bar_rules.specs.Holdings.{case_for, block_of, block_in, is_held}
 use Rattle.bar_rules.specs.Log.{Log, Heard, table, round_now, first_heard, has_heard}
 use Rattle.bar_rules.specs.Member.{Member, is_alive}
 use Rattle.bar_rules.specs.Rules.{IsObedient, Allows}

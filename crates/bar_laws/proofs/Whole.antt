@@ -1,8 +1,9 @@
 -- Each held block has 1,024 bytes.
+use Rattle.bar_wire.specs.Bodies.{briefcase_in}
 use Rattle.bar_wire.specs.declared.kind.Kind.TheVariants as kinds
 use Rattle.bar_case.specs.Keystream.{keystream}
 use Rattle.bar_case.specs.Opened.{opened, opened_blocks}
-use Rattle.bar_rules.specs.Holdings.{block_of, block_in, block_from, block_opened, case_for, briefcase_in}
+use Rattle.bar_rules.specs.Holdings.{block_of, block_in, block_from, block_opened, case_for}
 use Rattle.bar_rules.specs.Log.{Log, Entry, Ticked, Heard, Said, Kept, table, first_heard, round_now}
 use Rattle.bar_rules.specs.Member.{Session, Member, is_alive}
 use Rattle.bar_rules.specs.Rules.{IsObedient, Allows}
