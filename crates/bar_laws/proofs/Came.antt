@@ -1,12 +1,11 @@
 -- What was heard came: each admitted datagram is spelled by one of the inputs.
-use Rattle.bar_rules.specs.Log.{Log, Heard}
+use Rattle.bar_rules.specs.Log.{Log}
 use Rattle.bar_rules.specs.Member.{Session, Member}
 use Rattle.bar_rules.specs.Run.{step, log_after}
-use Rattle.bar_rules.specs.Values.{datagram_of}
 use Rattle.bar_wire.specs.Datagram.{Datagram}
 use Rattle.bar_wire.specs.Inputs.{Input, Tick, Came}
 use Rattle.std.proofs.Common.{◌≡◌, suc, List, [], ◌∷◌, ◌++◌, inl, inr, refl, subst, arith}
-use Rattle.std.specs.Prelude.{Option, Some, None, ◌⊎◌}
+use Rattle.std.specs.Prelude.{Option, Some, ◌⊎◌}
 use Rattle.std.specs.List.{AllByRecursion}
 use Rattle.bar_laws.specs.Heard.{IsSpelledIn, HeardHasCome}
 use Rattle.bar_laws.proofs.Adds.{AddedBy, HeardIn, heard-in, came, step-adds}

@@ -1,5 +1,5 @@
 -- A KEY that is sent goes to the member's partner in its exchange.
-use Rattle.bar_rules.specs.Exchanges.{role_of, partner_in}
+use Rattle.bar_rules.specs.Exchanges.{role_of}
 use Rattle.bar_rules.specs.Log.{Log}
 use Rattle.bar_rules.specs.Member.{Member}
 use Rattle.bar_rules.specs.Rules.{IsObedient}
@@ -14,7 +14,7 @@ use Rattle.std.specs.List.{AllByRecursion}
 use Rattle.bar_laws.specs.Balance.{GoesToPartner}
 use Rattle.bar_laws.proofs.Adds.{is_of-to}
 use Rattle.bar_laws.proofs.Lists.{all-map}
-use Rattle.bar_laws.proofs.OwnSide.{said-side}
+use Rattle.bar_laws.proofs.OwnSide.{saying}
 use Rattle.bar_laws.proofs.Sends.{IsSentAs, key-signed, run-sent}
 use Rattle.bar_laws.proofs.Unique.{was-said}
 
@@ -25,7 +25,7 @@ goes-to-partner me log sent h s = record {
 }
   where
     own : (x : Exchange) (role : Role) → is_of 10 x role sent.2.message ≡ true → role ≡ role_of me x
-    own x role e = said-side me log sent.2 10 x role h (was-said log sent.2 (s.said (key-signed x role sent.2.message e))) e
+    own x role e = (saying me log sent.2 10 x role h (was-said log sent.2 (s.said (key-signed x role sent.2.message e))) e).side
 
 pub keys-to-partners : (me : Member) (inputs : List Input) → IsObedient me (log_after me [] inputs) → AllByRecursion (GoesToPartner me) (sends_of me inputs)
 keys-to-partners me inputs h =

@@ -1,45 +1,41 @@
 -- What was said is what would be written now.
-use Rattle.bar_rules.specs.Exchanges.{role_of, revealed, revealed_in, committed}
+use Rattle.bar_rules.specs.Exchanges.{role_of, revealed, revealed_in}
 use Rattle.bar_rules.specs.Holdings.{block_of, block_in}
 use Rattle.bar_rules.specs.Knowledge.{known}
 use Rattle.bar_rules.specs.Log.{Log, Said, first_said}
 use Rattle.bar_rules.specs.Machine.{message_to}
 use Rattle.bar_rules.specs.Member.{Session, Member}
-use Rattle.bar_rules.specs.Orders.{case_body, key_body}
-use Rattle.bar_rules.specs.Rules.{IsObedient, Allows}
+use Rattle.bar_rules.specs.Orders.{case_body}
+use Rattle.bar_rules.specs.Rules.{IsObedient}
 use Rattle.bar_rules.specs.Secrets.{seed_of, commitment_of, briefcase_key}
-use Rattle.bar_rules.specs.Signing.{MaySay, MaySign, MayGiveCase, MayGiveKey, signed}
+use Rattle.bar_rules.specs.Signing.{MaySay, MayGiveCase, MayGiveKey, signed}
 use Rattle.bar_rules.specs.Terms.{terms_of, body_on, offered, answered, taken}
 use Rattle.bar_rules.specs.Values.{sealed}
 use Rattle.bar_terms.specs.Terms.{promised_updates, promised_junk}
 use Rattle.bar_window.specs.Exchange.{party_on}
-use Rattle.bar_window.specs.Terms.{Terms}
 use Rattle.bar_window.specs.declared.exchange.Exchange.{Exchange}
 use Rattle.bar_window.specs.declared.exchange.Role.{Role}
 use Rattle.bar_window.specs.declared.exchange.Role.TheVariants.{Initiator, Responder}
-use Rattle.bar_window.specs.declared.exchange.XKind.{XKind}
 use Rattle.bar_window.specs.declared.exchange.XKind.TheVariants.{Balanced, Push}
 use Rattle.bar_window.specs.declared.update.UpdateId.{UpdateId}
-use Rattle.bar_wire.specs.Datagram.{Message, Datagram, Body, Manifest, Block, Request, Response, Divulge, Query, Reply, Case, KeyRequest, Key, Evidence, Evict, Briefcase, KeyGiven, is_of, kind_number, part_of, exchange_by, exchange_of}
+use Rattle.bar_wire.specs.Datagram.{Datagram, Body, Request, Response, Query, Reply, Case, Key, Briefcase, is_of, kind_number, part_of, exchange_by}
 use Rattle.bar_wire.specs.declared.kind.Kind.TheVariants as kinds
 use Rattle.bar_wire.specs.declared.kind.Kind.{Kind}
 use Rattle.bar_wire.specs.Kinds.{code_of}
 use Rattle.std.proofs.Common.{◌≡◌, ℕ, Bool, true, false, List, [], ◌∷◌, length, refl, sym, ap, ◌∙◌, subst, ◌||◌, eqb}
-use Rattle.std.specs.Prelude.{Option, Some, None, is_some, option_map, option_and_then}
+use Rattle.std.specs.Prelude.{Some, option_map, option_and_then}
 use Rattle.std.specs.List.{AllByRecursion}
 use Rattle.std.proofs.lemmas.Bool.{and_parts, eqb-true, both_ways}
 use Rattle.bar_laws.specs.Rewriting.{body_again, written, IsRewritten}
 use Rattle.bar_laws.proofs.Accuses.{or-second}
 use Rattle.bar_laws.proofs.AgreeOrders.{sealed-same}
-use Rattle.bar_laws.proofs.Earliest.{allowed-at}
 use Rattle.bar_laws.proofs.Elsewhere.{is_of-is, party-on, receiver-on, sender-on}
 use Rattle.bar_laws.proofs.FinalLeaf.{said-sealed}
 use Rattle.bar_laws.proofs.Holds.{AllHeld, promise-held}
 use Rattle.bar_laws.proofs.Later.{WasSaid, IsLater, later-entry, find-later, first_said-was, some-is}
 use Rattle.bar_laws.proofs.LaterTerms.{terms_of-later}
 use Rattle.bar_laws.proofs.Once.{parts-of}
-use Rattle.bar_laws.proofs.OwnSide.{said-side}
-use Rattle.bar_laws.proofs.Parts.{is_of-part}
+use Rattle.bar_laws.proofs.OwnSide.{IsSaying, saying}
 use Rattle.bar_laws.proofs.Spoken.{first_on-own}
 use Rattle.bar_laws.proofs.Unique.{said-in}
 use Rattle.bar_laws.proofs.Words.{IsOwnWord, commits-revealed}
@@ -52,29 +48,6 @@ held-stays s log before (u ∷ us) later e =
     let p = and_parts _ _ e in
     let b = some-is (block_of s before u) p.0 in
     (b.1 ∙ sym (find-later (λ before e. block_in s before u e) log before b.0 later b.1), held-stays s log before us later p.1)
-
--- ---- a datagram that was said: its moment, its part of the exchange, and what it may say
-
-record IsSaying (me : Member) (log : Log) (x : Exchange) (d : Datagram) : Type 0 where
-  was : WasSaid log d
-  obedient : IsObedient me was.before
-  sign : MaySign me was.before d.message
-  part : part_of d.message.body ≡ Some (x.round, x.kind, role_of me x)
-  exchange : exchange_by x.round x.kind (role_of me x) d.message.from d.message.to ≡ x
-
-saying : (me : Member) (log : Log) (kind : ℕ) (x : Exchange) (d : Datagram) → IsObedient me log → WasSaid log d → is_of kind x (role_of me x) d.message ≡ true → IsSaying me log x d
-saying me log kind x d h w i =
-    let al = allowed-at me log w.before (Said d) w.place h in
-    let at = is_of-is kind x (role_of me x) d.message i in
-    let part : part_of d.message.body ≡ Some (x.round, x.kind, role_of me x) = is_of-part kind x (role_of me x) d.message i in
-    let names = parts-of (at.round, at.sort, role_of me x) (x.round, x.kind, role_of me x) (sym at.part ∙ part) in
-    record {
-      was = w;
-      obedient = al.1;
-      sign = al.0.rule;
-      part = part;
-      exchange = sym (λ i. exchange_by (names.0 i) (names.1 i) (role_of me x) d.message.from d.message.to) ∙ at.exchange;
-    }
 
 -- what the log tells of the own side
 own-body : (me : Member) (log : Log) (kind : Kind) (x : Exchange) (role : Role) (d : Datagram) → role ≡ role_of me x → first_said (is_of (code_of kind) x (role_of me x)) log ≡ Some d
@@ -92,7 +65,7 @@ is-revealed me log x d w i =
     let later : IsLater log (Said d ∷ w.before) = record { new = w.place.after; split = w.place.split } in
     (now.0, find-later (λ before e. revealed_in me before x e) log (Said d ∷ w.before) now.0 later now.1)
 
-request-again : (me : Member) (log : Log) (x : Exchange) (d : Datagram) (b : Body) → IsObedient me log → IsSaying me log x d → is_of 3 x (role_of me x) d.message ≡ true → d.message.body ≡ b → eqb (kind_number b) 3 ≡ true
+request-again : (me : Member) (log : Log) (x : Exchange) (d : Datagram) (b : Body) → IsObedient me log → IsSaying me log x (role_of me x) d → is_of 3 x (role_of me x) d.message ≡ true → d.message.body ≡ b → eqb (kind_number b) 3 ≡ true
     → body_again me (known me log) kinds.Request x ≡ Some b
 request-again me log x d (Request r seed c) h s i e k =
     let names = parts-of (r, Balanced, Initiator) (x.round, x.kind, role_of me x) (sym (ap part_of e) ∙ s.part) in
@@ -113,7 +86,7 @@ request-again me log x d (Request r seed c) h s i e k =
     ∙ (λ j. Some (Request (sym names.0 j) ((ap (seed_of me) (sym names.0) ∙ sym rule.seeded) j) (sym commits j)))
 request-again me log x d _ h s i e k = cc
 
-query-again : (me : Member) (log : Log) (x : Exchange) (d : Datagram) (b : Body) → IsSaying me log x d → first_said (is_of 6 x (role_of me x)) log ≡ Some d → d.message.body ≡ b → eqb (kind_number b) 6 ≡ true
+query-again : (me : Member) (log : Log) (x : Exchange) (d : Datagram) (b : Body) → IsSaying me log x (role_of me x) d → first_said (is_of 6 x (role_of me x)) log ≡ Some d → d.message.body ≡ b → eqb (kind_number b) 6 ≡ true
     → body_again me (known me log) kinds.Query x ≡ Some b
 query-again me log x d (Query r seed young aged) s f e k =
     let names = parts-of (r, Push, Initiator) (x.round, x.kind, role_of me x) (sym (ap part_of e) ∙ s.part) in
@@ -123,7 +96,7 @@ query-again me log x d (Query r seed young aged) s f e k =
     ∙ (λ j. Some (Query (sym names.0 j) ((ap (seed_of me) (sym names.0) ∙ sym rule.seeded) j) young aged))
 query-again me log x d _ s f e k = cc
 
-response-again : (me : Member) (log : Log) (x : Exchange) (d : Datagram) (b : Body) → IsSaying me log x d → first_said (is_of 4 x (role_of me x)) log ≡ Some d → d.message.body ≡ b → eqb (kind_number b) 4 ≡ true
+response-again : (me : Member) (log : Log) (x : Exchange) (d : Datagram) (b : Body) → IsSaying me log x (role_of me x) d → first_said (is_of 4 x (role_of me x)) log ≡ Some d → d.message.body ≡ b → eqb (kind_number b) 4 ≡ true
     → body_again me (known me log) kinds.Response x ≡ Some b
 response-again me log x d (Response r hb) s f e k =
     let names = parts-of (r, Balanced, Responder) (x.round, x.kind, role_of me x) (sym (ap part_of e) ∙ s.part) in
@@ -131,7 +104,7 @@ response-again me log x d (Response r hb) s f e k =
     ap (λ o. option_map (λ us. Response x.round us) (option_and_then answered o)) told ∙ (λ j. Some (Response (sym names.0 j) hb))
 response-again me log x d _ s f e k = cc
 
-reply-again : (me : Member) (log : Log) (x : Exchange) (d : Datagram) (b : Body) → IsSaying me log x d → first_said (is_of 7 x (role_of me x)) log ≡ Some d → d.message.body ≡ b → eqb (kind_number b) 7 ≡ true
+reply-again : (me : Member) (log : Log) (x : Exchange) (d : Datagram) (b : Body) → IsSaying me log x (role_of me x) d → first_said (is_of 7 x (role_of me x)) log ≡ Some d → d.message.body ≡ b → eqb (kind_number b) 7 ≡ true
     → body_again me (known me log) kinds.Reply x ≡ Some b
 reply-again me log x d (Reply r want give junk) s f e k =
     let names = parts-of (r, Push, Responder) (x.round, x.kind, role_of me x) (sym (ap part_of e) ∙ s.part) in
@@ -140,11 +113,11 @@ reply-again me log x d (Reply r want give junk) s f e k =
     ∙ (λ j. Some (Reply (sym names.0 j) want give junk))
 reply-again me log x d _ s f e k = cc
 
--- a member's side of an exchange of its own message
-own-party : (me : Member) (x : Exchange) (m : Message) → m.from ≡ me.party → exchange_by x.round x.kind (role_of me x) m.from m.to ≡ x → party_on x (role_of me x) ≡ me.party
-own-party me x m mine e = ap (λ y. party_on y (role_of me x)) (sym e) ∙ party-on x.round x.kind (role_of me x) m.from m.to ∙ mine
+-- a member is on its own side
+own-party : (me : Member) (x : Exchange) (to : ℕ) → exchange_by x.round x.kind (role_of me x) me.party to ≡ x → party_on x (role_of me x) ≡ me.party
+own-party me x to e = ap (λ y. party_on y (role_of me x)) (sym e) ∙ party-on x.round x.kind (role_of me x) me.party to
 
-case-again : (me : Member) (log : Log) (x : Exchange) (d : Datagram) (b : Body) → IsSaying me log x d → d.message.body ≡ b → eqb (kind_number b) 8 ≡ true → body_again me (known me log) kinds.Case x ≡ Some b
+case-again : (me : Member) (log : Log) (x : Exchange) (d : Datagram) (b : Body) → IsSaying me log x (role_of me x) d → d.message.body ≡ b → eqb (kind_number b) 8 ≡ true → body_again me (known me log) kinds.Case x ≡ Some b
 case-again me log x d (Case c) s e k =
     ap (option_map (case_body me (known me log) x)) (terms_of-later me log before x c.terms later told) ∙ ap (λ z. Some (Case z)) same
   where
@@ -161,13 +134,13 @@ case-again me log x d (Case c) s e k =
     names = parts-of (c.round, c.kind, c.role) (x.round, x.kind, role_of me x) (sym (ap part_of e) ∙ s.part)
 
     named : exchange_by c.round c.kind c.role me.party d.message.to ≡ x
-    named = (λ i. exchange_by (names.0 i) (names.1 i) (names.2 i) (sym s.sign.mine i) d.message.to) ∙ s.exchange
+    named = (λ i. exchange_by (names.0 i) (names.1 i) (names.2 i) me.party d.message.to) ∙ s.exchange
 
     told : terms_of me (known me s.was.before) x ≡ Some c.terms
     told = subst (λ y. terms_of me (known me s.was.before) y ≡ Some c.terms) named rule.terms
 
     held : AllHeld me.session s.was.before (promised_updates me.session.cap c.terms (role_of me x))
-    held = promise-held me s.was.before x (role_of me x) c.terms s.obedient (own-party me x d.message s.sign.mine s.exchange) refl told
+    held = promise-held me s.was.before x (role_of me x) c.terms s.obedient (own-party me x d.message.to s.exchange) refl told
 
     cipher : c.cipher ≡ sealed me.session x c.terms (role_of me x) (briefcase_key me x (role_of me x)) (known me log).block
     cipher =
@@ -205,11 +178,11 @@ case-again me log x d (Case c) s e k =
     }
 case-again me log x d _ s e k = cc
 
-key-again : (me : Member) (log : Log) (x : Exchange) (d : Datagram) (b : Body) → IsSaying me log x d → d.message.body ≡ b → eqb (kind_number b) 10 ≡ true → body_again me (known me log) kinds.Key x ≡ Some b
+key-again : (me : Member) (log : Log) (x : Exchange) (d : Datagram) (b : Body) → IsSaying me log x (role_of me x) d → d.message.body ≡ b → eqb (kind_number b) 10 ≡ true → body_again me (known me log) kinds.Key x ≡ Some b
 key-again me log x d (Key g) s e k =
     let rule : MayGiveKey me (known me s.was.before) d.message.to g = subst (λ z. MaySay me (known me s.was.before) d.message.to z) e s.sign.rule in
     let names = parts-of (g.round, g.kind, g.role) (x.round, x.kind, role_of me x) (sym (ap part_of e) ∙ s.part) in
-    let named : exchange_by g.round g.kind g.role me.party d.message.to ≡ x = (λ i. exchange_by (names.0 i) (names.1 i) (names.2 i) (sym s.sign.mine i) d.message.to) ∙ s.exchange in
+    let named : exchange_by g.round g.kind g.role me.party d.message.to ≡ x = (λ i. exchange_by (names.0 i) (names.1 i) (names.2 i) me.party d.message.to) ∙ s.exchange in
     let key : g.key ≡ briefcase_key me x (role_of me x) = rule.key ∙ (λ i. briefcase_key me (named i) (names.2 i)) in
     (λ i. Some (Key (record { round = sym names.0 i; kind = sym names.1 i; role = sym names.2 i; key = sym key i })))
 key-again me log x d _ s e k = cc
@@ -230,10 +203,10 @@ said-number me log to (Key g) rule = refl
 said-number me log to _ rule = absurd rule
 
 -- nothing is said of another kind
-unsaid : (me : Member) (log : Log) (x : Exchange) (d : Datagram) (n : ℕ) → IsSaying me log x d → is_said n ≡ false → is_of n x (role_of me x) d.message ≡ true → ⊥
+unsaid : (me : Member) (log : Log) (x : Exchange) (d : Datagram) (n : ℕ) → IsSaying me log x (role_of me x) d → is_said n ≡ false → is_of n x (role_of me x) d.message ≡ true → ⊥
 unsaid me log x d n s none i = both_ways _ none (subst (λ z. is_said z ≡ true) (is_of-is n x (role_of me x) d.message i).number (said-number me s.was.before d.message.to d.message.body s.sign.rule))
 
-again-by : (me : Member) (log : Log) (kind : Kind) (x : Exchange) (d : Datagram) → IsObedient me log → IsSaying me log x d → first_said (is_of (code_of kind) x (role_of me x)) log ≡ Some d
+again-by : (me : Member) (log : Log) (kind : Kind) (x : Exchange) (d : Datagram) → IsObedient me log → IsSaying me log x (role_of me x) d → first_said (is_of (code_of kind) x (role_of me x)) log ≡ Some d
     → is_of (code_of kind) x (role_of me x) d.message ≡ true → body_again me (known me log) kind x ≡ Some d.message.body
 again-by me log kinds.Request x d h s f i = request-again me log x d d.message.body h s i refl (and_parts _ _ i).0
 again-by me log kinds.Query x d h s f i = query-again me log x d d.message.body s f refl (and_parts _ _ i).0
@@ -250,14 +223,14 @@ again-by me log kinds.Evict x d h s f i = absurd (unsaid me log x d 12 s refl i)
 
 pub rewritten : (me : Member) (log : Log) → IsObedient me log → IsRewritten me (known me log)
 rewritten me log h = record {
-  own = λ kind x role d e. (let was = first_said-was (is_of (code_of kind) x role) log d e in said-side me log d (code_of kind) x role h was.0 was.1);
+  own = λ kind x role d e. (let was = first_said-was (is_of (code_of kind) x role) log d e in (saying me log d (code_of kind) x role h was.0 was.1).side);
   same = same;
 }
   where
     same : (kind : Kind) (x : Exchange) (d : Datagram) → first_said (is_of (code_of kind) x (role_of me x)) log ≡ Some d → written me (known me log) x (body_again me (known me log) kind x) ≡ Some d
     same kind x d e =
         let was = first_said-was (is_of (code_of kind) x (role_of me x)) log d e in
-        let s : IsSaying me log x d = saying me log (code_of kind) x d h was.0 was.1 in
+        let s : IsSaying me log x (role_of me x) d = saying me log d (code_of kind) x (role_of me x) h was.0 was.1 in
         let to = receiver-on (code_of kind) x (role_of me x) d.message was.1 in
         let message : message_to me x d.message.body ≡ d.message = (λ i. record { from = sym s.sign.mine i; to = sym to i; body = d.message.body }) in
         ap (option_map (λ b. signed me (known me log) (message_to me x b))) (again-by me log kind x d h s e was.1)

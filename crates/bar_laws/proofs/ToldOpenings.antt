@@ -5,12 +5,9 @@ use Rattle.bar_case.specs.Opened as opening
 use Rattle.bar_case.specs.declared.findings.Finding.{Finding}
 use Rattle.bar_rules.specs.Exchanges.{role_of}
 use Rattle.bar_rules.specs.Holdings.{briefcase_in}
-use Rattle.bar_rules.specs.Knowledge.{known}
 use Rattle.bar_rules.specs.Log.{Log, table, first_heard}
 use Rattle.bar_rules.specs.Member.{Session, Member}
 use Rattle.bar_rules.specs.Rules.{IsObedient}
-use Rattle.bar_rules.specs.Run.{log_after}
-use Rattle.bar_rules.specs.Terms.{case_heard}
 use Rattle.bar_rules.specs.Values.{opening_of, is_unknown}
 use Rattle.bar_terms.specs.Table.{Table, is_within}
 use Rattle.bar_terms.specs.Terms.{promise, promised_updates, promised_junk}
@@ -18,7 +15,7 @@ use Rattle.bar_window.specs.Exchange.{other_role}
 use Rattle.bar_window.specs.declared.exchange.Exchange.{Exchange}
 use Rattle.bar_window.specs.declared.exchange.Role.{Role}
 use Rattle.bar_wire.specs.Datagram.{Datagram, Briefcase, is_of}
-use Rattle.std.proofs.Common.{◌≡◌, ℕ, true, false, List, [], length, refl, sym, ap, ◌∙◌, subst}
+use Rattle.std.proofs.Common.{◌≡◌, ℕ, true, false, List, [], length, refl, ap, subst}
 use Rattle.std.specs.Prelude.{Option, Some, None, option_and_then, position}
 use Rattle.std.specs.List.{range_with_len}
 use Rattle.bar_laws.specs.Heard.{OpeningsAreTold}

@@ -18,10 +18,11 @@ pub record IsSpelledIn (s : Session) (inputs : List Input) (d : Datagram) : Type
 
 -- so it is of each datagram that was admitted, whatever comes
 abbrev pub HeardHasCome : Type 0
-HeardHasCome = (me : Member) (inputs : List Input) (d : Datagram) → Contains (log_after me [] inputs) (Heard d) → IsSpelledIn me.session inputs d
+HeardHasCome =
+    (me : Member) (inputs : List Input) (d : Datagram) → Contains (log_after me [] inputs) (Heard d) → IsSpelledIn me.session inputs d
 
--- Whatever comes, at each moment, where a CASE of the partner is admitted the table tells all that it promises: no key opens it to Unknown. So
--- it is of each admitted KEY, when it is admitted and ever after.
+-- Whatever comes, at each moment, where a CASE of the partner is admitted the table tells all that it promises: no key opens it to Unknown.
+-- So it is of each admitted KEY, when it is admitted and ever after.
 abbrev pub OpeningsAreTold : Type 0
 OpeningsAreTold =
     (me : Member) (inputs : List Input) (later log : Log) → log_after me [] inputs ≡ later ++ log

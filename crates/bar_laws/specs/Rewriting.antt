@@ -20,14 +20,17 @@ use Rattle.bar_rules.specs.Signing.{signed}
 use Rattle.bar_rules.specs.Terms.{terms_of, body_on, offered, answered, taken}
 
 -- The body that a message of this member's side of an exchange has, by what is known now:
--- a REQUEST by the nonce and the history that it commits to; a QUERY by what it offers and asks for; a RESPONSE by the history that it answers
--- with; a REPLY by what it wants and gives and its junk; a CASE by the terms, with the blocks that are held now; a KEY by nothing more.
+-- a REQUEST by the nonce and the history that it commits to; a QUERY by what it offers and asks for; a RESPONSE by the history that it
+-- answers with; a REPLY by what it wants and gives, and its junk; a CASE by the terms, with the blocks that are held now; a KEY by no more.
 abbrev pub body_again : Member → Knowledge → Kind → Exchange → Option Body
-body_again me k kinds.Request x = option_map (λ a. Request x.round (seed_of me x.round) (commitment_of me.session x a.0 a.1)) (k.revealed x)
+body_again me k kinds.Request x =
+    option_map (λ a. Request x.round (seed_of me x.round) (commitment_of me.session x a.0 a.1)) (k.revealed x)
 body_again me k kinds.Query x =
     option_map (λ q. Query x.round (seed_of me x.round) q.0 q.1) (option_and_then offered (body_on me k kinds.Query x Initiator))
-body_again me k kinds.Response x = option_map (λ hb. Response x.round hb) (option_and_then answered (body_on me k kinds.Response x Responder))
-body_again me k kinds.Reply x = option_map (λ t. Reply x.round t.0 t.1 t.2) (option_and_then taken (body_on me k kinds.Reply x Responder))
+body_again me k kinds.Response x =
+    option_map (λ hb. Response x.round hb) (option_and_then answered (body_on me k kinds.Response x Responder))
+body_again me k kinds.Reply x =
+    option_map (λ t. Reply x.round t.0 t.1 t.2) (option_and_then taken (body_on me k kinds.Reply x Responder))
 body_again me k kinds.Case x = option_map (case_body me k x) (terms_of me k x)
 body_again me k kinds.Key x = Some (key_body me x)
 body_again me k _ x = None
@@ -39,7 +42,8 @@ written me k x body = option_map (λ b. signed me k (message_to me x b)) body
 -- What was said of an exchange, whatever its kind and however long ago, is of this member's own side, and is what would be written now.
 pub record IsRewritten (me : Member) (k : Knowledge) : Type 0 where
   pub own : (kind : Kind) (x : Exchange) (role : Role) (d : Datagram) → k.said kind x role ≡ Some d → role ≡ role_of me x
-  pub same : (kind : Kind) (x : Exchange) (d : Datagram) → k.said kind x (role_of me x) ≡ Some d → written me k x (body_again me k kind x) ≡ Some d
+  pub same :
+      (kind : Kind) (x : Exchange) (d : Datagram) → k.said kind x (role_of me x) ≡ Some d → written me k x (body_again me k kind x) ≡ Some d
 
 -- whatever comes
 abbrev pub RunIsRewritten : Type 0
