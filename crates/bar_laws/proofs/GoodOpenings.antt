@@ -34,7 +34,7 @@ prefix-all p (x ∷ xs) e = let q = and_parts _ _ e in go (p x) q.0 (prefix-all 
 not-below : (n : ℕ) → nat_lt n n ≡ false
 not-below n = false_from_ne_true (nat_lt n n) (λ e. let h : n < n = ltb-true n n e in absurd (omega (arith, h)))
 
-no-place : {X : Type 0} (p : X → Bool) (xs : List X) → list_all (λ x. not (p x)) xs ≡ true → position p xs ≡ None
+pub no-place : {X : Type 0} (p : X → Bool) (xs : List X) → list_all (λ x. not (p x)) xs ≡ true → position p xs ≡ None
 no-place p xs e =
     let all : position_or_len p xs ≡ length xs = prefix-all (λ x. not (p x)) xs e in
     ap (λ n. cond (nat_lt n (length xs)) (Some n) None) all ∙ ap (λ b. cond b (Some (length xs)) None) (not-below (length xs))
@@ -54,7 +54,7 @@ junk-told : (t : Table) (junk : List ℕ) (ns : List ℕ) (bytes : List ℕ) →
 junk-told t junk [] bytes = refl
 junk-told t junk (n ∷ ns) bytes = and_from _ _ (sound-told (bytes_eq (take 1280 bytes) (junk_item junk n))) (junk-told t junk ns (drop 1280 bytes))
 
-all-told : (t : Table) (junk : List ℕ) (us : List UpdateId) (ns : List ℕ) (bytes : List ℕ) → is_within t us ≡ true
+pub all-told : (t : Table) (junk : List ℕ) (us : List UpdateId) (ns : List ℕ) (bytes : List ℕ) → is_within t us ≡ true
     → list_all (λ f. not (is_untold f)) (findings t junk (map Update us ++ map Junk ns) bytes) ≡ true
 all-told t junk [] ns bytes e = junk-told t junk ns bytes
 all-told t junk (u ∷ us) ns bytes e =

@@ -1,5 +1,7 @@
-use Rattle.bar_laws.proofs.Sends.{keys-to-partners}
+use Rattle.std.proofs.Common.{[]}
+use Rattle.bar_laws.proofs.KeyPartners.{keys-to-partners}
+use Rattle.bar_laws.proofs.Runs.{run-obedient}
 use Rattle.bar_laws.proofs.totals.keys_go_to_partners.Goals as goal
 
 pub returns : goal.returns
-returns c = λ me is inputs. keys-to-partners me inputs
+returns c = λ me is inputs. keys-to-partners me inputs (run-obedient me [] inputs tt)

@@ -1,0 +1,5 @@
+use Rattle.bar_laws.proofs.Came.{heard-came}
+use Rattle.bar_laws.proofs.heard.what_was_heard_came.Goals as goal
+
+pub returns : goal.returns
+returns c = heard-came

@@ -1,0 +1,30 @@
+-- What was heard came, and what it can show.
+use Rattle.std.specs.Prelude.{◌≡◌, ℕ, false, List, [], ◌++◌, Some, Contains}
+use Rattle.bar_window.specs.declared.exchange.Exchange.{Exchange}
+use Rattle.bar_wire.specs.Datagram.{Datagram, Briefcase}
+use Rattle.bar_wire.specs.Inputs.{Input, Came}
+use Rattle.bar_rules.specs.Knowledge.{known}
+use Rattle.bar_rules.specs.Log.{Log, Heard, table}
+use Rattle.bar_rules.specs.Member.{Session, Member}
+use Rattle.bar_rules.specs.Run.{log_after}
+use Rattle.bar_rules.specs.Terms.{case_heard}
+use Rattle.bar_rules.specs.Values.{opening_of, is_unknown, datagram_of}
+
+-- The bytes of one of the inputs spell the datagram.
+pub record IsSpelledIn (s : Session) (inputs : List Input) (d : Datagram) : Type 0 where
+  pub bytes : List ℕ
+  pub came : Contains inputs (Came bytes)
+  pub spells : datagram_of s bytes ≡ Some d
+
+-- so it is of each datagram that was admitted, whatever comes
+abbrev pub HeardHasCome : Type 0
+HeardHasCome =
+    (me : Member) (inputs : List Input) (d : Datagram) → Contains (log_after me [] inputs) (Heard d) → IsSpelledIn me.session inputs d
+
+-- Whatever comes, at each moment, where a CASE of the partner is admitted the table tells all that it promises: no key opens it to Unknown.
+-- So it is of each admitted KEY, when it is admitted and ever after.
+abbrev pub OpeningsAreTold : Type 0
+OpeningsAreTold =
+    (me : Member) (inputs : List Input) (later log : Log) → log_after me [] inputs ≡ later ++ log
+    → (x : Exchange) (case : Briefcase) (key : List ℕ) → case_heard me (known me log) x ≡ Some case
+    → is_unknown (opening_of me.session (table log) x case key) ≡ false

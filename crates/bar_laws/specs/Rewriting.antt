@@ -1,0 +1,55 @@
+-- What was said is what would be written now: a peer has to keep none of its own datagrams.
+use Rattle.std.specs.Prelude.{◌≡◌, List, [], Option, Some, None, option_map, option_and_then}
+use Rattle.bar_wire.specs.Bodies.{history_in, offer_in, reply_in}
+use Rattle.bar_window.specs.declared.exchange.Exchange.{Exchange}
+use Rattle.bar_window.specs.declared.exchange.Role.{Role}
+use Rattle.bar_window.specs.declared.exchange.Role.TheVariants.{Initiator, Responder}
+use Rattle.bar_wire.specs.Datagram.{Datagram, Body, Request, Response, Query, Reply}
+use Rattle.bar_wire.specs.Inputs.{Input}
+use Rattle.bar_wire.specs.declared.kind.Kind.TheVariants as kinds
+use Rattle.bar_wire.specs.declared.kind.Kind.{Kind}
+use Rattle.bar_rules.specs.Exchanges.{role_of}
+use Rattle.bar_rules.specs.Knowledge.{Knowledge, known}
+use Rattle.bar_rules.specs.Log.{Log}
+use Rattle.bar_rules.specs.Machine.{message_to}
+use Rattle.bar_rules.specs.Member.{Member}
+use Rattle.bar_rules.specs.Orders.{case_body, key_body}
+use Rattle.bar_rules.specs.Rules.{IsObedient}
+use Rattle.bar_rules.specs.Run.{log_after}
+use Rattle.bar_rules.specs.Secrets.{seed_of, commitment_of}
+use Rattle.bar_rules.specs.Signing.{signed}
+use Rattle.bar_rules.specs.Terms.{terms_of, body_on}
+
+-- The body that a message of this member's side of an exchange has, by what is known now:
+-- a REQUEST by the nonce and the history that it commits to; a QUERY by what it offers and asks for; a RESPONSE by the history that it
+-- answers with; a REPLY by what it wants and gives, and its junk; a CASE by the terms, with the blocks that are held now; a KEY by no more.
+abbrev pub body_again : Member → Knowledge → Kind → Exchange → Option Body
+body_again me k kinds.Request x =
+    option_map (λ a. Request x.round (seed_of me x.round) (commitment_of me.session x a.0 a.1)) (k.revealed x)
+body_again me k kinds.Query x =
+    option_map (λ q. Query x.round (seed_of me x.round) q.0 q.1) (option_and_then offer_in (body_on me k kinds.Query x Initiator))
+body_again me k kinds.Response x =
+    option_map (λ hb. Response x.round hb) (option_and_then history_in (body_on me k kinds.Response x Responder))
+body_again me k kinds.Reply x =
+    option_map (λ t. Reply x.round t.0 t.1 t.2) (option_and_then reply_in (body_on me k kinds.Reply x Responder))
+body_again me k kinds.Case x = option_map (case_body me k x) (terms_of me k x)
+body_again me k kinds.Key x = Some (key_body me x)
+body_again me k _ x = None
+
+-- the datagram of a body to the partner in an exchange, signed by what is known now
+abbrev pub written : Member → Knowledge → Exchange → Option Body → Option Datagram
+written me k x body = option_map (λ b. signed me k (message_to me x b)) body
+
+-- What was said of an exchange, whatever its kind and however long ago, is of this member's own side, and is what would be written now.
+pub record IsRewritten (me : Member) (k : Knowledge) : Type 0 where
+  pub own : (kind : Kind) (x : Exchange) (role : Role) (d : Datagram) → k.said kind x role ≡ Some d → role ≡ role_of me x
+  pub same :
+      (kind : Kind) (x : Exchange) (d : Datagram) → k.said kind x (role_of me x) ≡ Some d → written me k x (body_again me k kind x) ≡ Some d
+
+-- whatever comes
+abbrev pub RunIsRewritten : Type 0
+RunIsRewritten = (me : Member) (inputs : List Input) → IsRewritten me (known me (log_after me [] inputs))
+
+-- so it is of each log that keeps the rules, whether or not a run leaves it
+abbrev pub LogIsRewritten : Type 0
+LogIsRewritten = (me : Member) (log : Log) → IsObedient me log → IsRewritten me (known me log)

@@ -1,0 +1,55 @@
+-- Few exchanges: of each round a peer keeps six at most, each in a room of its own.
+use Rattle.std.specs.Prelude.{◌≡◌, ℕ, zero, suc, true, List, [], Option, Some, None, is_some, option_map, option_and_then}
+use Rattle.std.specs.Bool.{then_some}
+use Rattle.bar_window.specs.declared.exchange.Exchange.{Exchange}
+use Rattle.bar_window.specs.declared.exchange.Role.{Role}
+use Rattle.bar_window.specs.declared.exchange.Role.TheVariants.{Initiator, Responder}
+use Rattle.bar_window.specs.declared.exchange.XKind.{XKind}
+use Rattle.bar_wire.specs.Inputs.{Input}
+use Rattle.bar_wire.specs.declared.kind.Kind.{Kind}
+use Rattle.bar_rules.specs.Exchanges.{role_of, request_kind}
+use Rattle.bar_rules.specs.Knowledge.{Knowledge, known, has_heard_of, has_said_of}
+use Rattle.bar_rules.specs.Log.{Log}
+use Rattle.bar_rules.specs.Member.{Member}
+use Rattle.bar_rules.specs.Rules.{IsObedient}
+use Rattle.bar_rules.specs.Run.{log_after}
+
+-- among the exchanges of one round and kind: the one that this member asked for, or the first or the second that it was asked for
+pub data Asking : Type 0 where
+  Own : Asking
+  First : Asking
+  Second : Asking
+
+-- one of the six rooms of a round
+pub record Room : Type 0 where
+  pub kind : XKind
+  pub asking : Asking
+
+-- the asking of a seat: there are two
+abbrev pub asking_at : ℕ → Option Asking
+asking_at zero = Some First
+asking_at (suc zero) = Some Second
+asking_at (suc (suc n)) = None
+
+-- where the REQUEST or QUERY of an exchange was said by its initiator, or was admitted by its responder
+abbrev pub asking_of : Knowledge → Exchange → Role → Option Asking
+asking_of k x Initiator = then_some (has_said_of k (request_kind x.kind) x Initiator) Own
+asking_of k x Responder = option_and_then asking_at (k.seat x)
+
+-- the room of an exchange, where its REQUEST or QUERY was said or admitted
+abbrev pub room_of : Member → Knowledge → Exchange → Option Room
+room_of me k x = option_map (λ a. record { kind = x.kind; asking = a }) (asking_of k x (role_of me x))
+
+-- Each exchange of which anything was admitted or said has a room, and two of one round have different rooms.
+pub record HasRooms (me : Member) (k : Knowledge) : Type 0 where
+  pub heard : (kind : Kind) (x : Exchange) (role : Role) → has_heard_of k kind x role ≡ true → is_some (room_of me k x) ≡ true
+  pub said : (kind : Kind) (x : Exchange) (role : Role) → has_said_of k kind x role ≡ true → is_some (room_of me k x) ≡ true
+  pub one : (x y : Exchange) (room : Room) → x.round ≡ y.round → room_of me k x ≡ Some room → room_of me k y ≡ Some room → x ≡ y
+
+-- whatever comes
+abbrev pub RunHasRooms : Type 0
+RunHasRooms = (me : Member) (inputs : List Input) → HasRooms me (known me (log_after me [] inputs))
+
+-- so it is of each log that keeps the rules, whether or not a run leaves it
+abbrev pub LogHasRooms : Type 0
+LogHasRooms = (me : Member) (log : Log) → IsObedient me log → HasRooms me (known me log)

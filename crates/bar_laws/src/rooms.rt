@@ -1,0 +1,12 @@
+//! Few exchanges.
+
+ghost use Rattle.bar_laws.specs.Rooms.{RunHasRooms, LogHasRooms};
+
+/// Whatever datagrams and ticks come, each exchange of which a peer has admitted or signed anything has one of six rooms in its round, and
+/// no two exchanges of a round have the same.
+pub fn exchanges_have_rooms()
+    // in the log that any list of inputs leaves
+    ensures run { RunHasRooms }
+    // in each log that keeps the rules
+    ensures obedient { LogHasRooms }
+{}
