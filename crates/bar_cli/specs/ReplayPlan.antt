@@ -11,7 +11,7 @@ use Rattle.bar_seeds.specs.declared.secrets.Secrets.{Secrets}
 use Rattle.bar_roster.specs.SessionText.{SessionData}
 use Rattle.bar_roster.specs.KeyFile.{Fits}
 use Rattle.bar_rules.specs.Member.{Member}
-use Rattle.bar_rules.specs.Listening.{played_by_listener, sends_of_listener}
+use Rattle.bar_rules.specs.Peer.Listening.{played_by_listener, sends_of_listener}
 use Rattle.bar_cli.specs.Refusals.{session_refused, key_refused, input_refused}
 use Rattle.bar_cli.specs.Replay.{session_of, key_of, recording_of, member_of, contents_of}
 

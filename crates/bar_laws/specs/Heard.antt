@@ -3,11 +3,11 @@ use Rattle.std.specs.Prelude.{◌≡◌, ℕ, false, List, [], ◌++◌, Some, C
 use Rattle.bar_window.specs.declared.exchange.Exchange.{Exchange}
 use Rattle.bar_wire.specs.Datagram.{Datagram, Briefcase}
 use Rattle.bar_wire.specs.Inputs.{Input, Came}
-use Rattle.bar_rules.specs.Knowledge.{known}
-use Rattle.bar_rules.specs.Log.{Log, Heard, table}
+use Rattle.bar_rules.specs.Peer.Knowledge.{known}
+use Rattle.bar_rules.specs.Peer.Log.{Log, Heard, table}
 use Rattle.bar_rules.specs.Member.{Session, Member}
-use Rattle.bar_rules.specs.Run.{log_after}
-use Rattle.bar_rules.specs.Terms.{case_heard}
+use Rattle.bar_rules.specs.Peer.Run.{log_after}
+use Rattle.bar_rules.specs.Peer.Terms.{case_heard}
 use Rattle.bar_rules.specs.Values.{opening_of, is_unknown, datagram_of}
 
 -- The bytes of one of the inputs spell the datagram.

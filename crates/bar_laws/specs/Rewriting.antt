@@ -8,17 +8,17 @@ use Rattle.bar_wire.specs.Datagram.{Datagram, Body, Request, Response, Query, Re
 use Rattle.bar_wire.specs.Inputs.{Input}
 use Rattle.bar_wire.specs.declared.kind.Kind.TheVariants as kinds
 use Rattle.bar_wire.specs.declared.kind.Kind.{Kind}
-use Rattle.bar_rules.specs.Exchanges.{role_of}
-use Rattle.bar_rules.specs.Knowledge.{Knowledge, known}
-use Rattle.bar_rules.specs.Log.{Log}
-use Rattle.bar_rules.specs.Machine.{message_to}
+use Rattle.bar_rules.specs.Peer.Exchanges.{role_of}
+use Rattle.bar_rules.specs.Peer.Knowledge.{Knowledge, known}
+use Rattle.bar_rules.specs.Peer.Log.{Log}
+use Rattle.bar_rules.specs.Peer.Machine.{message_to}
 use Rattle.bar_rules.specs.Member.{Member}
-use Rattle.bar_rules.specs.Orders.{case_body, key_body}
-use Rattle.bar_rules.specs.Rules.{IsObedient}
-use Rattle.bar_rules.specs.Run.{log_after}
+use Rattle.bar_rules.specs.Peer.Orders.{case_body, key_body}
+use Rattle.bar_rules.specs.Peer.Rules.{IsObedient}
+use Rattle.bar_rules.specs.Peer.Run.{log_after}
 use Rattle.bar_rules.specs.Secrets.{seed_of, commitment_of}
-use Rattle.bar_rules.specs.Signing.{signed}
-use Rattle.bar_rules.specs.Terms.{terms_of, body_on}
+use Rattle.bar_rules.specs.Peer.Signing.{signed}
+use Rattle.bar_rules.specs.Peer.Terms.{terms_of, body_on}
 
 -- The body that a message of this member's side of an exchange has, by what is known now:
 -- a REQUEST by the nonce and the history that it commits to; a QUERY by what it offers and asks for; a RESPONSE by the history that it

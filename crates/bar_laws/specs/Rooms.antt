@@ -7,12 +7,12 @@ use Rattle.bar_window.specs.declared.exchange.Role.TheVariants.{Initiator, Respo
 use Rattle.bar_window.specs.declared.exchange.XKind.{XKind}
 use Rattle.bar_wire.specs.Inputs.{Input}
 use Rattle.bar_wire.specs.declared.kind.Kind.{Kind}
-use Rattle.bar_rules.specs.Exchanges.{role_of, request_kind}
-use Rattle.bar_rules.specs.Knowledge.{Knowledge, known, has_heard_of, has_said_of}
-use Rattle.bar_rules.specs.Log.{Log}
+use Rattle.bar_rules.specs.Peer.Exchanges.{role_of, request_kind}
+use Rattle.bar_rules.specs.Peer.Knowledge.{Knowledge, known, has_heard_of, has_said_of}
+use Rattle.bar_rules.specs.Peer.Log.{Log}
 use Rattle.bar_rules.specs.Member.{Member}
-use Rattle.bar_rules.specs.Rules.{IsObedient}
-use Rattle.bar_rules.specs.Run.{log_after}
+use Rattle.bar_rules.specs.Peer.Rules.{IsObedient}
+use Rattle.bar_rules.specs.Peer.Run.{log_after}
 
 -- among the exchanges of one round and kind: the one that this member asked for, or the first or the second that it was asked for
 pub data Asking : Type 0 where

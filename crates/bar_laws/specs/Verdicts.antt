@@ -2,7 +2,7 @@
 use Rattle.std.specs.Prelude.{◌≡◌, ℕ, List}
 use Rattle.bar_terms.specs.Table.{Table, Extends}
 use Rattle.bar_rules.specs.Member.{Session}
-use Rattle.bar_rules.specs.Verdict.{Fault, Shown, verdict}
+use Rattle.bar_rules.specs.Judge.Verdict.{Fault, Shown, verdict}
 
 -- what is shown under a table is shown under each table that has its lists and more: of the same party, and the same fault
 abbrev pub ShownStaysShown : Type 0

@@ -1,6 +1,6 @@
 use Rattle.std.proofs.Common.{[]}
-use Rattle.bar_rules.specs.Run.{log_after}
-use Rattle.bar_laws.proofs.AgreeTicks.{answers-alike}
+use Rattle.bar_rules.specs.Peer.Run.{log_after}
+use Rattle.bar_laws.proofs.Memory.{answers-alike}
 use Rattle.bar_laws.proofs.Runs.{run-obedient}
 use Rattle.bar_laws.proofs.agreement.agreeing_logs_answer_alike.Goals as goal
 

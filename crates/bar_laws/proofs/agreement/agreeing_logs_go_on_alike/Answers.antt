@@ -1,6 +1,6 @@
 use Rattle.std.proofs.Common.{[]}
-use Rattle.bar_rules.specs.Run.{log_after}
-use Rattle.bar_laws.proofs.GoingOn.{goes-on}
+use Rattle.bar_rules.specs.Peer.Run.{log_after}
+use Rattle.bar_laws.proofs.Memory.{goes-on}
 use Rattle.bar_laws.proofs.Runs.{run-obedient}
 use Rattle.bar_laws.proofs.agreement.agreeing_logs_go_on_alike.Goals as goal
 

@@ -1,4 +1,4 @@
-use Rattle.bar_laws.proofs.AgreeTotals.{totals-agree}
+use Rattle.bar_laws.proofs.Memory.{totals-agree}
 use Rattle.bar_laws.proofs.agreement.agreeing_totals.Goals as goal
 
 pub returns : goal.returns

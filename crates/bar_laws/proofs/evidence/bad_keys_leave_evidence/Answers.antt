@@ -1,8 +1,7 @@
 use Rattle.std.proofs.Common.{[]}
-use Rattle.bar_rules.specs.Run.{log_after}
+use Rattle.bar_rules.specs.Peer.Run.{log_after}
 use Rattle.bar_laws.proofs.Runs.{run-obedient}
-use Rattle.bar_laws.proofs.Kept.{run-watchful}
-use Rattle.bar_laws.proofs.BadKeys.{opens-badly-kept}
+use Rattle.bar_laws.proofs.Judging.{run-watchful, opens-badly-kept}
 use Rattle.bar_laws.proofs.evidence.bad_keys_leave_evidence.Goals as goal
 
 pub returns : goal.returns

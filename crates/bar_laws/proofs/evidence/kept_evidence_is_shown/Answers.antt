@@ -1,7 +1,7 @@
 use Rattle.std.proofs.Common.{[]}
-use Rattle.bar_rules.specs.Run.{log_after}
+use Rattle.bar_rules.specs.Peer.Run.{log_after}
 use Rattle.bar_laws.proofs.Runs.{run-obedient}
-use Rattle.bar_laws.proofs.Kept.{kept-shown}
+use Rattle.bar_laws.proofs.Judging.{kept-shown}
 use Rattle.bar_laws.proofs.evidence.kept_evidence_is_shown.Goals as goal
 
 pub returns : goal.returns

@@ -1,7 +1,7 @@
 use Rattle.std.proofs.Common.{[]}
-use Rattle.bar_rules.specs.Run.{log_after}
+use Rattle.bar_rules.specs.Peer.Run.{log_after}
 use Rattle.bar_laws.proofs.Runs.{run-obedient}
-use Rattle.bar_laws.proofs.Unframed.{not-named}
+use Rattle.bar_laws.proofs.Judging.{not-named}
 use Rattle.bar_laws.proofs.framing.no_framing.Goals as goal
 
 pub returns : goal.returns

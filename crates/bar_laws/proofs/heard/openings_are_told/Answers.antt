@@ -1,4 +1,4 @@
-use Rattle.bar_laws.proofs.ToldOpenings.{openings-told}
+use Rattle.bar_laws.proofs.Judging.{openings-told}
 use Rattle.bar_laws.proofs.heard.openings_are_told.Goals as goal
 
 pub returns : goal.returns

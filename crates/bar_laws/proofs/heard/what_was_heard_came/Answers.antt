@@ -1,4 +1,4 @@
-use Rattle.bar_laws.proofs.Came.{heard-came}
+use Rattle.bar_laws.proofs.Judging.{heard-came}
 use Rattle.bar_laws.proofs.heard.what_was_heard_came.Goals as goal
 
 pub returns : goal.returns

@@ -1,7 +1,6 @@
 use Rattle.std.proofs.Common.{[]}
-use Rattle.bar_rules.specs.Run.{log_after}
-use Rattle.bar_laws.proofs.FinalLeaf.{keeps-leaves}
-use Rattle.bar_laws.proofs.Runs.{run-obedient}
+use Rattle.bar_rules.specs.Peer.Run.{log_after}
+use Rattle.bar_laws.proofs.Runs.{keeps-leaves, run-obedient}
 use Rattle.bar_laws.proofs.leaves.leaf_discipline.Goals as goal
 
 pub returns : goal.returns

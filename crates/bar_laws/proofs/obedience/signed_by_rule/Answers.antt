@@ -1,6 +1,5 @@
 use Rattle.std.proofs.Common.{[]}
-use Rattle.bar_laws.proofs.Runs.{run-obedient}
-use Rattle.bar_laws.proofs.Sends.{sent-by-rule}
+use Rattle.bar_laws.proofs.Runs.{run-obedient, sent-by-rule}
 use Rattle.bar_laws.proofs.obedience.signed_by_rule.Goals as goal
 
 pub returns : goal.returns

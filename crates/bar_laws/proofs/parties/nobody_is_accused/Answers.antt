@@ -1,4 +1,4 @@
-use Rattle.bar_laws.proofs.Trusted.{nobody-accused}
+use Rattle.bar_laws.proofs.Worlds.{nobody-accused}
 use Rattle.bar_laws.proofs.parties.nobody_is_accused.Goals as goal
 
 pub returns : goal.returns

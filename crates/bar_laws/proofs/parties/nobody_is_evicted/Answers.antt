@@ -1,4 +1,4 @@
-use Rattle.bar_laws.proofs.Trusted.{nobody-evicted}
+use Rattle.bar_laws.proofs.Worlds.{nobody-evicted}
 use Rattle.bar_laws.proofs.parties.nobody_is_evicted.Goals as goal
 
 pub returns : goal.returns

@@ -1,4 +1,4 @@
-use Rattle.bar_laws.proofs.Trusted.{tables-extended}
+use Rattle.bar_laws.proofs.Worlds.{tables-extended}
 use Rattle.bar_laws.proofs.parties.tables_are_extended.Goals as goal
 
 pub returns : goal.returns

@@ -1,6 +1,6 @@
 use Rattle.std.proofs.Common.{[]}
-use Rattle.bar_rules.specs.Run.{log_after}
-use Rattle.bar_laws.proofs.Rewritten.{rewritten}
+use Rattle.bar_rules.specs.Peer.Run.{log_after}
+use Rattle.bar_laws.proofs.Memory.{rewritten}
 use Rattle.bar_laws.proofs.Runs.{run-obedient}
 use Rattle.bar_laws.proofs.rewriting.what_was_said_is_written_again.Goals as goal
 

@@ -1,6 +1,6 @@
 use Rattle.std.proofs.Common.{[]}
-use Rattle.bar_rules.specs.Run.{log_after}
-use Rattle.bar_laws.proofs.RoomsOf.{has-rooms}
+use Rattle.bar_rules.specs.Peer.Run.{log_after}
+use Rattle.bar_laws.proofs.Memory.{has-rooms}
 use Rattle.bar_laws.proofs.Runs.{run-obedient}
 use Rattle.bar_laws.proofs.rooms.exchanges_have_rooms.Goals as goal
 

@@ -1,6 +1,5 @@
 use Rattle.std.proofs.Common.{[]}
-use Rattle.bar_laws.proofs.Runs.{run-obedient}
-use Rattle.bar_laws.proofs.Sends.{run-balanced}
+use Rattle.bar_laws.proofs.Runs.{run-obedient, run-balanced}
 use Rattle.bar_laws.proofs.totals.balanced.Goals as goal
 
 pub returns : goal.returns

@@ -1,6 +1,5 @@
 use Rattle.std.proofs.Common.{[]}
-use Rattle.bar_laws.proofs.KeyPartners.{keys-to-partners}
-use Rattle.bar_laws.proofs.Runs.{run-obedient}
+use Rattle.bar_laws.proofs.Runs.{keys-to-partners, run-obedient}
 use Rattle.bar_laws.proofs.totals.keys_go_to_partners.Goals as goal
 
 pub returns : goal.returns

@@ -1,4 +1,4 @@
-use Rattle.bar_laws.proofs.Stays.{verdict-stays}
+use Rattle.bar_laws.proofs.Judging.{verdict-stays}
 use Rattle.bar_laws.proofs.verdicts.shown_stays_shown.Goals as goal
 
 pub returns : goal.returns

@@ -1,0 +1,13 @@
+-- What parties sign and send is in the grammar, and is accepted.
+mod CasterAdds
+mod CasterFits
+mod MessageLengths
+mod SaidFits
+mod EvidenceFits
+mod PeerFits
+mod SignedAccepted
+
+-- the lemmas that other groups may cite
+pub use Rattle.bar_laws.proofs.Fitting.CasterAdds.{IsOwnMessage, IsBegun, IsOwnBody, IsFair, AreOwn, AllFit, IsCaster, own-inside, caster-casts}
+pub use Rattle.bar_laws.proofs.Fitting.PeerFits.{said-fits, step-fits}
+pub use Rattle.bar_laws.proofs.Fitting.SignedAccepted.{said-accepted}

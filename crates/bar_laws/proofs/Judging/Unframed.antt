@@ -1,0 +1,189 @@
+-- No member is framed by what it signed.
+use Rattle.bar_wire.specs.Bodies.{briefcase_in, choice_in, key_in}
+use Rattle.bar_case.specs.Opened.{is_bad}
+use Rattle.bar_case.specs.Opened as opening
+use Rattle.bar_case.specs.Sealed.{IsTold}
+use Rattle.bar_rules.specs.Peer.Evidence.{names}
+use Rattle.bar_rules.specs.Peer.Holdings.{block_of, is_held}
+use Rattle.bar_rules.specs.Peer.Knowledge.{known}
+use Rattle.bar_rules.specs.Peer.Log.{Log, Ticked, Heard, Said, Kept, table}
+use Rattle.bar_rules.specs.Member.{Session, Member, IsMember}
+use Rattle.bar_rules.specs.Peer.Rules.{IsObedient, MaySend}
+use Rattle.bar_rules.specs.Secrets.{briefcase_key, is_seed, seed_of, partner_of, secrets_of}
+use Rattle.bar_rules.specs.Peer.Signing.{MaySign, MaySay, MayGiveCase, MayGiveKey}
+use Rattle.bar_rules.specs.Values.{terms_ok, opening_of, counts_ok, is_signed_by}
+use Rattle.bar_rules.specs.Judge.Verdict.{key_fits, pair_opening, bad_opening, bad_terms, wrong_partner, fault_of_one, fault_of_two, fault_of, all_read, are_of_one_peer, judged, verdict, Fault, NotShown, Malformed, NotSigned}
+use Rattle.bar_rules.specs.World.World.{HasSaid}
+use Rattle.bar_terms.specs.Table.{no_lists, Table, Agrees, digest_of, digest_in, Known, NoManifest}
+use Rattle.bar_terms.specs.Terms.{promised_updates}
+use Rattle.bar_window.specs.declared.exchange.Exchange.{Exchange}
+use Rattle.bar_window.specs.declared.exchange.XKind.{XKind}
+use Rattle.bar_window.specs.declared.exchange.XKind.TheVariants.{Balanced, Push}
+use Rattle.bar_window.specs.declared.update.UpdateId.{UpdateId}
+use Rattle.bar_wire.specs.Datagram.{round_of, Message, Datagram, Body, Request, Query, Case, Key, Briefcase, KeyGiven, exchange_by}
+use Rattle.sha2.specs.Sha256.{sha256}
+use Rattle.std.proofs.Common.{◌≤◌, ◌≡◌, ℕ, Bool, true, false, List, [], ◌∷◌, refl, sym, ap, ◌∙◌, subst, inl, inr, ◌&&◌, not, arith}
+use Rattle.std.specs.Prelude.{Option, Some, None, ◌⊎◌, if◌then◌else◌}
+use Rattle.std.specs.List.{AllByRecursion, list_all}
+use Rattle.std.specs.Option.{option_map_or}
+use Rattle.std.proofs.lemmas.Bool.{and_parts, and_from, and_right, eq-eqb, not_from_true}
+use Rattle.bar_laws.proofs.Logs.{own_key, own_seed, allowed-at, same_exchange-is, same_role-is, WasSaid, later-entry, said-rule, some-is, held-known, table-later, SaidIn, was-said, never_bad_terms, agrees-before, party-on, role-own, sign-elsewhere}
+use Rattle.bar_laws.proofs.Judging.ShownStays.{case_of-is, key_of-is}
+use Rattle.bar_laws.proofs.Judging.OwnWordsAgree.{never-by_words}
+use Rattle.bar_laws.proofs.Judging.PromisesHeld.{AllHeld, promise-held}
+use Rattle.bar_laws.proofs.Judging.WholeBlocks.{blocks-whole}
+
+-- ---- a briefcase and its key
+
+agrees-known : (one two : Table) (u : UpdateId) (d : List ℕ) → Agrees one two → digest_of one u ≡ Known d → (digest_of two u ≡ NoManifest) ⊎ (digest_of two u ≡ Known d)
+agrees-known one two u d h e = go (one u.round) (two u.round) refl refl e
+  where
+    go : (o p : Option (List (List ℕ))) → one u.round ≡ o → two u.round ≡ p → digest_in o u.index ≡ Known d → (digest_in p u.index ≡ NoManifest) ⊎ (digest_in p u.index ≡ Known d)
+    go None p f g e = cc
+    go (Some ds) None f g e = inl refl
+    go (Some ds) (Some es) f g e = let same : ds ≡ es = h.same u.round ds es f g in inr (subst (λ z. digest_in (Some z) u.index ≡ Known d) same e)
+
+-- a held update is told by each table that agrees
+held-told : (me : Member) (log : Log) (two : Table) (u : UpdateId) → IsObedient me log → Agrees (table log) two → is_held me.session log u ≡ true → IsTold two (block_of me.session log) u
+held-told me log two u h agree e =
+    let b = some-is (block_of me.session log u) e in
+    record {
+      block = b.0;
+      held = b.1;
+      whole = blocks-whole me log u b.0 h b.1;
+      told = agrees-known (table log) two u (sha256 b.0) agree (held-known me log u b.0 h b.1);
+    }
+
+all-told : (me : Member) (log : Log) (two : Table) (us : List UpdateId) → IsObedient me log → Agrees (table log) two → AllHeld me.session log us → AllByRecursion (IsTold two (block_of me.session log)) us
+all-told me log two [] h agree e = tt
+all-told me log two (u ∷ us) h agree e = let p = and_parts _ _ e in (held-told me log two u h agree p.0, all-told me log two us h agree p.1)
+
+-- what a member seals by the rules never opens badly with the key of its side
+own-opens : (me : Member) (log : Log) (two : Table) (to : ℕ) (c : Briefcase) → IsObedient me log → Agrees (table log) two → (to ≡ me.party → ⊥) → MayGiveCase me (known me log) to c
+    → is_bad (opening_of me.session two (exchange_by c.round c.kind c.role me.party to) c (briefcase_key me (exchange_by c.round c.kind c.role me.party to) c.role)) ≡ false
+own-opens me log two to c h agree other rule =
+    let x : Exchange = exchange_by c.round c.kind c.role me.party to in
+    let key : List ℕ = briefcase_key me x c.role in
+    let held : AllHeld me.session log (promised_updates me.session.cap c.terms c.role) = promise-held me log x c.role c.terms h (party-on c.round c.kind c.role me.party to) (role-own me c.round c.kind c.role to other) rule.terms in
+    let good = own_key me.session.shape.id x me.session.cap c.terms c.role key two (block_of me.session log) (all-told me log two (promised_updates me.session.cap c.terms c.role) h agree held) in
+    subst (λ (cipher : List ℕ). is_bad (opening.opening me.session.shape.id x me.session.cap c.terms c.role cipher key two) ≡ false) (sym rule.cipher) good
+
+-- a said briefcase and a said key for it open to nothing bad
+pub never-opens_bad : (me : Member) (log : Log) (two : Table) (m n : Datagram) (c : Briefcase) (k : KeyGiven) → IsObedient me log → SaidIn log m → SaidIn log n → m.message.body ≡ Case c → n.message.body ≡ Key k → Agrees (table log) two
+    → key_fits m.message c n.message k ≡ true → is_bad (opening_of me.session two (exchange_by c.round c.kind c.role m.message.from m.message.to) c k.key) ≡ false
+never-opens_bad me log two m n c k h p q e f agree fits =
+    let w : WasSaid log m = was-said log m p in
+    let v : WasSaid log n = was-said log n q in
+    let sm : MaySend me w.before m = said-rule me log m w h in
+    let sn : MaySend me v.before n = said-rule me log n v h in
+    let rc : MayGiveCase me (known me w.before) m.message.to c = subst (λ b. MaySay me (known me w.before) m.message.to b) e sm.rule.rule in
+    let rk : MayGiveKey me (known me v.before) n.message.to k = subst (λ b. MaySay me (known me v.before) n.message.to b) f sn.rule.rule in
+    let before : IsObedient me w.before = (allowed-at me log w.before (Said m) w.place h).1 in
+    let near : Agrees (table w.before) two = agrees-before _ _ two (table-later log w.before (later-entry log w.before (Said m) w.place)) agree in
+    let fp = and_parts _ _ fits in
+    let same : exchange_by c.round c.kind c.role m.message.from m.message.to ≡ exchange_by k.round k.kind k.role n.message.from n.message.to = same_exchange-is _ _ (and_parts _ _ fp.0).1 in
+    let role : c.role ≡ k.role = same_role-is c.role k.role fp.1 in
+    let cx : exchange_by c.round c.kind c.role me.party m.message.to ≡ exchange_by c.round c.kind c.role m.message.from m.message.to = ap (λ z. exchange_by c.round c.kind c.role z m.message.to) (sym sm.rule.mine) in
+    let kx : exchange_by k.round k.kind k.role me.party n.message.to ≡ exchange_by c.round c.kind c.role m.message.from m.message.to = ap (λ z. exchange_by k.round k.kind k.role z n.message.to) (sym sn.rule.mine) ∙ sym same in
+    let key : k.key ≡ briefcase_key me (exchange_by c.round c.kind c.role me.party m.message.to) c.role = rk.key ∙ ap (λ z. briefcase_key me z k.role) (kx ∙ sym cx) ∙ ap (λ z. briefcase_key me (exchange_by c.round c.kind c.role me.party m.message.to) z) (sym role) in
+    let good : is_bad (opening_of me.session two (exchange_by c.round c.kind c.role me.party m.message.to) c k.key) ≡ false = subst (λ z. is_bad (opening_of me.session two (exchange_by c.round c.kind c.role me.party m.message.to) c z) ≡ false) (sym key) (own-opens me w.before two m.message.to c before near (sign-elsewhere me w.before m.message before sm.rule) rc) in
+    subst (λ z. is_bad (opening_of me.session two z c k.key) ≡ false) cx good
+
+and-not : (a b : Bool) → (a ≡ true → b ≡ false) → (a && b) ≡ false
+and-not true b f = f refl
+and-not false b f = refl
+
+never-bad_opening : (me : Member) (log : Log) (two : Table) (m n : Datagram) → IsObedient me log → SaidIn log m → SaidIn log n → Agrees (table log) two
+    → bad_opening me.session two m.message n.message (briefcase_in m.message.body) (key_in n.message.body) ≡ false
+never-bad_opening me log two m n h p q agree = go (briefcase_in m.message.body) (key_in n.message.body) refl refl
+  where
+    go : (oc : Option Briefcase) (ok : Option KeyGiven) → briefcase_in m.message.body ≡ oc → key_in n.message.body ≡ ok → bad_opening me.session two m.message n.message oc ok ≡ false
+    go None ok e f = refl
+    go (Some c) None e f = refl
+    go (Some c) (Some k) e f =
+        and-not (key_fits m.message c n.message k) (pair_opening me.session two m.message c k)
+        (λ fits. and_right (terms_ok me.session no_lists (exchange_by c.round c.kind c.role m.message.from m.message.to) c.terms && counts_ok me.session c) _
+        (never-opens_bad me log two m n c k h p q (case_of-is m.message.body c e) (key_of-is n.message.body k f) agree fits))
+
+-- ---- one message
+
+-- the session's anchor is that of the member's seeds
+pub own-seed : (me : Member) (round : ℕ) → IsMember me → round ≤ me.session.shape.rounds → is_seed me.session me.party round (seed_of me round) ≡ true
+own-seed me round is high =
+    let low : 1 ≤ me.party = omega (arith, is.peer.0) in
+    let held = is.fits.anchor low in
+    rw held (own_seed (secrets_of me) me.session.shape.rounds round high)
+
+never-wrong_partner : (me : Member) (log : Log) (m : Datagram) → IsMember me → IsObedient me log → SaidIn log m → option_map_or (wrong_partner me.session m.message) (choice_in m.message.body) false ≡ false
+never-wrong_partner me log m is h p = go m.message.body refl sign.rule
+  where
+    w : WasSaid log m
+    w = was-said log m p
+
+    sign : MaySign me w.before m.message
+    sign = (said-rule me log m w h).rule
+
+    right : (r : ℕ) (seed : List ℕ) (k : XKind) → r ≤ me.session.shape.rounds → seed ≡ seed_of me r → m.message.to ≡ partner_of me.session seed k me.party → wrong_partner me.session m.message (record { kind = k; round = r; seed = seed }) ≡ false
+    right r seed k i a b =
+        not_from_true _ (and_from _ _ (rw (sign.mine, a) (own-seed me r is i)) (eq-eqb _ _ (ap (λ z. partner_of me.session seed k z) sign.mine ∙ sym b)))
+
+    go : (b : Body) → m.message.body ≡ b → MaySay me (known me w.before) m.message.to b → option_map_or (wrong_partner me.session m.message) (choice_in b) false ≡ false
+    go (Request r seed c) e rule = right r seed Balanced (subst (λ z. z ≤ me.session.shape.rounds) (ap round_of e) sign.high) rule.seeded rule.chosen
+    go (Query r seed us vs) e rule = right r seed Push (subst (λ z. z ≤ me.session.shape.rounds) (ap round_of e) sign.high) rule.seeded rule.chosen
+    go _ e rule = refl
+
+never-bad_terms_of : (me : Member) (log : Log) (two : Table) (m : Datagram) → IsObedient me log → SaidIn log m → Agrees (table log) two → option_map_or (bad_terms me.session two m.message) (briefcase_in m.message.body) false ≡ false
+never-bad_terms_of me log two m h p agree = go (briefcase_in m.message.body) refl
+  where
+    go : (o : Option Briefcase) → briefcase_in m.message.body ≡ o → option_map_or (bad_terms me.session two m.message) o false ≡ false
+    go None e = refl
+    go (Some c) e = never_bad_terms me log two m c h p (case_of-is m.message.body c e) agree
+
+-- ---- no framing
+
+never-one : (me : Member) (log : Log) (two : Table) (m : Datagram) → IsMember me → IsObedient me log → SaidIn log m → Agrees (table log) two → fault_of_one me.session two m ≡ None
+never-one me log two m is h p agree = rw (never-bad_terms_of me log two m h p agree, never-wrong_partner me log m is h p) refl
+
+never-two : (me : Member) (log : Log) (two : Table) (m n : Datagram) → IsObedient me log → SaidIn log m → SaidIn log n → Agrees (table log) two → fault_of_two me.session two m n ≡ None
+never-two me log two m n h p q agree =
+    rw (never-bad_opening me log two m n h p q agree, never-by_words me log m n h p q, never-bad_opening me log two n m h q p agree, never-by_words me log n m h q p) refl
+
+-- a message that was said is that of a said datagram
+pub said-message : (log : Log) (m : Message) → HasSaid log m → (d : Datagram) × SaidIn log d × (d.message ≡ m)
+said-message [] m h = absurd h
+said-message (Said d ∷ log) m (inl e) = (d, inl refl, e)
+said-message (Said d ∷ log) m (inr h) = let s = said-message log m h in (s.0, inr s.1, s.2)
+said-message (Ticked ∷ log) m h = let s = said-message log m h in (s.0, inr s.1, s.2)
+said-message (Heard d ∷ log) m h = let s = said-message log m h in (s.0, inr s.1, s.2)
+said-message (Kept q e ∷ log) m h = let s = said-message log m h in (s.0, inr s.1, s.2)
+
+-- faults are of messages: whatever the signatures beside them
+one-by-message : (s : Session) (t : Table) (d e : Datagram) → d.message ≡ e.message → fault_of_one s t d ≡ fault_of_one s t e
+one-by-message s t d e same = λ i. fault_of_one s t (record { message = same i; signature = [] })
+
+two-by-messages : (s : Session) (t : Table) (d e f g : Datagram) → d.message ≡ e.message → f.message ≡ g.message → fault_of_two s t d f ≡ fault_of_two s t e g
+two-by-messages s t d e f g p q = λ i. fault_of_two s t (record { message = p i; signature = [] }) (record { message = q i; signature = [] })
+
+-- datagrams whose messages a member signed show no fault, under any table that agrees with its own
+pub no-framing : (me : Member) (log : Log) (two : Table) (ds : List Datagram) → IsMember me → IsObedient me log → Agrees (table log) two → AllByRecursion (λ (d : Datagram). HasSaid log d.message) ds
+    → fault_of me.session two ds ≡ None
+no-framing me log two [] is h agree a = refl
+no-framing me log two (d ∷ []) is h agree a =
+    let s = said-message log d.message a.0 in
+    one-by-message me.session two d s.0 (sym s.2) ∙ never-one me log two s.0 is h s.1 agree
+no-framing me log two (d ∷ e ∷ []) is h agree a =
+    let s = said-message log d.message a.0 in
+    let t = said-message log e.message a.1.0 in
+    two-by-messages me.session two d s.0 e t.0 (sym s.2) (sym t.2) ∙ never-two me log two s.0 t.0 h s.1 t.1 agree
+no-framing me log two (d ∷ e ∷ f ∷ ds) is h agree a = refl
+
+-- evidence whose messages a member signed does not name it
+pub not-named : (me : Member) (log : Log) (two : Table) (evidence : List (List ℕ)) (ds : List Datagram) → IsMember me → IsObedient me log → Agrees (table log) two
+    → all_read me.session evidence ≡ Some ds → AllByRecursion (λ (d : Datagram). HasSaid log d.message) ds → names me.party (verdict me.session two evidence) ≡ false
+not-named me log two evidence ds is h agree read said = rw read (checked (are_of_one_peer ds) (list_all (is_signed_by me.session) ds) (fault_of me.session two ds) (no-framing me log two ds is h agree said))
+  where
+    checked : (a b : Bool) (o : Option Fault) → o ≡ None → names me.party (if not a then NotShown Malformed else (if not b then NotShown NotSigned else judged me.session two ds o)) ≡ false
+    checked false b o e = refl
+    checked true false o e = refl
+    checked true true None e = refl
+    checked true true (Some f) e = cc

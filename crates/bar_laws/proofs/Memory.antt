@@ -1,0 +1,24 @@
+-- What a peer may forget: what a log tells after each entry, and what agrees with it.
+mod InLife
+mod OpenList
+mod Learning
+mod MachineImage
+mod AgreeLogs
+mod AgreeRows
+mod AgreeOrders
+mod AgreeReplies
+mod AgreeTicks
+mod AgreeTotals
+mod GoingOn
+mod Rewritten
+mod RoomsOf
+
+-- the lemmas that other groups may cite
+pub use Rattle.bar_laws.proofs.Memory.OpenList.{all-inserted}
+pub use Rattle.bar_laws.proofs.Memory.MachineImage.{runs-as-known, learned}
+pub use Rattle.bar_laws.proofs.Memory.AgreeLogs.{agree-trans}
+pub use Rattle.bar_laws.proofs.Memory.AgreeTicks.{answers-alike}
+pub use Rattle.bar_laws.proofs.Memory.AgreeTotals.{totals-agree}
+pub use Rattle.bar_laws.proofs.Memory.GoingOn.{goes-on}
+pub use Rattle.bar_laws.proofs.Memory.Rewritten.{rewritten}
+pub use Rattle.bar_laws.proofs.Memory.RoomsOf.{has-rooms}

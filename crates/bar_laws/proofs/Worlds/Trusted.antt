@@ -1,0 +1,61 @@
+-- What holds among trusted parties after any moves.
+use Rattle.bar_rules.specs.Broadcaster.Broadcaster.{evicted, peers_of}
+use Rattle.bar_rules.specs.Peer.Log.{kept}
+use Rattle.bar_rules.specs.World.World.{opened, Cast, Move}
+use Rattle.bar_laws.specs.Worlds.{after, IsHonest, NobodyIsEvicted, NobodyIsAccused, KeysOpenWell, TablesAreExtended, SentIsAccepted}
+use Rattle.std.specs.List.{list_all}
+use Rattle.std.specs.Prelude.{None, is_some, Contains, slice_index_or}
+use Rattle.bar_laws.proofs.Logs.{all-filter}
+use Rattle.std.proofs.Common.{◌≡◌, ℕ, zero, suc, ◌<◌, ◌≤◌, Bool, true, false, List, [], ◌∷◌, length, ap, subst, eqb, arith}
+use Rattle.std.proofs.lemmas.Bool.{and_parts, both_ways, ne_eqb}
+use Rattle.bar_laws.proofs.Worlds.SoundWorlds.{IsSound, steps-keep, run-sound, opened-sound, cast-member, has-log}
+use Rattle.bar_laws.proofs.Worlds.Evictions.{caster-keeps-none, peer-keeps-none}
+use Rattle.bar_laws.proofs.Worlds.Openings.{key-opens-well}
+use Rattle.bar_laws.proofs.Worlds.Released.{table-extended}
+use Rattle.bar_laws.proofs.Worlds.SentAccepted.{pool-accepted}
+
+sound-after : (cast : Cast) (trusted : ℕ → Bool) (moves : List Move) → IsHonest cast trusted moves → IsSound cast trusted (after cast moves)
+sound-after cast trusted moves h = run-sound cast trusted (opened cast) moves (steps-keep cast h.cast_is) (opened-sound cast trusted h.cast_is.parties) h.unforged
+
+not-zero : (p : ℕ) → 1 ≤ p → eqb p 0 ≡ false
+not-zero p low = ne_eqb p 0 (λ z. absurd (omega (arith, low, z)))
+
+pub nobody-accused : NobodyIsAccused
+nobody-accused cast trusted moves h zero accused mine theirs p q low =
+    let sound = sound-after cast trusted moves h in
+    caster-keeps-none cast trusted (after cast moves) accused theirs mine (cast-member cast accused h.cast_is low (sound.peers accused theirs q.log_is)) sound h.broadcaster q.trust (not-zero accused low) q.log_is p.log_is
+nobody-accused cast trusted moves h (suc accuser) accused mine theirs p q low =
+    let sound = sound-after cast trusted moves h in
+    let caster = has-log cast trusted (after cast moves) 0 sound (omega arith) in
+    peer-keeps-none cast trusted (after cast moves) (suc accuser) accused mine theirs caster.0 (cast-member cast accused h.cast_is low (sound.peers accused theirs q.log_is)) sound h.broadcaster q.trust
+    (not-zero (suc accuser) (omega arith)) (not-zero accused low) p.log_is q.log_is caster.1
+
+-- what stands among those of a list that pass, passes
+contained-passes : (p : ℕ → Bool) (xs : List ℕ) (x : ℕ) → list_all p xs ≡ true → Contains xs x → p x ≡ true
+contained-passes p [] x all c = absurd (omega (arith, c.1))
+contained-passes p (y ∷ xs) x all c = go c.0 c.1 c.2 (and_parts _ _ all) (contained-passes p xs x)
+  where
+    go : (k : ℕ) → k < length (y ∷ xs) → slice_index_or (y ∷ xs) k x ≡ x → (p y ≡ true) × (list_all p xs ≡ true) → (list_all p xs ≡ true → Contains xs x → p x ≡ true) → p x ≡ true
+    go zero below at all f = subst (λ z. p z ≡ true) at all.0
+    go (suc k) below at all f = f all.1 (k, omega (arith, below), at)
+
+pub nobody-evicted : NobodyIsEvicted
+nobody-evicted cast trusted moves h peer log caster p low at has =
+    let sound = sound-after cast trusted moves h in
+    let none : kept caster peer ≡ None = caster-keeps-none cast trusted (after cast moves) peer log caster (cast-member cast peer h.cast_is low (sound.peers peer log p.log_is)) sound h.broadcaster p.trust (not-zero peer low) p.log_is at in
+    let some : is_some (kept caster peer) ≡ true = contained-passes (λ q. is_some (kept caster q)) (evicted cast.session caster) peer (all-filter (λ q. is_some (kept caster q)) (peers_of cast.session)) has in
+    both_ways _ (ap is_some none) some
+
+pub keys-open-well : KeysOpenWell
+keys-open-well cast trusted moves h receiver sender mine theirs p q low some later before d k split body from =
+    let sound = sound-after cast trusted moves h in
+    let caster = has-log cast trusted (after cast moves) 0 sound (omega arith) in
+    key-opens-well cast trusted (after cast moves) receiver sender mine theirs caster.0 before d k sound h.broadcaster q.trust (not-zero receiver low) (not-zero sender some) p.log_is q.log_is caster.1
+    (record { after = later; split = split }) body from
+
+pub tables-extended : TablesAreExtended
+tables-extended cast trusted moves h peer log caster p low at =
+    table-extended cast trusted (after cast moves) peer log caster (sound-after cast trusted moves h) h.broadcaster (not-zero peer low) p.log_is at
+
+pub sent-accepted : SentIsAccepted
+sent-accepted cast moves is = pool-accepted cast moves is

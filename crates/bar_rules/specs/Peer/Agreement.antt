@@ -1,0 +1,58 @@
+-- What a peer must still know: whatever agrees with it in this much gets the same replies.
+use Rattle.std.specs.Prelude.{◌≡◌, ℕ, ◌+◌, ◌≤◌, List, true, Option, Some, option_map}
+use Rattle.bar_window.specs.declared.update.UpdateId.{UpdateId}
+use Rattle.bar_window.specs.declared.exchange.Exchange.{Exchange}
+use Rattle.bar_window.specs.declared.exchange.Role.{Role}
+use Rattle.bar_window.specs.declared.exchange.XKind.{XKind}
+use Rattle.bar_window.specs.Terms.{Terms}
+use Rattle.bar_wire.specs.Bodies.{briefcase_in}
+use Rattle.bar_wire.specs.declared.kind.Kind.TheVariants as kinds
+use Rattle.bar_wire.specs.Datagram.{Datagram, is_of}
+use Rattle.bar_wire.specs.declared.kind.Kind.{Kind}
+use Rattle.bar_wire.specs.Kinds.{code_of}
+use Rattle.bar_rules.specs.Member.{Session, Member}
+use Rattle.bar_rules.specs.Peer.Knowledge.{Knowledge, this_round, deadline}
+
+-- an exchange of this round may still be asked about
+abbrev pub IsRecent : Member → Knowledge → ℕ → Type 0
+IsRecent me k round = this_round k ≤ round + me.session.shape.life
+
+-- an update of this round may still be asked about: it stands in a window of an exchange that may, or is to be played
+abbrev pub IsFresh : Member → Knowledge → ℕ → Type 0
+IsFresh me k round = this_round k ≤ round + me.session.shape.life + 1
+
+-- How many rounds after its own what was said of a kind is still told whole. A CASE is sent again for fewer rounds than its exchange may be
+-- asked about, and its blocks are held no longer.
+abbrev pub told_for : Session → Kind → ℕ
+told_for s kinds.Case = deadline s kinds.Case
+told_for s _ = s.shape.life
+
+-- what was said of this kind and round may still be sent again
+abbrev pub IsRepeatable : Member → Knowledge → Kind → ℕ → Type 0
+IsRepeatable me k kind round = this_round k ≤ round + told_for me.session kind
+
+-- what is read of a CASE that was said as long as its exchange may be asked about: by which terms, on which side
+abbrev pub promised_by : Datagram → Option (Terms × Role)
+promised_by d = option_map (λ c. (c.terms, c.role)) (briefcase_in d.message.body)
+
+abbrev pub promise_of : Knowledge → Exchange → Role → Option (Option (Terms × Role))
+promise_of k x role = option_map promised_by (k.said kinds.Case x role)
+
+-- The two agree in their ticks, manifests and evictions, in the evidence kept, in the blocks of fresh updates, in what was heard and counted of
+-- recent rounds, and in what was said: whole while it may be sent again, and of a CASE by its terms afterwards.
+pub record AgreesWith (me : Member) (one two : Knowledge) : Type 0 where
+  pub time : one.ticks ≡ two.ticks
+  pub manifests : one.manifest ≡ two.manifest
+  pub evictions : (round : ℕ) → one.has_evict round ≡ two.has_evict round
+  pub announced : (party : ℕ) → one.is_announced party ≡ two.is_announced party
+  pub evidence : (party : ℕ) → one.evidence party ≡ two.evidence party
+  pub blocks : (u : UpdateId) → IsFresh me one u.round → one.block u ≡ two.block u
+  pub heard : (kind : Kind) (x : Exchange) (role : Role) → IsRecent me one x.round → one.heard kind x role ≡ two.heard kind x role
+  pub said : (kind : Kind) (x : Exchange) (role : Role) → IsRepeatable me one kind x.round → one.said kind x role ≡ two.said kind x role
+  pub promises : (x : Exchange) (role : Role) → IsRecent me one x.round → promise_of one x role ≡ promise_of two x role
+  pub commits : (x : Exchange) → IsRecent me one x.round → one.revealed x ≡ two.revealed x
+  pub seats : (x : Exchange) → IsRecent me one x.round → one.seat x ≡ two.seat x
+  pub requests : (kind : XKind) (round : ℕ) → IsRecent me one round → one.asked kind round ≡ two.asked kind round
+  pub opens : one.opens ≡ two.opens
+  -- what the second has as heard of an exchange is of it
+  pub own : (kind : Kind) (x : Exchange) (role : Role) (d : Datagram) → two.heard kind x role ≡ Some d → is_of kind x role d.message ≡ true
