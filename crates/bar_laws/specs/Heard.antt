@@ -9,6 +9,7 @@ use Rattle.bar_rules.specs.Member.{Session, Member}
 use Rattle.bar_rules.specs.Peer.Run.{log_after}
 use Rattle.bar_rules.specs.Peer.Terms.{case_heard}
 use Rattle.bar_rules.specs.Values.{opening_of, is_unknown, datagram_of}
+use Rattle.bar_laws.specs.Always.{OnAllInputs}
 
 -- The bytes of one of the inputs spell the datagram.
 pub record IsSpelledIn (s : Session) (inputs : List Input) (d : Datagram) : Type 0 where
@@ -19,7 +20,7 @@ pub record IsSpelledIn (s : Session) (inputs : List Input) (d : Datagram) : Type
 -- so it is of each datagram that was admitted, whatever comes
 abbrev pub HeardHasCome : Type 0
 HeardHasCome =
-    (me : Member) (inputs : List Input) (d : Datagram) → Contains (log_after me [] inputs) (Heard d) → IsSpelledIn me.session inputs d
+    OnAllInputs (λ me inputs. (d : Datagram) → Contains (log_after me [] inputs) (Heard d) → IsSpelledIn me.session inputs d)
 
 -- Whatever comes, at each moment, where a CASE of the partner is admitted the table tells all that it promises: no key opens it to Unknown.
 -- So it is of each admitted KEY, when it is admitted and ever after.

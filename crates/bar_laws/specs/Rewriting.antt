@@ -19,6 +19,7 @@ use Rattle.bar_rules.specs.Peer.Run.{log_after}
 use Rattle.bar_rules.specs.Secrets.{seed_of, commitment_of}
 use Rattle.bar_rules.specs.Peer.Signing.{signed}
 use Rattle.bar_rules.specs.Peer.Terms.{terms_of, body_on}
+use Rattle.bar_laws.specs.Always.{InEachLog}
 
 -- The body that a message of this member's side of an exchange has, by what is known now:
 -- a REQUEST by the nonce and the history that it commits to; a QUERY by what it offers and asks for; a RESPONSE by the history that it
@@ -48,7 +49,7 @@ pub record IsRewritten (me : Member) (k : Knowledge) : Type 0 where
 
 -- whatever comes
 abbrev pub RunIsRewritten : Type 0
-RunIsRewritten = (me : Member) (inputs : List Input) → IsRewritten me (known me (log_after me [] inputs))
+RunIsRewritten = InEachLog (λ me log. IsRewritten me (known me log))
 
 -- so it is of each log that keeps the rules, whether or not a run leaves it
 abbrev pub LogIsRewritten : Type 0

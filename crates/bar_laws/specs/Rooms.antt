@@ -13,6 +13,7 @@ use Rattle.bar_rules.specs.Peer.Log.{Log}
 use Rattle.bar_rules.specs.Member.{Member}
 use Rattle.bar_rules.specs.Peer.Rules.{IsObedient}
 use Rattle.bar_rules.specs.Peer.Run.{log_after}
+use Rattle.bar_laws.specs.Always.{InEachLog}
 
 -- among the exchanges of one round and kind: the one that this member asked for, or the first or the second that it was asked for
 pub data Asking : Type 0 where
@@ -48,7 +49,7 @@ pub record HasRooms (me : Member) (k : Knowledge) : Type 0 where
 
 -- whatever comes
 abbrev pub RunHasRooms : Type 0
-RunHasRooms = (me : Member) (inputs : List Input) → HasRooms me (known me (log_after me [] inputs))
+RunHasRooms = InEachLog (λ me log. HasRooms me (known me log))
 
 -- so it is of each log that keeps the rules, whether or not a run leaves it
 abbrev pub LogHasRooms : Type 0

@@ -8,4 +8,4 @@ pub returns-clause-run : goal.returns-clause-run
 returns-clause-run c = λ me is inputs two same input. answers-alike me (log_after me [] inputs) two input same is.session.shape.life_low (run-obedient me [] inputs tt)
 
 pub returns-clause-obedient : goal.returns-clause-obedient
-returns-clause-obedient c = λ me is one two h same input. answers-alike me one two input same is.session.shape.life_low h
+returns-clause-obedient c = λ me is one h two same input. answers-alike me one two input same is.session.shape.life_low h

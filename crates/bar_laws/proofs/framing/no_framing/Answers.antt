@@ -5,4 +5,4 @@ use Rattle.bar_laws.proofs.Judging.{not-named}
 use Rattle.bar_laws.proofs.framing.no_framing.Goals as goal
 
 pub returns : goal.returns
-returns c = λ me is inputs two evidence ds. not-named me (log_after me [] inputs) two evidence ds is (run-obedient me [] inputs tt)
+returns c = λ me is inputs two evidence agree own. not-named me (log_after me [] inputs) two evidence own.datagrams is (run-obedient me [] inputs tt) agree own.read own.said
