@@ -1,0 +1,52 @@
+-- What a memory keeps in place of the datagrams that were said.
+use Rattle.std.specs.Prelude.{◌≡◌, ℕ, ◌+◌, ◌≤◌, List, []}
+use Rattle.bar_window.specs.declared.update.UpdateId.{UpdateId}
+use Rattle.bar_window.specs.declared.exchange.Exchange.{Exchange}
+use Rattle.bar_window.specs.declared.exchange.Role.{Role}
+use Rattle.bar_wire.specs.Inputs.{Input}
+use Rattle.bar_wire.specs.declared.kind.Kind.TheVariants as kinds
+use Rattle.bar_wire.specs.declared.kind.Kind.{Kind}
+use Rattle.bar_rules.specs.Agreement.{IsRecent, IsFresh}
+use Rattle.bar_rules.specs.Exchanges.{role_of}
+use Rattle.bar_rules.specs.Knowledge.{Knowledge, known, this_round, has_said_of}
+use Rattle.bar_rules.specs.Log.{Log}
+use Rattle.bar_rules.specs.Member.{Session, Member, IsMember}
+use Rattle.bar_rules.specs.Rules.{IsObedient}
+use Rattle.bar_rules.specs.Run.{log_after}
+use Rattle.bar_laws.specs.Rewriting.{offer_of, answer_of, reply_of, IsRewritten}
+
+-- Of recent exchanges the second knows as much as the first: which kinds were said, what is revealed, offered, answered and replied, and
+-- the responder's seat. It has the blocks of fresh updates. What it has as said is what would be written by all this.
+pub record Remembers (me : Member) (one two : Knowledge) : Type 0 where
+  pub marks :
+      (kind : Kind) (x : Exchange) → IsRecent me one x.round → has_said_of one kind x (role_of me x) ≡ has_said_of two kind x (role_of me x)
+  pub commits : (x : Exchange) → IsRecent me one x.round → one.revealed x ≡ two.revealed x
+  pub offers : (x : Exchange) → IsRecent me one x.round → offer_of me one x ≡ offer_of me two x
+  pub answers : (x : Exchange) → IsRecent me one x.round → answer_of me one x ≡ answer_of me two x
+  pub replies : (x : Exchange) → IsRecent me one x.round → reply_of me one x ≡ reply_of me two x
+  pub seats : (x : Exchange) → IsRecent me one x.round → one.seat x ≡ two.seat x
+  pub blocks : (u : UpdateId) → IsFresh me one u.round → one.block u ≡ two.block u
+  pub written : IsRewritten me two
+
+-- how many rounds after its own a datagram that was said may be repeated: a CASE is sealed from blocks that are held so long
+abbrev pub repeat_deadline : Session → Kind → ℕ
+repeat_deadline s kinds.Case = 2
+repeat_deadline s _ = s.shape.life
+
+-- so it has the very datagrams that were said, as long as they may be repeated
+abbrev pub SaysAlike : Member → Knowledge → Knowledge → Type 0
+SaysAlike me one two =
+    (kind : Kind) (x : Exchange) (role : Role) → this_round one ≤ x.round + repeat_deadline me.session kind
+    → one.said kind x role ≡ two.said kind x role
+
+-- of the log that any inputs leave
+abbrev pub RunIsRemembered : Type 0
+RunIsRemembered =
+    (me : Member) → IsMember me → (inputs : List Input) (two : Knowledge) → Remembers me (known me (log_after me [] inputs)) two
+    → SaysAlike me (known me (log_after me [] inputs)) two
+
+-- of each log that keeps the rules
+abbrev pub LogIsRemembered : Type 0
+LogIsRemembered =
+    (me : Member) → IsMember me → (log : Log) (two : Knowledge) → IsObedient me log → Remembers me (known me log) two
+    → SaysAlike me (known me log) two
