@@ -16,7 +16,7 @@ heard-new me log o [] d a h = inr h
 heard-new me log o (x ∷ new) d a (inl e) = inl (subst (λ y. AddedBy me log o y) e a.0)
 heard-new me log o (x ∷ new) d a (inr h) = heard-new me log o new d a.1 h
 
-step-heard : (me : Member) (log : Log) (i : Input) (d : Datagram) → HeardIn (step me log i).log d → (came me i ≡ Some d) ⊎ HeardIn log d
+step-heard : (me : Member) (log : Log) (i : Input) (d : Datagram) → HeardIn (step me log i).state d → (came me i ≡ Some d) ⊎ HeardIn log d
 step-heard me log i d h = let a = step-adds me log i in heard-new me log (came me i) a.new d a.added (subst (λ l. HeardIn l d) a.split h)
 
 -- what is spelled in some inputs is spelled in more
@@ -29,13 +29,13 @@ spelled-here me (Came b) is d e = record { bytes = b; came = (0, omega arith, re
 
 run-heard : (me : Member) (log : Log) (inputs : List Input) (d : Datagram) → HeardIn (log_after me log inputs) d → IsSpelledIn me.session inputs d ⊎ HeardIn log d
 run-heard me log [] d h = inr h
-run-heard me log (i ∷ is) d h = go (run-heard me (step me log i).log is d h)
+run-heard me log (i ∷ is) d h = go (run-heard me (step me log i).state is d h)
   where
     pick : (came me i ≡ Some d) ⊎ HeardIn log d → IsSpelledIn me.session (i ∷ is) d ⊎ HeardIn log d
     pick (inl e) = inl (spelled-here me i is d e)
     pick (inr k) = inr k
 
-    go : IsSpelledIn me.session is d ⊎ HeardIn (step me log i).log d → IsSpelledIn me.session (i ∷ is) d ⊎ HeardIn log d
+    go : IsSpelledIn me.session is d ⊎ HeardIn (step me log i).state d → IsSpelledIn me.session (i ∷ is) d ⊎ HeardIn log d
     go (inl c) = inl (spelled-more me.session i is d c)
     go (inr k) = pick (step-heard me log i d k)
 

@@ -1,6 +1,6 @@
--- The exchanges that are kept are few: their places are.
-use Rattle.bar_rules.specs.Admission.{is_row_met, is_near}
-use Rattle.bar_rules.specs.Exchanges.{role_of, asking_kind, seat, seat_in}
+-- The exchanges that are kept are few: their rooms are.
+use Rattle.bar_rules.specs.Admission.{is_row_met}
+use Rattle.bar_rules.specs.Exchanges.{role_of, request_kind, seat, seat_in}
 use Rattle.bar_rules.specs.Knowledge.{known, this_round}
 use Rattle.bar_rules.specs.Log.{Log, Heard, Said, ticks, round_now, first_said, has_said}
 use Rattle.bar_rules.specs.Member.{Member}
@@ -13,18 +13,19 @@ use Rattle.bar_window.specs.declared.exchange.Role.TheVariants.{Initiator, Respo
 use Rattle.bar_window.specs.declared.exchange.XKind.{XKind}
 use Rattle.bar_window.specs.declared.exchange.XKind.TheVariants.{Balanced, Push}
 use Rattle.bar_wire.specs.Datagram.{Message, Body, Request, Query, is_of, kind_number, round_of}
+use Rattle.bar_wire.specs.Kinds.{code_of}
 use Rattle.std.proofs.Common.{◌≡◌, ℕ, zero, suc, ◌+◌, ◌-◌, ◌*◌, ◌<◌, ◌≤◌, Bool, true, false, List, [], ◌∷◌, ◌++◌, length, map, refl, sym, ap, ◌∙◌, subst, inl, inr, ◌&&◌, eqb, arith}
 use Rattle.std.specs.Prelude.{Some, ◌⊎◌, option_map, unwrap_or, nat_le}
 use Rattle.std.specs.List.{AllByRecursion, IsDistinct, list_all, list_any}
 use Rattle.std.proofs.lemmas.Bool.{and_parts, or_cases, eqb-true, leb-true, both_ways}
 use Rattle.std.proofs.lemmas.List.{length-map}
 use Rattle.std.proofs.lemmas.Map.Steps.{length-le_from_distinct_below}
-use Rattle.bar_laws.specs.Places.{Asking, Own, First, Second, Place, asking_of, place_of, is_kept, KeepsFew}
+use Rattle.bar_laws.specs.Rooms.{Asking, Own, First, Second, Room, asking_of, room_of, is_kept, KeepsFew}
 use Rattle.bar_laws.proofs.Earliest.{IsFind, find-of, allowed-at}
 use Rattle.bar_laws.proofs.Formed.{round-of-exchange}
 use Rattle.bar_laws.proofs.Later.{IsLater, later-entry, first_said-was, heard_in-is, some-is}
 use Rattle.bar_laws.proofs.Once.{same_exchange_refl}
-use Rattle.bar_laws.proofs.Placed.{own-said, asked-at, place-parts, has-places}
+use Rattle.bar_laws.proofs.RoomsOf.{own-said, asked-at, place-parts, has-rooms}
 use Rattle.bar_laws.proofs.Seats.{new-seat}
 use Rattle.bar_laws.proofs.Tables.{admitted-row}
 
@@ -64,7 +65,7 @@ numbered-few ok f n xs w d a =
     let few : length (map f xs) ≤ n = length-le_from_distinct_below (map f xs) n (numbers-distinct ok f n xs w d a) (numbers-below ok f n xs w a) in
     rw length-map at few
 
--- ---- the numbers of places
+-- ---- the numbers of rooms
 
 number_by : XKind → Asking → ℕ
 number_by Balanced Own = 0
@@ -74,13 +75,13 @@ number_by Push Own = 3
 number_by Push First = 4
 number_by Push Second = 5
 
-place_at : ℕ → Place
-place_at zero = record { kind = Balanced; asking = Own }
-place_at (suc zero) = record { kind = Balanced; asking = First }
-place_at (suc (suc zero)) = record { kind = Balanced; asking = Second }
-place_at (suc (suc (suc zero))) = record { kind = Push; asking = Own }
-place_at (suc (suc (suc (suc zero)))) = record { kind = Push; asking = First }
-place_at (suc (suc (suc (suc (suc n))))) = record { kind = Push; asking = Second }
+room_at : ℕ → Room
+room_at zero = record { kind = Balanced; asking = Own }
+room_at (suc zero) = record { kind = Balanced; asking = First }
+room_at (suc (suc zero)) = record { kind = Balanced; asking = Second }
+room_at (suc (suc (suc zero))) = record { kind = Push; asking = Own }
+room_at (suc (suc (suc (suc zero)))) = record { kind = Push; asking = First }
+room_at (suc (suc (suc (suc (suc n))))) = record { kind = Push; asking = Second }
 
 number-below : (k : XKind) (a : Asking) → number_by k a < 6
 unfolding number_by
@@ -91,8 +92,8 @@ number-below Push Own = omega arith
 number-below Push First = omega arith
 number-below Push Second = omega arith
 
-numbered-back : (k : XKind) (a : Asking) → place_at (number_by k a) ≡ record { kind = k; asking = a }
-unfolding number_by place_at
+numbered-back : (k : XKind) (a : Asking) → room_at (number_by k a) ≡ record { kind = k; asking = a }
+unfolding number_by room_at
 numbered-back Balanced Own = refl
 numbered-back Balanced First = refl
 numbered-back Balanced Second = refl
@@ -100,8 +101,8 @@ numbered-back Push Own = refl
 numbered-back Push First = refl
 numbered-back Push Second = refl
 
-number-one : (p q : Place) → number_by p.kind p.asking ≡ number_by q.kind q.asking → p ≡ q
-number-one p q e = sym (numbered-back p.kind p.asking) ∙ ap place_at e ∙ numbered-back q.kind q.asking
+number-one : (p q : Room) → number_by p.kind p.asking ≡ number_by q.kind q.asking → p ≡ q
+number-one p q e = sym (numbered-back p.kind p.asking) ∙ ap room_at e ∙ numbered-back q.kind q.asking
 
 -- ---- the round of an exchange that is kept is one of those begun, or the next
 
@@ -112,29 +113,26 @@ ticks-later (e ∷ new) before = let h = ticks-later new before in omega (arith,
 round-later : (log before : Log) → IsLater log before → round_now before ≤ round_now log
 round-later log before later = let h : ticks before ≤ ticks log = subst (λ l. ticks before ≤ ticks l) (sym later.split) (ticks-later later.new before) in omega (arith, h)
 
-near-next : (a b : ℕ) → is_near a b ≡ true → a ≤ b + 1
-near-next a b e = leb-true a (b + 1) (and_parts _ _ e).0
-
-said-now : (me : Member) (before : Log) (to : ℕ) (b : Body) (k : XKind) → eqb (kind_number b) (asking_kind k) ≡ true → MaySay me (known me before) to b → round_of b ≡ round_now before
+said-now : (me : Member) (before : Log) (to : ℕ) (b : Body) (k : XKind) → eqb (kind_number b) (code_of (request_kind k)) ≡ true → MaySay me (known me before) to b → round_of b ≡ round_now before
 said-now me before to (Request r s c) Balanced e rule = rule.now
 said-now me before to (Query r s y o) Push e rule = rule.now
 said-now me before to _ Balanced e rule = cc
 said-now me before to _ Push e rule = cc
 
-heard-near : (me : Member) (before : Log) (from to : ℕ) (b : Body) (k : XKind) → eqb (kind_number b) (asking_kind k) ≡ true → is_row_met me (known me before) from to b ≡ true → round_of b ≤ round_now before + 1
-heard-near me before from to (Request r s c) Balanced e row = near-next r (round_now before) (and_parts _ _ row).1
-heard-near me before from to (Query r s y o) Push e row = near-next r (round_now before) (and_parts _ _ (and_parts _ _ row).1).1
+heard-near : (me : Member) (before : Log) (from to : ℕ) (b : Body) (k : XKind) → eqb (kind_number b) (code_of (request_kind k)) ≡ true → is_row_met me (known me before) from to b ≡ true → round_of b ≤ round_now before + 1
+heard-near me before from to (Request r s c) Balanced e row = leb-true r (round_now before + 1) (and_parts _ _ (and_parts _ _ row).1).0
+heard-near me before from to (Query r s y o) Push e row = leb-true r (round_now before + 1) (and_parts _ _ (and_parts _ _ (and_parts _ _ row).1).1).0
 heard-near me before from to _ Balanced e row = cc
 heard-near me before from to _ Push e row = cc
 
 asked-near : (me : Member) (log : Log) (x : Exchange) (role : Role) (a : Asking) → IsObedient me log → asking_of (known me log) x role ≡ Some a → x.round ≤ round_now log + 1
 asked-near me log x Initiator a h e =
-    let p : Message → Bool = is_of (asking_kind x.kind) x Initiator in
+    let p : Message → Bool = is_of (request_kind x.kind) x Initiator in
     let f = some-is (first_said p log) (own-said (has_said p log) a e).0 in
     let was = first_said-was p log f.0 f.1 in
     let al = allowed-at me log was.0.before (Said f.0) was.0.place h in
     let now : round_of f.0.message.body ≡ round_now was.0.before = said-now me was.0.before f.0.message.to f.0.message.body x.kind (and_parts _ _ was.1).0 al.0.rule.rule in
-    let round : round_of f.0.message.body ≡ x.round = round-of-exchange (asking_kind x.kind) x Initiator f.0.message was.1 in
+    let round : round_of f.0.message.body ≡ x.round = round-of-exchange (request_kind x.kind) x Initiator f.0.message was.1 in
     let later : round_now was.0.before ≤ round_now log = round-later log was.0.before (later-entry log was.0.before (Said f.0) was.0.place) in
     omega (arith, now, round, later)
 asked-near me log x Responder a h e = (let n = asked-at (seat log x) a e in at n.0 (find-of (λ before e. seat_in before x e) log n.0 n.1))
@@ -146,29 +144,29 @@ asked-near me log x Responder a h e = (let n = asked-at (seat log x) a e in at n
         let near : round_of new.0.message.body ≤ round_now w.before + 1 =
         heard-near me w.before new.0.message.from new.0.message.to new.0.message.body x.kind (and_parts _ _ new.2).0 (admitted-row me w.before new.0 al.0)
         in
-        let round : round_of new.0.message.body ≡ x.round = round-of-exchange (asking_kind x.kind) x Initiator new.0.message new.2 in
+        let round : round_of new.0.message.body ≡ x.round = round-of-exchange (request_kind x.kind) x Initiator new.0.message new.2 in
         let later : round_now w.before ≤ round_now log = round-later log w.before (later-entry log w.before w.entry w.place) in
         omega (arith, near, round, later)
 
 -- ---- few
 
 abbrev number : Member → Log → Exchange → ℕ
-number me log x = unwrap_or (option_map (λ p. number_by p.kind p.asking) (place_of me (known me log) x)) 0
+number me log x = unwrap_or (option_map (λ p. number_by p.kind p.asking) (room_of me (known me log) x)) 0
 
--- An exchange that is kept: its place, its number and its round.
+-- An exchange that is kept: its room, its number and its round.
 record IsAt (me : Member) (log : Log) (x : Exchange) : Type 0 where
-  at : Place
-  place : place_of me (known me log) x ≡ Some at
+  at : Room
+  room : room_of me (known me log) x ≡ Some at
   is : number me log x ≡ number_by at.kind at.asking
   round : x.round ≤ round_now log + 1
 
 is-at : (me : Member) (log : Log) (x : Exchange) → IsObedient me log → is_kept me (known me log) x ≡ true → IsAt me log x
 is-at me log x h e =
-    let p = some-is (place_of me (known me log) x) e in
+    let p = some-is (room_of me (known me log) x) e in
     record {
       at = p.0;
-      place = p.1;
-      is = ap (λ o. unwrap_or (option_map (λ (p : Place). number_by p.kind p.asking) o) 0) p.1;
+      room = p.1;
+      is = ap (λ o. unwrap_or (option_map (λ (p : Room). number_by p.kind p.asking) o) 0) p.1;
       round = asked-near me log x (role_of me x) p.0.asking h (place-parts x (asking_of (known me log) x (role_of me x)) p.0 p.1).1;
     }
 
@@ -178,7 +176,7 @@ kept-one me log x y h a b r e =
     let p : IsAt me log x = is-at me log x h a in
     let q : IsAt me log y = is-at me log y h b in
     let same : p.at ≡ q.at = number-one p.at q.at (sym p.is ∙ e ∙ q.is) in
-    (has-places me log h).one x y q.at r (p.place ∙ ap Some same) q.place
+    (has-rooms me log h).one x y q.at r (p.room ∙ ap Some same) q.room
 
 kept-below : (me : Member) (log : Log) (x : Exchange) → IsObedient me log → is_kept me (known me log) x ≡ true → number me log x < 6
 kept-below me log x h a = let p : IsAt me log x = is-at me log x h a in subst (λ n. n < 6) (sym p.is) (number-below p.at.kind p.at.asking)

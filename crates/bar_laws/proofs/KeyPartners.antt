@@ -1,4 +1,5 @@
 -- A KEY that is sent goes to the member's partner in its exchange.
+use Rattle.bar_wire.specs.declared.kind.Kind.TheVariants as kinds
 use Rattle.bar_rules.specs.Exchanges.{role_of}
 use Rattle.bar_rules.specs.Log.{Log}
 use Rattle.bar_rules.specs.Member.{Member}
@@ -21,11 +22,11 @@ use Rattle.bar_laws.proofs.Unique.{was-said}
 goes-to-partner : (me : Member) (log : Log) (sent : ℕ × ℕ × Datagram) → IsObedient me log → IsSentAs log sent → GoesToPartner me sent
 goes-to-partner me log sent h s = record {
   own = own;
-  to = λ x role e. s.to ∙ is_of-to 10 x role sent.2.message e ∙ ap (λ r. party_on x (other_role r)) (own x role e);
+  to = λ x role e. s.to ∙ is_of-to kinds.Key x role sent.2.message e ∙ ap (λ r. party_on x (other_role r)) (own x role e);
 }
   where
-    own : (x : Exchange) (role : Role) → is_of 10 x role sent.2.message ≡ true → role ≡ role_of me x
-    own x role e = (saying me log sent.2 10 x role h (was-said log sent.2 (s.said (key-signed x role sent.2.message e))) e).side
+    own : (x : Exchange) (role : Role) → is_of kinds.Key x role sent.2.message ≡ true → role ≡ role_of me x
+    own x role e = (saying me log sent.2 kinds.Key x role h (was-said log sent.2 (s.said (key-signed x role sent.2.message e))) e).side
 
 pub keys-to-partners : (me : Member) (inputs : List Input) → IsObedient me (log_after me [] inputs) → AllByRecursion (GoesToPartner me) (sends_of me inputs)
 keys-to-partners me inputs h =

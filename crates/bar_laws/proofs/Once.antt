@@ -1,4 +1,5 @@
 -- Messages of one identity: a message that wasn't said for its exchange has no other of its identity said.
+use Rattle.bar_wire.specs.declared.kind.Kind.{Kind}
 use Rattle.bar_rules.specs.Log.{Log, Said, earliest, if_passes, said_in, first_said, has_said}
 use Rattle.bar_rules.specs.Signing.{has_same_identity}
 use Rattle.bar_window.specs.Exchange.{same_exchange, same_role, same_kind}
@@ -54,7 +55,7 @@ pub record IsTwin (m n : Message) : Type 0 where
   pub kind : kind_number n.body ≡ kind_number m.body
   pub part : part_of n.body ≡ part_of m.body
 
-pub twin-is_of : (m n : Message) (kind : ℕ) (x : Exchange) (role : Role) → IsTwin m n → is_of kind x role m ≡ true → is_of kind x role n ≡ true
+pub twin-is_of : (m n : Message) (kind : Kind) (x : Exchange) (role : Role) → IsTwin m n → is_of kind x role m ≡ true → is_of kind x role n ≡ true
 twin-is_of m n kind x role t e = rw (t.kind, t.part, t.from, t.to) e
 
 -- RESPONSE, REPLY, CASE and KEY have their whole exchange in their identity
@@ -107,7 +108,7 @@ none-false : {A : Type 0} (o : Option A) → o ≡ None → is_some o ≡ false
 none-false o e = ap is_some e
 
 -- where nothing was said for the exchange, nothing of the identity was said
-pub once-whole : (log : Log) (m : Message) (kind : ℕ) (x : Exchange) (role : Role) → is_whole m.body ≡ true → is_of kind x role m ≡ true
+pub once-whole : (log : Log) (m : Message) (kind : Kind) (x : Exchange) (role : Role) → is_whole m.body ≡ true → is_of kind x role m ≡ true
     → first_said (is_of kind x role) log ≡ None → has_said (has_same_identity m) log ≡ false
 once-whole log m kind x role whole own none = go (has_said (has_same_identity m) log) refl
   where

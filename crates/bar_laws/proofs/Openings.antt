@@ -1,5 +1,7 @@
 -- A key between two trusted peers opens well.
-use Rattle.bar_rules.specs.Holdings.{case_for, briefcase_in, block_of, block_in, is_held}
+use Rattle.bar_wire.specs.Bodies.{briefcase_in}
+use Rattle.bar_wire.specs.declared.kind.Kind.TheVariants as kinds
+use Rattle.bar_rules.specs.Holdings.{case_for, block_of, block_in, is_held}
 use Rattle.bar_rules.specs.Log.{Log, Heard, table, round_now, first_heard, has_heard}
 use Rattle.bar_rules.specs.Member.{Member, is_alive}
 use Rattle.bar_rules.specs.Rules.{IsObedient, Allows}
@@ -54,7 +56,7 @@ held-by-key me before d k c u body found good has alive =
 pub key-opens-well : (cast : Cast) (trusted : ℕ → Bool) (w : World) (p q : ℕ) (mine theirs log0 before : Log) (d : Datagram) (k : KeyGiven) → IsSound cast trusted w → trusted 0 ≡ true → trusted q ≡ true → eqb p 0 ≡ false → eqb q 0 ≡ false
     → slice_get w.logs p ≡ Some mine → slice_get w.logs q ≡ Some theirs → slice_get w.logs 0 ≡ Some log0 → IsEntry mine before (Heard d) → d.message.body ≡ Key k → d.message.from ≡ q
     → OpensWell (member cast p) before d k
-key-opens-well cast trusted w p q mine theirs log0 before d k sound trust0 trust np nq atp atq at0 place body from = go (some-is (first_heard (is_of 8 x k.role) before) row.0)
+key-opens-well cast trusted w p q mine theirs log0 before d k sound trust0 trust np nq atp atq at0 place body from = go (some-is (first_heard (is_of kinds.Case x k.role) before) row.0)
   where
     me : Member
     me = member cast p
@@ -65,7 +67,7 @@ key-opens-well cast trusted w p q mine theirs log0 before d k sound trust0 trust
     al : Allows (member cast p) before (Heard d) × IsObedient (member cast p) before
     al = allowed-at (member cast p) mine before (Heard d) place ((sound.proper p mine atp).0 np)
 
-    row : (has_heard (is_of 8 (exchange_by k.round k.kind k.role d.message.from d.message.to) k.role) before ≡ true) × (nat_le (round_now before) (k.round + me.session.shape.life) ≡ true)
+    row : (has_heard (is_of kinds.Case (exchange_by k.round k.kind k.role d.message.from d.message.to) k.role) before ≡ true) × (nat_le (round_now before) (k.round + me.session.shape.life) ≡ true)
     row = key-row (member cast p) before d k al.0.0 body
 
     later : IsLater mine before
@@ -75,10 +77,10 @@ key-opens-well cast trusted w p q mine theirs log0 before d k sound trust0 trust
     agree = agrees-with-stream cast trusted w q theirs log0 (table before) sound trust0 nq atq at0
         (λ r ds b. list-is cast trusted w p mine log0 r ds sound trust0 np atp at0 ((table-later mine before later).same r ds b))
 
-    go : (e : Datagram) × (first_heard (is_of 8 x k.role) before ≡ Some e) → OpensWell (member cast p) before d k
-    go f = at f.0 f.1 (first_heard-was (is_of 8 x k.role) before f.0 f.1)
+    go : (e : Datagram) × (first_heard (is_of kinds.Case x k.role) before ≡ Some e) → OpensWell (member cast p) before d k
+    go f = at f.0 f.1 (first_heard-was (is_of kinds.Case x k.role) before f.0 f.1)
       where
-        at : (e : Datagram) → first_heard (is_of 8 x k.role) before ≡ Some e → WasHeard before e × (is_of 8 x k.role e.message ≡ true) → OpensWell (member cast p) before d k
+        at : (e : Datagram) → first_heard (is_of kinds.Case x k.role) before ≡ Some e → WasHeard before e × (is_of kinds.Case x k.role e.message ≡ true) → OpensWell (member cast p) before d k
         at e found was = record { case = b.case; found = told; good = good; held = λ u has alive. held-by-key (member cast p) before d k b.case u body told good has alive }
           where
             b : HeardBriefcase (member cast p) before x k.role e
@@ -88,7 +90,7 @@ key-opens-well cast trusted w p q mine theirs log0 before d k sound trust0 trust
             told = ap (option_and_then (λ d. briefcase_in d.message.body)) found ∙ ap briefcase_in b.body
 
             case-from : e.message.from ≡ q
-            case-from = sender-on 8 x k.role e.message was.1 ∙ party-on k.round k.kind k.role d.message.from d.message.to ∙ from
+            case-from = sender-on kinds.Case x k.role e.message was.1 ∙ party-on k.round k.kind k.role d.message.from d.message.to ∙ from
 
             case-heard : HeardIn mine e
             case-heard = subst (λ l. HeardIn l e) (sym later.split) (more later.new (heard-in before e was.0))
@@ -104,7 +106,7 @@ key-opens-well cast trusted w p q mine theirs log0 before d k sound trust0 trust
             n = said-by cast trusted w p q mine theirs d sound trust atp atq (heard-in mine d (record { before = before; place = place })) (before, al.0) (ap is_signed body) from
 
             to-same : e.message.to ≡ d.message.to
-            to-same = receiver-on 8 x k.role e.message was.1 ∙ party-over k.round k.kind k.role d.message.from d.message.to
+            to-same = receiver-on kinds.Case x k.role e.message was.1 ∙ party-over k.round k.kind k.role d.message.from d.message.to
 
             named : exchange_by b.case.round b.case.kind b.case.role m.0.message.from m.0.message.to ≡ x
             named = ap (λ z. exchange_by b.case.round b.case.kind b.case.role z.from z.to) m.2 ∙ b.exchange

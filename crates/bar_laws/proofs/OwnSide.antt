@@ -1,4 +1,5 @@
 -- What a member said of an exchange is of its own side.
+use Rattle.bar_wire.specs.declared.kind.Kind.{Kind}
 use Rattle.bar_rules.specs.Exchanges.{role_of}
 use Rattle.bar_rules.specs.Log.{Log, Said}
 use Rattle.bar_rules.specs.Member.{Member}
@@ -16,7 +17,7 @@ use Rattle.bar_laws.proofs.Once.{parts-of}
 use Rattle.bar_laws.proofs.Parts.{is_of-part}
 
 -- a message of a side of an exchange names it
-pub names-exchange : (kind : ℕ) (x : Exchange) (role : Role) (m : Message) → is_of kind x role m ≡ true → exchange_by x.round x.kind role m.from m.to ≡ x
+pub names-exchange : (kind : Kind) (x : Exchange) (role : Role) (m : Message) → is_of kind x role m ≡ true → exchange_by x.round x.kind role m.from m.to ≡ x
 names-exchange kind x role m e =
     let at = is_of-is kind x role m e in
     let names = parts-of (at.round, at.sort, role) (x.round, x.kind, role) (sym at.part ∙ is_of-part kind x role m e) in
@@ -31,7 +32,7 @@ pub record IsSaying (me : Member) (log : Log) (x : Exchange) (role : Role) (d : 
   pub exchange : exchange_by x.round x.kind role me.party d.message.to ≡ x
   pub side : role ≡ role_of me x
 
-pub saying : (me : Member) (log : Log) (d : Datagram) (kind : ℕ) (x : Exchange) (role : Role) → IsObedient me log → WasSaid log d → is_of kind x role d.message ≡ true → IsSaying me log x role d
+pub saying : (me : Member) (log : Log) (d : Datagram) (kind : Kind) (x : Exchange) (role : Role) → IsObedient me log → WasSaid log d → is_of kind x role d.message ≡ true → IsSaying me log x role d
 saying me log d kind x role h w e =
     let al = allowed-at me log w.before (Said d) w.place h in
     let named : exchange_by x.round x.kind role me.party d.message.to ≡ x =

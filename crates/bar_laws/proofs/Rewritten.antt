@@ -1,4 +1,5 @@
 -- What was said is what would be written now.
+use Rattle.bar_wire.specs.Bodies.{history_in, offer_in, reply_in}
 use Rattle.bar_rules.specs.Exchanges.{role_of, revealed, revealed_in}
 use Rattle.bar_rules.specs.Holdings.{block_of, block_in}
 use Rattle.bar_rules.specs.Knowledge.{known}
@@ -9,7 +10,7 @@ use Rattle.bar_rules.specs.Orders.{case_body}
 use Rattle.bar_rules.specs.Rules.{IsObedient}
 use Rattle.bar_rules.specs.Secrets.{seed_of, commitment_of, briefcase_key}
 use Rattle.bar_rules.specs.Signing.{MaySay, MayGiveCase, MayGiveKey, signed}
-use Rattle.bar_rules.specs.Terms.{terms_of, body_on, offered, answered, taken}
+use Rattle.bar_rules.specs.Terms.{terms_of, body_on}
 use Rattle.bar_rules.specs.Values.{sealed}
 use Rattle.bar_terms.specs.Terms.{promised_updates, promised_junk}
 use Rattle.bar_window.specs.Exchange.{party_on}
@@ -18,7 +19,7 @@ use Rattle.bar_window.specs.declared.exchange.Role.{Role}
 use Rattle.bar_window.specs.declared.exchange.Role.TheVariants.{Initiator, Responder}
 use Rattle.bar_window.specs.declared.exchange.XKind.TheVariants.{Balanced, Push}
 use Rattle.bar_window.specs.declared.update.UpdateId.{UpdateId}
-use Rattle.bar_wire.specs.Datagram.{Datagram, Body, Request, Response, Query, Reply, Case, Key, Briefcase, is_of, kind_number, part_of, exchange_by}
+use Rattle.bar_wire.specs.Datagram.{Datagram, Body, Request, Response, Query, Reply, Case, Key, Briefcase, is_of, kind_number, part_of, exchange_by, Place, place_by}
 use Rattle.bar_wire.specs.declared.kind.Kind.TheVariants as kinds
 use Rattle.bar_wire.specs.declared.kind.Kind.{Kind}
 use Rattle.bar_wire.specs.Kinds.{code_of}
@@ -50,7 +51,7 @@ held-stays s log before (u ∷ us) later e =
     (b.1 ∙ sym (find-later (λ before e. block_in s before u e) log before b.0 later b.1), held-stays s log before us later p.1)
 
 -- what the log tells of the own side
-own-body : (me : Member) (log : Log) (kind : Kind) (x : Exchange) (role : Role) (d : Datagram) → role ≡ role_of me x → first_said (is_of (code_of kind) x (role_of me x)) log ≡ Some d
+own-body : (me : Member) (log : Log) (kind : Kind) (x : Exchange) (role : Role) (d : Datagram) → role ≡ role_of me x → first_said (is_of kind x (role_of me x)) log ≡ Some d
     → body_on me (known me log) kind x role ≡ Some d.message.body
 own-body me log kind x role d side e =
     subst (λ r. body_on me (known me log) kind x r ≡ Some d.message.body) (sym side)
@@ -59,23 +60,23 @@ own-body me log kind x role d side e =
 -- ---- each kind's body
 
 -- where the REQUEST was said, what it commits to is revealed
-is-revealed : (me : Member) (log : Log) (x : Exchange) (d : Datagram) (w : WasSaid log d) → is_of 3 x Initiator d.message ≡ true → (a : List ℕ × List UpdateId) × (revealed me log x ≡ Some a)
+is-revealed : (me : Member) (log : Log) (x : Exchange) (d : Datagram) (w : WasSaid log d) → is_of kinds.Request x Initiator d.message ≡ true → (a : List ℕ × List UpdateId) × (revealed me log x ≡ Some a)
 is-revealed me log x d w i =
     let now = some-is (revealed me (Said d ∷ w.before) x) (or-second (revealed me w.before x) (revealed_in me w.before x (Said d)) (rw i refl)) in
     let later : IsLater log (Said d ∷ w.before) = record { new = w.place.after; split = w.place.split } in
     (now.0, find-later (λ before e. revealed_in me before x e) log (Said d ∷ w.before) now.0 later now.1)
 
-request-again : (me : Member) (log : Log) (x : Exchange) (d : Datagram) (b : Body) → IsObedient me log → IsSaying me log x (role_of me x) d → is_of 3 x (role_of me x) d.message ≡ true → d.message.body ≡ b → eqb (kind_number b) 3 ≡ true
+request-again : (me : Member) (log : Log) (x : Exchange) (d : Datagram) (b : Body) → IsObedient me log → IsSaying me log x (role_of me x) d → is_of kinds.Request x (role_of me x) d.message ≡ true → d.message.body ≡ b → eqb (kind_number b) 3 ≡ true
     → body_again me (known me log) kinds.Request x ≡ Some b
 request-again me log x d (Request r seed c) h s i e k =
     let names = parts-of (r, Balanced, Initiator) (x.round, x.kind, role_of me x) (sym (ap part_of e) ∙ s.part) in
-    let own : is_of 3 x Initiator d.message ≡ true = subst (λ z. is_of 3 x z d.message ≡ true) (sym names.2) i in
-    let at = is_of-is 3 x Initiator d.message own in
+    let own : is_of kinds.Request x Initiator d.message ≡ true = subst (λ z. is_of kinds.Request x z d.message ≡ true) (sym names.2) i in
+    let at = is_of-is kinds.Request x Initiator d.message own in
     let word : IsOwnWord me log d x Initiator =
     record {
       said = said-in log d s.was;
-      at = ap (option_map (λ p. exchange_by p.0 p.1 p.2 d.message.from d.message.to)) at.part ∙ ap Some at.exchange;
-      own = sym (sender-on 3 x Initiator d.message own) ∙ s.sign.mine;
+      at = ap (λ o. option_map (λ (q : Place). q.exchange) (option_map (place_by d.message.from d.message.to) o)) at.part ∙ ap Some at.exchange;
+      own = sym (sender-on kinds.Request x Initiator d.message own) ∙ s.sign.mine;
       side = sym names.2;
     }
     in
@@ -86,30 +87,30 @@ request-again me log x d (Request r seed c) h s i e k =
     ∙ (λ j. Some (Request (sym names.0 j) ((ap (seed_of me) (sym names.0) ∙ sym rule.seeded) j) (sym commits j)))
 request-again me log x d _ h s i e k = cc
 
-query-again : (me : Member) (log : Log) (x : Exchange) (d : Datagram) (b : Body) → IsSaying me log x (role_of me x) d → first_said (is_of 6 x (role_of me x)) log ≡ Some d → d.message.body ≡ b → eqb (kind_number b) 6 ≡ true
+query-again : (me : Member) (log : Log) (x : Exchange) (d : Datagram) (b : Body) → IsSaying me log x (role_of me x) d → first_said (is_of kinds.Query x (role_of me x)) log ≡ Some d → d.message.body ≡ b → eqb (kind_number b) 6 ≡ true
     → body_again me (known me log) kinds.Query x ≡ Some b
 query-again me log x d (Query r seed young aged) s f e k =
     let names = parts-of (r, Push, Initiator) (x.round, x.kind, role_of me x) (sym (ap part_of e) ∙ s.part) in
     let told : body_on me (known me log) kinds.Query x Initiator ≡ Some (Query r seed young aged) = own-body me log kinds.Query x Initiator d names.2 f ∙ ap Some e in
     let rule = subst (λ z. MaySay me (known me s.was.before) d.message.to z) e s.sign.rule in
-    ap (λ o. option_map (λ (q : List UpdateId × List UpdateId). Query x.round (seed_of me x.round) q.0 q.1) (option_and_then offered o)) told
+    ap (λ o. option_map (λ (q : List UpdateId × List UpdateId). Query x.round (seed_of me x.round) q.0 q.1) (option_and_then offer_in o)) told
     ∙ (λ j. Some (Query (sym names.0 j) ((ap (seed_of me) (sym names.0) ∙ sym rule.seeded) j) young aged))
 query-again me log x d _ s f e k = cc
 
-response-again : (me : Member) (log : Log) (x : Exchange) (d : Datagram) (b : Body) → IsSaying me log x (role_of me x) d → first_said (is_of 4 x (role_of me x)) log ≡ Some d → d.message.body ≡ b → eqb (kind_number b) 4 ≡ true
+response-again : (me : Member) (log : Log) (x : Exchange) (d : Datagram) (b : Body) → IsSaying me log x (role_of me x) d → first_said (is_of kinds.Response x (role_of me x)) log ≡ Some d → d.message.body ≡ b → eqb (kind_number b) 4 ≡ true
     → body_again me (known me log) kinds.Response x ≡ Some b
 response-again me log x d (Response r hb) s f e k =
     let names = parts-of (r, Balanced, Responder) (x.round, x.kind, role_of me x) (sym (ap part_of e) ∙ s.part) in
     let told : body_on me (known me log) kinds.Response x Responder ≡ Some (Response r hb) = own-body me log kinds.Response x Responder d names.2 f ∙ ap Some e in
-    ap (λ o. option_map (λ us. Response x.round us) (option_and_then answered o)) told ∙ (λ j. Some (Response (sym names.0 j) hb))
+    ap (λ o. option_map (λ us. Response x.round us) (option_and_then history_in o)) told ∙ (λ j. Some (Response (sym names.0 j) hb))
 response-again me log x d _ s f e k = cc
 
-reply-again : (me : Member) (log : Log) (x : Exchange) (d : Datagram) (b : Body) → IsSaying me log x (role_of me x) d → first_said (is_of 7 x (role_of me x)) log ≡ Some d → d.message.body ≡ b → eqb (kind_number b) 7 ≡ true
+reply-again : (me : Member) (log : Log) (x : Exchange) (d : Datagram) (b : Body) → IsSaying me log x (role_of me x) d → first_said (is_of kinds.Reply x (role_of me x)) log ≡ Some d → d.message.body ≡ b → eqb (kind_number b) 7 ≡ true
     → body_again me (known me log) kinds.Reply x ≡ Some b
 reply-again me log x d (Reply r want give junk) s f e k =
     let names = parts-of (r, Push, Responder) (x.round, x.kind, role_of me x) (sym (ap part_of e) ∙ s.part) in
     let told : body_on me (known me log) kinds.Reply x Responder ≡ Some (Reply r want give junk) = own-body me log kinds.Reply x Responder d names.2 f ∙ ap Some e in
-    ap (λ o. option_map (λ (t : List UpdateId × List UpdateId × ℕ). Reply x.round t.0 t.1 t.2) (option_and_then taken o)) told
+    ap (λ o. option_map (λ (t : List UpdateId × List UpdateId × ℕ). Reply x.round t.0 t.1 t.2) (option_and_then reply_in o)) told
     ∙ (λ j. Some (Reply (sym names.0 j) want give junk))
 reply-again me log x d _ s f e k = cc
 
@@ -203,35 +204,35 @@ said-number me log to (Key g) rule = refl
 said-number me log to _ rule = absurd rule
 
 -- nothing is said of another kind
-unsaid : (me : Member) (log : Log) (x : Exchange) (d : Datagram) (n : ℕ) → IsSaying me log x (role_of me x) d → is_said n ≡ false → is_of n x (role_of me x) d.message ≡ true → ⊥
-unsaid me log x d n s none i = both_ways _ none (subst (λ z. is_said z ≡ true) (is_of-is n x (role_of me x) d.message i).number (said-number me s.was.before d.message.to d.message.body s.sign.rule))
+unsaid : (me : Member) (log : Log) (x : Exchange) (d : Datagram) (kind : Kind) → IsSaying me log x (role_of me x) d → is_said (code_of kind) ≡ false → is_of kind x (role_of me x) d.message ≡ true → ⊥
+unsaid me log x d kind s none i = both_ways _ none (subst (λ z. is_said z ≡ true) (is_of-is kind x (role_of me x) d.message i).number (said-number me s.was.before d.message.to d.message.body s.sign.rule))
 
-again-by : (me : Member) (log : Log) (kind : Kind) (x : Exchange) (d : Datagram) → IsObedient me log → IsSaying me log x (role_of me x) d → first_said (is_of (code_of kind) x (role_of me x)) log ≡ Some d
-    → is_of (code_of kind) x (role_of me x) d.message ≡ true → body_again me (known me log) kind x ≡ Some d.message.body
+again-by : (me : Member) (log : Log) (kind : Kind) (x : Exchange) (d : Datagram) → IsObedient me log → IsSaying me log x (role_of me x) d → first_said (is_of kind x (role_of me x)) log ≡ Some d
+    → is_of kind x (role_of me x) d.message ≡ true → body_again me (known me log) kind x ≡ Some d.message.body
 again-by me log kinds.Request x d h s f i = request-again me log x d d.message.body h s i refl (and_parts _ _ i).0
 again-by me log kinds.Query x d h s f i = query-again me log x d d.message.body s f refl (and_parts _ _ i).0
 again-by me log kinds.Response x d h s f i = response-again me log x d d.message.body s f refl (and_parts _ _ i).0
 again-by me log kinds.Reply x d h s f i = reply-again me log x d d.message.body s f refl (and_parts _ _ i).0
 again-by me log kinds.Case x d h s f i = case-again me log x d d.message.body s refl (and_parts _ _ i).0
 again-by me log kinds.Key x d h s f i = key-again me log x d d.message.body s refl (and_parts _ _ i).0
-again-by me log kinds.Manifest x d h s f i = absurd (unsaid me log x d 1 s refl i)
-again-by me log kinds.Block x d h s f i = absurd (unsaid me log x d 2 s refl i)
-again-by me log kinds.Divulge x d h s f i = absurd (unsaid me log x d 5 s refl i)
-again-by me log kinds.KeyRequest x d h s f i = absurd (unsaid me log x d 9 s refl i)
-again-by me log kinds.Evidence x d h s f i = absurd (unsaid me log x d 11 s refl i)
-again-by me log kinds.Evict x d h s f i = absurd (unsaid me log x d 12 s refl i)
+again-by me log kinds.Manifest x d h s f i = absurd (unsaid me log x d kinds.Manifest s refl i)
+again-by me log kinds.Block x d h s f i = absurd (unsaid me log x d kinds.Block s refl i)
+again-by me log kinds.Divulge x d h s f i = absurd (unsaid me log x d kinds.Divulge s refl i)
+again-by me log kinds.KeyRequest x d h s f i = absurd (unsaid me log x d kinds.KeyRequest s refl i)
+again-by me log kinds.Evidence x d h s f i = absurd (unsaid me log x d kinds.Evidence s refl i)
+again-by me log kinds.Evict x d h s f i = absurd (unsaid me log x d kinds.Evict s refl i)
 
 pub rewritten : (me : Member) (log : Log) → IsObedient me log → IsRewritten me (known me log)
 rewritten me log h = record {
-  own = λ kind x role d e. (let was = first_said-was (is_of (code_of kind) x role) log d e in (saying me log d (code_of kind) x role h was.0 was.1).side);
+  own = λ kind x role d e. (let was = first_said-was (is_of kind x role) log d e in (saying me log d kind x role h was.0 was.1).side);
   same = same;
 }
   where
-    same : (kind : Kind) (x : Exchange) (d : Datagram) → first_said (is_of (code_of kind) x (role_of me x)) log ≡ Some d → written me (known me log) x (body_again me (known me log) kind x) ≡ Some d
+    same : (kind : Kind) (x : Exchange) (d : Datagram) → first_said (is_of kind x (role_of me x)) log ≡ Some d → written me (known me log) x (body_again me (known me log) kind x) ≡ Some d
     same kind x d e =
-        let was = first_said-was (is_of (code_of kind) x (role_of me x)) log d e in
-        let s : IsSaying me log x (role_of me x) d = saying me log d (code_of kind) x (role_of me x) h was.0 was.1 in
-        let to = receiver-on (code_of kind) x (role_of me x) d.message was.1 in
+        let was = first_said-was (is_of kind x (role_of me x)) log d e in
+        let s : IsSaying me log x (role_of me x) d = saying me log d kind x (role_of me x) h was.0 was.1 in
+        let to = receiver-on kind x (role_of me x) d.message was.1 in
         let message : message_to me x d.message.body ≡ d.message = (λ i. record { from = sym s.sign.mine i; to = sym to i; body = d.message.body }) in
         ap (option_map (λ b. signed me (known me log) (message_to me x b))) (again-by me log kind x d h s e was.1)
         ∙ ap (λ m. Some (signed me (known me log) m)) message

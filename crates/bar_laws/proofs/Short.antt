@@ -1,4 +1,5 @@
 -- What a peer signs fits into evidence: its bytes are at most those of a packet.
+use Rattle.bar_wire.specs.Bodies.{is_peer_kind}
 use Rattle.bar_lms.specs.Params.{chains, levels, signature_len}
 use Rattle.bar_lms.specs.declared.params.Height.{Height}
 use Rattle.bar_lms.specs.declared.params.Height.TheVariants.{H5, H10, H15}
@@ -7,7 +8,6 @@ use Rattle.bar_lms.specs.declared.params.Ots.TheVariants.{W1, W2, W4, W8}
 use Rattle.bar_lms.specs.declared.params.Params.{Params}
 use Rattle.bar_roster.specs.Sessions.{IsSession}
 use Rattle.bar_rules.specs.Member.{Session}
-use Rattle.bar_rules.specs.Verdict.{is_peer_kind}
 use Rattle.bar_window.specs.Terms.{Terms, Trade, Offer}
 use Rattle.bar_window.specs.declared.exchange.XKind.{XKind}
 use Rattle.bar_window.specs.declared.update.UpdateId.{UpdateId}

@@ -1,9 +1,9 @@
 -- What is shown under a table is shown under each table that extends it.
+use Rattle.bar_wire.specs.Bodies.{briefcase_in, choice_in, key_in}
 use Rattle.bar_case.specs.Opened.{opening, is_bad}
-use Rattle.bar_rules.specs.Holdings.{briefcase_in}
 use Rattle.bar_rules.specs.Member.{Session}
 use Rattle.bar_rules.specs.Values.{terms_ok, counts_ok, is_signed_by}
-use Rattle.bar_rules.specs.Verdict.{Fault, BadOpening, BadTerms, Shown, NotShown, bad_terms, fault_of_one, fault_of_two, bad_opening, key_of_body, fault_of, judged, verdict_on, verdict, fault_by_words, asked, wrong_partner, WrongPartner, all_read, are_of_one_peer, Malformed, NotSigned}
+use Rattle.bar_rules.specs.Verdict.{Fault, BadOpening, BadTerms, Shown, NotShown, bad_terms, fault_of_one, fault_of_two, bad_opening, fault_of, judged, verdict_on, verdict, fault_by_words, wrong_partner, WrongPartner, all_read, are_of_one_peer, Malformed, NotSigned}
 use Rattle.bar_terms.specs.Table.{Table, Extends, digest_of, NoManifest, none_past_end, is_past_end}
 use Rattle.bar_terms.specs.Terms.{offer_ok}
 use Rattle.bar_window.specs.Terms.{Terms, Trade, Offer}
@@ -84,16 +84,16 @@ pub case_of-is : (b : Body) (c : Briefcase) → briefcase_in b ≡ Some c → b 
 case_of-is (Case d) c e = cc
 case_of-is _ c e = cc
 
-pub key_of-is : (b : Body) (k : KeyGiven) → key_of_body b ≡ Some k → b ≡ Key k
+pub key_of-is : (b : Body) (k : KeyGiven) → key_in b ≡ Some k → b ≡ Key k
 key_of-is (Key d) k e = cc
 key_of-is _ k e = cc
 
 -- a fault by opening needs a briefcase first and a key second
-bad_opening-kinds : (s : Session) (table : Table) (m n : Message) → bad_opening s table m n (briefcase_in m.body) (key_of_body n.body) ≡ true
+bad_opening-kinds : (s : Session) (table : Table) (m n : Message) → bad_opening s table m n (briefcase_in m.body) (key_in n.body) ≡ true
     → ((c : Briefcase) × (m.body ≡ Case c)) × ((k : KeyGiven) × (n.body ≡ Key k))
-bad_opening-kinds s table m n e = go (briefcase_in m.body) (key_of_body n.body) refl refl e
+bad_opening-kinds s table m n e = go (briefcase_in m.body) (key_in n.body) refl refl e
   where
-    go : (oc : Option Briefcase) (ok : Option KeyGiven) → briefcase_in m.body ≡ oc → key_of_body n.body ≡ ok → bad_opening s table m n oc ok ≡ true
+    go : (oc : Option Briefcase) (ok : Option KeyGiven) → briefcase_in m.body ≡ oc → key_in n.body ≡ ok → bad_opening s table m n oc ok ≡ true
         → ((c : Briefcase) × (m.body ≡ Case c)) × ((k : KeyGiven) × (n.body ≡ Key k))
     go (Some c) (Some k) p q e = ((c, case_of-is m.body c p), (k, key_of-is n.body k q))
     go (Some c) None p q e = cc
@@ -111,7 +111,7 @@ words-key_case : (s : Session) (m n : Message) (c : Briefcase) (k : KeyGiven) �
 words-key_case s m n c k p q = rw (p, q) (if_same _)
 
 no_opening : (s : Session) (table : Table) (m n : Message) (c : Briefcase) (k : KeyGiven) → m.body ≡ Case c → n.body ≡ Key k
-    → bad_opening s table n m (briefcase_in n.body) (key_of_body m.body) ≡ false
+    → bad_opening s table n m (briefcase_in n.body) (key_in m.body) ≡ false
 no_opening s table m n c k p q = rw (p, q) refl
 
 -- one order of a pair: what it shows by opening comes first, and else what it shows by words
@@ -131,8 +131,8 @@ fault_of_two-stays law s old new d g f h e =
     let m : Message = d.message in
     let n : Message = g.message in
     pair_stays _ _ _ _ _ _ f
-    (bad_opening-stays law s old new m n (briefcase_in m.body) (key_of_body n.body) h)
-    (bad_opening-stays law s old new n m (briefcase_in n.body) (key_of_body m.body) h)
+    (bad_opening-stays law s old new m n (briefcase_in m.body) (key_in n.body) h)
+    (bad_opening-stays law s old new n m (briefcase_in n.body) (key_in m.body) h)
     (λ t. let z = bad_opening-kinds s new m n t in
     (words-case_key s m n z.0.0 z.1.0 z.0.1 z.1.1, no_opening s old m n z.0.0 z.1.0 z.0.1 z.1.1, words-key_case s m n z.0.0 z.1.0 z.0.1 z.1.1))
     (λ t. let z = bad_opening-kinds s new n m t in
@@ -149,10 +149,10 @@ map_or-stays : (P Q : Briefcase → Bool) (o : Option Briefcase) → ((c : Brief
 map_or-stays P Q (Some c) k e = k c e
 map_or-stays P Q None k e = e
 
-not_asked : (s : Session) (m : Message) (P : Briefcase → Bool) → option_map_or P (briefcase_in m.body) false ≡ true → option_map_or (wrong_partner s m) (asked m.body) false ≡ false
+not_asked : (s : Session) (m : Message) (P : Briefcase → Bool) → option_map_or P (briefcase_in m.body) false ≡ true → option_map_or (wrong_partner s m) (choice_in m.body) false ≡ false
 not_asked s m P e = go (briefcase_in m.body) refl e
   where
-    go : (o : Option Briefcase) → briefcase_in m.body ≡ o → option_map_or P o false ≡ true → option_map_or (wrong_partner s m) (asked m.body) false ≡ false
+    go : (o : Option Briefcase) → briefcase_in m.body ≡ o → option_map_or P o false ≡ true → option_map_or (wrong_partner s m) (choice_in m.body) false ≡ false
     go None p e = cc
     go (Some c) p e = let q : m.body ≡ Case c = case_of-is m.body c p in rw q refl
 

@@ -1,10 +1,11 @@
 -- No key opens an admitted briefcase to Unknown.
+use Rattle.bar_wire.specs.declared.kind.Kind.TheVariants as kinds
+use Rattle.bar_wire.specs.Bodies.{briefcase_in}
 use Rattle.bar_case.specs.Items.{junk_key}
 use Rattle.bar_case.specs.Opened.{is_broken, is_untold, findings, opening_by, opened}
 use Rattle.bar_case.specs.Opened as opening
 use Rattle.bar_case.specs.declared.findings.Finding.{Finding}
 use Rattle.bar_rules.specs.Exchanges.{role_of}
-use Rattle.bar_rules.specs.Holdings.{briefcase_in}
 use Rattle.bar_rules.specs.Log.{Log, table, first_heard}
 use Rattle.bar_rules.specs.Member.{Session, Member}
 use Rattle.bar_rules.specs.Rules.{IsObedient}
@@ -38,11 +39,11 @@ within-told s t x c key within =
     told-by (position is_broken fs) (position is_untold fs) (length fs)
     (no-place is_untold fs (all-told t (junk_key s.shape.id x) (promised_updates s.cap c.terms c.role) (range_with_len 0 (promised_junk c.terms c.role)) (opened key c.cipher) within))
 
-case-told : (me : Member) (log : Log) (x : Exchange) (role : Role) (c : Briefcase) (key : List ℕ) (o : Option Datagram) → IsObedient me log → first_heard (is_of 8 x role) log ≡ o
+case-told : (me : Member) (log : Log) (x : Exchange) (role : Role) (c : Briefcase) (key : List ℕ) (o : Option Datagram) → IsObedient me log → first_heard (is_of kinds.Case x role) log ≡ o
     → option_and_then (λ d. briefcase_in d.message.body) o ≡ Some c → is_unknown (opening_of me.session (table log) x c key) ≡ false
 case-told me log x role c key None h e f = cc
 case-told me log x role c key (Some d) h e f =
-    let was = first_heard-was (is_of 8 x role) log d e in
+    let was = first_heard-was (is_of kinds.Case x role) log d e in
     let b : HeardBriefcase me log x role d = heard-briefcase me log x role d h was.0 was.1 in
     let found : briefcase_in d.message.body ≡ Some b.case = ap briefcase_in b.body in
     let same : b.case ≡ c = cc in

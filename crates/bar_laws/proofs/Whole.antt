@@ -1,7 +1,9 @@
 -- Each held block has 1,024 bytes.
+use Rattle.bar_wire.specs.Bodies.{briefcase_in}
+use Rattle.bar_wire.specs.declared.kind.Kind.TheVariants as kinds
 use Rattle.bar_case.specs.Keystream.{keystream}
 use Rattle.bar_case.specs.Opened.{opened, opened_blocks}
-use Rattle.bar_rules.specs.Holdings.{block_of, block_in, block_from, block_opened, case_for, briefcase_in}
+use Rattle.bar_rules.specs.Holdings.{block_of, block_in, block_from, block_opened, case_for}
 use Rattle.bar_rules.specs.Log.{Log, Entry, Ticked, Heard, Said, Kept, table, first_heard, round_now}
 use Rattle.bar_rules.specs.Member.{Session, Member, is_alive}
 use Rattle.bar_rules.specs.Rules.{IsObedient, Allows}
@@ -54,9 +56,9 @@ record IsWhole (me : Member) (c : Briefcase) : Type 0 where
   long : length c.cipher ≡ 1024 * c.updates + 1280 * c.junk
 
 heard-whole : (me : Member) (log : Log) (x : Exchange) (role : Role) (c : Briefcase) → IsObedient me log → case_for log x role ≡ Some c → IsWhole me c
-heard-whole me log x role c h e = go (first_heard (is_of 8 x role) log) refl e
+heard-whole me log x role c h e = go (first_heard (is_of kinds.Case x role) log) refl e
   where
-    at : (d : Datagram) → WasHeard log d → is_of 8 x role d.message ≡ true → first_heard (is_of 8 x role) log ≡ Some d → briefcase_in d.message.body ≡ Some c → IsWhole me c
+    at : (d : Datagram) → WasHeard log d → is_of kinds.Case x role d.message ≡ true → first_heard (is_of kinds.Case x role) log ≡ Some d → briefcase_in d.message.body ≡ Some c → IsWhole me c
     at d w is f found =
         let k : IsCaseOf x role d.message = is_of-case x role d.message is in
         let same : k.case ≡ c = (let z : briefcase_in d.message.body ≡ Some k.case = ap briefcase_in k.body in cc) in
@@ -65,9 +67,9 @@ heard-whole me log x role c h e = go (first_heard (is_of 8 x role) log) refl e
         let case : heard.case ≡ c = (let z = heard.found in cc) in
         record { counts = subst (λ z. counts_ok me.session z ≡ true) case heard.counts; long = subst (λ z. length z.cipher ≡ 1024 * z.updates + 1280 * z.junk) same form.2 }
 
-    go : (o : Option Datagram) → first_heard (is_of 8 x role) log ≡ o → option_and_then (λ d. briefcase_in d.message.body) o ≡ Some c → IsWhole me c
+    go : (o : Option Datagram) → first_heard (is_of kinds.Case x role) log ≡ o → option_and_then (λ d. briefcase_in d.message.body) o ≡ Some c → IsWhole me c
     go None f e = cc
-    go (Some d) f e = let was = first_heard-was (is_of 8 x role) log d f in at d was.0 was.1 f e
+    go (Some d) f e = let was = first_heard-was (is_of kinds.Case x role) log d f in at d was.0 was.1 f e
 
 pub blocks-whole : (me : Member) (log : Log) (u : UpdateId) (b : List ℕ) → IsObedient me log → block_of me.session log u ≡ Some b → length b ≡ 1024
 blocks-whole me log u b h e = at (find-of (λ before e. block_in me.session before u e) log b e)

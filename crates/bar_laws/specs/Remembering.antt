@@ -1,16 +1,15 @@
 -- What a memory keeps in place of the datagrams that were said.
-use Rattle.std.specs.Prelude.{◌≡◌, ℕ, ◌+◌, ◌≤◌, List, []}
+use Rattle.std.specs.Prelude.{◌≡◌, List, []}
 use Rattle.bar_window.specs.declared.update.UpdateId.{UpdateId}
 use Rattle.bar_window.specs.declared.exchange.Exchange.{Exchange}
 use Rattle.bar_window.specs.declared.exchange.Role.{Role}
 use Rattle.bar_wire.specs.Inputs.{Input}
-use Rattle.bar_wire.specs.declared.kind.Kind.TheVariants as kinds
 use Rattle.bar_wire.specs.declared.kind.Kind.{Kind}
-use Rattle.bar_rules.specs.Agreement.{IsRecent, IsFresh}
+use Rattle.bar_rules.specs.Agreement.{IsRecent, IsFresh, IsRepeatable, promise_of}
 use Rattle.bar_rules.specs.Exchanges.{role_of}
-use Rattle.bar_rules.specs.Knowledge.{Knowledge, known, this_round, has_said_of}
+use Rattle.bar_rules.specs.Knowledge.{Knowledge, known, has_said_of}
 use Rattle.bar_rules.specs.Log.{Log}
-use Rattle.bar_rules.specs.Member.{Session, Member, IsMember}
+use Rattle.bar_rules.specs.Member.{Member, IsMember}
 use Rattle.bar_rules.specs.Rules.{IsObedient}
 use Rattle.bar_rules.specs.Run.{log_after}
 use Rattle.bar_laws.specs.Rewriting.{offer_of, answer_of, reply_of, IsRewritten}
@@ -28,16 +27,10 @@ pub record Remembers (me : Member) (one two : Knowledge) : Type 0 where
   pub blocks : (u : UpdateId) → IsFresh me one u.round → one.block u ≡ two.block u
   pub written : IsRewritten me two
 
--- how many rounds after its own a datagram that was said may be repeated: a CASE is sealed from blocks that are held so long
-abbrev pub repeat_deadline : Session → Kind → ℕ
-repeat_deadline s kinds.Case = 2
-repeat_deadline s _ = s.shape.life
-
--- so it has the very datagrams that were said, as long as they may be repeated
-abbrev pub SaysAlike : Member → Knowledge → Knowledge → Type 0
-SaysAlike me one two =
-    (kind : Kind) (x : Exchange) (role : Role) → this_round one ≤ x.round + repeat_deadline me.session kind
-    → one.said kind x role ≡ two.said kind x role
+-- so it has the very datagrams that were said, as long as they may be sent again, and the terms and side of each CASE that was said
+pub record SaysAlike (me : Member) (one two : Knowledge) : Type 0 where
+  pub said : (kind : Kind) (x : Exchange) (role : Role) → IsRepeatable me one kind x.round → one.said kind x role ≡ two.said kind x role
+  pub promises : (x : Exchange) (role : Role) → IsRecent me one x.round → promise_of one x role ≡ promise_of two x role
 
 -- of the log that any inputs leave
 abbrev pub RunIsRemembered : Type 0

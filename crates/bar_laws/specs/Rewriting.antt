@@ -1,5 +1,6 @@
 -- What was said is what would be written now: a peer has to keep none of its own datagrams.
 use Rattle.std.specs.Prelude.{◌≡◌, ℕ, List, [], Option, Some, None, option_map, option_and_then}
+use Rattle.bar_wire.specs.Bodies.{history_in, offer_in, reply_in}
 use Rattle.bar_window.specs.declared.exchange.Exchange.{Exchange}
 use Rattle.bar_window.specs.declared.update.UpdateId.{UpdateId}
 use Rattle.bar_window.specs.declared.exchange.Role.{Role}
@@ -18,17 +19,17 @@ use Rattle.bar_rules.specs.Rules.{IsObedient}
 use Rattle.bar_rules.specs.Run.{log_after}
 use Rattle.bar_rules.specs.Secrets.{seed_of, commitment_of}
 use Rattle.bar_rules.specs.Signing.{signed}
-use Rattle.bar_rules.specs.Terms.{terms_of, body_on, offered, answered, taken}
+use Rattle.bar_rules.specs.Terms.{terms_of, body_on}
 
 -- what the QUERY of an exchange offers and asks for, the history of its RESPONSE, and what its REPLY wants and gives with its junk
 abbrev pub offer_of : Member → Knowledge → Exchange → Option (List UpdateId × List UpdateId)
-offer_of me k x = option_and_then offered (body_on me k kinds.Query x Initiator)
+offer_of me k x = option_and_then offer_in (body_on me k kinds.Query x Initiator)
 
 abbrev pub answer_of : Member → Knowledge → Exchange → Option (List UpdateId)
-answer_of me k x = option_and_then answered (body_on me k kinds.Response x Responder)
+answer_of me k x = option_and_then history_in (body_on me k kinds.Response x Responder)
 
 abbrev pub reply_of : Member → Knowledge → Exchange → Option (List UpdateId × List UpdateId × ℕ)
-reply_of me k x = option_and_then taken (body_on me k kinds.Reply x Responder)
+reply_of me k x = option_and_then reply_in (body_on me k kinds.Reply x Responder)
 
 -- The body that a message of this member's side of an exchange has, by what is known now:
 -- a REQUEST by the nonce and the history that it commits to; a QUERY by what it offers and asks for; a RESPONSE by the history that it

@@ -1,5 +1,5 @@
 -- Windows, terms, briefcases, datagrams and signatures under the numbers of a session.
-use Rattle.std.specs.Prelude.{ℕ, ◌==◌, ◌&&◌, Bool, true, false, List, zip, find, length, Option, option_map}
+use Rattle.std.specs.Prelude.{ℕ, ◌==◌, ◌&&◌, Bool, true, false, List, [], zip, find, length, Option, option_map}
 use Rattle.bar_window.specs.declared.update.UpdateId.{UpdateId}
 use Rattle.bar_window.specs.declared.exchange.Exchange.{Exchange}
 use Rattle.bar_window.specs.declared.exchange.Role.{Role}
@@ -86,6 +86,10 @@ datagram_bytes s d = spelling s.shape d
 
 abbrev pub message_bytes : Session → Message → List ℕ
 message_bytes s m = grammar.message_bytes s.shape m
+
+-- a message whose kind isn't signed
+abbrev pub unsigned : Message → Datagram
+unsigned m = record { message = m; signature = [] }
 
 -- the signature is accepted under the sender's key
 abbrev pub is_signed_by : Session → Datagram → Bool

@@ -108,15 +108,30 @@ part_of (KeyRequest r k role) = Some (r, k, role)
 part_of (Key k) = Some (k.round, k.kind, k.role)
 part_of _ = None
 
+-- where a message stands: in which exchange, and on which side of it
+pub record Place : Type 0 where
+  pub exchange : Exchange
+  pub role : Role
+
+-- the place of a message from this party to that one, of this round, kind and side
+abbrev pub place_by : ℕ → ℕ → ℕ × XKind × Role → Place
+place_by from to p = record { exchange = exchange_by p.0 p.1 p.2 from to; role = p.2 }
+
+-- the place of a message that belongs to an exchange
+abbrev pub place_of : Message → Option Place
+place_of m = option_map (place_by m.from m.to) (part_of m.body)
+
 -- the exchange that a message is of
 abbrev pub exchange_of : Message → Option Exchange
-exchange_of m = option_map (λ p. exchange_by p.0 p.1 p.2 m.from m.to) (part_of m.body)
+exchange_of m = option_map (λ p. p.exchange) (place_of m)
+
+abbrev pub is_place : Exchange → Role → Place → Bool
+is_place x role place = same_exchange place.exchange x && same_role place.role role
 
 -- whether a message is of this kind and exchange, and of this side
-abbrev pub is_of : ℕ → Exchange → Role → Message → Bool
+abbrev pub is_of : Kind → Exchange → Role → Message → Bool
 is_of kind x role m =
-    (kind_number m.body == kind)
-    && option_map_or (λ p. same_exchange (exchange_by p.0 p.1 p.2 m.from m.to) x && same_role p.2 role) (part_of m.body) false
+    (kind_number m.body == code_of kind) && option_map_or (is_place x role) (place_of m) false
 
 -- the fields of a kind's identity
 abbrev pub named : Body → ℕ → ℕ → List ℕ

@@ -1,6 +1,7 @@
 pub mod Limits
 pub mod Kinds
 pub mod Datagram
+pub mod Bodies
 pub mod Grammar
 pub mod Ranges
 pub mod Places

@@ -1,4 +1,4 @@
--- Few exchanges: of each round a peer keeps six at most, each in a place of its own.
+-- Few exchanges: of each round a peer keeps six at most, each in a room of its own.
 use Rattle.std.specs.Prelude.{◌≡◌, ℕ, zero, suc, ◌+◌, ◌*◌, ◌==◌, ◌&&◌, ◌≤◌, nat_le, Bool, true, List, [], length, Option, Some, None, is_some, option_map, option_and_then}
 use Rattle.std.specs.Bool.{then_some}
 use Rattle.std.specs.List.{list_all, IsDistinct}
@@ -22,8 +22,8 @@ pub data Asking : Type 0 where
   First : Asking
   Second : Asking
 
--- one of the six places of a round
-pub record Place : Type 0 where
+-- one of the six rooms of a round
+pub record Room : Type 0 where
   pub kind : XKind
   pub asking : Asking
 
@@ -38,29 +38,29 @@ abbrev pub asking_of : Knowledge → Exchange → Role → Option Asking
 asking_of k x Initiator = then_some (has_said_of k (request_kind x.kind) x Initiator) Own
 asking_of k x Responder = option_and_then asking_at (k.seat x)
 
--- the place of an exchange, where its REQUEST or QUERY was said or admitted
-abbrev pub place_of : Member → Knowledge → Exchange → Option Place
-place_of me k x = option_map (λ a. record { kind = x.kind; asking = a }) (asking_of k x (role_of me x))
+-- the room of an exchange, where its REQUEST or QUERY was said or admitted
+abbrev pub room_of : Member → Knowledge → Exchange → Option Room
+room_of me k x = option_map (λ a. record { kind = x.kind; asking = a }) (asking_of k x (role_of me x))
 
--- Each exchange of which anything was admitted or said has a place, and two of one round have different places.
-pub record HasPlaces (me : Member) (k : Knowledge) : Type 0 where
-  pub heard : (kind : Kind) (x : Exchange) (role : Role) → has_heard_of k kind x role ≡ true → is_some (place_of me k x) ≡ true
-  pub said : (kind : Kind) (x : Exchange) (role : Role) → has_said_of k kind x role ≡ true → is_some (place_of me k x) ≡ true
-  pub one : (x y : Exchange) (place : Place) → x.round ≡ y.round → place_of me k x ≡ Some place → place_of me k y ≡ Some place → x ≡ y
+-- Each exchange of which anything was admitted or said has a room, and two of one round have different rooms.
+pub record HasRooms (me : Member) (k : Knowledge) : Type 0 where
+  pub heard : (kind : Kind) (x : Exchange) (role : Role) → has_heard_of k kind x role ≡ true → is_some (room_of me k x) ≡ true
+  pub said : (kind : Kind) (x : Exchange) (role : Role) → has_said_of k kind x role ≡ true → is_some (room_of me k x) ≡ true
+  pub one : (x y : Exchange) (room : Room) → x.round ≡ y.round → room_of me k x ≡ Some room → room_of me k y ≡ Some room → x ≡ y
 
 -- whatever comes
-abbrev pub RunHasPlaces : Type 0
-RunHasPlaces = (me : Member) (inputs : List Input) → HasPlaces me (known me (log_after me [] inputs))
+abbrev pub RunHasRooms : Type 0
+RunHasRooms = (me : Member) (inputs : List Input) → HasRooms me (known me (log_after me [] inputs))
 
 -- so it is of each log that keeps the rules, whether or not a run leaves it
-abbrev pub LogHasPlaces : Type 0
-LogHasPlaces = (me : Member) (log : Log) → IsObedient me log → HasPlaces me (known me log)
+abbrev pub LogHasRooms : Type 0
+LogHasRooms = (me : Member) (log : Log) → IsObedient me log → HasRooms me (known me log)
 
 -- ---- how many
 
--- an exchange that has a place: a memory keeps these alone
+-- an exchange that has a room: a memory keeps these alone
 abbrev pub is_kept : Member → Knowledge → Exchange → Bool
-is_kept me k x = is_some (place_of me k x)
+is_kept me k x = is_some (room_of me k x)
 
 -- Different exchanges of one round that are kept are six at most. Those that may still be asked about are of the rounds from a life before
 -- this one to the next one: so they are at most six for each of these rounds, of which there are two more than in a life.

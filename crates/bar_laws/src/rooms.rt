@@ -1,14 +1,14 @@
 //! Few exchanges.
 
-ghost use Rattle.bar_laws.specs.Places.{RunHasPlaces, LogHasPlaces, RunKeepsFew, LogKeepsFew};
+ghost use Rattle.bar_laws.specs.Rooms.{RunHasRooms, LogHasRooms, RunKeepsFew, LogKeepsFew};
 
-/// Whatever datagrams and ticks come, each exchange of which a peer has admitted or signed anything has one of six places in its round, and
+/// Whatever datagrams and ticks come, each exchange of which a peer has admitted or signed anything has one of six rooms in its round, and
 /// no two exchanges of a round have the same.
-pub fn exchanges_have_places()
+pub fn exchanges_have_rooms()
     // in the log that any list of inputs leaves
-    ensures run { RunHasPlaces }
+    ensures run { RunHasRooms }
     // in each log that keeps the rules
-    ensures obedient { LogHasPlaces }
+    ensures obedient { LogHasRooms }
 {}
 
 /// So of each round it keeps six exchanges at most; and six for each of the rounds that may still be asked about, of which there are two

@@ -1,0 +1,60 @@
+-- Runs: what one input leaves, and what a list of inputs leaves, whatever takes them.
+use Rattle.std.specs.Prelude.{ℕ, ◌+◌, ◌==◌, List, [], ◌∷◌, ◌++◌, map, not, nat_le, if◌then◌else◌}
+use Rattle.std.specs.List.{flat_map, concat}
+use Rattle.bar_wire.specs.Datagram.{Datagram}
+use Rattle.bar_wire.specs.Inputs.{Input, Tick, Came}
+use Rattle.bar_rules.specs.Member.{Session, last_tick}
+
+-- the state after an input, the datagrams that are sent, each with its receiver, and the contents that are played
+pub record Outcome (S : Type 0) : Type 0 where
+  pub state : S
+  pub sends : List (ℕ × Datagram)
+  pub contents : List (List ℕ)
+
+-- nothing is sent or played yet
+abbrev pub begun : {S : Type 0} → S → Outcome S
+begun s = record { state = s; sends = []; contents = [] }
+
+-- one datagram more is sent
+abbrev pub sending : {S : Type 0} → Outcome S → ℕ → Datagram → Outcome S
+sending out to d = record { state = out.state; sends = out.sends ++ (to, d) ∷ []; contents = out.contents }
+
+-- ---- over a list of inputs, by the step of what takes them
+
+abbrev pub state_after : {S : Type 0} → (S → Input → Outcome S) → S → List Input → S
+state_after step s [] = s
+state_after step s (input ∷ inputs) = state_after step (step s input).state inputs
+
+-- the contents that each input plays
+abbrev pub contents_from : {S : Type 0} → (S → Input → Outcome S) → S → List Input → List (List (List ℕ))
+contents_from step s [] = []
+contents_from step s (input ∷ inputs) = (step s input).contents ∷ contents_from step (step s input).state inputs
+
+-- the bytes that all of them play
+abbrev pub played_from : {S : Type 0} → (S → Input → Outcome S) → S → List Input → List ℕ
+played_from step s inputs = flat_map concat (contents_from step s inputs)
+
+-- the datagrams that are sent, each with its input's number and its receiver
+abbrev pub sends_from : {S : Type 0} → (S → Input → Outcome S) → S → ℕ → List Input → List (ℕ × ℕ × Datagram)
+sends_from step s number [] = []
+sends_from step s number (input ∷ inputs) =
+    map (λ send. (number, send.0, send.1)) (step s input).sends ++ sends_from step (step s input).state (number + 1) inputs
+
+-- ---- pacing
+
+-- the most datagrams between two ticks
+abbrev pub most_in_a_row : ℕ
+most_in_a_row = 65536
+
+-- one tick is put before each datagram that would be one too many in a row; nothing stands after the last tick
+abbrev pub paced_from : ℕ → ℕ → ℕ → List Input → List Input
+paced_from last ticks run [] = []
+paced_from last ticks run (Tick ∷ inputs) = if nat_le last ticks then [] else Tick ∷ paced_from last (ticks + 1) 0 inputs
+paced_from last ticks run (Came bytes ∷ inputs) =
+    if nat_le last ticks then []
+    else if not (run == most_in_a_row) then Came bytes ∷ paced_from last ticks (run + 1) inputs
+    else if nat_le last (ticks + 1) then Tick ∷ []
+    else Tick ∷ Came bytes ∷ paced_from last (ticks + 1) 1 inputs
+
+abbrev pub paced : Session → List Input → List Input
+paced s inputs = paced_from (last_tick s) 0 0 inputs
