@@ -37,6 +37,6 @@ pub use Rattle.bar_laws.proofs.Logs.Grammar.{reads-back, heard-fits, spells, fit
 pub use Rattle.bar_laws.proofs.Logs.Elsewhere.{is_of-is, party-on, party-over, kind-on, role-own, sign-elsewhere, own-unheard, sender-on, receiver-on, role-initiator, is_of-own, terms-said, CaseMoment, case-moment}
 pub use Rattle.bar_laws.proofs.Logs.MessageSides.{is_of-part, receiver-role, receiver-partner, other-other}
 pub use Rattle.bar_laws.proofs.Logs.WindowSets.{set-filter, set-take, history-set, young-set, aged-set}
-pub use Rattle.bar_laws.proofs.Logs.Formed.{IsFormed, IsBetween, AllFormed, spoken-in, formed-between, party-peer, round-by, told, told-answer, told-offer, told-reply, revealed-formed, fits-formed, between-by}
+pub use Rattle.bar_laws.proofs.Logs.Formed.{IsFormed, IsBetween, AllFormed, spoken-in, formed-between, party-peer, round-by, told, told-answer, told-offer, told-reply, revealed-formed, fits-formed, between-by, round-of-exchange}
 pub use Rattle.bar_laws.proofs.Logs.SubsetFacts.{inside-all}
 pub use Rattle.bar_laws.proofs.Logs.OwnSide.{IsSaying, names-exchange, saying}

@@ -1,6 +1,8 @@
 -- Few exchanges: of each round a peer keeps six at most, each in a room of its own.
-use Rattle.std.specs.Prelude.{◌≡◌, ℕ, zero, suc, true, List, [], Option, Some, None, is_some, option_map, option_and_then}
+use Rattle.std.specs.Prelude.{◌≡◌, ℕ, zero, suc, ◌+◌, ◌*◌, ◌==◌, ◌&&◌, ◌≤◌, nat_le, Bool, true, List, [], length, Option, Some, None, is_some, option_map, option_and_then}
 use Rattle.std.specs.Bool.{then_some}
+use Rattle.std.specs.List.{list_all, IsDistinct}
+use Rattle.bar_window.specs.Exchange.{same_exchange}
 use Rattle.bar_window.specs.declared.exchange.Exchange.{Exchange}
 use Rattle.bar_window.specs.declared.exchange.Role.{Role}
 use Rattle.bar_window.specs.declared.exchange.Role.TheVariants.{Initiator, Responder}
@@ -8,7 +10,7 @@ use Rattle.bar_window.specs.declared.exchange.XKind.{XKind}
 use Rattle.bar_wire.specs.Inputs.{Input}
 use Rattle.bar_wire.specs.declared.kind.Kind.{Kind}
 use Rattle.bar_rules.specs.Peer.Exchanges.{role_of, request_kind}
-use Rattle.bar_rules.specs.Peer.Knowledge.{Knowledge, known, has_heard_of, has_said_of}
+use Rattle.bar_rules.specs.Peer.Knowledge.{Knowledge, known, this_round, has_heard_of, has_said_of}
 use Rattle.bar_rules.specs.Peer.Log.{Log}
 use Rattle.bar_rules.specs.Member.{Member}
 use Rattle.bar_rules.specs.Peer.Rules.{IsObedient}
@@ -54,3 +56,28 @@ RunHasRooms = InEachLog (λ me log. HasRooms me (known me log))
 -- so it is of each log that keeps the rules, whether or not a run leaves it
 abbrev pub LogHasRooms : Type 0
 LogHasRooms = (me : Member) (log : Log) → IsObedient me log → HasRooms me (known me log)
+
+-- ---- how many
+
+-- an exchange that has a room: a memory keeps these alone
+abbrev pub is_kept : Member → Knowledge → Exchange → Bool
+is_kept me k x = is_some (room_of me k x)
+
+-- Different exchanges of one round that are kept are six at most. Those that may still be asked about are of the rounds from a life before
+-- this one to the next one: so they are at most six for each of these rounds, of which there are two more than in a life.
+pub record KeepsFew (me : Member) (k : Knowledge) : Type 0 where
+  pub in_round :
+      (round : ℕ) (xs : List Exchange) → IsDistinct same_exchange xs → list_all (λ x. (x.round == round) && is_kept me k x) xs ≡ true
+      → length xs ≤ 6
+  pub recent :
+      (xs : List Exchange) → IsDistinct same_exchange xs
+      → list_all (λ x. nat_le (this_round k) (x.round + me.session.shape.life) && is_kept me k x) xs ≡ true
+      → length xs ≤ 6 * (me.session.shape.life + 2)
+
+-- whatever comes
+abbrev pub RunKeepsFew : Type 0
+RunKeepsFew = InEachLog (λ me log. KeepsFew me (known me log))
+
+-- so it is of each log that keeps the rules
+abbrev pub LogKeepsFew : Type 0
+LogKeepsFew = (me : Member) (log : Log) → IsObedient me log → KeepsFew me (known me log)

@@ -140,7 +140,7 @@ module _ (me : Member) (one two : Knowledge) (same : AgreesWith me one two) wher
       (λ i. then_some (nat_lt 0 (length (w i))) (Reply round (w i) (g i) (length (w i) - length (g i))))
 
   -- a message is signed with one leaf
-  signed-same : (m : Message) → ((p : ℕ × XKind × Role) → part_of m.body ≡ Some p → IsRecent me one p.0) → signed me one m ≡ signed me two m
+  pub signed-same : (m : Message) → ((p : ℕ × XKind × Role) → part_of m.body ≡ Some p → IsRecent me one p.0) → signed me one m ≡ signed me two m
   signed-same m r = ap (λ n. record { message = m; signature = signature_of me (leaves.leaf_of m.body n) (message_bytes me.session m) }) (go (part_of m.body) refl)
     where
       go : (o : Option (ℕ × XKind × Role)) → part_of m.body ≡ o → seat_by one (option_map (place_by m.from m.to) o) ≡ seat_by two (option_map (place_by m.from m.to) o)
@@ -160,7 +160,7 @@ module _ (me : Member) (one : Log) (two : Knowledge) (same : AgreesWith me (know
           let w = offered-in-life me me.session.shape.life one kinds.Query x Initiator q l e in
           reply-same me (known me one) two same x.round q h w.0 w.1 ∙ ap (λ o. option_and_then (reply_to me two x.round) o) (sym e)
 
-  case-same : (x : Exchange) (t : Terms) → LogInLife me.session.shape.life one → terms_of me (known me one) x ≡ Some t → this_round (known me one) ≤ x.round + 2 → case_body me (known me one) x t ≡ case_body me two x t
+  pub case-same : (x : Exchange) (t : Terms) → LogInLife me.session.shape.life one → terms_of me (known me one) x ≡ Some t → this_round (known me one) ≤ x.round + 2 → case_body me (known me one) x t ≡ case_body me two x t
   case-same x t l e h =
       let role : Role = role_of me x in
       let cap : ℕ = me.session.cap in

@@ -171,15 +171,15 @@ heard-placed me log kind x role h e =
 -- ---- one exchange at a place
 
 -- the kind and the asking of a place
-place-parts : (x : Exchange) (o : Option Asking) (p : Room) → option_map (λ a. record { kind = x.kind; asking = a }) o ≡ Some p → (x.kind ≡ p.kind) × (o ≡ Some p.asking)
+pub place-parts : (x : Exchange) (o : Option Asking) (p : Room) → option_map (λ a. record { kind = x.kind; asking = a }) o ≡ Some p → (x.kind ≡ p.kind) × (o ≡ Some p.asking)
 place-parts x None p e = cc
 place-parts x (Some a) p e = let same : ◌≡◌ {A = Room} (record { kind = x.kind; asking = a }) p = cc in (ap (λ (z : Room). z.kind) same, ap (λ (z : Room). Some z.asking) same)
 
-own-said : (b : Bool) (a : Asking) → then_some b Own ≡ Some a → (b ≡ true) × (a ≡ Own)
+pub own-said : (b : Bool) (a : Asking) → then_some b Own ≡ Some a → (b ≡ true) × (a ≡ Own)
 own-said true a e = (refl, cc)
 own-said false a e = cc
 
-asked-at : (o : Option ℕ) (a : Asking) → option_and_then asking_at o ≡ Some a → (n : ℕ) × (o ≡ Some n) × (asking_at n ≡ Some a)
+pub asked-at : (o : Option ℕ) (a : Asking) → option_and_then asking_at o ≡ Some a → (n : ℕ) × (o ≡ Some n) × (asking_at n ≡ Some a)
 asked-at (Some n) a e = (n, refl, e)
 asked-at None a e = cc
 
