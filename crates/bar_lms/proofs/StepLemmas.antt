@@ -21,7 +21,8 @@ pub none_taken : (k : Public) (message sig : List ℕ) → is_well_formed k sig 
 unfolding steps_taken
 none_taken k message sig ill = rw ill refl
 
-pub all_taken : (k : Public) (message sig : List ℕ) → is_well_formed k sig ≡ true → steps_taken k message sig ≡ candidate_steps k (number_at sig 0) message sig
+pub all_taken : (k : Public) (message sig : List ℕ) → is_well_formed k sig ≡ true
+    → steps_taken k message sig ≡ candidate_steps k (number_at sig 0) message sig
 unfolding steps_taken
 all_taken k message sig well = rw well refl
 
