@@ -6,7 +6,6 @@ pub mod Rows
 pub mod KeygenLemmas
 pub mod KeygenRows
 pub mod KeygenFronts
-pub mod KeyLemmas
 pub mod KeepLemmas
 pub mod AdmitLemmas
 pub mod PlayLemmas

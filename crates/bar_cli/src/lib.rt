@@ -2,7 +2,6 @@
 #![tactic(auto)]
 
 mod admits;
-mod genuine;
 mod keeps;
 mod keygen;
 mod keygen_laws;

@@ -1,43 +1,78 @@
 -- The tests of keys and signatures decide the facts.
-use Rattle.std.proofs.Common.{◌≡◌, ℕ, ◌<◌, ◌^◌, ◌++◌, true, false, length, take, drop, List, arith, ap, sym, refl, ◌∙◌, length-append, length-drop, subst}
+use Rattle.std.proofs.Common.{◌≡◌, ℕ, ◌+◌, ◌*◌, ◌<◌, ◌^◌, ◌++◌, true, false, length, take, drop, List, arith, ap, sym, refl, ◌∙◌, length-append, length-drop, subst}
 use Rattle.std.proofs.lemmas.Bool.{and_parts, and_from, eqb-true, eq-eqb, ltb-true, lt-ltb, false_from_ne_true}
 use Rattle.std.proofs.lemmas.List.{append_assoc, take_at, take-append-drop, drop-drop, length-take-le}
 use Rattle.std.proofs.lemmas.Slice.Eq.{bytes_eq-Decides}
-use Rattle.std.specs.Bool.{Decides}
-use Rattle.std.specs.Prelude.{codes}
+use Rattle.std.specs.Bool.{Decides, one_answer}
+use Rattle.std.specs.Prelude.{Bool, codes}
 use Rattle.std.specs.Int.{w32, to_be_bytes}
 use Rattle.bar_bytes.specs.Tag.{tagged}
 use Rattle.bar_lms.specs.declared.params.Params.{Params}
-use Rattle.bar_lms.specs.Params.{levels, signature_len}
-use Rattle.bar_lms.specs.Signature.{Public, IsPublic, public_of, type_bytes, key_bytes, number_at}
-use Rattle.bar_lms.specs.Acceptance.{Accepts, is_accepted, IsKeyOf, is_key_of, key_at, AcceptsUnder, is_accepted_under}
+use Rattle.bar_lms.specs.Params.{chains, levels, lms_type, ots_type, signature_len}
+use Rattle.bar_lms.specs.Signature.{Public, IsPublic, public_of, type_bytes, key_bytes, number_at, candidate}
+use Rattle.bar_lms.specs.Acceptance.{Accepts, is_well_formed, is_accepted, IsKeyOf, is_key_of, key_at, AcceptsUnder, is_accepted_under}
 use Rattle.bar_lms.specs.Secret.{Secret, private_of, randomizer_of, public_key, signed}
 use Rattle.bar_lms.proofs.Accepted.{length-sha256, length-node, signature_accepted, signature_leaf}
 use Rattle.bar_lms.proofs.KeyLemmas.{spelled}
+
+-- the parts of what is well formed
+pub record WellFormed (k : Public) (sig : List ℕ) : Type 0 where
+  pub length : length sig ≡ signature_len k.params
+  pub ots_type : number_at sig 4 ≡ ots_type k.params.ots
+  pub lms_type : number_at sig (40 + 32 * chains k.params.ots) ≡ lms_type k.params.height
+  pub leaf : number_at sig 0 < 2 ^ levels k.params.height
+
+pub form_test : (k : Public) (sig : List ℕ) → Decides (is_well_formed k sig) (WellFormed k sig)
+unfolding is_well_formed
+form_test k sig = (
+  λ t.
+      let whole = and_parts _ _ t in
+      let ots = and_parts _ _ whole.1 in
+      let lms = and_parts _ _ ots.1 in
+      record {
+        length = eqb-true _ _ whole.0;
+        ots_type = eqb-true _ _ ots.0;
+        lms_type = eqb-true _ _ lms.0;
+        leaf = ltb-true _ _ lms.1;
+      },
+  λ f. and_from _ _ (eq-eqb _ _ f.length) (and_from _ _ (eq-eqb _ _ f.ots_type) (and_from _ _ (eq-eqb _ _ f.lms_type) (lt-ltb _ _ f.leaf))),
+)
+
+-- what has other parts fails the test
+pub malformed : (k : Public) (sig : List ℕ) → (WellFormed k sig → ⊥) → false ≡ is_well_formed k sig
+malformed k sig isnt = sym (false_from_ne_true _ (λ t. isnt ((form_test k sig).0 t)))
 
 pub accepted_test : (k : Public) (message sig : List ℕ) → Decides (is_accepted k message sig) (Accepts k message sig)
 unfolding is_accepted
 accepted_test k message sig = (
   λ t.
-      let whole = and_parts _ _ t in
-      let ots = and_parts _ _ whole.1 in
-      let lms = and_parts _ _ ots.1 in
-      let leaf = and_parts _ _ lms.1 in
+      let both = and_parts _ _ t in
+      let form = (form_test k sig).0 both.0 in
       record {
-        length = eqb-true _ _ whole.0;
-        ots_type = eqb-true _ _ ots.0;
-        lms_type = eqb-true _ _ lms.0;
-        leaf = ltb-true _ _ leaf.0;
-        root = (bytes_eq-Decides _ _).0 leaf.1;
+        length = form.length;
+        ots_type = form.ots_type;
+        lms_type = form.lms_type;
+        leaf = form.leaf;
+        root = (bytes_eq-Decides _ _).0 both.1;
       },
   λ a.
-      and_from _ _ (eq-eqb _ _ a.length) (and_from _ _ (eq-eqb _ _ a.ots_type) (and_from _ _ (eq-eqb _ _ a.lms_type)
-      (and_from _ _ (lt-ltb _ _ a.leaf) ((bytes_eq-Decides _ _).1 a.root)))),
+      let form = (form_test k sig).1 (record { length = a.length; ots_type = a.ots_type; lms_type = a.lms_type; leaf = a.leaf }) in
+      and_from _ _ form ((bytes_eq-Decides _ _).1 a.root),
 )
 
--- what isn't accepted fails the test
-pub refused : (k : Public) (message sig : List ℕ) → (Accepts k message sig → ⊥) → false ≡ is_accepted k message sig
-refused k message sig isnt = sym (false_from_ne_true _ (λ t. isnt ((accepted_test k message sig).0 t)))
+-- what isn't well formed isn't accepted
+pub not_accepted : (k : Public) (message sig : List ℕ) → is_well_formed k sig ≡ false → false ≡ is_accepted k message sig
+unfolding is_accepted
+not_accepted k message sig ill = rw ill refl
+
+-- what is well formed is accepted where it leads to the root
+pub root_decides : (k : Public) (message sig : List ℕ) (b : Bool) → is_well_formed k sig ≡ true
+    → Decides b (candidate k (number_at sig 0) message sig ≡ k.root) → b ≡ is_accepted k message sig
+unfolding is_accepted
+root_decides k message sig b well exact = rw well (one_answer _ _ exact (bytes_eq-Decides _ _))
+
+pub same_decides : (k : Public) (message sig : List ℕ) (b : Bool) → b ≡ is_accepted k message sig → Decides b (Accepts k message sig)
+same_decides k message sig b is = subst (λ (x : Bool). Decides x (Accepts k message sig)) (sym is) (accepted_test k message sig)
 
 -- 56 bytes in three parts
 in_three : (bytes : List ℕ) → take 8 bytes ++ take 16 (drop 8 bytes) ++ drop 24 bytes ≡ bytes

@@ -7,3 +7,4 @@ pub mod SignLemmas
 pub mod Accepted
 pub mod KeyLemmas
 pub mod Decided
+pub mod StepLemmas

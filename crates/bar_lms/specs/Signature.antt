@@ -1,11 +1,11 @@
 -- Public keys and signatures (RFC 8554, 5.3 and 5.4).
-use Rattle.std.specs.Prelude.{◌≡◌, ℕ, ◌+◌, ◌-◌, ◌*◌, ◌/◌, ◌^◌, List, ◌++◌, length, take, drop}
+use Rattle.std.specs.Prelude.{◌≡◌, ℕ, ◌+◌, ◌*◌, ◌/◌, ◌^◌, List, ◌++◌, length, take, drop}
 use Rattle.std.specs.Int.{w32, to_be_bytes, from_be_bytes}
 use Rattle.bar_lms.specs.declared.params.Ots.{Ots}
 use Rattle.bar_lms.specs.declared.params.Params.{Params}
 use Rattle.bar_lms.specs.declared.private.Private.{Private}
-use Rattle.bar_lms.specs.Params.{chains, last, levels, lms_type, ots_type}
-use Rattle.bar_lms.specs.Chains.{place, chain, joined, digit, message_hash, one_time_key}
+use Rattle.bar_lms.specs.Params.{chains, levels, lms_type, ots_type}
+use Rattle.bar_lms.specs.Chains.{place, chain, joined, total, digit, steps_left, message_hash, one_time_key}
 use Rattle.bar_lms.specs.Tree.{value, node, root, sibling, leaf_node, climb}
 
 -- a public key
@@ -58,7 +58,7 @@ hash_at row i = take 32 (drop (32 * i) row)
 -- the end of chain i, from the value in a signature on
 unfoldable pub end_at : List ℕ → ℕ → Ots → List ℕ → List ℕ → ℕ → List ℕ
 end_at ident q ots hash values i =
-    chain (place ident q i) (digit ots hash i) (last ots - digit ots hash i) (hash_at values i)
+    chain (place ident q i) (digit ots hash i) (steps_left ots hash i) (hash_at values i)
 
 -- the root that a signature of leaf q on a message leads to
 unfoldable pub candidate : Public → ℕ → List ℕ → List ℕ → List ℕ
@@ -67,3 +67,9 @@ candidate k q message sig =
     let key = one_time_key k.ident q (joined (end_at k.ident q k.params.ots hash (drop 40 sig)) (chains k.params.ots)) in
     let r = 2 ^ levels k.params.height + q in
     climb k.ident (hash_at (drop (44 + 32 * chains k.params.ots) sig)) r (leaf_node k.ident r key) (levels k.params.height)
+
+-- how many hashes lead to it: the message, the steps left of each chain, the one-time key, the leaf and a node at each level
+unfoldable pub candidate_steps : Public → ℕ → List ℕ → List ℕ → ℕ
+candidate_steps k q message sig =
+    let hash = message_hash k.ident q (take 32 (drop 8 sig)) message in
+    1 + total (steps_left k.params.ots hash) (chains k.params.ots) + 1 + 1 + levels k.params.height

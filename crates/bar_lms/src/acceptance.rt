@@ -3,11 +3,11 @@
 ghost use Rattle.std.specs.Prelude.{◌≡◌, ℕ, ◌+◌, ◌-◌, ◌*◌, ◌/◌, ◌%◌, ◌^◌, ◌≤◌, ◌<◌, ◌++◌, ◌↔◌, ◌∷◌, [], List, IsTrue, length, take, drop};
 ghost use Rattle.std.specs.Int.{w16, w32, to_be_bytes};
 ghost use Rattle.sha2.specs.Hashers.{Holds256};
-ghost use Rattle.bar_lms.specs.Params.{chains, last, levels, signature_len, most_steps};
-ghost use Rattle.bar_lms.specs.Chains.{place, chain, digit, joined, message_hash, one_time_key};
+ghost use Rattle.bar_lms.specs.Params.{chains, levels, signature_len, most_steps};
+ghost use Rattle.bar_lms.specs.Chains.{joined, total, steps_left, message_hash, one_time_key};
 ghost use Rattle.bar_lms.specs.Tree.{leaf_node, parent, climb};
-ghost use Rattle.bar_lms.specs.Signature.{Public, hash_at, number_at, end_at, candidate};
-ghost use Rattle.bar_lms.specs.Acceptance.{Accepts, is_accepted};
+ghost use Rattle.bar_lms.specs.Signature.{Public, hash_at, number_at, end_at, candidate, candidate_steps};
+ghost use Rattle.bar_lms.specs.Acceptance.{Accepts, is_well_formed, is_accepted, steps_taken};
 
 use crate::chains::chain;
 use crate::digits::{coef, with_checksum};
@@ -15,13 +15,19 @@ use crate::key::PublicKey;
 use crate::params::{Height, Ots, Params};
 use bar_bytes::Steps;
 use sha2::{Digest, Sha256};
-use std::marker::Brand;
-use std::sync::ledger::{Blank, Ledger};
+use std::sync::ledger::Ledger;
 
-// What each hash but a chain's begins with: the key's name, the number of a leaf or node, and the kind.
-pub(crate) fn head(ident: &[u8; 16], number: u32, kind: u16) -> Sha256
-    ensures { Holds256 result (ident.now ++ to_be_bytes w32 number ++ to_be_bytes w16 kind) }
+// Counts a hash and begins it as each but a chain's begins: with the key's name, the number of a leaf or node, and the kind.
+pub(crate) fn head<L: Ledger>(
+    ident: &[u8; 16],
+    number: u32,
+    kind: u16,
+    steps: &mut Steps<L>,
+) -> Sha256
+    ensures held { Holds256 result (ident.now ++ to_be_bytes w32 number ++ to_be_bytes w16 kind) }
+    ensures cost { steps.new ≡ steps.old + 1 }
 {
+    steps.tick();
     let mut hasher = Sha256::new();
     hasher.update(ident.as_slice());
     hasher.update(number.to_be_bytes());
@@ -41,28 +47,48 @@ pub(crate) fn hash_at(row: &[u8], i: usize) -> &[u8]
 
 // Node r from its children.
 #[tactic(auto, unfolding(crate::specs::Tree::parent))]
-pub(crate) fn parent(ident: &[u8; 16], r: u32, left: &[u8], right: &[u8]) -> [u8; 32]
-    ensures { result ≡ parent ident.now r left.now right.now }
+pub(crate) fn parent<L: Ledger>(
+    ident: &[u8; 16],
+    r: u32,
+    left: &[u8],
+    right: &[u8],
+    steps: &mut Steps<L>,
+) -> [u8; 32]
+    ensures value { result ≡ parent ident.now r left.now right.now }
+    ensures cost { steps.new ≡ steps.old + 1 }
 {
-    let mut hasher = head(ident, r, 0x8383);
+    let mut hasher = head(ident, r, 0x8383, steps);
     hasher.update(left);
     hasher.update(right);
     hasher.finalize()
 }
 
 // The same from two arrays.
-pub(crate) fn parent_of(ident: &[u8; 16], r: u32, left: &[u8; 32], right: &[u8; 32]) -> [u8; 32]
-    ensures { result ≡ parent ident.now r left.now right.now }
+pub(crate) fn parent_of<L: Ledger>(
+    ident: &[u8; 16],
+    r: u32,
+    left: &[u8; 32],
+    right: &[u8; 32],
+    steps: &mut Steps<L>,
+) -> [u8; 32]
+    ensures value { result ≡ parent ident.now r left.now right.now }
+    ensures cost { steps.new ≡ steps.old + 1 }
 {
-    parent(ident, r, left, right)
+    parent(ident, r, left, right, steps)
 }
 
 // A leaf, as node r, from its one-time key.
 #[tactic(auto, unfolding(crate::specs::Tree::leaf_node))]
-pub(crate) fn leaf_node(ident: &[u8; 16], r: u32, key: &[u8; 32]) -> [u8; 32]
-    ensures { result ≡ leaf_node ident.now r key.now }
+pub(crate) fn leaf_node<L: Ledger>(
+    ident: &[u8; 16],
+    r: u32,
+    key: &[u8; 32],
+    steps: &mut Steps<L>,
+) -> [u8; 32]
+    ensures value { result ≡ leaf_node ident.now r key.now }
+    ensures cost { steps.new ≡ steps.old + 1 }
 {
-    let mut hasher = head(ident, r, 0x8282);
+    let mut hasher = head(ident, r, 0x8282, steps);
     hasher.update(key.as_slice());
     hasher.finalize()
 }
@@ -88,12 +114,11 @@ fn top<L: Ledger>(
         let beside = hash_at(path, level as usize);
         let above = r / 2;
         below = if r % 2 == 0 {
-            parent(ident, above, &below, beside)
+            parent(ident, above, &below, beside, steps)
         } else {
-            parent(ident, above, beside, &below)
+            parent(ident, above, beside, &below, steps)
         };
         r = above;
-        steps.tick();
     }
     below
 }
@@ -109,17 +134,16 @@ fn key_of_ends<L: Ledger>(
 ) -> [u8; 32]
     requires whole { 32 * chains ots ≤ length values.now }
     ensures value { result ≡ one_time_key ident.now q (joined (end_at ident.now q ots hash.now values.now) (chains ots)) }
-    ensures cost { steps.new ≤ steps.old + (chains ots * last ots + 1) }
+    ensures cost { steps.new ≡ steps.old + (total (steps_left ots hash.now) (chains ots) + 1) }
 {
     let digits = with_checksum(hash, ots);
     let last = ots.last();
-    let mut hasher = head(ident, q, 0x8080);
+    let mut hasher = head(ident, q, 0x8080, steps);
     'chains: for i in 0..ots.chains() {
         let digit = coef(&digits, i, ots);
         let end = chain(ident, q, i as u16, hash_at(values, i), digit, last, steps);
         hasher.update(end.as_slice());
     }
-    steps.tick();
     hasher.finalize()
 }
 
@@ -132,10 +156,17 @@ pub(crate) fn number_at(bytes: &[u8], at: usize) -> u32
 }
 
 // The hash that is signed.
-pub(crate) fn message_hash(ident: &[u8; 16], q: u32, randomizer: &[u8], message: &[u8]) -> [u8; 32]
-    ensures { result ≡ message_hash ident.now q randomizer.now message.now }
+pub(crate) fn message_hash<L: Ledger>(
+    ident: &[u8; 16],
+    q: u32,
+    randomizer: &[u8],
+    message: &[u8],
+    steps: &mut Steps<L>,
+) -> [u8; 32]
+    ensures value { result ≡ message_hash ident.now q randomizer.now message.now }
+    ensures cost { steps.new ≡ steps.old + 1 }
 {
-    let mut hasher = head(ident, q, 0x8181);
+    let mut hasher = head(ident, q, 0x8181, steps);
     hasher.update(randomizer);
     hasher.update(message);
     hasher.finalize()
@@ -153,14 +184,12 @@ fn candidate<L: Ledger>(
     requires leaf { q < 2 ^ levels key.now.params.height }
     requires length { length sig.now ≡ signature_len key.now.params }
     ensures value { result ≡ candidate key.now q message.now sig.now }
-    ensures cost { steps.new ≤ steps.old + most_steps key.now.params }
+    ensures cost { steps.new ≡ steps.old + candidate_steps key.now q message.now sig.now }
 {
     let Params { height, ots } = key.params;
-    let hash = message_hash(&key.ident, q, &sig[8..40], message);
-    steps.tick();
+    let hash = message_hash(&key.ident, q, &sig[8..40], message, steps);
     let one_time_key = key_of_ends(&key.ident, q, &hash, &sig[40..], ots, steps);
-    let leaf = leaf_node(&key.ident, (1 << height.levels()) + q, &one_time_key);
-    steps.tick();
+    let leaf = leaf_node(&key.ident, (1 << height.levels()) + q, &one_time_key, steps);
     top(
         &key.ident,
         q,
@@ -171,13 +200,9 @@ fn candidate<L: Ledger>(
     )
 }
 
-/// Whether a signature is accepted on a message under a key (RFC 8554, 5.4.2).
-///
-/// It counts each hash, at most `Params::most` of them.
-pub fn verify<L: Ledger>(key: &PublicKey, message: &[u8], sig: &[u8], steps: &mut Steps<L>) -> bool
-    ensures test { result ≡ is_accepted key.now message.now sig.now }
-    ensures exact { IsTrue result ↔ Accepts key.now message.now sig.now }
-    ensures cost { steps.new ≤ steps.old + most_steps key.now.params }
+// Whether a signature has the length and the types of its key and names a leaf.
+fn is_well_formed(key: &PublicKey, sig: &[u8]) -> bool
+    ensures { result ≡ is_well_formed key.now sig.now }
 {
     let Params { height, ots } = key.params;
     if sig.len() != key.params.sig_len() {
@@ -188,26 +213,21 @@ pub fn verify<L: Ledger>(key: &PublicKey, message: &[u8], sig: &[u8], steps: &mu
     {
         return false;
     }
-    let q = number_at(sig, 0);
-    if q >= 1 << height.levels() {
+    number_at(sig, 0) < 1 << height.levels()
+}
+
+/// Whether a signature is accepted on a message under a key (RFC 8554, 5.4.2).
+///
+/// It counts each hash: `steps_taken` of them, at most `Params::most`.
+pub fn verify<L: Ledger>(key: &PublicKey, message: &[u8], sig: &[u8], steps: &mut Steps<L>) -> bool
+    ensures test { result ≡ is_accepted key.now message.now sig.now }
+    ensures exact { IsTrue result ↔ Accepts key.now message.now sig.now }
+    ensures cost { steps.new ≡ steps.old + steps_taken key.now message.now sig.now }
+    ensures bound { steps_taken key.now message.now sig.now ≤ most_steps key.now.params }
+{
+    if !is_well_formed(key, sig) {
         return false;
     }
-    let root = candidate(key, q, message, sig, steps);
+    let root = candidate(key, number_at(sig, 0), message, sig, steps);
     root.as_slice() == key.root.as_slice()
-}
-
-fn accepts_under<L: Ledger>(key: &PublicKey, message: &[u8], sig: &[u8], blank: Blank) -> bool
-    requires name { blank.name ≡ L.name }
-    requires parts { blank.parts ≡ L.parts }
-    requires some { 0 < L.parts }
-    ensures { IsTrue result ↔ Accepts key.now message.now sig.now }
-{
-    verify(key, message, sig, &mut Steps::<L>::new(blank))
-}
-
-/// Whether a signature is accepted on a message under a key, for a caller that counts nothing.
-pub fn accepts(key: &PublicKey, message: &[u8], sig: &[u8]) -> bool
-    ensures { IsTrue result ↔ Accepts key.now message.now sig.now }
-{
-    accepts_under::<Brand>(key, message, sig, Blank::new(1))
 }

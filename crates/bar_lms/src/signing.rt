@@ -3,7 +3,7 @@
 ghost use Rattle.std.specs.Prelude.{◌≡◌, ℕ, ◌+◌, ◌*◌, ◌^◌, ◌≤◌, ◌<◌, ◌++◌, length, take, drop};
 ghost use Rattle.std.specs.Int.{w32, to_be_bytes};
 ghost use Rattle.bar_lms.specs.Params.{chains, levels, signature_len};
-ghost use Rattle.bar_lms.specs.Chains.{joined};
+ghost use Rattle.bar_lms.specs.Chains.{joined, total, digit};
 ghost use Rattle.bar_lms.specs.Tree.{HoldsTree, sibling};
 ghost use Rattle.bar_lms.specs.Signature.{signed_value, sibling_at, signature, public_of};
 ghost use Rattle.bar_lms.specs.Acceptance.{Accepts};
@@ -30,6 +30,7 @@ fn put_values<L: Ledger>(
     ensures grown { take (40 + 32 * chains key.now.params.ots) out.new
         ≡ take 40 out.old ++ joined (signed_value key.now q hash.now) (chains key.now.params.ots) }
     ensures rest { drop (40 + 32 * chains key.now.params.ots) out.new ≡ drop (40 + 32 * chains key.now.params.ots) out.old }
+    ensures cost { steps.new ≡ steps.old + total (λ i. 1 + digit key.now.params.ots hash.now i) (chains key.now.params.ots) }
 {
     let ots = key.params.ots;
     let digits = with_checksum(hash, ots);
@@ -111,7 +112,7 @@ fn sign_from<L: Ledger>(
     put_number(out, 0, q);
     put_number(out, 4, ots.number());
     put_hash(out, 8, randomizer);
-    let hash = message_hash(&key.ident, q, randomizer, message);
+    let hash = message_hash(&key.ident, q, randomizer, message, &mut steps);
     put_values(key, q, &hash, out, &mut steps);
     let at = 40 + 32 * ots.chains();
     put_number(out, at, height.number());

@@ -2,10 +2,15 @@
 
 mod vectors;
 
+ghost use Rattle.std.specs.Prelude.{◌≡◌, ◌<◌};
+
 use crate::{
-    BadType, Height, KeyFault, Ots, Params, Private, PublicKey, SecretKey, accepts, fill_tree, sign,
+    BadType, Height, KeyFault, Ots, Params, Private, PublicKey, SecretKey, fill_tree, sign, verify,
 };
+use bar_bytes::Steps;
 use sha2::{Digest, Sha256};
+use std::marker::Brand;
+use std::sync::ledger::{Blank, Ledger};
 use std::test::Fail;
 use vectors::{OF_WIDTH_4, OF_WIDTH_8};
 
@@ -14,6 +19,19 @@ const SECRET: [u8; 32] = [
     0, 1, 2, 3, 4, 5, 6, 7, 8, 9, 10, 11, 12, 13, 14, 15, 16, 17, 18, 19, 20, 21, 22, 23, 24, 25,
     26, 27, 28, 29, 30, 31,
 ];
+
+fn is_counted<L: Ledger>(key: &PublicKey, message: &[u8], sig: &[u8], blank: Blank) -> bool
+    requires name { blank.name ≡ L.name }
+    requires parts { blank.parts ≡ L.parts }
+    requires some { 0 < L.parts }
+{
+    verify(key, message, sig, &mut Steps::<L>::new(blank))
+}
+
+/// Whether a signature is accepted.
+fn accepts(key: &PublicKey, message: &[u8], sig: &[u8]) -> bool {
+    is_counted::<Brand>(key, message, sig, Blank::new(1))
+}
 
 #[test]
 fn others_signatures_are_accepted(rt: HostRuntime) -> Result<(), Fail> {

@@ -2,7 +2,7 @@
 
 ghost use Rattle.std.specs.Prelude.{◌≡◌, ℕ, ◌+◌, ◌-◌, ◌*◌, ◌^◌, ◌≤◌, ◌<◌, length};
 ghost use Rattle.bar_lms.specs.Params.{chains, last, levels};
-ghost use Rattle.bar_lms.specs.Tree.{value, leaf_key, node, HoldsLeaves, HoldsTree};
+ghost use Rattle.bar_lms.specs.Tree.{value, leaf_key, leaf_key_steps, node, HoldsLeaves, HoldsTree};
 
 use crate::acceptance::{head, leaf_node, parent_of};
 use crate::chains::chain;
@@ -22,7 +22,8 @@ pub(crate) fn value<L: Ledger>(
     steps: &mut Steps<L>,
 ) -> [u8; 32]
     requires { n ≤ 255 }
-    ensures { result ≡ value key.now q n i }
+    ensures value { result ≡ value key.now q n i }
+    ensures cost { steps.new ≡ steps.old + (1 + n) }
 {
     let start = chain(&key.ident, q, i, &key.seed, 255, 256, steps);
     chain(&key.ident, q, i, &start, 0, n, steps)
@@ -31,10 +32,11 @@ pub(crate) fn value<L: Ledger>(
 /// The one-time public key of leaf q.
 #[tactic(auto, unfolding(crate::specs::Tree::leaf_key))]
 fn leaf_key<L: Ledger>(key: &Private, q: u32, steps: &mut Steps<L>) -> [u8; 32]
-    ensures { result ≡ leaf_key key.now q }
+    ensures value { result ≡ leaf_key key.now q }
+    ensures cost { steps.new ≡ steps.old + leaf_key_steps key.now.params.ots }
 {
     let ots = key.params.ots;
-    let mut hasher = head(&key.ident, q, 0x8080);
+    let mut hasher = head(&key.ident, q, 0x8080, steps);
     'chains: for i in 0..ots.chains() {
         let end = value(key, q, i as u16, ots.last(), steps);
         hasher.update(end.as_slice());
@@ -45,28 +47,30 @@ fn leaf_key<L: Ledger>(key: &Private, q: u32, steps: &mut Steps<L>) -> [u8; 32]
 // Writes the leaves of a tree at their places.
 fn fill_leaves<L: Ledger>(key: &Private, nodes: &mut [[u8; 32]], steps: &mut Steps<L>)
     requires { length nodes.old ≡ 2 * 2 ^ levels key.now.params.height }
-    ensures { HoldsLeaves key.now nodes.new }
+    ensures held { HoldsLeaves key.now nodes.new }
+    ensures cost { steps.new ≡ steps.old + 2 ^ levels key.now.params.height * (leaf_key_steps key.now.params.ots + 1) }
 {
     let leaves = key.params.height.leaves();
     'leaves: for q in 0..leaves {
         let one_time_key = leaf_key(key, q as u32, steps);
-        let node = leaf_node(&key.ident, (leaves + q) as u32, &one_time_key);
+        let node = leaf_node(&key.ident, (leaves + q) as u32, &one_time_key, steps);
         nodes[leaves + q] = node;
     }
 }
 
 // Writes the nodes above the leaves at their places.
-fn fill_parents(key: &Private, nodes: &mut [[u8; 32]])
+fn fill_parents<L: Ledger>(key: &Private, nodes: &mut [[u8; 32]], steps: &mut Steps<L>)
     requires places { length nodes.old ≡ 2 * 2 ^ levels key.now.params.height }
     requires leaves { HoldsLeaves key.now nodes.old }
-    ensures { HoldsTree key.now nodes.new }
+    ensures held { HoldsTree key.now nodes.new }
+    ensures cost { steps.new ≡ steps.old + (2 ^ levels key.now.params.height - 1) }
 {
     let leaves = key.params.height.leaves();
     'parents: for k in 1..leaves {
         let r = leaves - k;
         let left = nodes[2 * r];
         let right = nodes[2 * r + 1];
-        let node = parent_of(&key.ident, r as u32, &left, &right);
+        let node = parent_of(&key.ident, r as u32, &left, &right, steps);
         nodes[r] = node;
     }
 }
@@ -81,7 +85,7 @@ fn fill_from<L: Ledger>(key: &Private, nodes: &mut [[u8; 32]], blank: Blank)
 {
     let mut steps = Steps::<L>::new(blank);
     fill_leaves(key, nodes, &mut steps);
-    fill_parents(key, nodes);
+    fill_parents(key, nodes, &mut steps);
 }
 
 /// Writes the nodes of a tree (RFC 8554, 5.3) at the places of their numbers: the root at 1, the leaves from 2 to the height on.

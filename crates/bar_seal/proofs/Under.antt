@@ -1,76 +1,64 @@
 -- Acceptance under a key's bytes, by the key that is read from them.
-use Rattle.std.proofs.Common.{◌≡◌, ℕ, true, false, List, refl, sym, ap, ◌∙◌, arith}
+use Rattle.std.proofs.Common.{◌≡◌, ℕ, ◌≤◌, true, false, if◌then◌else◌, List, refl, sym, ap, ◌∙◌, arith}
 use Rattle.std.specs.Prelude.{Result, Ok, Err}
 use Rattle.std.proofs.lemmas.Bool.{false_from_ne_true}
 use Rattle.bar_lms.specs.declared.params.Params.{Params}
-use Rattle.bar_lms.specs.declared.params.Height.{Height}
-use Rattle.bar_lms.specs.declared.params.Height.TheVariants.{H5, H10, H15}
-use Rattle.bar_lms.specs.declared.params.Ots.{Ots}
-use Rattle.bar_lms.specs.declared.params.Ots.TheVariants.{W1, W2, W4, W8}
-use Rattle.bar_lms.specs.Params.{lms_type, ots_type}
 use Rattle.bar_lms.specs.declared.key.KeyFault.{KeyFault}
+use Rattle.bar_lms.specs.Params.{most_steps}
 use Rattle.bar_lms.specs.Signature.{Public}
-use Rattle.bar_lms.specs.Acceptance.{is_accepted, is_key_of, key_at, is_accepted_under}
-
-height_tells : (a b : Height) → lms_type a ≡ lms_type b → a ≡ b
-height_tells H5 H5 e = refl
-height_tells H10 H10 e = refl
-height_tells H15 H15 e = refl
-height_tells H5 H10 e = absurd (omega arith)
-height_tells H5 H15 e = absurd (omega arith)
-height_tells H10 H5 e = absurd (omega arith)
-height_tells H10 H15 e = absurd (omega arith)
-height_tells H15 H5 e = absurd (omega arith)
-height_tells H15 H10 e = absurd (omega arith)
-
-ots_tells : (a b : Ots) → ots_type a ≡ ots_type b → a ≡ b
-ots_tells W1 W1 e = refl
-ots_tells W2 W2 e = refl
-ots_tells W4 W4 e = refl
-ots_tells W8 W8 e = refl
-ots_tells W1 W2 e = absurd (omega arith)
-ots_tells W1 W4 e = absurd (omega arith)
-ots_tells W1 W8 e = absurd (omega arith)
-ots_tells W2 W1 e = absurd (omega arith)
-ots_tells W2 W4 e = absurd (omega arith)
-ots_tells W2 W8 e = absurd (omega arith)
-ots_tells W4 W1 e = absurd (omega arith)
-ots_tells W4 W2 e = absurd (omega arith)
-ots_tells W4 W8 e = absurd (omega arith)
-ots_tells W8 W1 e = absurd (omega arith)
-ots_tells W8 W2 e = absurd (omega arith)
-ots_tells W8 W4 e = absurd (omega arith)
-
--- the numbers of types tell them
-pub types_tell : (a b : Params) → lms_type a.height ≡ lms_type b.height → ots_type a.ots ≡ ots_type b.ots → a ≡ b
-types_tell a b h o = λ i. record { height = height_tells a.height b.height h i; ots = ots_tells a.ots b.ots o i }
+use Rattle.bar_lms.specs.Acceptance.{is_accepted, steps_taken, is_key_of, key_at, is_accepted_under, steps_taken_under}
+use Rattle.bar_lms.proofs.StepLemmas.{few_taken}
 
 -- the key of given types that bytes are is the one that was read
 abbrev ReadsOf : List ℕ → Result Public KeyFault → Type 0
 ReadsOf bytes r = (p : Params) → is_key_of p bytes ≡ true → r ≡ Ok (key_at p bytes)
 
-pub under_same : (p : Params) (bytes message sig : List ℕ) (k : Public) (r : Result Public KeyFault) → r ≡ Ok k → is_key_of k.params bytes ≡ true → ReadsOf bytes r
-    → k.params ≡ p → is_accepted k message sig ≡ is_accepted_under p bytes message sig
-unfolding is_accepted_under
-under_same p bytes message sig k r is types reads same =
+-- bytes are a key of these types, and it is this one
+pub record IsKey (p : Params) (bytes : List ℕ) (k : Public) : Type 0 where
+  pub test : is_key_of p bytes ≡ true
+  pub key : k ≡ key_at p bytes
+
+pub read_key : (p : Params) (bytes : List ℕ) (k : Public) (r : Result Public KeyFault) → r ≡ Ok k → is_key_of k.params bytes ≡ true
+    → ReadsOf bytes r → k.params ≡ p → IsKey p bytes k
+read_key p bytes k r is types reads same =
     let test : is_key_of p bytes ≡ true = ap (λ (q : Params). is_key_of q bytes) (sym same) ∙ types in
     let found : Ok k ≡ Ok (key_at p bytes) = sym is ∙ reads p test in
-    let key : k ≡ key_at p bytes = cc in
-    rw test (ap (λ (x : Public). is_accepted x message sig) key)
+    record { test = test; key = cc }
 
-no_key : (p : Params) (bytes message sig : List ℕ) → (is_key_of p bytes ≡ true → ⊥) → false ≡ is_accepted_under p bytes message sig
-unfolding is_accepted_under
-no_key p bytes message sig none = let e : is_key_of p bytes ≡ false = false_from_ne_true (is_key_of p bytes) none in rw e refl
-
-pub under_other : (p : Params) (bytes message sig : List ℕ) (k : Public) (r : Result Public KeyFault) → r ≡ Ok k → ReadsOf bytes r
-    → (k.params ≡ p → ⊥) → false ≡ is_accepted_under p bytes message sig
-under_other p bytes message sig k r is reads other =
-    no_key p bytes message sig
-    (λ test.
+-- a key of other types was read
+pub read_other : (p : Params) (bytes : List ℕ) (k : Public) (r : Result Public KeyFault) → r ≡ Ok k → ReadsOf bytes r → (k.params ≡ p → ⊥)
+    → is_key_of p bytes ≡ true → ⊥
+read_other p bytes k r is reads other test =
     let found : Ok k ≡ Ok (key_at p bytes) = sym is ∙ reads p test in
     let key : k ≡ key_at p bytes = cc in
-    other (ap (λ (x : Public). x.params) key))
+    other (ap (λ (x : Public). x.params) key)
 
-pub under_none : (p : Params) (bytes message sig : List ℕ) (e : KeyFault) (r : Result Public KeyFault) → r ≡ Err e → ReadsOf bytes r → false ≡ is_accepted_under p bytes message sig
-under_none p bytes message sig e r is reads =
-    no_key p bytes message sig (λ test. let found : Err e ≡ Ok (key_at p bytes) = sym is ∙ reads p test in cc)
+-- no key was read
+pub read_none : (p : Params) (bytes : List ℕ) (e : KeyFault) (r : Result Public KeyFault) → r ≡ Err e → ReadsOf bytes r
+    → is_key_of p bytes ≡ true → ⊥
+read_none p bytes e r is reads test = let found : Err e ≡ Ok (key_at p bytes) = sym is ∙ reads p test in cc
+
+pub accepted_by : (p : Params) (bytes message sig : List ℕ) (k : Public) → IsKey p bytes k
+    → is_accepted k message sig ≡ is_accepted_under p bytes message sig
+unfolding is_accepted_under
+accepted_by p bytes message sig k is = rw is.test (ap (λ (x : Public). is_accepted x message sig) is.key)
+
+pub steps_by : (p : Params) (bytes message sig : List ℕ) (k : Public) → IsKey p bytes k
+    → steps_taken k message sig ≡ steps_taken_under p bytes message sig
+unfolding steps_taken_under
+steps_by p bytes message sig k is = rw is.test (ap (λ (x : Public). steps_taken x message sig) is.key)
+
+pub accepted_by_none : (p : Params) (bytes message sig : List ℕ) → (is_key_of p bytes ≡ true → ⊥)
+    → false ≡ is_accepted_under p bytes message sig
+unfolding is_accepted_under
+accepted_by_none p bytes message sig none = let e : is_key_of p bytes ≡ false = false_from_ne_true (is_key_of p bytes) none in rw e refl
+
+pub steps_by_none : (p : Params) (bytes message sig : List ℕ) → (is_key_of p bytes ≡ true → ⊥) → steps_taken_under p bytes message sig ≡ 0
+unfolding steps_taken_under
+steps_by_none p bytes message sig none = let e : is_key_of p bytes ≡ false = false_from_ne_true (is_key_of p bytes) none in rw e refl
+
+pub few_under : (p : Params) (bytes message sig : List ℕ) → steps_taken_under p bytes message sig ≤ most_steps p
+unfolding steps_taken_under
+few_under p bytes message sig =
+    elim (is_key_of p bytes) as (λ b. (if b then steps_taken (key_at p bytes) message sig else 0) ≤ most_steps p)
+    [ true ↦ few_taken (key_at p bytes) message sig | false ↦ omega arith ]

@@ -34,7 +34,8 @@ impl Checker {
     ) -> bool
         requires signed { IsSome view.now.sig }
         ensures exact { result ≡ V.is_accepted verifier.now key.now view.now.message.now (signature_bytes view.now.sig) }
-        ensures cost { steps.new ≤ steps.old + V.most_steps verifier.now }
+        ensures cost { steps.new ≡ steps.old + V.steps_taken verifier.now key.now view.now.message.now (signature_bytes view.now.sig) }
+        ensures bound { V.steps_taken verifier.now key.now view.now.message.now (signature_bytes view.now.sig) ≤ V.most_steps verifier.now }
         ensures same { self.new ≡ self.old }
     {
         match view.sig {

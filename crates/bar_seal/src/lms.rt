@@ -1,13 +1,14 @@
 //! LMS (RFC 8554) as a scheme.
 
-ghost use Rattle.std.specs.Prelude.{◌≡◌, ℕ, ◌+◌, ◌≤◌, ◌^◌, true, false};
+ghost use Rattle.std.specs.Prelude.{◌≡◌, ℕ, ◌+◌, ◌≤◌, ◌<◌, ◌^◌, ◌↔◌, IsTrue};
 ghost use Rattle.bar_lms.specs.Params.{most_steps};
-ghost use Rattle.bar_lms.specs.Acceptance.{is_accepted_under};
+ghost use Rattle.bar_lms.specs.Acceptance.{is_accepted_under, steps_taken_under};
 
 use crate::scheme::{Scheme, Verifier};
 use bar_bytes::Steps;
 use bar_lms::{Params, PublicKey, SecretKey, verify};
-use std::sync::ledger::Ledger;
+use std::marker::Brand;
+use std::sync::ledger::{Blank, Ledger};
 
 /// Acceptance of LMS signatures under public keys of the same types. Under any other key nothing is accepted.
 #[derive(Clone, Copy, Debug)]
@@ -22,12 +23,10 @@ pub struct LmsScheme {
 }
 
 /// Whether types are the same.
-#[tactic(auto, using(crate::proofs::Under::types_tell))]
 fn same_types(a: Params, b: Params) -> bool
-    ensures same { result ≡ true → a ≡ b }
-    ensures other { result ≡ false → a ≡ b → ⊥ }
+    ensures { IsTrue result ↔ (a ≡ b) }
 {
-    a.lms() == b.lms() && a.ots() == b.ots()
+    a == b
 }
 
 fn accepts_under<L: Ledger>(
@@ -38,12 +37,35 @@ fn accepts_under<L: Ledger>(
     steps: &mut Steps<L>,
 ) -> bool
     ensures exact { result ≡ is_accepted_under params key.now message.now sig.now }
-    ensures cost { steps.new ≤ steps.old + most_steps params }
+    ensures cost { steps.new ≡ steps.old + steps_taken_under params key.now message.now sig.now }
+    ensures bound { steps_taken_under params key.now message.now sig.now ≤ most_steps params }
 {
     match PublicKey::read(key) {
         Ok(key) => same_types(key.params(), params) && verify(&key, message, sig, steps),
         Err(_) => false,
     }
+}
+
+fn accepts_uncounted<L: Ledger>(
+    params: Params,
+    key: &[u8],
+    message: &[u8],
+    sig: &[u8],
+    blank: Blank,
+) -> bool
+    requires name { blank.name ≡ L.name }
+    requires parts { blank.parts ≡ L.parts }
+    requires some { 0 < L.parts }
+    ensures { result ≡ is_accepted_under params key.now message.now sig.now }
+{
+    accepts_under(params, key, message, sig, &mut Steps::<L>::new(blank))
+}
+
+/// Whether bytes are a public key of these types under which a signature is accepted on a message, for a caller that counts nothing.
+pub fn is_accepted_under(params: Params, key: &[u8], message: &[u8], sig: &[u8]) -> bool
+    ensures { result ≡ is_accepted_under params key.now message.now sig.now }
+{
+    accepts_uncounted::<Brand>(params, key, message, sig, Blank::new(1))
 }
 
 impl LmsVerifier {
@@ -57,11 +79,13 @@ impl LmsVerifier {
 
 impl Verifier for LmsVerifier {
     ghost use Rattle.bar_lms.specs.Params.{signature_len, most_steps};
-    ghost use Rattle.bar_lms.specs.Acceptance.{is_accepted_under};
+    ghost use Rattle.bar_lms.specs.Acceptance.{is_accepted_under, steps_taken_under};
 
     ghost is_accepted = { λ s key message sig. is_accepted_under s.params key message sig };
 
     ghost signature_len = { λ s. signature_len s.params };
+
+    ghost steps_taken = { λ s key message sig. steps_taken_under s.params key message sig };
 
     ghost most_steps = { λ s. most_steps s.params };
 
@@ -91,11 +115,13 @@ impl LmsScheme {
 
 impl Verifier for LmsScheme {
     ghost use Rattle.bar_lms.specs.Params.{signature_len, most_steps};
-    ghost use Rattle.bar_lms.specs.Acceptance.{is_accepted_under};
+    ghost use Rattle.bar_lms.specs.Acceptance.{is_accepted_under, steps_taken_under};
 
     ghost is_accepted = { λ s key message sig. is_accepted_under s.signer.params key message sig };
 
     ghost signature_len = { λ s. signature_len s.signer.params };
+
+    ghost steps_taken = { λ s key message sig. steps_taken_under s.signer.params key message sig };
 
     ghost most_steps = { λ s. most_steps s.signer.params };
 

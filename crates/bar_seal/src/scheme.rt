@@ -13,6 +13,9 @@ pub trait Verifier {
     /// How many bytes a signature has.
     ghost signature_len: { Self → ℕ };
 
+    /// How many steps acceptance takes: key, message and signature.
+    ghost steps_taken: { Self → List ℕ → List ℕ → List ℕ → ℕ };
+
     /// The most steps that acceptance takes.
     ghost most_steps: { Self → ℕ };
 
@@ -29,7 +32,8 @@ pub trait Verifier {
         steps: &mut Steps<L>,
     ) -> bool
         ensures exact { result ≡ is_accepted self.now key.now message.now sig.now }
-        ensures cost { steps.new ≤ steps.old + most_steps self.now };
+        ensures cost { steps.new ≡ steps.old + steps_taken self.now key.now message.now sig.now }
+        ensures bound { steps_taken self.now key.now message.now sig.now ≤ most_steps self.now };
 }
 
 /// A verifier that also signs, under one key with so many leaves.

@@ -7,7 +7,7 @@ ghost use Rattle.bar_wire.specs.declared.shape.Shape.{Shape};
 use crate::checker::Checker;
 use crate::identities::Identity;
 use crate::leaves::leaf_of;
-use crate::lms::{LmsScheme, LmsVerifier};
+use crate::lms::{LmsScheme, LmsVerifier, is_accepted_under};
 use crate::naming::identity;
 use crate::scheme::{Scheme, Verifier};
 use bar_bytes::Steps;
@@ -96,6 +96,7 @@ fn what_is_signed_is_accepted_under_its_key_alone(rt: HostRuntime) -> Result<(),
     assert!(rt; !is_accepted(&verifier, &key, b"another", &sig));
     assert!(rt; !is_accepted(&other, &key, b"a message", &sig));
     assert!(rt; !is_accepted(&verifier, b"no key", b"a message", &sig));
+    assert!(rt; is_accepted_under(PARAMS, &key, b"a message", &sig));
     Ok(())
 }
 

@@ -25,11 +25,11 @@ path-preserved g c =
       below = elim c.if-r-eq0.branch [
         | then-r-eq0 w ↦
             let more = climb_left ident path leaf c.args.leaf c.path.level c.path.r c.path.invariant.number w.if-r-eq0.true in
-            cc (more, w.parent-below.ensures, w.below-is, c.hash_at-beside.ensures.value, c.path.invariant.below)
+            cc (more, w.parent-below.ensures.value, w.below-is, c.hash_at-beside.ensures.value, c.path.invariant.below)
         | else-r-eq0 w ↦
             let odd : c.path.r % 2 ≡ 1 = omega (arith, w.if-r-eq0.false) in
             let more = climb_right ident path leaf c.args.leaf c.path.level c.path.r c.path.invariant.number odd in
-            cc (more, w.parent-below-else-r-eq0.ensures, w.below-is, c.hash_at-beside.ensures.value, c.path.invariant.below)
+            cc (more, w.parent-below-else-r-eq0.ensures.value, w.below-is, c.hash_at-beside.ensures.value, c.path.invariant.below)
       ];
-      cost = omega arith;
+      cost = elim c.if-r-eq0.branch [ then-r-eq0 w ↦ omega arith | else-r-eq0 w ↦ omega arith ];
     }

@@ -26,7 +26,7 @@ returns-clause-value g c =
     in
     let w4 : take (40 + 32 * chains ots) c.put_values.new.out ≡ q ++ ots_number ++ c.args.randomizer.now ++ values =
     then_written c.put_hash.new.out c.put_values.new.out (q ++ ots_number ++ c.args.randomizer.now) values 40 (40 + 32 * chains ots) 40 _ w3
-    (rw c.message_hash-hash.ensures at c.put_values.ensures.grown) refl refl
+    (rw c.message_hash-hash.ensures.value at c.put_values.ensures.grown) refl refl
     in
     let w5 : take (44 + 32 * chains ots) c.put_number-3.new.out ≡ q ++ ots_number ++ c.args.randomizer.now ++ values ++ lms_number =
     then_written c.put_values.new.out c.put_number-3.new.out (q ++ ots_number ++ c.args.randomizer.now ++ values) lms_number
