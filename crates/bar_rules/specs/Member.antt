@@ -20,12 +20,12 @@ pub record IsMember (me : Member) : Type 0 where
   pub fits : Fits me.session me.party me.secret
 
 -- the public key of a party, the broadcaster's at 0
-abbrev pub key_of : Session → ℕ → List ℕ
-key_of s party = unwrap_or (slice_get s.keys party) []
+abbrev pub key_of_party : Session → ℕ → List ℕ
+key_of_party s party = unwrap_or (slice_get s.keys party) []
 
 -- the anchor of a peer
-abbrev pub anchor_of : Session → ℕ → List ℕ
-anchor_of s peer = unwrap_or (slice_get s.anchors (peer - 1)) []
+abbrev pub anchor_of_peer : Session → ℕ → List ℕ
+anchor_of_peer s peer = unwrap_or (slice_get s.anchors (peer - 1)) []
 
 -- Ticks are counted from 1. Each round has eight of them, in slots 0 to 7; before the first tick the round is 0.
 abbrev pub round_after : ℕ → ℕ

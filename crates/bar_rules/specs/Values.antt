@@ -20,7 +20,7 @@ use Rattle.bar_case.specs.Opened.{opened_blocks}
 use Rattle.bar_case.specs.Opened as opening
 use Rattle.bar_case.specs.declared.findings.Opening.{Opening}
 use Rattle.bar_case.specs.declared.findings.Opening.TheVariants.{Good, Bad, Unknown}
-use Rattle.bar_rules.specs.Member.{Session, key_of}
+use Rattle.bar_rules.specs.Member.{Session, key_of_party}
 
 -- ---- updates
 
@@ -93,4 +93,4 @@ unsigned m = record { message = m; signature = [] }
 
 -- the signature is accepted under the sender's key
 abbrev pub is_signed_by : Session → Datagram → Bool
-is_signed_by s d = is_accepted_under s.params (key_of s d.message.from) (message_bytes s d.message) d.signature
+is_signed_by s d = is_accepted_under s.params (key_of_party s d.message.from) (message_bytes s d.message) d.signature

@@ -1,7 +1,7 @@
 -- The evidence that a member keeps can be sent: it is one or two datagrams of a peer, each as long as a packet at most.
+use Rattle.bar_rules.specs.Peer.Evidence.{accuses}
 use Rattle.bar_wire.specs.Bodies.{is_peer_kind}
 use Rattle.bar_roster.specs.Sessions.{IsSession}
-use Rattle.bar_rules.specs.Peer.Evidence.{names}
 use Rattle.bar_rules.specs.Peer.Log.{kept, kept_in, Log, Entry, Kept, table}
 use Rattle.bar_rules.specs.Member.{Session, Member, IsMember}
 use Rattle.bar_rules.specs.Peer.Rules.{IsObedient, Allows}
@@ -34,17 +34,17 @@ fault-few s t (d ∷ []) f e = (omega arith, omega arith)
 fault-few s t (d ∷ c ∷ []) f e = (omega arith, omega arith)
 fault-few s t (d ∷ c ∷ b ∷ ds) f e = cc
 
-named-readable : (s : Session) (t : Table) (q : ℕ) (evidence : List (List ℕ)) → names q (verdict s t evidence) ≡ true → IsReadable s evidence
+named-readable : (s : Session) (t : Table) (q : ℕ) (evidence : List (List ℕ)) → accuses q (verdict s t evidence) ≡ true → IsReadable s evidence
 named-readable s t q evidence h = go (all_read s evidence) refl h
   where
     shown : (ds : List Datagram) → all_read s evidence ≡ Some ds → (a b : Bool) (o : Option Fault) → are_of_one_peer ds ≡ a → fault_of s t ds ≡ o
-        → names q (if not a then NotShown Malformed else (if not b then NotShown NotSigned else judged s t ds o)) ≡ true → IsReadable s evidence
+        → accuses q (if not a then NotShown Malformed else (if not b then NotShown NotSigned else judged s t ds o)) ≡ true → IsReadable s evidence
     shown ds read false b o e f h = cc
     shown ds read true false o e f h = cc
     shown ds read true true None e f h = cc
     shown ds read true true (Some fault) e f h = let n = fault-few s t ds fault f in record { datagrams = ds; read = read; one_peer = e; some = n.0; few = n.1 }
 
-    go : (o : Option (List Datagram)) → all_read s evidence ≡ o → names q (verdict_on s t o) ≡ true → IsReadable s evidence
+    go : (o : Option (List Datagram)) → all_read s evidence ≡ o → accuses q (verdict_on s t o) ≡ true → IsReadable s evidence
     go None read h = cc
     go (Some ds) read h = shown ds read (are_of_one_peer ds) (list_all (is_signed_by s) ds) (fault_of s t ds) refl refl h
 

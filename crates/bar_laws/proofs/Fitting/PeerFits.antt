@@ -1,10 +1,10 @@
 -- What a peer signs and sends is in the grammar.
+use Rattle.bar_rules.specs.Peer.Evidence.{new_evidence}
 use Rattle.bar_wire.specs.Kinds.{code_of}
 use Rattle.bar_roster.specs.KeyFile.{signing_secret}
 use Rattle.bar_rules.specs.Runs.{begun}
 use Rattle.bar_rules.specs.Peer.Admission.{is_admitted}
-use Rattle.bar_rules.specs.Peer.Evidence.{completed}
-use Rattle.bar_rules.specs.Peer.Exchanges.{request_kind, role_of, partner_in, revealed, open_exchanges, opened, with_exchange, exchange_said}
+use Rattle.bar_rules.specs.Peer.Exchanges.{request_kind, role_of, partner_in, revealed, open_exchanges, with_exchange, exchange_said, exchanges_said}
 use Rattle.bar_rules.specs.Peer.Knowledge.{known}
 use Rattle.bar_rules.specs.Peer.Log.{kept, Log, Entry, Ticked, Heard, Said, Kept, said_in, first_said, ticks, round_now, is_announced}
 use Rattle.bar_rules.specs.Peer.Machine.{send_if, message_to}
@@ -13,7 +13,7 @@ use Rattle.bar_rules.specs.Peer.Orders.{Order, Ask, Answer, Reveal, GiveCase, As
 use Rattle.bar_rules.specs.Peer.Replies.{reply_orders, orders_for, orders_when, repeated}
 use Rattle.bar_rules.specs.Peer.Rules.{IsObedient}
 use Rattle.bar_rules.specs.Peer.Run.{Out, perform, perform_all, say, say_or_repeat, answered_to, answer_repeat, with_evidence, report_new, take_datagram, take_input, step}
-use Rattle.bar_rules.specs.Peer.Signing.{MaySay, leaf_of, signed}
+use Rattle.bar_rules.specs.Peer.Signing.{MaySay, signed, leaf_for}
 use Rattle.bar_rules.specs.Peer.Ticks.{orders_at_tick, again, lacks_answer, lacks_case, lacks_key, reveals, asking_partner, new_requests, reports}
 use Rattle.bar_rules.specs.Values.{datagram_of, message_bytes, unsigned}
 use Rattle.bar_rules.specs.Peer.Machine as machine
@@ -73,7 +73,7 @@ said-fits me log d is h s =
     let leaves = keeps-leaves me log is.session h in
     let contains = said-contains log d s in
     let sealed : d.signature ≡ (signed me (known me log) d.message).signature = ap (λ z. z.signature) (leaves.stays d contains) in
-    let long = lms_signed_has_its_length (signing_secret me.session me.secret) (leaf_of (known me log) d.message) (message_bytes me.session d.message) (leaves.below d contains) in
+    let long = lms_signed_has_its_length (signing_secret me.session me.secret) (leaf_for (known me log) d.message) (message_bytes me.session d.message) (leaves.below d contains) in
     record {
       from_fits = peer-small me d.message.from is formed.from;
       to_fits = peer-small me d.message.to is formed.to;
@@ -217,19 +217,19 @@ reply-proper me log is_new d fits = go d.message.body refl
 -- ---- the orders of a tick
 
 -- each exchange in which a member signed a message is between peers
-opened-between : (me : Member) (log : Log) → IsMember me → IsObedient me log → AllByRecursion (IsBetween me.session.shape) (opened log)
+opened-between : (me : Member) (log : Log) → IsMember me → IsObedient me log → AllByRecursion (IsBetween me.session.shape) (exchanges_said log)
 opened-between me [] is h = tt
 opened-between me (e ∷ log) is h = go e h (opened-between me log is h.1)
   where
-    part : (d : Datagram) (o : Option (ℕ × XKind × Role)) → IsObedient me (Said d ∷ log) → part_of d.message.body ≡ o → AllByRecursion (IsBetween me.session.shape) (opened log)
-        → AllByRecursion (IsBetween me.session.shape) (with_exchange (option_map (λ (q : Place). q.exchange) (option_map (place_by d.message.from d.message.to) o)) (opened log))
+    part : (d : Datagram) (o : Option (ℕ × XKind × Role)) → IsObedient me (Said d ∷ log) → part_of d.message.body ≡ o → AllByRecursion (IsBetween me.session.shape) (exchanges_said log)
+        → AllByRecursion (IsBetween me.session.shape) (with_exchange (option_map (λ (q : Place). q.exchange) (option_map (place_by d.message.from d.message.to) o)) (exchanges_said log))
     part d None h f a = a
     part d (Some p) h f a =
         let formed : IsFormed me.session.shape d.message = all-formed me (Said d ∷ log) is h d p (inl refl) f in
-        all-inserted (IsBetween me.session.shape) (exchange_by p.0 p.1 p.2 d.message.from d.message.to) (opened log)
+        all-inserted (IsBetween me.session.shape) (exchange_by p.0 p.1 p.2 d.message.from d.message.to) (exchanges_said log)
         (between-by me.session.shape p.0 p.1 p.2 d.message.from d.message.to (part-in-range me.session.shape d.message.body p f formed.range) formed.from formed.to formed.other) a
 
-    go : (e : Entry) → IsObedient me (e ∷ log) → AllByRecursion (IsBetween me.session.shape) (opened log) → AllByRecursion (IsBetween me.session.shape) (with_exchange (exchange_said (said_in e)) (opened log))
+    go : (e : Entry) → IsObedient me (e ∷ log) → AllByRecursion (IsBetween me.session.shape) (exchanges_said log) → AllByRecursion (IsBetween me.session.shape) (with_exchange (exchange_said (said_in e)) (exchanges_said log))
     go (Said d) h a = part d (part_of d.message.body) h refl a
     go Ticked h a = a
     go (Heard d) h a = a
@@ -263,7 +263,7 @@ tick-proper me log is h =
     (all-both (IsProperOrder me) _ _
     (all-flat-map (IsBetween me.session.shape) (IsProperOrder me) (λ x. orders_when (not (is_announced log (partner_in me x))) (again me (known me log) x)) (open_exchanges me log)
     (λ x b. when-all (IsProperOrder me) (not (is_announced log (partner_in me x))) (again me (known me log) x) (λ _. again-proper me log x b))
-    (all-kept (IsBetween me.session.shape) (λ x. nat_le (round_now log) (x.round + me.session.shape.life)) (opened log) (opened-between me log is h)))
+    (all-kept (IsBetween me.session.shape) (λ x. nat_le (round_now log) (x.round + me.session.shape.life)) (exchanges_said log) (opened-between me log is h)))
     (when-all (IsProperOrder me) _ (new_requests me (known me log) (round_now log))
     (λ _. all-both (IsProperOrder me) _ _ (asking-proper me log Balanced) (when-all (IsProperOrder me) _ (asking_partner me (known me log) (round_now log) Push) (λ _. asking-proper me log Push)))))
     (when-all (IsProperOrder me) _ (reports me (known me log)) (λ _. reports-proper me _))
@@ -288,7 +288,7 @@ answered-fits me log d is h = go (is_admitted me (known me log) d) h
 
 datagram-fits : (me : Member) (log : Log) (o : Option Datagram) → IsMember me → IsObedient me (take_datagram me log o).state → AllByRecursion (Fits me) (take_datagram me log o).sends
 datagram-fits me log None is h = tt
-datagram-fits me log (Some d) is h = go (completed me (known me log) d) h
+datagram-fits me log (Some d) is h = go (new_evidence me (known me log) d) h
   where
     go : (e : Option (List (List ℕ))) → IsObedient me (report_new me (answered_to me (with_evidence me log d.message.from e) d) d.message.from e).state
         → AllByRecursion (Fits me) (report_new me (answered_to me (with_evidence me log d.message.from e) d) d.message.from e).sends

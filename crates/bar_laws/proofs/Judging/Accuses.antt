@@ -1,7 +1,7 @@
 -- A briefcase and a key that opens it badly show their sender, and are completed as evidence.
 use Rattle.bar_wire.specs.Bodies.{briefcase_in, key_in, is_peer_kind}
 use Rattle.bar_wire.specs.declared.kind.Kind.TheVariants as kinds
-use Rattle.bar_rules.specs.Peer.Evidence.{completed, is_tried, if_names, pair_with, pairs_in, pairs_by, names}
+use Rattle.bar_rules.specs.Peer.Evidence.{is_tried, pair_with, pairs_in, pairs_by, accuses, if_accuses, new_evidence}
 use Rattle.bar_rules.specs.Peer.Exchanges.{opening_kind}
 use Rattle.bar_rules.specs.Peer.Knowledge.{known}
 use Rattle.bar_rules.specs.Peer.Log.{Log, first_heard, table}
@@ -53,7 +53,7 @@ pair-shown s t d e c k p =
 
 pair-serves : (s : Session) (t : Table) (d e : Datagram) (c : Briefcase) (k : KeyGiven) → IsBadPair s t d e c k → is_some (pair_with s t e (Some d)) ≡ true
 pair-serves s t d e c k p =
-    let named : names e.message.from (verdict s t (datagram_bytes s d ∷ datagram_bytes s e ∷ [])) ≡ true = rw (pair-shown s t d e c k p) (eq-eqb _ _ p.from) in
+    let named : accuses e.message.from (verdict s t (datagram_bytes s d ∷ datagram_bytes s e ∷ [])) ≡ true = rw (pair-shown s t d e c k p) (eq-eqb _ _ p.from) in
     rw named refl
 
 or-first : {A : Type 0} (o p : Option A) → is_some o ≡ true → is_some (option_or o p) ≡ true
@@ -67,8 +67,8 @@ or-second None p h = h
 -- evidence is completed where the CASE that was heard first and this key make a bad pair
 pub bad-completed : (me : Member) (log : Log) (d e : Datagram) (c : Briefcase) (k : KeyGiven)
     → first_heard (is_of kinds.Case (exchange_by k.round k.kind k.role e.message.from e.message.to) k.role) log ≡ Some d → is_tried me (known me log) e ≡ true → IsBadPair me.session (table log) d e c k
-    → is_some (completed me (known me log) e) ≡ true
-unfolding completed
+    → is_some (new_evidence me (known me log) e) ≡ true
+unfolding new_evidence
 bad-completed me log d e c k found tried p =
     let x : Exchange = exchange_by k.round k.kind k.role e.message.from e.message.to in
     let case : is_some (pair_with me.session (table log) e (first_heard (is_of kinds.Case x k.role) log)) ≡ true =
@@ -76,5 +76,5 @@ bad-completed me log d e c k found tried p =
     let pairs : is_some (pairs_in me.session (known me log) e x k.role) ≡ true =
     or-second (pair_with me.session (table log) e (first_heard (is_of (opening_kind x.kind k.role) x k.role) log)) _ (or-first _ _ case) in
     rw tried
-    (or-second (if_names me.session (table log) e.message.from (datagram_bytes me.session e ∷ [])) _
+    (or-second (if_accuses me.session (table log) e.message.from (datagram_bytes me.session e ∷ [])) _
     (subst (λ b. is_some (pairs_by me.session (known me log) e (option_map (place_by e.message.from e.message.to) (part_of b))) ≡ true) (sym p.key) pairs))

@@ -1,17 +1,17 @@
 -- Where a heard key opens a heard briefcase badly, evidence is kept against their sender.
+use Rattle.bar_rules.specs.Peer.Holdings.{case_heard_from}
 use Rattle.bar_wire.specs.Bodies.{briefcase_in, is_peer_kind}
 use Rattle.bar_wire.specs.declared.kind.Kind.TheVariants as kinds
 use Rattle.bar_case.specs.Items.{junk_key}
 use Rattle.bar_case.specs.Opened.{opening, opened, findings, is_bad}
 use Rattle.bar_case.specs.Opened as briefcases
-use Rattle.bar_rules.specs.Peer.Admission.{is_admitted, is_row_met, is_genuine, are_terms}
-use Rattle.bar_rules.specs.Peer.Evidence.{completed, is_tried}
+use Rattle.bar_rules.specs.Peer.Admission.{is_admitted, is_row_met, are_terms, has_valid_signature}
+use Rattle.bar_rules.specs.Peer.Evidence.{is_tried, new_evidence}
 use Rattle.bar_rules.specs.Peer.Exchanges.{role_of, partner_in}
-use Rattle.bar_rules.specs.Peer.Holdings.{case_for}
 use Rattle.bar_rules.specs.Peer.Knowledge.{known}
 use Rattle.bar_rules.specs.Peer.Log.{kept, kept_in, Log, Entry, Heard, Said, heard_in, if_passes, first_heard, first_said, has_heard, has_said, table, round_now, is_announced}
 use Rattle.bar_rules.specs.Member.{Member}
-use Rattle.bar_rules.specs.Peer.Rules.{IsObedient, Allows, MaySend}
+use Rattle.bar_rules.specs.Peer.Rules.{IsObedient, Allows, IsSignedByRule}
 use Rattle.bar_rules.specs.Peer.Signing.{MaySay, MayGiveCase, windows_within}
 use Rattle.bar_rules.specs.Peer.Terms.{terms_of, case_heard}
 use Rattle.bar_rules.specs.Values.{opening_of, is_signed_by, terms_ok, counts_ok}
@@ -110,7 +110,7 @@ said-terms me log x role h e =
   where
     at : (d : Datagram) → WasSaid log d → IsCaseOf x role d.message → SaidTerms me log x
     at d w c =
-        let send : MaySend me w.before d = said-rule me log d w h in
+        let send : IsSignedByRule me w.before d = said-rule me log d w h in
         let later : IsLater log w.before = later-entry log w.before (Said d) w.place in
         let rule : MayGiveCase me (known me w.before) d.message.to c.case = subst (λ b. MaySay me (known me w.before) d.message.to b) c.body send.rule.rule in
         let name : exchange_by c.case.round c.case.kind c.case.role me.party d.message.to ≡ x = ap (λ z. exchange_by c.case.round c.case.kind c.case.role z d.message.to) (sym send.rule.mine) ∙ c.exchange in
@@ -166,7 +166,7 @@ heard-briefcase me log x role d h w e =
 pub heard-signed : (me : Member) (before : Log) (d : Datagram) → is_admitted me (known me before) d ≡ true → is_signed d.message.body ≡ true → is_signed_by me.session d ≡ true
 unfolding is_admitted
 heard-signed me before d e signed =
-    let genuine : is_genuine me.session d ≡ true = (and_parts _ _ (and_parts _ _ (and_parts _ _ e).0).0).1 in
+    let genuine : has_valid_signature me.session d ≡ true = (and_parts _ _ (and_parts _ _ (and_parts _ _ e).0).0).1 in
     rw signed at genuine
 
 heard-unannounced : (me : Member) (before : Log) (d : Datagram) → is_admitted me (known me before) d ≡ true → not (is_announced before d.message.from) ≡ true
@@ -225,7 +225,7 @@ opened-before me log before x role d key later b =
 
 -- evidence is kept where a heard key opens the heard briefcase badly
 pub bad-key-kept : (me : Member) (log before : Log) (e : Datagram) (k : KeyGiven) (c : Briefcase) → IsObedient me log → IsWatchful me log → IsEntry log before (Heard e) → e.message.body ≡ Key k
-    → case_for log (exchange_by k.round k.kind k.role e.message.from e.message.to) k.role ≡ Some c
+    → case_heard_from log (exchange_by k.round k.kind k.role e.message.from e.message.to) k.role ≡ Some c
     → is_bad (opening_of me.session (table log) (exchange_by k.round k.kind k.role e.message.from e.message.to) c k.key) ≡ true → is_some (kept log e.message.from) ≡ true
 bad-key-kept me log before e k c h watchful place is found bad = go (cases_Bool (is_some (kept before e.message.from)))
   where
@@ -243,12 +243,12 @@ bad-key-kept me log before e k c h watchful place is found bad = go (cases_Bool 
         let was = first_heard-was (is_of kinds.Case x k.role) before d first in
         let b : HeardBriefcase me before x k.role d = heard-briefcase me before x k.role d al.1 was.0 was.1 in
         let first_now : first_heard (is_of kinds.Case x k.role) log ≡ Some d = find-later (λ before y. if_passes (is_of kinds.Case x k.role) (heard_in y)) log before d later first in
-        let now : case_for log x k.role ≡ Some b.case = ap (option_and_then (λ d. briefcase_in d.message.body)) first_now ∙ ap briefcase_in b.body in
+        let now : case_heard_from log x k.role ≡ Some b.case = ap (option_and_then (λ d. briefcase_in d.message.body)) first_now ∙ ap briefcase_in b.body in
         let same : c ≡ b.case = cc (now, found) in
         let bad_now : is_bad (opening_of me.session (table log) x b.case k.key) ≡ true = subst (λ z. is_bad (opening_of me.session (table log) x z k.key) ≡ true) same bad in
         let bad_then : is_bad (opening_of me.session (table before) x b.case k.key) ≡ true = ap is_bad (opened-before me log before x k.role d k.key later b) ∙ bad_now in
-        let some : is_some (completed me (known me before) e) ≡ true = bad-completed me before d e b.case k first (key-tried me before e k al.0 is free) (bad-pair me before d e k al.0 is was.1 b bad_then) in
-        let nothing : is_some (completed me (known me before) e) ≡ false = ap is_some (watchful-at me log before e place watchful) in
+        let some : is_some (new_evidence me (known me before) e) ≡ true = bad-completed me before d e b.case k first (key-tried me before e k al.0 is free) (bad-pair me before d e k al.0 is was.1 b bad_then) in
+        let nothing : is_some (new_evidence me (known me before) e) ≡ false = ap is_some (watchful-at me log before e place watchful) in
         both_ways _ nothing some
 
     go : (is_some (kept before e.message.from) ≡ true) ⊎ (is_some (kept before e.message.from) ≡ false) → is_some (kept log e.message.from) ≡ true
@@ -282,7 +282,7 @@ opens-badly-kept me log x d h watchful o =
     let same : x ≡ own = (let e = o.of_exchange in cc) in
     let side : other_role (role_of me own) ≡ k.role = ap other_role (receiver-role me k.round k.kind k.role d.message.from d.message.to mine.to mine.other) ∙ other-other k.role in
     let partner : partner_in me own ≡ d.message.from = receiver-partner me k.round k.kind k.role d.message.from d.message.to mine.to mine.other in
-    let found : case_for log own k.role ≡ Some o.case = subst (λ r. case_for log own r ≡ Some o.case) side (subst (λ y. case_heard me (known me log) y ≡ Some o.case) same o.case_is) in
+    let found : case_heard_from log own k.role ≡ Some o.case = subst (λ r. case_heard_from log own r ≡ Some o.case) side (subst (λ y. case_heard me (known me log) y ≡ Some o.case) same o.case_is) in
     let bad : is_bad (opening_of me.session (table log) own o.case k.key) ≡ true = subst (λ y. is_bad (opening_of me.session (table log) y o.case k.key) ≡ true) same o.bad in
     let kept_now : is_some (kept log d.message.from) ≡ true = bad-key-kept me log w.before d k o.case h watchful w.place o.is_key found bad in
     subst (λ y. is_some (kept log (partner_in me y)) ≡ true) (sym same) (subst (λ q. is_some (kept log q) ≡ true) (sym partner) kept_now)

@@ -1,7 +1,7 @@
 -- Evidence is tried at each datagram before it is admitted, and what is kept stays shown.
 use Rattle.bar_rules.specs.Runs.{begun}
 use Rattle.bar_rules.specs.Peer.Admission.{is_admitted}
-use Rattle.bar_rules.specs.Peer.Evidence.{completed, is_tried, names}
+use Rattle.bar_rules.specs.Peer.Evidence.{is_tried, accuses, new_evidence}
 use Rattle.bar_rules.specs.Peer.Knowledge.{known}
 use Rattle.bar_rules.specs.Peer.Log.{kept, kept_in, Log, Entry, Ticked, Heard, Said, Kept, table, ticks}
 use Rattle.bar_rules.specs.Peer.Machine.{send_if}
@@ -29,7 +29,7 @@ use Rattle.bar_laws.proofs.Judging.ShownStays.{BadStaysBad, verdict-stays}
 -- no datagram in the log completes evidence that was not kept before it
 abbrev pub IsWatchful : Member → Log → Type 0
 IsWatchful me [] = Unit {0}
-IsWatchful me (Heard d ∷ log) = (completed me (known me log) d ≡ None) × IsWatchful me log
+IsWatchful me (Heard d ∷ log) = (new_evidence me (known me log) d ≡ None) × IsWatchful me log
 IsWatchful me (Ticked ∷ log) = IsWatchful me log
 IsWatchful me (Said d ∷ log) = IsWatchful me log
 IsWatchful me (Kept q e ∷ log) = IsWatchful me log
@@ -41,7 +41,7 @@ watchful-append me (Ticked ∷ new) log h = watchful-append me new log h
 watchful-append me (Said d ∷ new) log h = watchful-append me new log h
 watchful-append me (Kept q e ∷ new) log h = watchful-append me new log h
 
-pub watchful-at : (me : Member) (log before : Log) (d : Datagram) → IsEntry log before (Heard d) → IsWatchful me log → completed me (known me before) d ≡ None
+pub watchful-at : (me : Member) (log before : Log) (d : Datagram) → IsEntry log before (Heard d) → IsWatchful me log → new_evidence me (known me before) d ≡ None
 watchful-at me log before d place h = (watchful-append me place.after (Heard d ∷ before) (subst (λ l. IsWatchful me l) place.split h)).0
 
 -- ---- orders add nothing but what is said
@@ -78,15 +78,15 @@ kept-new log q e = or-second (kept log q) (then_some (eqb q q) e) (rw (eq-eqb q 
 pub not-tried : (me : Member) (log : Log) (d : Datagram) → is_some (kept log d.message.from) ≡ true → is_tried me (known me log) d ≡ false
 not-tried me log d h = false_from_ne_true (is_tried me (known me log) d) (λ t. both_ways _ (not-true _ (and_parts _ _ (and_parts _ _ t).0).1) h)
 
-pub none-completed : (me : Member) (log : Log) (d : Datagram) → is_some (kept log d.message.from) ≡ true → completed me (known me log) d ≡ None
-unfolding completed
+pub none-completed : (me : Member) (log : Log) (d : Datagram) → is_some (kept log d.message.from) ≡ true → new_evidence me (known me log) d ≡ None
+unfolding new_evidence
 none-completed me log d h = rw (not-tried me log d h) refl
 
 evidence-watchful : (me : Member) (log : Log) (d : Datagram) → IsWatchful me log
-    → IsWatchful me (with_evidence me log d.message.from (completed me (known me log) d)) × (completed me (known me (with_evidence me log d.message.from (completed me (known me log) d))) d ≡ None)
-evidence-watchful me log d h = go (completed me (known me log) d) refl
+    → IsWatchful me (with_evidence me log d.message.from (new_evidence me (known me log) d)) × (new_evidence me (known me (with_evidence me log d.message.from (new_evidence me (known me log) d))) d ≡ None)
+evidence-watchful me log d h = go (new_evidence me (known me log) d) refl
   where
-    go : (o : Option (List (List ℕ))) → completed me (known me log) d ≡ o → IsWatchful me (with_evidence me log d.message.from o) × (completed me (known me (with_evidence me log d.message.from o)) d ≡ None)
+    go : (o : Option (List (List ℕ))) → new_evidence me (known me log) d ≡ o → IsWatchful me (with_evidence me log d.message.from o) × (new_evidence me (known me (with_evidence me log d.message.from o)) d ≡ None)
     go None e = (h, e)
     go (Some f) e = (h, none-completed me (Kept d.message.from f ∷ log) d (kept-new log d.message.from f))
 
@@ -94,7 +94,7 @@ repeat-watchful : (me : Member) (log : Log) (o : Option Datagram) → IsWatchful
 repeat-watchful me log None h = h
 repeat-watchful me log (Some d) h = perform_all-watchful me (begun log) (reply_orders me (known me log) false d) h
 
-answered-watchful : (me : Member) (log : Log) (d : Datagram) → IsWatchful me log → completed me (known me log) d ≡ None → IsWatchful me (answered_to me log d).state
+answered-watchful : (me : Member) (log : Log) (d : Datagram) → IsWatchful me log → new_evidence me (known me log) d ≡ None → IsWatchful me (answered_to me log d).state
 answered-watchful me log d h e = go (is_admitted me (known me log) d)
   where
     go : (b : Bool) → IsWatchful me (cond b (perform_all me (begun (Heard d ∷ log)) (reply_orders me (known me (Heard d ∷ log)) true d)) (answer_repeat me log (repeated me (known me log) d))).state
@@ -109,8 +109,8 @@ datagram-watchful : (me : Member) (log : Log) (o : Option Datagram) → IsWatchf
 datagram-watchful me log None h = h
 datagram-watchful me log (Some d) h =
     let p = evidence-watchful me log d h in
-    report-watchful me (answered_to me (with_evidence me log d.message.from (completed me (known me log) d)) d) d.message.from (completed me (known me log) d)
-    (answered-watchful me (with_evidence me log d.message.from (completed me (known me log) d)) d p.0 p.1)
+    report-watchful me (answered_to me (with_evidence me log d.message.from (new_evidence me (known me log) d)) d) d.message.from (new_evidence me (known me log) d)
+    (answered-watchful me (with_evidence me log d.message.from (new_evidence me (known me log) d)) d p.0 p.1)
 
 input-watchful : (me : Member) (log : Log) (input : Input) → IsWatchful me log → IsWatchful me (take_input me log input).state
 input-watchful me log Tick h = perform_all-watchful me (begun (Ticked ∷ log)) (orders_at_tick me (known me (Ticked ∷ log))) h
@@ -130,7 +130,7 @@ run-watchful me log (input ∷ inputs) h = run-watchful me (step me log input).s
 
 -- ---- what is kept is shown
 
-pub named-shown : (v : Verdict) (q : ℕ) → names q v ≡ true → (fault : Fault) × (v ≡ Shown q fault)
+pub named-shown : (v : Verdict) (q : ℕ) → accuses q v ≡ true → (fault : Fault) × (v ≡ Shown q fault)
 named-shown (Shown p fault) q e = (fault, ap (λ z. Shown z fault) (eqb-true p q e))
 named-shown (NotShown why) q e = cc
 

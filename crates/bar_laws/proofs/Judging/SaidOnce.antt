@@ -3,7 +3,7 @@ use Rattle.bar_rules.specs.Peer.Exchanges.{role_of}
 use Rattle.bar_rules.specs.Peer.Knowledge.{known}
 use Rattle.bar_rules.specs.Peer.Log.{Log, Said}
 use Rattle.bar_rules.specs.Member.{Member}
-use Rattle.bar_rules.specs.Peer.Rules.{IsObedient, MaySend}
+use Rattle.bar_rules.specs.Peer.Rules.{IsObedient, IsSignedByRule}
 use Rattle.bar_rules.specs.Peer.Signing.{MaySay, MayGiveCase}
 use Rattle.bar_rules.specs.Peer.Terms.{first_on, body_on, terms_of}
 use Rattle.bar_window.specs.Exchange.{kind_code, role_code, party_on, other_role}
@@ -89,7 +89,7 @@ pub record SaidBriefcase (me : Member) (log : Log) (d : Datagram) (c : Briefcase
 pub said-briefcase : (me : Member) (log : Log) (d : Datagram) (c : Briefcase) → IsObedient me log → SaidIn log d → d.message.body ≡ Case c → SaidBriefcase me log d c
 said-briefcase me log d c h p e =
     let w : WasSaid log d = was-said log d p in
-    let sign : MaySend me w.before d = said-rule me log d w h in
+    let sign : IsSignedByRule me w.before d = said-rule me log d w h in
     let rule : MayGiveCase me (known me w.before) d.message.to c = subst (λ b. MaySay me (known me w.before) d.message.to b) e sign.rule.rule in
     let t : terms_of me (known me log) (exchange_by c.round c.kind c.role me.party d.message.to) ≡ Some c.terms = terms_of-later me log w.before _ c.terms (later-entry log w.before (Said d) w.place) rule.terms in
     let before : IsObedient me w.before = (allowed-at me log w.before (Said d) w.place h).1 in

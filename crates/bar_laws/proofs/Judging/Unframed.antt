@@ -1,14 +1,14 @@
 -- No member is framed by what it signed.
+use Rattle.bar_rules.specs.Peer.Evidence.{accuses}
 use Rattle.bar_wire.specs.Bodies.{briefcase_in, choice_in, key_in}
 use Rattle.bar_case.specs.Opened.{is_bad}
 use Rattle.bar_case.specs.Opened as opening
 use Rattle.bar_case.specs.Sealed.{IsTold}
-use Rattle.bar_rules.specs.Peer.Evidence.{names}
 use Rattle.bar_rules.specs.Peer.Holdings.{block_of, is_held}
 use Rattle.bar_rules.specs.Peer.Knowledge.{known}
 use Rattle.bar_rules.specs.Peer.Log.{Log, Ticked, Heard, Said, Kept, table}
 use Rattle.bar_rules.specs.Member.{Session, Member, IsMember}
-use Rattle.bar_rules.specs.Peer.Rules.{IsObedient, MaySend}
+use Rattle.bar_rules.specs.Peer.Rules.{IsObedient, IsSignedByRule}
 use Rattle.bar_rules.specs.Secrets.{briefcase_key, is_seed, seed_of, partner_of, secrets_of}
 use Rattle.bar_rules.specs.Peer.Signing.{MaySign, MaySay, MayGiveCase, MayGiveKey}
 use Rattle.bar_rules.specs.Values.{terms_ok, opening_of, counts_ok, is_signed_by}
@@ -74,8 +74,8 @@ pub never-opens_bad : (me : Member) (log : Log) (two : Table) (m n : Datagram) (
 never-opens_bad me log two m n c k h p q e f agree fits =
     let w : WasSaid log m = was-said log m p in
     let v : WasSaid log n = was-said log n q in
-    let sm : MaySend me w.before m = said-rule me log m w h in
-    let sn : MaySend me v.before n = said-rule me log n v h in
+    let sm : IsSignedByRule me w.before m = said-rule me log m w h in
+    let sn : IsSignedByRule me v.before n = said-rule me log n v h in
     let rc : MayGiveCase me (known me w.before) m.message.to c = subst (λ b. MaySay me (known me w.before) m.message.to b) e sm.rule.rule in
     let rk : MayGiveKey me (known me v.before) n.message.to k = subst (λ b. MaySay me (known me v.before) n.message.to b) f sn.rule.rule in
     let before : IsObedient me w.before = (allowed-at me log w.before (Said m) w.place h).1 in
@@ -179,10 +179,10 @@ no-framing me log two (d ∷ e ∷ f ∷ ds) is h agree a = refl
 
 -- evidence whose messages a member signed does not name it
 pub not-named : (me : Member) (log : Log) (two : Table) (evidence : List (List ℕ)) (ds : List Datagram) → IsMember me → IsObedient me log → Agrees (table log) two
-    → all_read me.session evidence ≡ Some ds → AllByRecursion (λ (d : Datagram). HasSaid log d.message) ds → names me.party (verdict me.session two evidence) ≡ false
+    → all_read me.session evidence ≡ Some ds → AllByRecursion (λ (d : Datagram). HasSaid log d.message) ds → accuses me.party (verdict me.session two evidence) ≡ false
 not-named me log two evidence ds is h agree read said = rw read (checked (are_of_one_peer ds) (list_all (is_signed_by me.session) ds) (fault_of me.session two ds) (no-framing me log two ds is h agree said))
   where
-    checked : (a b : Bool) (o : Option Fault) → o ≡ None → names me.party (if not a then NotShown Malformed else (if not b then NotShown NotSigned else judged me.session two ds o)) ≡ false
+    checked : (a b : Bool) (o : Option Fault) → o ≡ None → accuses me.party (if not a then NotShown Malformed else (if not b then NotShown NotSigned else judged me.session two ds o)) ≡ false
     checked false b o e = refl
     checked true false o e = refl
     checked true true None e = refl

@@ -3,7 +3,7 @@ use Rattle.bar_wire.specs.Bodies.{briefcase_in}
 use Rattle.bar_wire.specs.declared.kind.Kind.TheVariants as kinds
 use Rattle.bar_case.specs.Keystream.{keystream}
 use Rattle.bar_case.specs.Opened.{opened, opened_blocks}
-use Rattle.bar_rules.specs.Peer.Holdings.{block_of, block_in, block_from, block_opened, case_for}
+use Rattle.bar_rules.specs.Peer.Holdings.{block_of, block_in, block_from, block_opened, case_heard_from}
 use Rattle.bar_rules.specs.Peer.Log.{Log, Entry, Ticked, Heard, Said, Kept, table, first_heard, round_now}
 use Rattle.bar_rules.specs.Member.{Session, Member, is_alive}
 use Rattle.bar_rules.specs.Peer.Rules.{IsObedient, Allows}
@@ -51,7 +51,7 @@ record IsWhole (me : Member) (c : Briefcase) : Type 0 where
   counts : counts_ok me.session c ≡ true
   long : length c.cipher ≡ 1024 * c.updates + 1280 * c.junk
 
-heard-whole : (me : Member) (log : Log) (x : Exchange) (role : Role) (c : Briefcase) → IsObedient me log → case_for log x role ≡ Some c → IsWhole me c
+heard-whole : (me : Member) (log : Log) (x : Exchange) (role : Role) (c : Briefcase) → IsObedient me log → case_heard_from log x role ≡ Some c → IsWhole me c
 heard-whole me log x role c h e = go (first_heard (is_of kinds.Case x role) log) refl e
   where
     at : (d : Datagram) → WasHeard log d → is_of kinds.Case x role d.message ≡ true → first_heard (is_of kinds.Case x role) log ≡ Some d → briefcase_in d.message.body ≡ Some c → IsWhole me c
@@ -70,7 +70,7 @@ heard-whole me log x role c h e = go (first_heard (is_of kinds.Case x role) log)
 pub blocks-whole : (me : Member) (log : Log) (u : UpdateId) (b : List ℕ) → IsObedient me log → block_of me.session log u ≡ Some b → length b ≡ 1024
 blocks-whole me log u b h e = at (find-of (λ before e. block_in me.session before u e) log b e)
   where
-    key : (before : Log) (x : Exchange) (role : Role) (k : List ℕ) (o : Option Briefcase) → IsObedient me before → case_for before x role ≡ o → block_opened me.session (table before) x u k o ≡ Some b → length b ≡ 1024
+    key : (before : Log) (x : Exchange) (role : Role) (k : List ℕ) (o : Option Briefcase) → IsObedient me before → case_heard_from before x role ≡ o → block_opened me.session (table before) x u k o ≡ Some b → length b ≡ 1024
     key before x role k None g f e = cc
     key before x role k (Some c) g f e = good (is_good (opening_of me.session (table before) x c k)) e
       where
@@ -86,7 +86,7 @@ blocks-whole me log u b h e = at (find-of (λ before e. block_in me.session befo
         go false e = cc
     from before d (Key k) g form e = go (is_alive me.session u.round (round_now before)) e
       where
-        go : (t : Bool) → cond t (block_opened me.session (table before) (exchange_by k.round k.kind k.role d.message.from d.message.to) u k.key (case_for before (exchange_by k.round k.kind k.role d.message.from d.message.to) k.role)) None ≡ Some b → length b ≡ 1024
+        go : (t : Bool) → cond t (block_opened me.session (table before) (exchange_by k.round k.kind k.role d.message.from d.message.to) u k.key (case_heard_from before (exchange_by k.round k.kind k.role d.message.from d.message.to) k.role)) None ≡ Some b → length b ≡ 1024
         go true e = key before (exchange_by k.round k.kind k.role d.message.from d.message.to) k.role k.key _ g refl e
         go false e = cc
     from before d _ g form e = cc

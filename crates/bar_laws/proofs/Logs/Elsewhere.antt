@@ -14,7 +14,7 @@ use Rattle.bar_window.specs.declared.exchange.XKind.{XKind}
 use Rattle.bar_window.specs.declared.exchange.XKind.TheVariants.{Balanced, Push}
 use Rattle.bar_window.specs.declared.update.UpdateId.{UpdateId}
 use Rattle.bar_rules.specs.Peer.Exchanges.{role_of, request_kind, opening_kind, revealed, revealed_in}
-use Rattle.bar_rules.specs.Peer.Holdings.{history, case_given, block_of}
+use Rattle.bar_rules.specs.Peer.Holdings.{history, block_of, case_said_by}
 use Rattle.bar_rules.specs.Peer.Knowledge.{known}
 use Rattle.bar_rules.specs.Peer.Log.{Log, Entry, Ticked, Heard, Said, Kept, first_said, has_heard, has_said}
 use Rattle.bar_rules.specs.Member.{Member}
@@ -218,7 +218,7 @@ pub record CaseMoment (log : Log) (x : Exchange) (role : Role) (c : Briefcase) :
   pub body : datagram.message.body ≡ Case c
   pub of : is_of kinds.Case x role datagram.message ≡ true
 
-pub case-moment : (log : Log) (x : Exchange) (role : Role) (c : Briefcase) → case_given log x role ≡ Some c → CaseMoment log x role c
+pub case-moment : (log : Log) (x : Exchange) (role : Role) (c : Briefcase) → case_said_by log x role ≡ Some c → CaseMoment log x role c
 case-moment log x role c e = go (first_said (is_of kinds.Case x role) log) refl e
   where
     go : (o : Option Datagram) → first_said (is_of kinds.Case x role) log ≡ o → option_and_then (λ d. briefcase_in d.message.body) o ≡ Some c → CaseMoment log x role c

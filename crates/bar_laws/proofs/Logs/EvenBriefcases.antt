@@ -1,8 +1,8 @@
 -- A key is said only where both briefcases stand, of equally many items.
+use Rattle.bar_rules.specs.Peer.Holdings.{case_heard_from, case_said_by}
 use Rattle.bar_wire.specs.Bodies.{briefcase_in}
 use Rattle.bar_wire.specs.declared.kind.Kind.TheVariants as kinds
 use Rattle.bar_rules.specs.Peer.Exchanges.{role_of}
-use Rattle.bar_rules.specs.Peer.Holdings.{case_for, case_given}
 use Rattle.bar_rules.specs.Peer.Knowledge.{known}
 use Rattle.bar_rules.specs.Peer.Log.{Log, Said, table, has_said, first_said, first_heard}
 use Rattle.bar_rules.specs.Member.{Session, Member}
@@ -89,11 +89,11 @@ pub record SaidCase (me : Member) (log : Log) (x : Exchange) (role : Role) (c : 
   pub valid : (t : Table) × (terms_ok me.session t x c.terms ≡ true)
 
 pub said-case : (me : Member) (log : Log) (x : Exchange) (role : Role) → IsObedient me log → has_said (is_of kinds.Case x role) log ≡ true
-    → (c : Briefcase) × (case_given log x role ≡ Some c) × SaidCase me log x role c
+    → (c : Briefcase) × (case_said_by log x role ≡ Some c) × SaidCase me log x role c
 said-case me log x role h e = go (some-is (first_said (is_of kinds.Case x role) log) e)
   where
     go : (d : Datagram) × (first_said (is_of kinds.Case x role) log ≡ Some d)
-        → (c : Briefcase) × (case_given log x role ≡ Some c) × SaidCase me log x role c
+        → (c : Briefcase) × (case_said_by log x role ≡ Some c) × SaidCase me log x role c
     go f =
         let was = first_said-was (is_of kinds.Case x role) log f.0 f.1 in
         let w : WasSaid log f.0 = was.0 in
@@ -108,7 +108,7 @@ said-case me log x role h e = go (some-is (first_said (is_of kinds.Case x role) 
         )
 
 -- a heard briefcase is of the side that was asked for
-pub heard-side : (log : Log) (x : Exchange) (role : Role) (c : Briefcase) → case_for log x role ≡ Some c → c.role ≡ role
+pub heard-side : (log : Log) (x : Exchange) (role : Role) (c : Briefcase) → case_heard_from log x role ≡ Some c → c.role ≡ role
 heard-side log x role c e = go (first_heard (is_of kinds.Case x role) log) refl e
   where
     go : (o : Option Datagram) → first_heard (is_of kinds.Case x role) log ≡ o → option_and_then (λ d. briefcase_in d.message.body) o ≡ Some c → c.role ≡ role
@@ -128,8 +128,8 @@ promises-by-role s t x terms Responder e = sym (promises_equal s.cap terms (term
 pub record HasBoth (me : Member) (log : Log) (x : Exchange) (role : Role) : Type 0 where
   pub mine : Briefcase
   pub theirs : Briefcase
-  pub said : case_given log x role ≡ Some mine
-  pub heard : case_for log x (other_role role) ≡ Some theirs
+  pub said : case_said_by log x role ≡ Some mine
+  pub heard : case_heard_from log x (other_role role) ≡ Some theirs
   pub terms : theirs.terms ≡ mine.terms
   pub side : mine.role ≡ role
   pub valid : (t : Table) × (terms_ok me.session t x mine.terms ≡ true)
@@ -137,20 +137,20 @@ pub record HasBoth (me : Member) (log : Log) (x : Exchange) (role : Role) : Type
 pub some-same : {A : Type 0} (o : Option A) (a b : A) → o ≡ Some a → o ≡ Some b → a ≡ b
 some-same o a b p q = cc
 
-case-was-said : (log : Log) (x : Exchange) (role : Role) (c : Briefcase) → case_given log x role ≡ Some c → has_said (is_of kinds.Case x role) log ≡ true
+case-was-said : (log : Log) (x : Exchange) (role : Role) (c : Briefcase) → case_said_by log x role ≡ Some c → has_said (is_of kinds.Case x role) log ≡ true
 case-was-said log x role c e = go (first_said (is_of kinds.Case x role) log) refl e
   where
     go : (o : Option Datagram) → first_said (is_of kinds.Case x role) log ≡ o → option_and_then (λ d. briefcase_in d.message.body) o ≡ Some c → has_said (is_of kinds.Case x role) log ≡ true
     go None f e = cc
     go (Some d) f e = rw f refl
 
-both-of : (me : Member) (log : Log) (x : Exchange) (role : Role) (mine theirs : Briefcase) → IsObedient me log → case_given log x role ≡ Some mine
-    → case_for log x (other_role role) ≡ Some theirs → theirs.terms ≡ mine.terms → HasBoth me log x role
+both-of : (me : Member) (log : Log) (x : Exchange) (role : Role) (mine theirs : Briefcase) → IsObedient me log → case_said_by log x role ≡ Some mine
+    → case_heard_from log x (other_role role) ≡ Some theirs → theirs.terms ≡ mine.terms → HasBoth me log x role
 both-of me log x role mine theirs h said heard same = go (said-case me log x role h (case-was-said log x role mine said))
   where
-    go : ((c : Briefcase) × (case_given log x role ≡ Some c) × SaidCase me log x role c) → HasBoth me log x role
+    go : ((c : Briefcase) × (case_said_by log x role ≡ Some c) × SaidCase me log x role c) → HasBoth me log x role
     go c =
-        let eq : c.0 ≡ mine = some-same (case_given log x role) c.0 mine c.1 said in
+        let eq : c.0 ≡ mine = some-same (case_said_by log x role) c.0 mine c.1 said in
         record {
           mine = mine;
           theirs = theirs;

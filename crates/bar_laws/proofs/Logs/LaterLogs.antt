@@ -1,7 +1,7 @@
 -- What a log says, each later log says.
 use Rattle.bar_rules.specs.Peer.Log.{Log, Entry, Heard, Said, earliest, heard_in, said_in, if_passes, first_heard, first_said}
 use Rattle.bar_rules.specs.Member.{Member}
-use Rattle.bar_rules.specs.Peer.Rules.{IsObedient, MaySend}
+use Rattle.bar_rules.specs.Peer.Rules.{IsObedient, IsSignedByRule}
 use Rattle.bar_wire.specs.Datagram.{Message, Datagram}
 use Rattle.std.proofs.Common.{◌≡◌, Bool, true, false, [], ◌∷◌, ◌++◌, refl, sym, ap, ◌∙◌, subst}
 use Rattle.std.specs.Prelude.{Option, Some, None, is_some, option_and_then, option_map}
@@ -70,7 +70,7 @@ some-is (Some a) e = (a, refl)
 some-is None e = cc
 
 -- what was said met the rule under the log of its moment
-pub said-rule : (me : Member) (log : Log) (d : Datagram) → (w : WasSaid log d) → IsObedient me log → MaySend me w.before d
+pub said-rule : (me : Member) (log : Log) (d : Datagram) → (w : WasSaid log d) → IsObedient me log → IsSignedByRule me w.before d
 said-rule me log d w h = (allowed-at me log w.before (Said d) w.place h).0
 
 -- ---- options

@@ -1,7 +1,7 @@
 -- Terms and briefcases that a log tells, each later log tells.
+use Rattle.bar_rules.specs.Peer.Holdings.{case_heard_from}
 use Rattle.bar_wire.specs.Bodies.{briefcase_in, history_in, offer_in, reply_in}
 use Rattle.bar_rules.specs.Peer.Exchanges.{revealed_in}
-use Rattle.bar_rules.specs.Peer.Holdings.{case_for}
 use Rattle.bar_rules.specs.Peer.Knowledge.{known}
 use Rattle.bar_rules.specs.Peer.Log.{Log, heard_in, said_in, if_passes, first_said}
 use Rattle.bar_rules.specs.Member.{Member}
@@ -45,7 +45,7 @@ terms_by-later Push me log before x t later =
 pub terms_of-later : (me : Member) (log before : Log) (x : Exchange) (t : Terms) → IsLater log before → terms_of me (known me before) x ≡ Some t → terms_of me (known me log) x ≡ Some t
 terms_of-later me log before x t later = terms_by-later x.kind me log before x t later
 
-pub case_for-later : (log before : Log) (x : Exchange) (role : Role) (c : Briefcase) → IsLater log before → case_for before x role ≡ Some c → case_for log x role ≡ Some c
+pub case_for-later : (log before : Log) (x : Exchange) (role : Role) (c : Briefcase) → IsLater log before → case_heard_from before x role ≡ Some c → case_heard_from log x role ≡ Some c
 case_for-later log before x role c later =
     then-later (λ d. briefcase_in d.message.body) _ _ c (λ d. find-later (λ before e. if_passes (is_of kinds.Case x role) (heard_in e)) log before d later)
 

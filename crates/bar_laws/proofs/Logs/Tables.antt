@@ -4,7 +4,7 @@ use Rattle.bar_case.specs.Opened.{AreTold, opened_blocks}
 use Rattle.bar_case.specs.declared.findings.Opening.{Opening}
 use Rattle.bar_case.specs.declared.findings.Opening.TheVariants.{Good, Bad, Unknown}
 use Rattle.bar_rules.specs.Peer.Admission.{is_admitted, is_for, is_row_met, has_digest}
-use Rattle.bar_rules.specs.Peer.Holdings.{block_in, block_from, block_opened, block_of, is_held, case_for, history}
+use Rattle.bar_rules.specs.Peer.Holdings.{block_in, block_from, block_opened, block_of, is_held, history, case_heard_from}
 use Rattle.bar_rules.specs.Peer.Knowledge.{known}
 use Rattle.bar_rules.specs.Peer.Log.{Log, Entry, Heard, heard_in, if_passes, manifest, table, round_now}
 use Rattle.bar_rules.specs.Member.{Session, Member, is_alive}
@@ -122,7 +122,7 @@ from-known me before u m (Block v block') block row e = go (same_update u v) ref
         let w : u ≡ v = same_update-is u v h in
         let z : block' ≡ block = cc in
         rw (w, ← z) (digest-is _ _ (and_parts _ _ (and_parts _ _ row).0).0)
-from-known me before u m (Key k) block row e = go (is_alive me.session u.round (round_now before)) (case_for before x k.role) e
+from-known me before u m (Key k) block row e = go (is_alive me.session u.round (round_now before)) (case_heard_from before x k.role) e
   where
     x : Exchange
     x = exchange_by k.round k.kind k.role m.from m.to

@@ -2,7 +2,7 @@
 use Rattle.bar_rules.specs.Peer.Knowledge.{known}
 use Rattle.bar_rules.specs.Peer.Log.{Log, Entry, Said, table}
 use Rattle.bar_rules.specs.Member.{Member}
-use Rattle.bar_rules.specs.Peer.Rules.{IsObedient, Allows, MaySend}
+use Rattle.bar_rules.specs.Peer.Rules.{IsObedient, Allows, IsSignedByRule}
 use Rattle.bar_rules.specs.Peer.Signing.{MaySay, MayGiveCase, has_same_identity, windows_within}
 use Rattle.bar_rules.specs.Values.{terms_ok, message_bytes}
 use Rattle.bar_rules.specs.Judge.Verdict.{is_twice, bad_terms}
@@ -47,7 +47,7 @@ identity-same m n e = subst (λ z. bytes_eq (identity_of n) z ≡ true) (sym e) 
 
 new-is-only : (me : Member) (log : Log) (x : Entry) (d e : Datagram) → Allows me log x → x ≡ Said d → SaidIn log e → identity_of d.message ≡ identity_of e.message → ⊥
 new-is-only me log x d e al p q i =
-    let sign : MaySend me log d = subst (λ y. Allows me log y) p al in
+    let sign : IsSignedByRule me log d = subst (λ y. Allows me log y) p al in
     both_ways _ sign.rule.once (said-found (has_same_identity d.message) log e (was-said log e q) (identity-same d.message e.message i))
 
 -- two said datagrams of one identity are one
@@ -103,7 +103,7 @@ pub never_bad_terms : (me : Member) (log : Log) (two : Table) (d : Datagram) (c 
     → bad_terms me.session two d.message c ≡ false
 never_bad_terms me log two d c h p e agree =
     let w : WasSaid log d = was-said log d p in
-    let sign : MaySend me w.before d = said-rule me log d w h in
+    let sign : IsSignedByRule me w.before d = said-rule me log d w h in
     let rule : MayGiveCase me (known me w.before) d.message.to c = subst (λ b. MaySay me (known me w.before) d.message.to b) e sign.rule.rule in
     let near : Agrees (table w.before) two = agrees-before _ _ two (table-later log w.before (later-entry log w.before (Said d) w.place)) agree in
     let ok : terms_ok me.session two (exchange_by c.round c.kind c.role me.party d.message.to) c.terms ≡ true = agrees-valid me w.before two (exchange_by c.round c.kind c.role me.party d.message.to) c.terms near rule.valid rule.within in

@@ -12,7 +12,7 @@ use Rattle.bar_wire.specs.Datagram.{Place, Datagram, Body, Manifest, Block, Requ
 use Rattle.bar_rules.specs.Runs.{Outcome, begun}
 use Rattle.bar_rules.specs.Peer.Agreement.{AgreesWith, IsRecent}
 use Rattle.bar_rules.specs.Peer.Admission.{is_admitted}
-use Rattle.bar_rules.specs.Peer.Evidence.{completed, is_tried, if_names, pair_with, pairs_by}
+use Rattle.bar_rules.specs.Peer.Evidence.{is_tried, pair_with, pairs_by, if_accuses, new_evidence}
 use Rattle.bar_rules.specs.Peer.Exchanges.{opening_kind}
 use Rattle.bar_rules.specs.Peer.Knowledge.{table_of, Knowledge, known, this_round, with_heard, with_kept}
 use Rattle.bar_rules.specs.Peer.Log.{lists_of, Log, Heard, Kept, round_now}
@@ -142,18 +142,18 @@ module _ (me : Member) (one two : Knowledge) (same : AgreesWith me one two) (lif
           option_or (pair_with me.session (lists_of (same.manifests i)) d (same.heard (opening_kind x.kind p.2) x p.2 r i))
           (option_or (pair_with me.session (lists_of (same.manifests i)) d (same.heard kinds.Case x p.2 r i)) (pair_with me.session (lists_of (same.manifests i)) d (same.heard kinds.Key x p.2 r i))))
 
-  completed-same : (d : Datagram) → completed me one d ≡ completed me two d
-  unfolding completed
+  completed-same : (d : Datagram) → new_evidence me one d ≡ new_evidence me two d
+  unfolding new_evidence
   completed-same d = go (is_tried me one d) refl ∙ ap (λ t. cond t (found two) None) (tried-same d)
     where
       found : Knowledge → Option (List (List ℕ))
-      found k = option_or (if_names me.session (table_of k) d.message.from (datagram_bytes me.session d ∷ [])) (pairs_by me.session k d (place_of d.message))
+      found k = option_or (if_accuses me.session (table_of k) d.message.from (datagram_bytes me.session d ∷ [])) (pairs_by me.session k d (place_of d.message))
 
       go : (b : Bool) → is_tried me one d ≡ b → cond b (found one) None ≡ cond (is_tried me one d) (found two) None
       go false e = rw e refl
       go true e =
           let h : this_round one ≤ round_of d.message.body + me.session.shape.life = leb-true (this_round one) (round_of d.message.body + me.session.shape.life) (and_parts _ _ e).1 in
-          rw e (λ i. option_or (if_names me.session (lists_of (same.manifests i)) d.message.from (datagram_bytes me.session d ∷ [])) (pairs-same d h i))
+          rw e (λ i. option_or (if_accuses me.session (lists_of (same.manifests i)) d.message.from (datagram_bytes me.session d ∷ [])) (pairs-same d h i))
 
 -- ---- one datagram
 
@@ -268,7 +268,7 @@ pub taken-alike : (me : Member) (one : Log) (two : Knowledge) (d : Datagram) →
     → IsAlike me (round_now one) (machine.take_datagram (logs me) me one (Some d)) (machine.take_datagram (minds me) me two (Some d))
 taken-alike me one two d same life lives body =
     subst (λ o. IsAlike me (round_now one) (machine.take_datagram (logs me) me one (Some d)) (machine.report_new (minds me) me (machine.answered_to (minds me) me (machine.with_evidence (minds me) two d.message.from o) d) d.message.from o)) (completed-same me (known me one) two same life d)
-    (report-alike me (round_now one) _ _ d.message.from (completed me (known me one) d) life (go (completed me (known me one) d)))
+    (report-alike me (round_now one) _ _ d.message.from (new_evidence me (known me one) d) life (go (new_evidence me (known me one) d)))
   where
     go : (o : Option (List (List ℕ))) → IsAlike me (round_now one) (machine.answered_to (logs me) me (machine.with_evidence (logs me) one d.message.from o) d) (machine.answered_to (minds me) me (machine.with_evidence (minds me) two d.message.from o) d)
     go None = answered-alike me one two same life d lives body

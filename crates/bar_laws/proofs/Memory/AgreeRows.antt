@@ -13,7 +13,7 @@ use Rattle.bar_wire.specs.declared.kind.Kind.TheVariants as kinds
 use Rattle.bar_wire.specs.declared.kind.Kind.{Kind}
 use Rattle.bar_wire.specs.Datagram.{Message, Datagram, Body, Manifest, Block, Request, Response, Divulge, Query, Reply, Case, KeyRequest, Key, Evidence, Evict, is_of, is_signed, kind_of, part_of, exchange_by, round_of, place_of, place_by}
 use Rattle.bar_rules.specs.Peer.Log.{lists_of}
-use Rattle.bar_rules.specs.Peer.Admission.{is_admitted, is_row_met, is_for, is_genuine, is_heard_again, is_named_again, may_ask, has_digest, meets_commitment, body_said, are_terms, terms_with}
+use Rattle.bar_rules.specs.Peer.Admission.{is_admitted, is_row_met, is_for, is_heard_again, is_named_again, may_ask, has_digest, meets_commitment, body_said, are_terms, terms_with, has_valid_signature}
 use Rattle.bar_rules.specs.Peer.Agreement.{promised_by, IsRepeatable, AgreesWith, IsRecent}
 use Rattle.bar_rules.specs.Peer.Choices.{wanted_of}
 use Rattle.bar_rules.specs.Peer.Exchanges.{role_of, request_kind}
@@ -224,7 +224,7 @@ module _ (me : Member) (one two : Knowledge) (same : AgreesWith me one two) wher
     unfolding is_admitted
     admitted-same d =
         let m : Message = d.message in
-        and_first ((((is_for me m && not (one.is_announced m.from)) && is_genuine me.session d) && not (is_heard_again one m))) ((((is_for me m && not (two.is_announced m.from)) && is_genuine me.session d) && not (is_heard_again two m)))
+        and_first ((((is_for me m && not (one.is_announced m.from)) && has_valid_signature me.session d) && not (is_heard_again one m))) ((((is_for me m && not (two.is_announced m.from)) && has_valid_signature me.session d) && not (is_heard_again two m)))
         (is_row_met me one m.from m.to m.body)
-        (λ b. let time = row-in-time me one m.from m.to m.body b in (λ i. (((is_for me m && not (same.announced m.from i)) && is_genuine me.session d) && not (again-same m time i))))
-        ∙ ap (λ z. (((is_for me m && not (two.is_announced m.from)) && is_genuine me.session d) && not (is_heard_again two m)) && z) (row-same m.from m.to m.body)
+        (λ b. let time = row-in-time me one m.from m.to m.body b in (λ i. (((is_for me m && not (same.announced m.from i)) && has_valid_signature me.session d) && not (again-same m time i))))
+        ∙ ap (λ z. (((is_for me m && not (two.is_announced m.from)) && has_valid_signature me.session d) && not (is_heard_again two m)) && z) (row-same m.from m.to m.body)

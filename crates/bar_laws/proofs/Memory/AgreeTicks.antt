@@ -11,7 +11,7 @@ use Rattle.bar_wire.specs.Grammar.{words_of}
 use Rattle.bar_wire.specs.Inputs.{Input, Tick, Came}
 use Rattle.bar_rules.specs.Runs.{begun}
 use Rattle.bar_rules.specs.Peer.Agreement.{AgreesWith, IsRecent}
-use Rattle.bar_rules.specs.Peer.Exchanges.{request_kind, role_of, partner_in, answer_kind, opened}
+use Rattle.bar_rules.specs.Peer.Exchanges.{request_kind, role_of, partner_in, answer_kind, exchanges_said}
 use Rattle.bar_rules.specs.Peer.Knowledge.{Knowledge, known, this_round, with_tick}
 use Rattle.bar_rules.specs.Peer.Log.{Log, Ticked, round_now, ticks}
 use Rattle.bar_rules.specs.Peer.Machine.{logs, minds}
@@ -45,7 +45,7 @@ cond-same false x y z f = refl
 
 -- the open exchanges are of recent rounds
 open-recent : (me : Member) (log : Log) → AllByRecursion (λ x. IsRecent me (known me log) x.round) (known me log).opens
-open-recent me log = all-that (λ x. IsRecent me (known me log) x.round) (λ x. nat_le (round_now log) (x.round + me.session.shape.life)) (opened log) (λ x e. leb-true (round_now log) (x.round + me.session.shape.life) e)
+open-recent me log = all-that (λ x. IsRecent me (known me log) x.round) (λ x. nat_le (round_now log) (x.round + me.session.shape.life)) (exchanges_said log) (λ x e. leb-true (round_now log) (x.round + me.session.shape.life) e)
 
 -- ---- orders in time
 
@@ -98,7 +98,7 @@ tick-timely me log =
 
 -- ---- a tick
 
-module _ (me : Member) (one two : Knowledge) (same : AgreesWith me one two) (life : 2 ≤ me.session.shape.life) (opened : AllByRecursion (λ x. IsRecent me one x.round) one.opens) where
+module _ (me : Member) (one two : Knowledge) (same : AgreesWith me one two) (life : 2 ≤ me.session.shape.life) (exchanges_said : AllByRecursion (λ x. IsRecent me one x.round) one.opens) where
   again-same : (x : Exchange) → IsRecent me one x.round → again me one x ≡ again me two x
   again-same x r =
       let role : Role = role_of me x in
@@ -119,7 +119,7 @@ module _ (me : Member) (one two : Knowledge) (same : AgreesWith me one two) (lif
   open-same =
       flat-same (λ x. orders_when (not (one.is_announced (partner_in me x))) (again me one x)) (λ x. orders_when (not (two.is_announced (partner_in me x))) (again me two x)) one.opens
       (all-map (λ x. IsRecent me one x.round) (λ x. orders_when (not (one.is_announced (partner_in me x))) (again me one x) ≡ orders_when (not (two.is_announced (partner_in me x))) (again me two x)) one.opens
-      (λ x r i. orders_when (not (same.announced (partner_in me x) i)) (again-same x r i)) opened)
+      (λ x r i. orders_when (not (same.announced (partner_in me x) i)) (again-same x r i)) exchanges_said)
       ∙ ap (λ xs. flat_map (λ x. orders_when (not (two.is_announced (partner_in me x))) (again me two x)) xs) same.opens
 
   asking-same : (round : ℕ) (kind : XKind) → asking_partner me one round kind ≡ asking_partner me two round kind

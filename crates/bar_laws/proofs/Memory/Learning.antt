@@ -12,7 +12,7 @@ use Rattle.bar_window.specs.declared.update.UpdateId.{UpdateId}
 use Rattle.bar_wire.specs.declared.kind.Kind.{Kind}
 use Rattle.bar_wire.specs.Kinds.{code_of}
 use Rattle.bar_wire.specs.Datagram.{is_place, place_by, Datagram, Body, Manifest, Block, Request, Response, Divulge, Query, Reply, Case, KeyRequest, Key, Evidence, Evict, is_of, exchange_of, exchange_by, part_of, kind_number, round_of}
-use Rattle.bar_rules.specs.Peer.Exchanges.{request_kind, inserted, with_exchange, opened, recent_of, seat, revealed}
+use Rattle.bar_rules.specs.Peer.Exchanges.{request_kind, inserted, with_exchange, recent_of, seat, revealed, exchanges_said}
 use Rattle.bar_rules.specs.Peer.Holdings.{block_of, block_by}
 use Rattle.bar_rules.specs.Peer.Knowledge.{Knowledge, table_of, known, this_round, case_heard_of, first_with, with_request, with_tick, with_heard, with_said, with_kept}
 use Rattle.bar_rules.specs.Peer.Log.{Log, Ticked, Heard, Said, Kept, first_heard, first_said, count_heard, has_kind_and_round, names_party, manifest, ticks, round_now, kept}
@@ -275,8 +275,8 @@ module _ (me : Member) (d : Datagram) (k : Knowledge) where
 module _ (me : Member) (log : Log) where
   pub known-ticked : known me (Ticked ∷ log) ≡ with_tick me (known me log)
   known-ticked =
-      let still : recent_of me.session (round_after (ticks log + 1)) (opened log) ≡ recent_of me.session (round_after (ticks log + 1)) (recent_of me.session (round_now log) (opened log)) =
-      sym (recent-later me.session (round_now log) (round_after (ticks log + 1)) (opened log) (omega arith))
+      let still : recent_of me.session (round_after (ticks log + 1)) (exchanges_said log) ≡ recent_of me.session (round_after (ticks log + 1)) (recent_of me.session (round_now log) (exchanges_said log)) =
+      sym (recent-later me.session (round_now log) (round_after (ticks log + 1)) (exchanges_said log) (omega arith))
       in
       λ i.
       record {
@@ -309,7 +309,7 @@ module _ (me : Member) (log : Log) where
         revealed = λ x. revealed me (Heard d ∷ log) x;
         seat = λ x. option_or (seat log x) (map-then (is_of (request_kind x.kind) x Initiator d.message) d (count_heard (has_kind_and_round (request_kind x.kind) x.round) log) i);
         asked = λ kind round. count_heard (has_kind_and_round (request_kind kind) round) log + cond (some-then (has_kind_and_round (request_kind kind) round d.message) d i) 1 0;
-        opens = recent_of me.session (round_after (add-zero (ticks log) i)) (opened log);
+        opens = recent_of me.session (round_after (add-zero (ticks log) i)) (exchanges_said log);
       }
 
   pub known-heard : (d : Datagram) → known me (Heard d ∷ log) ≡ with_heard me d (known me log)
@@ -318,8 +318,8 @@ module _ (me : Member) (log : Log) where
   pub known-said : (d : Datagram) → known me (Said d ∷ log) ≡ with_said me d (known me log)
   known-said d =
       let o : Option Exchange = exchange_of d.message in
-      let still : recent_of me.session (round_after (ticks log + 0)) (with_exchange o (opened log)) ≡ recent_of me.session (round_now log) (with_exchange o (recent_of me.session (round_now log) (opened log))) =
-      ap (λ n. recent_of me.session (round_after n) (with_exchange o (opened log))) (add-zero (ticks log)) ∙ sym (recent-with me.session (round_now log) o (opened log) (opened-rising log))
+      let still : recent_of me.session (round_after (ticks log + 0)) (with_exchange o (exchanges_said log)) ≡ recent_of me.session (round_now log) (with_exchange o (recent_of me.session (round_now log) (exchanges_said log))) =
+      ap (λ n. recent_of me.session (round_after n) (with_exchange o (exchanges_said log))) (add-zero (ticks log)) ∙ sym (recent-with me.session (round_now log) o (exchanges_said log) (opened-rising log))
       in
       λ i.
       record {
@@ -352,5 +352,5 @@ module _ (me : Member) (log : Log) where
         revealed = λ x. or-none (revealed me log x) i;
         seat = λ x. or-none (seat log x) i;
         asked = λ kind round. add-zero (count_heard (has_kind_and_round (request_kind kind) round) log) i;
-        opens = recent_of me.session (round_after (add-zero (ticks log) i)) (opened log);
+        opens = recent_of me.session (round_after (add-zero (ticks log) i)) (exchanges_said log);
       }

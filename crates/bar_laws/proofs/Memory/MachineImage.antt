@@ -1,10 +1,10 @@
 -- The machine over what is known is the image of the machine over logs.
+use Rattle.bar_rules.specs.Peer.Evidence.{new_evidence}
 use Rattle.bar_window.specs.declared.exchange.Exchange.{Exchange}
 use Rattle.bar_wire.specs.Datagram.{Datagram, Body}
 use Rattle.bar_wire.specs.Inputs.{Input, Tick, Came}
 use Rattle.bar_rules.specs.Runs.{Outcome, begun, contents_from, sends_from, state_after}
 use Rattle.bar_rules.specs.Peer.Admission.{is_admitted}
-use Rattle.bar_rules.specs.Peer.Evidence.{completed}
 use Rattle.bar_rules.specs.Peer.Exchanges.{role_of, partner_in}
 use Rattle.bar_rules.specs.Peer.Knowledge.{Knowledge, known, nothing, with_entry, with_tick, with_heard, with_kept}
 use Rattle.bar_rules.specs.Peer.Log.{Log, Entry, Ticked, Heard, Said, Kept, ticks}
@@ -75,7 +75,7 @@ module _ (me : Member) where
 
   taken-image : (log : Log) (o : Option Datagram) → image (machine.take_datagram (logs me) me log o) ≡ machine.take_datagram (minds me) me (known me log) o
   taken-image log None = refl
-  taken-image log (Some d) = go (completed me (known me log) d)
+  taken-image log (Some d) = go (new_evidence me (known me log) d)
     where
       go : (e : Option (List (List ℕ))) → image (machine.report_new (logs me) me (machine.answered_to (logs me) me (machine.with_evidence (logs me) log d.message.from e) d) d.message.from e)
           ≡ machine.report_new (minds me) me (machine.answered_to (minds me) me (machine.with_evidence (minds me) (known me log) d.message.from e) d) d.message.from e

@@ -2,7 +2,7 @@
 -- before one more is put in or after.
 use Rattle.bar_window.specs.Exchange.{kind_code, same_exchange}
 use Rattle.bar_window.specs.declared.exchange.Exchange.{Exchange}
-use Rattle.bar_rules.specs.Peer.Exchanges.{precedes, inserted, with_exchange, exchange_said, opened}
+use Rattle.bar_rules.specs.Peer.Exchanges.{precedes, inserted, with_exchange, exchange_said, exchanges_said}
 use Rattle.bar_rules.specs.Peer.Log.{Log, said_in}
 use Rattle.std.proofs.Common.{◌≡◌, ℕ, ◌<◌, ◌≤◌, Bool, true, false, List, [], ◌∷◌, refl, sym, ◌∙◌, subst, inl, inr, ◌&&◌, ◌||◌, eqb, arith, cond}
 use Rattle.std.specs.Prelude.{Option, Some, None, ◌⊎◌, filter, nat_lt}
@@ -125,13 +125,13 @@ inserted-rising x (y ∷ ys) h = go (same_exchange x y) (precedes x y) refl refl
     go false true e f w = ((f, all-further x y ys f h.0), h)
     go false false e f w = (all-inserted (λ z. precedes y z ≡ true) x ys (precedes-total x y e f) h.0, w)
 
-pub opened-rising : (log : Log) → IsRising (opened log)
+pub opened-rising : (log : Log) → IsRising (exchanges_said log)
 opened-rising [] = tt
 opened-rising (e ∷ log) = go (exchange_said (said_in e)) (opened-rising log)
   where
-    go : (o : Option Exchange) → IsRising (opened log) → IsRising (with_exchange o (opened log))
+    go : (o : Option Exchange) → IsRising (exchanges_said log) → IsRising (with_exchange o (exchanges_said log))
     go None h = h
-    go (Some x) h = inserted-rising x (opened log) h
+    go (Some x) h = inserted-rising x (exchanges_said log) h
 
 -- ---- picking
 

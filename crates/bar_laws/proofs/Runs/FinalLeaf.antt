@@ -5,7 +5,7 @@ use Rattle.bar_rules.specs.Peer.Log.{Log, Said}
 use Rattle.bar_rules.specs.Member.{Member}
 use Rattle.bar_rules.specs.Peer.Rules.{IsObedient}
 use Rattle.bar_rules.specs.Secrets.{signature_of}
-use Rattle.bar_rules.specs.Peer.Signing.{leaf_of, seat_by, signed}
+use Rattle.bar_rules.specs.Peer.Signing.{seat_by, signed, leaf_for}
 use Rattle.bar_rules.specs.Values.{message_bytes}
 use Rattle.bar_seal.specs.Leaves as leaves
 use Rattle.bar_roster.specs.Sessions.{IsSession}
@@ -36,13 +36,13 @@ seat_of-later : (log before : Log) (x : Exchange) (n : ℕ) → IsLater log befo
 seat_of-later log before x n later e = find-later (λ before e. seat_in before x e) log before n later e
 
 -- the leaf of a message that may be signed stays, whatever comes after
-leaf-stays : (me : Member) (log before : Log) (m : Message) → IsLater log before → Placed me before m → m.from ≡ me.party → leaf_of (known me before) m ≡ leaf_of (known me log) m
+leaf-stays : (me : Member) (log before : Log) (m : Message) → IsLater log before → Placed me before m → m.from ≡ me.party → leaf_for (known me before) m ≡ leaf_for (known me log) m
 leaf-stays me log before m later x mine = go x.role refl
   where
     seat_at : Log → ℕ
     seat_at l = seat_by (known me l) (place_of m)
 
-    by-part : (l : Log) → leaf_of (known me l) m ≡ leaves.leaf_at x.round x.kind x.role (leaves.step_of m.body) (seat_at l)
+    by-part : (l : Log) → leaf_for (known me l) m ≡ leaves.leaf_at x.round x.kind x.role (leaves.step_of m.body) (seat_at l)
     by-part l = leaf-by_part m.body (x.round, x.kind, x.role) (seat_at l) x.part
 
     seated : (role : Role) → x.role ≡ role → role ≡ Responder → seat_at before ≡ seat_at log
@@ -51,7 +51,7 @@ leaf-stays me log before m later x mine = go x.role refl
         let g : seat log (exchange_by x.round x.kind Responder me.party m.to) ≡ Some f.0 = seat_of-later log before (exchange_by x.round x.kind Responder me.party m.to) f.0 later f.1 in
         rw (x.part, e, r, mine, f.1, g) refl
 
-    go : (role : Role) → x.role ≡ role → leaf_of (known me before) m ≡ leaf_of (known me log) m
+    go : (role : Role) → x.role ≡ role → leaf_for (known me before) m ≡ leaf_for (known me log) m
     go Initiator e = by-part before ∙ rw e (initiator-leaf x.round (leaves.step_of m.body) (seat_at before) (seat_at log) x.kind) ∙ sym (by-part log)
     go Responder e = ap (λ s. leaves.leaf_of m.body s) (seated Responder e refl)
 
@@ -59,8 +59,8 @@ leaf-stays me log before m later x mine = go x.role refl
 pub said-sealed : (me : Member) (log : Log) (d : Datagram) → IsObedient me log → WasSaid log d → d ≡ signed me (known me log) d.message
 said-sealed me log d h w =
     let al = allowed-at me log w.before (Said d) w.place h in
-    let leaf : leaf_of (known me w.before) d.message ≡ leaf_of (known me log) d.message = leaf-stays me log w.before d.message (later-entry log w.before (Said d) w.place) (placed me w.before d.message al.1 al.0.rule) al.0.rule.mine in
-    al.0.sealed ∙ (λ i. record { message = d.message; signature = signature_of me (leaf i) (message_bytes me.session d.message) })
+    let leaf : leaf_for (known me w.before) d.message ≡ leaf_for (known me log) d.message = leaf-stays me log w.before d.message (later-entry log w.before (Said d) w.place) (placed me w.before d.message al.1 al.0.rule) al.0.rule.mine in
+    al.0.signature ∙ (λ i. record { message = d.message; signature = signature_of me (leaf i) (message_bytes me.session d.message) })
 
 -- what stands in a log was said
 was-said-in : (log : Log) (d : Datagram) → Contains log (Said d) → WasSaid log d

@@ -4,7 +4,7 @@ use Rattle.bar_wire.specs.Kinds.{code_of}
 use Rattle.bar_rules.specs.Peer.Admission.{is_row_met, are_terms, is_admitted}
 use Rattle.bar_rules.specs.Peer.Choices.{young_of, wanted_of}
 use Rattle.bar_rules.specs.Peer.Exchanges.{role_of, answer_kind, request_kind, partner_in}
-use Rattle.bar_rules.specs.Peer.Holdings.{case_for, block_of, is_held, history}
+use Rattle.bar_rules.specs.Peer.Holdings.{block_of, is_held, history, case_heard_from}
 use Rattle.bar_rules.specs.Peer.Knowledge.{known}
 use Rattle.bar_rules.specs.Peer.Log.{Log, Heard, Said, earliest, if_passes, heard_in, first_said, has_said, has_heard, first_heard, round_now}
 use Rattle.bar_rules.specs.Peer.Machine.{message_to, send_if}
@@ -94,7 +94,7 @@ say-obedient me out kind x o h f = go (first_said (is_of kind x (role_of me x)) 
         let m : MayOrder me out.state x kind b = f b e in (
           record {
             rule = record { mine = refl; once = once-whole out.state (message_to me x b) kind x (role_of me x) m.whole (own-is_of me x b kind m.party m.kinds m.part) none; low = rw (part-round b x.round x.kind (role_of me x) m.part) m.party.low; high = rw (part-round b x.round x.kind (role_of me x) m.part) m.party.high; rule = m.rule };
-            sealed = refl;
+            signature = refl;
           },
           h,
         )
@@ -141,7 +141,7 @@ give_case-rule me log x b h s e = go (terms_of me (known me log) x) refl e
 -- a briefcase that was heard has the terms of the log, and its counts
 pub record HeardCase (me : Member) (log : Log) (x : Exchange) (role : Role) : Type 0 where
   pub case : Briefcase
-  pub found : case_for log x role ≡ Some case
+  pub found : case_heard_from log x role ≡ Some case
   pub terms : terms_of me (known me log) x ≡ Some case.terms
   pub counts : counts_ok me.session case ≡ true
 
@@ -343,7 +343,7 @@ ask-obedient me out x h (inr q) = go (first_said (is_of (request_kind x.kind) x 
     go None e = (
       record {
         rule = record { mine = refl; once = once-ask me out.state x h q (subst (λ r. first_said (is_of (request_kind x.kind) x r) out.state ≡ None) (role-initiator me x q.mine) e); low = rw (ask-round me out.state x) q.low; high = rw (ask-round me out.state x) q.high; rule = ask-rule me out.state x q };
-        sealed = refl;
+        signature = refl;
       },
       h,
     )

@@ -9,7 +9,7 @@ use Rattle.bar_rules.specs.Peer.Knowledge.{known}
 use Rattle.bar_rules.specs.Peer.Log.{Log, Heard, Said, heard_in, if_passes, first_heard, first_said, has_heard, has_said, count_heard, has_kind_and_round}
 use Rattle.bar_rules.specs.Member.{Member}
 use Rattle.bar_rules.specs.Peer.Rules.{IsObedient, Allows}
-use Rattle.bar_rules.specs.Peer.Signing.{MaySign, MaySay, leaf_of, seat_by, signed}
+use Rattle.bar_rules.specs.Peer.Signing.{MaySign, MaySay, seat_by, signed, leaf_for}
 use Rattle.bar_rules.specs.Peer.Terms.{terms_of}
 use Rattle.bar_window.specs.Exchange.{same_exchange, same_role, kind_code, role_code}
 use Rattle.bar_window.specs.Terms.{Terms}
@@ -263,7 +263,7 @@ named-by (Key k) p f t h e = let w = parts-of (k.round, k.kind, k.role) p e in r
 named-by _ p f t h e = cc
 
 -- two datagrams that were said with one leaf are one
-pub one-leaf : (me : Member) (log : Log) (d e : Datagram) → IsObedient me log → WasSaid log d → WasSaid log e → leaf_of (known me log) d.message ≡ leaf_of (known me log) e.message → d ≡ e
+pub one-leaf : (me : Member) (log : Log) (d e : Datagram) → IsObedient me log → WasSaid log d → WasSaid log e → leaf_for (known me log) d.message ≡ leaf_for (known me log) e.message → d ≡ e
 one-leaf me log d e h v w leaf = unique me log d e h (said-in log d v) (said-in log e w) names
   where
     ad : Allows me v.before (Said d) × IsObedient me v.before
@@ -311,10 +311,10 @@ one-leaf me log d e h v w leaf = unique me log d e h (said-in log d v) (said-in 
         ∙ sym (named-by e.message.body p e.message.from e.message.to y.signed part)
 
 -- each leaf is below the number of leaves
-pub leaf-below : (me : Member) (log : Log) (d : Datagram) → IsSession me.session → IsObedient me log → WasSaid log d → leaf_of (known me log) d.message < 2 ^ levels me.session.params.height
+pub leaf-below : (me : Member) (log : Log) (d : Datagram) → IsSession me.session → IsObedient me log → WasSaid log d → leaf_for (known me log) d.message < 2 ^ levels me.session.params.height
 leaf-below me log d s h w =
     let al = allowed-at me log w.before (Said d) w.place h in
     let x = placed me w.before d.message al.1 al.0.rule in
-    let few : leaf_of (known me log) d.message < 18 * me.session.shape.rounds = leaves_few d.message.body (seat_by (known me log) (place_of d.message)) me.session.shape.rounds x.signed al.0.rule.low al.0.rule.high (seat_by-below me log (place_of d.message) h) in
+    let few : leaf_for (known me log) d.message < 18 * me.session.shape.rounds = leaves_few d.message.body (seat_by (known me log) (place_of d.message)) me.session.shape.rounds x.signed al.0.rule.low al.0.rule.high (seat_by-below me log (place_of d.message) h) in
     let all : 18 * me.session.shape.rounds ≤ 2 ^ levels me.session.params.height = s.leaves in
     omega (arith, few, all)

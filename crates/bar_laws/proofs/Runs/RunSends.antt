@@ -1,8 +1,8 @@
 -- What a run sends.
+use Rattle.bar_rules.specs.Peer.Evidence.{new_evidence}
 use Rattle.bar_wire.specs.Kinds.{code_of}
 use Rattle.bar_rules.specs.Runs.{begun, sends_from}
 use Rattle.bar_rules.specs.Peer.Admission.{is_admitted}
-use Rattle.bar_rules.specs.Peer.Evidence.{completed}
 use Rattle.bar_rules.specs.Peer.Exchanges.{role_of, partner_in}
 use Rattle.bar_rules.specs.Peer.Knowledge.{known}
 use Rattle.bar_rules.specs.Peer.Log.{Log, Ticked, Heard, Said, first_said, ticks, has_said}
@@ -106,10 +106,10 @@ perform_all-addressed me out (o ∷ os) a = perform_all-addressed me (perform me
 
 datagram-addressed : (me : Member) (log : Log) (o : Option Datagram) → AllByRecursion IsAddressed (take_datagram me log o).sends
 datagram-addressed me log None = tt
-datagram-addressed me log (Some d) = reported (completed me (known me log) d)
+datagram-addressed me log (Some d) = reported (new_evidence me (known me log) d)
   where
     before : Log
-    before = with_evidence me log d.message.from (completed me (known me log) d)
+    before = with_evidence me log d.message.from (new_evidence me (known me log) d)
 
     answered : AllByRecursion IsAddressed (answered_to me before d).sends
     answered = go (is_admitted me (known me before) d) (repeated me (known me before) d)

@@ -2,7 +2,7 @@
 use Rattle.bar_rules.specs.Runs.{begun}
 use Rattle.bar_rules.specs.Peer.Admission.{is_admitted}
 use Rattle.bar_rules.specs.Peer.Choices.{young_of}
-use Rattle.bar_rules.specs.Peer.Evidence.{completed, names, if_names, pair_with, pairs_by, is_tried}
+use Rattle.bar_rules.specs.Peer.Evidence.{pair_with, pairs_by, is_tried, accuses, if_accuses, new_evidence}
 use Rattle.bar_rules.specs.Peer.Exchanges.{request_kind, role_of, opening_kind, partner_in, open_exchanges}
 use Rattle.bar_rules.specs.Peer.Knowledge.{known}
 use Rattle.bar_rules.specs.Peer.Log.{Log, Ticked, Heard, first_heard, table, ticks, round_now, is_announced}
@@ -86,52 +86,52 @@ not_some : {A : Type 0} (o : Option A) → not (is_some o) ≡ true → o ≡ No
 not_some None e = refl
 not_some (Some a) e = cc
 
-named-is : (s : Session) (t : Table) (q : ℕ) (e f : List (List ℕ)) → if_names s t q e ≡ Some f → names q (verdict s t f) ≡ true
-named-is s t q e f h = go (names q (verdict s t e)) refl h
+named-is : (s : Session) (t : Table) (q : ℕ) (e f : List (List ℕ)) → if_accuses s t q e ≡ Some f → accuses q (verdict s t f) ≡ true
+named-is s t q e f h = go (accuses q (verdict s t e)) refl h
   where
-    go : (b : Bool) → names q (verdict s t e) ≡ b → then_some b e ≡ Some f → names q (verdict s t f) ≡ true
-    go true g h = let same : e ≡ f = cc in subst (λ z. names q (verdict s t z) ≡ true) same g
+    go : (b : Bool) → accuses q (verdict s t e) ≡ b → then_some b e ≡ Some f → accuses q (verdict s t f) ≡ true
+    go true g h = let same : e ≡ f = cc in subst (λ z. accuses q (verdict s t z) ≡ true) same g
     go false g h = cc
 
-pair-names : (s : Session) (t : Table) (d : Datagram) (o : Option Datagram) (f : List (List ℕ)) → pair_with s t d o ≡ Some f → names d.message.from (verdict s t f) ≡ true
+pair-names : (s : Session) (t : Table) (d : Datagram) (o : Option Datagram) (f : List (List ℕ)) → pair_with s t d o ≡ Some f → accuses d.message.from (verdict s t f) ≡ true
 pair-names s t d None f h = cc
 pair-names s t d (Some e) f h = named-is s t d.message.from (datagram_bytes s e ∷ datagram_bytes s d ∷ []) f h
 
-pairs-name : (me : Member) (s : Session) (log : Log) (d : Datagram) (o : Option Place) (f : List (List ℕ)) → pairs_by s (known me log) d o ≡ Some f → names d.message.from (verdict s (table log) f) ≡ true
+pairs-name : (me : Member) (s : Session) (log : Log) (d : Datagram) (o : Option Place) (f : List (List ℕ)) → pairs_by s (known me log) d o ≡ Some f → accuses d.message.from (verdict s (table log) f) ≡ true
 pairs-name me s log d None f h = cc
 pairs-name me s log d (Some p) f h = first (option_or-cases _ _ f h)
   where
     x : Exchange
     x = p.exchange
 
-    second : (a b : Option Datagram) → (pair_with s (table log) d a ≡ Some f) ⊎ ((pair_with s (table log) d a ≡ None) × (pair_with s (table log) d b ≡ Some f)) → names d.message.from (verdict s (table log) f) ≡ true
+    second : (a b : Option Datagram) → (pair_with s (table log) d a ≡ Some f) ⊎ ((pair_with s (table log) d a ≡ None) × (pair_with s (table log) d b ≡ Some f)) → accuses d.message.from (verdict s (table log) f) ≡ true
     second a b (inl g) = pair-names s (table log) d a f g
     second a b (inr g) = pair-names s (table log) d b f g.1
 
     first : (pair_with s (table log) d (first_heard (is_of (opening_kind x.kind p.role) x p.role) log) ≡ Some f)
         ⊎ ((pair_with s (table log) d (first_heard (is_of (opening_kind x.kind p.role) x p.role) log) ≡ None)
         × (option_or (pair_with s (table log) d (first_heard (is_of kinds.Case x p.role) log)) (pair_with s (table log) d (first_heard (is_of kinds.Key x p.role) log)) ≡ Some f))
-        → names d.message.from (verdict s (table log) f) ≡ true
+        → accuses d.message.from (verdict s (table log) f) ≡ true
     first (inl g) = pair-names s (table log) d (first_heard (is_of (opening_kind x.kind p.role) x p.role) log) f g
     first (inr g) = second (first_heard (is_of kinds.Case x p.role) log) (first_heard (is_of kinds.Key x p.role) log) (option_or-cases _ _ f g.1)
 
-pub completed-named : (me : Member) (log : Log) (d : Datagram) (f : List (List ℕ)) → completed me (known me log) d ≡ Some f → (is_tried me (known me log) d ≡ true) × (names d.message.from (verdict me.session (table log) f) ≡ true)
-unfolding completed
+pub completed-named : (me : Member) (log : Log) (d : Datagram) (f : List (List ℕ)) → new_evidence me (known me log) d ≡ Some f → (is_tried me (known me log) d ≡ true) × (accuses d.message.from (verdict me.session (table log) f) ≡ true)
+unfolding new_evidence
 completed-named me log d f h = go (is_tried me (known me log) d) refl h
   where
-    either : (if_names me.session (table log) d.message.from (datagram_bytes me.session d ∷ []) ≡ Some f)
-        ⊎ ((if_names me.session (table log) d.message.from (datagram_bytes me.session d ∷ []) ≡ None) × (pairs_by me.session (known me log) d (place_of d.message) ≡ Some f))
-        → names d.message.from (verdict me.session (table log) f) ≡ true
+    either : (if_accuses me.session (table log) d.message.from (datagram_bytes me.session d ∷ []) ≡ Some f)
+        ⊎ ((if_accuses me.session (table log) d.message.from (datagram_bytes me.session d ∷ []) ≡ None) × (pairs_by me.session (known me log) d (place_of d.message) ≡ Some f))
+        → accuses d.message.from (verdict me.session (table log) f) ≡ true
     either (inl a) = named-is me.session (table log) d.message.from (datagram_bytes me.session d ∷ []) f a
     either (inr a) = pairs-name me me.session log d (place_of d.message) f a.1
 
     go : (b : Bool) → is_tried me (known me log) d ≡ b
-        → cond b (option_or (if_names me.session (table log) d.message.from (datagram_bytes me.session d ∷ [])) (pairs_by me.session (known me log) d (place_of d.message))) None ≡ Some f
-        → (is_tried me (known me log) d ≡ true) × (names d.message.from (verdict me.session (table log) f) ≡ true)
+        → cond b (option_or (if_accuses me.session (table log) d.message.from (datagram_bytes me.session d ∷ [])) (pairs_by me.session (known me log) d (place_of d.message))) None ≡ Some f
+        → (is_tried me (known me log) d ≡ true) × (accuses d.message.from (verdict me.session (table log) f) ≡ true)
     go false t h = cc
     go true t h = (t, either (option_or-cases _ _ f h))
 
-evidence-obedient : (me : Member) (log : Log) (d : Datagram) (o : Option (List (List ℕ))) → completed me (known me log) d ≡ o → IsObedient me log → IsObedient me (with_evidence me log d.message.from o)
+evidence-obedient : (me : Member) (log : Log) (d : Datagram) (o : Option (List (List ℕ))) → new_evidence me (known me log) d ≡ o → IsObedient me log → IsObedient me (with_evidence me log d.message.from o)
 evidence-obedient me log d None e h = h
 evidence-obedient me log d (Some f) e h =
     let c = completed-named me log d f e in
@@ -178,8 +178,8 @@ report-log me out q (Some e) = send_if-log me out _ _
 datagram-obedient : (me : Member) (log : Log) (bytes : List ℕ) (o : Option Datagram) → datagram_of me.session bytes ≡ o → IsObedient me log → IsObedient me (take_datagram me log o).state
 datagram-obedient me log bytes None r h = h
 datagram-obedient me log bytes (Some d) r h =
-    subst (λ l. IsObedient me l) (sym (report-log me (answered_to me (with_evidence me log d.message.from (completed me (known me log) d)) d) d.message.from (completed me (known me log) d)))
-    (answered-obedient me (with_evidence me log d.message.from (completed me (known me log) d)) d (reads-back me.session bytes d r) (evidence-obedient me log d _ refl h))
+    subst (λ l. IsObedient me l) (sym (report-log me (answered_to me (with_evidence me log d.message.from (new_evidence me (known me log) d)) d) d.message.from (new_evidence me (known me log) d)))
+    (answered-obedient me (with_evidence me log d.message.from (new_evidence me (known me log) d)) d (reads-back me.session bytes d r) (evidence-obedient me log d _ refl h))
 
 input-obedient : (me : Member) (log : Log) (i : Input) → IsObedient me log → IsObedient me (take_input me log i).state
 input-obedient me log Tick h = perform_all-obedient me (orders_at_tick me (known me (Ticked ∷ log))) (begun (Ticked ∷ log)) (tt, h) (tick-stands me (Ticked ∷ log) (ticked-low log))

@@ -2,7 +2,7 @@
 use Rattle.bar_wire.specs.Kinds.{code_of}
 use Rattle.bar_rules.specs.Runs.{begun, sending}
 use Rattle.bar_rules.specs.Peer.Admission.{is_admitted}
-use Rattle.bar_rules.specs.Peer.Evidence.{completed, is_tried, if_names, pair_with, pairs_by}
+use Rattle.bar_rules.specs.Peer.Evidence.{is_tried, pair_with, pairs_by, if_accuses, new_evidence}
 use Rattle.bar_rules.specs.Peer.Exchanges.{role_of, partner_in, opening_kind}
 use Rattle.bar_rules.specs.Peer.Knowledge.{known}
 use Rattle.bar_rules.specs.Peer.Log.{kept, table, Log, Entry, Ticked, Heard, Said, Kept, first_heard, first_said, ticks}
@@ -134,7 +134,7 @@ adds-all me log o (x ∷ xs) out a = adds-all me log o xs (perform me out x) (ad
 
 -- ---- evidence
 
-names-source : (me : Member) (log : Log) (t : Table) (q : ℕ) (e f : List (List ℕ)) (o : Option Datagram) → AllByRecursion (IsSource me log o) e → if_names me.session t q e ≡ Some f → AllByRecursion (IsSource me log o) f
+names-source : (me : Member) (log : Log) (t : Table) (q : ℕ) (e f : List (List ℕ)) (o : Option Datagram) → AllByRecursion (IsSource me log o) e → if_accuses me.session t q e ≡ Some f → AllByRecursion (IsSource me log o) f
 names-source me log t q e f o a h = go _ h
   where
     go : (b : Bool) → then_some b e ≡ Some f → AllByRecursion (IsSource me log o) f
@@ -177,17 +177,17 @@ pairs-source me log d (Some p) f h = first (option_or-cases _ _ f h)
     first (inl g) = pair-source me log (table log) d (is_of (opening_kind x.kind p.role) x p.role) f g
     first (inr g) = second (option_or-cases _ _ f g.1)
 
-completed-source : (me : Member) (log : Log) (d : Datagram) (f : List (List ℕ)) → completed me (known me log) d ≡ Some f → AllByRecursion (IsSource me log (Some d)) f
-unfolding completed
+completed-source : (me : Member) (log : Log) (d : Datagram) (f : List (List ℕ)) → new_evidence me (known me log) d ≡ Some f → AllByRecursion (IsSource me log (Some d)) f
+unfolding new_evidence
 completed-source me log d f h = go (is_tried me (known me log) d) h
   where
-    either : (if_names me.session (table log) d.message.from (datagram_bytes me.session d ∷ []) ≡ Some f)
-        ⊎ ((if_names me.session (table log) d.message.from (datagram_bytes me.session d ∷ []) ≡ None) × (pairs_by me.session (known me log) d (place_of d.message) ≡ Some f))
+    either : (if_accuses me.session (table log) d.message.from (datagram_bytes me.session d ∷ []) ≡ Some f)
+        ⊎ ((if_accuses me.session (table log) d.message.from (datagram_bytes me.session d ∷ []) ≡ None) × (pairs_by me.session (known me log) d (place_of d.message) ≡ Some f))
         → AllByRecursion (IsSource me log (Some d)) f
     either (inl a) = names-source me log (table log) d.message.from (datagram_bytes me.session d ∷ []) f (Some d) ((d, refl, inl refl), tt) a
     either (inr a) = pairs-source me log d (place_of d.message) f a.1
 
-    go : (b : Bool) → cond b (option_or (if_names me.session (table log) d.message.from (datagram_bytes me.session d ∷ [])) (pairs_by me.session (known me log) d (place_of d.message))) None ≡ Some f → AllByRecursion (IsSource me log (Some d)) f
+    go : (b : Bool) → cond b (option_or (if_accuses me.session (table log) d.message.from (datagram_bytes me.session d ∷ [])) (pairs_by me.session (known me log) d (place_of d.message))) None ≡ Some f → AllByRecursion (IsSource me log (Some d)) f
     go false h = cc
     go true h = either (option_or-cases _ _ f h)
 
@@ -218,9 +218,9 @@ report-adds me log o out q (Some e) a = adds-perform me log o out (Report q) a
 
 datagram-adds : (me : Member) (log : Log) (o : Option Datagram) → Adds me log o (take_datagram me log o)
 datagram-adds me log None = start-adds me log [] None tt
-datagram-adds me log (Some d) = report-adds me log (Some d) _ d.message.from (completed me (known me log) d) (go (completed me (known me log) d) refl)
+datagram-adds me log (Some d) = report-adds me log (Some d) _ d.message.from (new_evidence me (known me log) d) (go (new_evidence me (known me log) d) refl)
   where
-    go : (e : Option (List (List ℕ))) → completed me (known me log) d ≡ e → Adds me log (Some d) (answered_to me (with_evidence me log d.message.from e) d)
+    go : (e : Option (List (List ℕ))) → new_evidence me (known me log) d ≡ e → Adds me log (Some d) (answered_to me (with_evidence me log d.message.from e) d)
     go None e = answered-adds me log [] d tt
     go (Some f) e = answered-adds me log (Kept d.message.from f ∷ []) d (inl (completed-source me log d f e), tt)
 

@@ -1,8 +1,8 @@
 -- Where nothing is forged, evidence that is accepted names no trusted peer, given that no member is framed by what it signed.
+use Rattle.bar_rules.specs.Peer.Evidence.{accuses}
 use Rattle.bar_wire.specs.Bodies.{digests_in, is_manifest_of, is_peer_kind}
 use Rattle.bar_rules.specs.Peer.Admission.{is_admitted}
 use Rattle.bar_rules.specs.Broadcaster.Broadcaster.{caster_table, manifest_list}
-use Rattle.bar_rules.specs.Peer.Evidence.{names}
 use Rattle.bar_rules.specs.Peer.Knowledge.{known}
 use Rattle.bar_rules.specs.Peer.Log.{kept, kept_in, Log, table, Entry, Ticked, Heard, Said, Kept, manifest, round_now}
 use Rattle.bar_rules.specs.Member.{Session, Member, IsMember}
@@ -211,24 +211,24 @@ caster-keeps-none cast trusted w q log log0 is sound trust0 trust n at at0 = go 
     go (Some ev) e = absurd (no ev e)
 
 -- evidence that an obedient log keeps was shown under the table of its moment
-pub obedient-kept : (me : Member) (log : Log) (q : ℕ) (ev : List (List ℕ)) → IsObedient me log → kept log q ≡ Some ev → (before : Log) × IsLater log before × (names q (verdict me.session (table before) ev) ≡ true)
+pub obedient-kept : (me : Member) (log : Log) (q : ℕ) (ev : List (List ℕ)) → IsObedient me log → kept log q ≡ Some ev → (before : Log) × IsLater log before × (accuses q (verdict me.session (table before) ev) ≡ true)
 obedient-kept me log q ev h e = go (find-of (λ before e. kept_in q e) log ev e)
   where
-    by : (before : Log) (x : Entry) → IsEntry log before x → kept_in q x ≡ Some ev → (before : Log) × IsLater log before × (names q (verdict me.session (table before) ev) ≡ true)
+    by : (before : Log) (x : Entry) → IsEntry log before x → kept_in q x ≡ Some ev → (before : Log) × IsLater log before × (accuses q (verdict me.session (table before) ev) ≡ true)
     by before (Kept p f) place k = at (eqb p q) refl k
       where
-        at : (b : Bool) → eqb p q ≡ b → then_some b f ≡ Some ev → (before : Log) × IsLater log before × (names q (verdict me.session (table before) ev) ≡ true)
+        at : (b : Bool) → eqb p q ≡ b → then_some b f ≡ Some ev → (before : Log) × IsLater log before × (accuses q (verdict me.session (table before) ev) ≡ true)
         at false g k = cc
         at true g k =
             let same : f ≡ ev = cc in
             let al = (allowed-at me log before (Kept p f) place h).0 in
             let party : p ≡ q = eqb-true p q g in
-            (before, later-entry log before (Kept p f) place, subst (λ z. names z (verdict me.session (table before) ev) ≡ true) party (subst (λ z. names p (verdict me.session (table before) z) ≡ true) same al.shown))
+            (before, later-entry log before (Kept p f) place, subst (λ z. accuses z (verdict me.session (table before) ev) ≡ true) party (subst (λ z. accuses p (verdict me.session (table before) z) ≡ true) same al.shown))
     by before Ticked place k = cc
     by before (Heard d) place k = cc
     by before (Said d) place k = cc
 
-    go : IsFind (λ before e. kept_in q e) log ev → (before : Log) × IsLater log before × (names q (verdict me.session (table before) ev) ≡ true)
+    go : IsFind (λ before e. kept_in q e) log ev → (before : Log) × IsLater log before × (accuses q (verdict me.session (table before) ev) ≡ true)
     go w = by w.before w.entry w.place w.found
 
 -- no trusted peer keeps evidence against a trusted peer

@@ -1,7 +1,7 @@
 -- A key between two trusted peers opens well.
 use Rattle.bar_wire.specs.Bodies.{briefcase_in}
 use Rattle.bar_wire.specs.declared.kind.Kind.TheVariants as kinds
-use Rattle.bar_rules.specs.Peer.Holdings.{case_for, block_of, block_in, is_held}
+use Rattle.bar_rules.specs.Peer.Holdings.{block_of, block_in, is_held, case_heard_from}
 use Rattle.bar_rules.specs.Peer.Log.{Log, Heard, table, round_now, first_heard, has_heard}
 use Rattle.bar_rules.specs.Member.{Member, is_alive}
 use Rattle.bar_rules.specs.Peer.Rules.{IsObedient, Allows}
@@ -39,7 +39,7 @@ some-or None p e = e
 
 -- a key whose opening is good adds each promised update that is alive
 held-by-key : (me : Member) (before : Log) (d : Datagram) (k : KeyGiven) (c : Briefcase) (u : UpdateId) → d.message.body ≡ Key k
-    → case_for before (exchange_by k.round k.kind k.role d.message.from d.message.to) k.role ≡ Some c
+    → case_heard_from before (exchange_by k.round k.kind k.role d.message.from d.message.to) k.role ≡ Some c
     → is_good (opening_of me.session (table before) (exchange_by k.round k.kind k.role d.message.from d.message.to) c k.key) ≡ true
     → Contains (promised_updates me.session.cap c.terms c.role) u → is_alive me.session u.round (round_now before) ≡ true → is_held me.session (Heard d ∷ before) u ≡ true
 held-by-key me before d k c u body found good has alive =
@@ -79,7 +79,7 @@ key-opens-well cast trusted w p q mine theirs log0 before d k sound trust0 trust
             b : HeardBriefcase (member cast p) before x k.role e
             b = heard-briefcase (member cast p) before x k.role e al.1 was.0 was.1
 
-            told : case_for before x k.role ≡ Some b.case
+            told : case_heard_from before x k.role ≡ Some b.case
             told = ap (option_and_then (λ d. briefcase_in d.message.body)) found ∙ ap briefcase_in b.body
 
             case-from : e.message.from ≡ q

@@ -40,8 +40,8 @@ abbrev pub is_for : Member → Message → Bool
 is_for me m = if is_to_all m.body then m.to == everyone else m.to == me.party
 
 -- where the kind is signed, the signature is accepted under the sender's key
-abbrev pub is_genuine : Session → Datagram → Bool
-is_genuine s d = if is_signed d.message.body then is_signed_by s d else true
+abbrev pub has_valid_signature : Session → Datagram → Bool
+has_valid_signature s d = if is_signed d.message.body then is_signed_by s d else true
 
 -- a datagram of the same name was admitted: a manifest or an EVICT of the same round, or one of the same kind, exchange and side
 abbrev pub is_named_again : Knowledge → Option Place → Body → Bool
@@ -143,6 +143,6 @@ unfoldable pub is_admitted : Member → Knowledge → Datagram → Bool
 is_admitted me k d =
     is_for me d.message
     && not (k.is_announced d.message.from)
-    && is_genuine me.session d
+    && has_valid_signature me.session d
     && not (is_heard_again k d.message)
     && is_row_met me k d.message.from d.message.to d.message.body

@@ -15,18 +15,18 @@ use Rattle.bar_rules.specs.Peer.Exchanges.{opening_kind}
 use Rattle.bar_rules.specs.Peer.Knowledge.{Knowledge, table_of, this_round}
 use Rattle.bar_rules.specs.Judge.Verdict.{Verdict, Shown, NotShown, verdict}
 
-abbrev pub names : ℕ → Verdict → Bool
-names q (Shown p fault) = p == q
-names q (NotShown why) = false
+abbrev pub accuses : ℕ → Verdict → Bool
+accuses q (Shown p fault) = p == q
+accuses q (NotShown why) = false
 
 -- the evidence, if its verdict names q
-abbrev pub if_names : Session → Table → ℕ → List (List ℕ) → Option (List (List ℕ))
-if_names s t q evidence = then_some (names q (verdict s t evidence)) evidence
+abbrev pub if_accuses : Session → Table → ℕ → List (List ℕ) → Option (List (List ℕ))
+if_accuses s t q evidence = then_some (accuses q (verdict s t evidence)) evidence
 
 -- the pair of an earlier datagram of the sender and this one
 abbrev pub pair_with : Session → Table → Datagram → Option Datagram → Option (List (List ℕ))
 pair_with s t d None = None
-pair_with s t d (Some e) = if_names s t d.message.from (datagram_bytes s e ∷ datagram_bytes s d ∷ [])
+pair_with s t d (Some e) = if_accuses s t d.message.from (datagram_bytes s e ∷ datagram_bytes s d ∷ [])
 
 -- the pairs with what was heard from a side of an exchange, in the order in which it can be heard: the first message, the CASE, the KEY
 abbrev pub pairs_in : Session → Knowledge → Datagram → Exchange → Role → Option (List (List ℕ))
@@ -50,9 +50,9 @@ is_tried me k d =
     && nat_le (this_round k) (round_of d.message.body + me.session.shape.life)
 
 -- the evidence that this datagram completes: itself, or it after the first earlier one that serves
-unfoldable pub completed : Member → Knowledge → Datagram → Option (List (List ℕ))
-completed me k d =
+unfoldable pub new_evidence : Member → Knowledge → Datagram → Option (List (List ℕ))
+new_evidence me k d =
     if is_tried me k d
-    then option_or (if_names me.session (table_of k) d.message.from (datagram_bytes me.session d ∷ []))
+    then option_or (if_accuses me.session (table_of k) d.message.from (datagram_bytes me.session d ∷ []))
     (pairs_by me.session k d (place_of d.message))
     else None

@@ -89,13 +89,13 @@ abbrev pub exchange_said : Option Datagram → Option Exchange
 exchange_said None = None
 exchange_said (Some d) = exchange_of d.message
 
-abbrev pub opened : Log → List Exchange
-opened [] = []
-opened (e ∷ log) = with_exchange (exchange_said (said_in e)) (opened log)
+abbrev pub exchanges_said : Log → List Exchange
+exchanges_said [] = []
+exchanges_said (e ∷ log) = with_exchange (exchange_said (said_in e)) (exchanges_said log)
 
 -- those of rounds that may still be asked about
 abbrev pub recent_of : Session → ℕ → List Exchange → List Exchange
 recent_of s now xs = filter (λ x. nat_le now (x.round + s.shape.life)) xs
 
 abbrev pub open_exchanges : Member → Log → List Exchange
-open_exchanges me log = recent_of me.session (round_now log) (opened log)
+open_exchanges me log = recent_of me.session (round_now log) (exchanges_said log)

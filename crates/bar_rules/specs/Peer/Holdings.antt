@@ -17,12 +17,12 @@ abbrev pub case_in : Option Datagram → Option Briefcase
 case_in o = option_and_then (λ d. briefcase_in d.message.body) o
 
 -- the briefcase of an exchange that was heard from a side of it
-abbrev pub case_for : Log → Exchange → Role → Option Briefcase
-case_for log x role = case_in (first_heard (is_of kinds.Case x role) log)
+abbrev pub case_heard_from : Log → Exchange → Role → Option Briefcase
+case_heard_from log x role = case_in (first_heard (is_of kinds.Case x role) log)
 
 -- the briefcase of an exchange that this member said, on a side of it
-abbrev pub case_given : Log → Exchange → Role → Option Briefcase
-case_given log x role = case_in (first_said (is_of kinds.Case x role) log)
+abbrev pub case_said_by : Log → Exchange → Role → Option Briefcase
+case_said_by log x role = case_in (first_said (is_of kinds.Case x role) log)
 
 -- the block of an update that an opened briefcase has, if its opening is good
 abbrev pub block_opened : Session → Table → Exchange → UpdateId → List ℕ → Option Briefcase → Option (List ℕ)
@@ -39,7 +39,7 @@ block_by s now table cases u m (Key g) =
 block_by s now table cases u m _ = None
 
 abbrev pub block_from : Session → Log → UpdateId → Message → Body → Option (List ℕ)
-block_from s before u m b = block_by s (round_now before) (table before) (case_for before) u m b
+block_from s before u m b = block_by s (round_now before) (table before) (case_heard_from before) u m b
 
 abbrev pub block_in : Session → Log → UpdateId → Entry → Option (List ℕ)
 block_in s before u (Heard d) = block_from s before u d.message d.message.body

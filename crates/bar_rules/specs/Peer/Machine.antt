@@ -1,5 +1,6 @@
 -- What a peer does at each input, over whatever keeps what it knows: its log, or the knowledge alone.
 use Rattle.std.specs.Prelude.{ℕ, ◌+◌, true, false, List, [], ◌∷◌, ◌++◌, map, Option, Some, None, nat_le, option_map, if◌then◌else◌}
+use Rattle.bar_rules.specs.Peer.Evidence.{new_evidence}
 use Rattle.bar_window.specs.declared.exchange.Exchange.{Exchange}
 use Rattle.bar_wire.specs.Datagram.{Message, Datagram, Body, Divulge, KeyRequest, Evidence}
 use Rattle.bar_wire.specs.Inputs.{Input, Tick, Came}
@@ -14,7 +15,6 @@ use Rattle.bar_rules.specs.Peer.Knowledge.{Knowledge, known, with_entry}
 use Rattle.bar_rules.specs.Peer.Terms.{terms_of}
 use Rattle.bar_rules.specs.Peer.Admission.{is_admitted}
 use Rattle.bar_rules.specs.Peer.Signing.{signed}
-use Rattle.bar_rules.specs.Peer.Evidence.{completed}
 use Rattle.bar_rules.specs.Peer.Orders.{Order, Ask, Answer, Reveal, GiveCase, AskKey, GiveKey, Resend, Report, ask_body, answer_body, case_body, key_body}
 use Rattle.bar_rules.specs.Peer.Replies.{reply_orders, repeated}
 use Rattle.bar_rules.specs.Peer.Ticks.{orders_at_tick, contents_at_tick}
@@ -98,7 +98,7 @@ report_new w me out q (Some evidence) = perform w me out (Report q)
 abbrev pub take_datagram : {S : Type 0} → Keeping S → Member → S → Option Datagram → Outcome S
 take_datagram w me s None = begun s
 take_datagram w me s (Some d) =
-    let evidence : Option (List (List ℕ)) = completed me (w.reads s) d in
+    let evidence : Option (List (List ℕ)) = new_evidence me (w.reads s) d in
     report_new w me (answered_to w me (with_evidence w s d.message.from evidence) d) d.message.from evidence
 
 -- ---- one input

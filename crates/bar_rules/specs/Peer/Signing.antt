@@ -112,8 +112,8 @@ seat_by k None = 0
 seat_by k (Some p) = unwrap_or (k.seat p.exchange) 0
 
 -- the leaf that a message takes
-abbrev pub leaf_of : Knowledge → Message → ℕ
-leaf_of k m = leaves.leaf_of m.body (seat_by k (place_of m))
+abbrev pub leaf_for : Knowledge → Message → ℕ
+leaf_for k m = leaves.leaf_of m.body (seat_by k (place_of m))
 
 abbrev pub signed : Member → Knowledge → Message → Datagram
-signed me k m = record { message = m; signature = signature_of me (leaf_of k m) (message_bytes me.session m) }
+signed me k m = record { message = m; signature = signature_of me (leaf_for k m) (message_bytes me.session m) }
