@@ -74,7 +74,8 @@ is_unknown (Unknown item) = true
 -- the block of an update in an opened briefcase
 unfoldable pub opened_block : Session → Briefcase → List ℕ → UpdateId → Option (List ℕ)
 opened_block s c key u =
-    option_map (λ p. p.1) (find (λ p. same_update u p.0) (zip (promised_updates s.cap c.terms c.role) (opened_blocks s.cap c.terms c.role c.cipher key)))
+    option_map (λ p. p.1)
+    (find (λ p. same_update u p.0) (zip (promised_updates s.cap c.terms c.role) (opened_blocks s.cap c.terms c.role c.cipher key)))
 
 -- ---- datagrams
 

@@ -37,7 +37,8 @@ manifest_list s stream round = map sha256 (round_blocks s stream round)
 
 -- the broadcaster's table: the rounds so far
 abbrev pub caster_table : Member → List ℕ → Log → Table
-caster_table me stream log = λ r. then_some (nat_le 1 r && (nat_le r (round_now log) && nat_le r me.session.shape.rounds)) (manifest_list me.session stream r)
+caster_table me stream log =
+    λ r. then_some (nat_le 1 r && (nat_le r (round_now log) && nat_le r me.session.shape.rounds)) (manifest_list me.session stream r)
 
 abbrev pub peers_of : Session → List ℕ
 peers_of s = range_with_len 1 s.shape.peers
@@ -66,7 +67,10 @@ abbrev pub caster_message : Body → Message
 caster_message body = record { from = 0; to = everyone; body = body }
 
 abbrev pub caster_signed : Member → ℕ → Body → Datagram
-caster_signed me leaf body = record { message = caster_message body; signature = signature_of me leaf (message_bytes me.session (caster_message body)) }
+caster_signed me leaf body = record {
+  message = caster_message body;
+  signature = signature_of me leaf (message_bytes me.session (caster_message body));
+}
 
 abbrev pub send_all : Outcome Log → List ℕ → Datagram → Outcome Log
 send_all out [] d = out
@@ -87,7 +91,8 @@ announce_manifest me stream m out = announce me out (2 * (m - 1)) m (Manifest m 
 
 abbrev pub announce_evictions : Member → ℕ → Outcome Log → Outcome Log
 announce_evictions me m out =
-    if nat_lt 0 (length (evicted me.session out.state)) then announce me out (2 * (m - 1) + 1) m (Evict m (evicted me.session out.state)) else out
+    let parties : List ℕ = evicted me.session out.state in
+    if nat_lt 0 (length parties) then announce me out (2 * (m - 1) + 1) m (Evict m parties) else out
 
 abbrev pub send_block : Outcome Log → List ℕ → UpdateId → List ℕ → Outcome Log
 send_block out [] u block = out

@@ -87,7 +87,8 @@ are_terms terms o = option_map_or (λ t. same_terms t terms) o false
 -- a revealed nonce and history meet the commitment of the REQUEST that was heard
 abbrev pub meets_commitment : Member → Knowledge → Exchange → List ℕ → List UpdateId → Bool
 meets_commitment me k x nonce ha =
-    option_map_or (λ c. bytes_eq c (commitment_of me.session x nonce ha)) (option_and_then commitment_in (body_heard k kinds.Request x Initiator)) false
+    option_map_or (λ c. bytes_eq c (commitment_of me.session x nonce ha))
+    (option_and_then commitment_in (body_heard k kinds.Request x Initiator)) false
 
 -- the terms that an answer makes with the offer that was said
 abbrev pub terms_with : Option (List UpdateId × List UpdateId) → List UpdateId → List UpdateId → ℕ → Option Terms
@@ -118,7 +119,8 @@ is_row_met me k from to (Query round seed young aged) =
     && may_ask me k Push from round seed
 is_row_met me k from to (Reply round want give junk) =
     let x : Exchange = exchange_by round Push Responder from to in
-    option_map_or (terms_ok me.session (table_of k) x) (terms_with (option_and_then offer_in (body_said k kinds.Query x Initiator)) want give junk) false
+    option_map_or (terms_ok me.session (table_of k) x)
+    (terms_with (option_and_then offer_in (body_said k kinds.Query x Initiator)) want give junk) false
     && is_in_time me.session k kinds.Reply round
 is_row_met me k from to (Case c) =
     let x : Exchange = exchange_by c.round c.kind c.role from to in

@@ -38,8 +38,8 @@ promised_by d = option_map (λ c. (c.terms, c.role)) (briefcase_in d.message.bod
 abbrev pub promise_of : Knowledge → Exchange → Role → Option (Option (Terms × Role))
 promise_of k x role = option_map promised_by (k.said kinds.Case x role)
 
--- The two agree in their ticks, manifests and evictions, in the evidence kept, in the blocks of fresh updates, in what was heard and counted of
--- recent rounds, and in what was said: whole while it may be sent again, and of a CASE by its terms afterwards.
+-- The two agree in their ticks, manifests and evictions, in the evidence kept, in the blocks of fresh updates, in what was heard and
+-- counted of recent rounds, and in what was said: whole while it may be sent again, and of a CASE by its terms afterwards.
 pub record AgreesWith (me : Member) (one two : Knowledge) : Type 0 where
   pub time : one.ticks ≡ two.ticks
   pub manifests : one.manifest ≡ two.manifest

@@ -44,7 +44,8 @@ opening_kind kind Responder = answer_kind kind
 -- the seat that an admitted request takes: how many of its round and kind were admitted before it
 abbrev pub seat_in : Log → Exchange → Entry → Option ℕ
 seat_in before x e =
-    option_map (λ d. count_heard (has_kind_and_round (request_kind x.kind) x.round) before) (if_passes (is_of (request_kind x.kind) x Initiator) (heard_in e))
+    option_map (λ d. count_heard (has_kind_and_round (request_kind x.kind) x.round) before)
+    (if_passes (is_of (request_kind x.kind) x Initiator) (heard_in e))
 
 -- the responder's seat in an exchange
 abbrev pub seat : Log → Exchange → Option ℕ

@@ -29,8 +29,8 @@ abbrev pub block_opened : Session → Table → Exchange → UpdateId → List �
 block_opened s table x u key None = None
 block_opened s table x u key (Some c) = if is_good (opening_of s table x c key) then opened_block s c key u else None
 
--- the block that an admitted datagram adds for an update, in a round, under a table and with the briefcases heard: a key adds those that are
--- alive then
+-- the block that an admitted datagram adds for an update, in a round, under a table and with the briefcases heard: a key adds those that
+-- are alive then
 abbrev pub block_by : Session → ℕ → Table → (Exchange → Role → Option Briefcase) → UpdateId → Message → Body → Option (List ℕ)
 block_by s now table cases u m (Block v block) = then_some (same_update u v) block
 block_by s now table cases u m (Key g) =

@@ -59,7 +59,8 @@ send_if me out to (Some body) = sending out to (unsigned (record { from = me.par
 abbrev pub perform : {S : Type 0} → Keeping S → Member → Outcome S → Order → Outcome S
 perform w me out (Ask x) = say w me out (request_kind x.kind) x (Some (ask_body me (w.reads out.state) x x.kind))
 perform w me out (Answer x) = say w me out (answer_kind x.kind) x (answer_body me (w.reads out.state) x x.kind)
-perform w me out (GiveCase x) = say w me out kinds.Case x (option_map (case_body me (w.reads out.state) x) (terms_of me (w.reads out.state) x))
+perform w me out (GiveCase x) =
+    say w me out kinds.Case x (option_map (case_body me (w.reads out.state) x) (terms_of me (w.reads out.state) x))
 perform w me out (GiveKey x) = say w me out kinds.Key x (Some (key_body me x))
 perform w me out (Resend kind x) = say w me out kind x None
 perform w me out (Reveal x) = send_if me out (partner_in me x) (option_map (λ a. Divulge x.round a.0 a.1) ((w.reads out.state).revealed x))

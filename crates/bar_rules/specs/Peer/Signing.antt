@@ -37,7 +37,9 @@ pub record MayRequest (me : Member) (k : Knowledge) (to round : ℕ) (seed commi
   pub now : round ≡ this_round k
   pub seeded : seed ≡ seed_of me round
   pub chosen : to ≡ partner_of me.session seed Balanced me.party
-  pub committed : commitment ≡ commitment_of me.session (asking me round Balanced to) (nonce_of me (asking me round Balanced to)) (history me.session k.block round)
+  pub committed :
+      commitment ≡ commitment_of me.session (asking me round Balanced to) (nonce_of me (asking me round Balanced to))
+      (history me.session k.block round)
 
 -- a QUERY: in its round, with the round's seed, to the partner that it chooses, offering and asking for what is held and lacking now
 pub record MayQuery (me : Member) (k : Knowledge) (to round : ℕ) (seed : List ℕ) (young aged : List UpdateId) : Type 0 where
@@ -58,7 +60,8 @@ pub record MayReply (me : Member) (k : Knowledge) (to round : ℕ) (want give : 
   pub young : List UpdateId
   pub aged : List UpdateId
   pub asked : has_heard_of k kinds.Query (exchange_by round Push Responder me.party to) Initiator ≡ true
-  pub offers : option_and_then offer_in (body_on me k kinds.Query (exchange_by round Push Responder me.party to) Initiator) ≡ Some (young, aged)
+  pub offers :
+      option_and_then offer_in (body_on me k kinds.Query (exchange_by round Push Responder me.party to) Initiator) ≡ Some (young, aged)
   pub wants : want ≡ wanted_of me k young
   pub some_wanted : 0 < length want
   pub gives : give ≡ given_of me k young aged

@@ -40,7 +40,8 @@ offer_terms None b = None
 abbrev pub terms_by : XKind → Member → Knowledge → Exchange → Option Terms
 terms_by Balanced me k x = trade_terms (k.revealed x) (option_and_then history_in (body_on me k kinds.Response x Responder))
 terms_by Push me k x =
-    offer_terms (option_and_then offer_in (body_on me k kinds.Query x Initiator)) (option_and_then reply_in (body_on me k kinds.Reply x Responder))
+    offer_terms (option_and_then offer_in (body_on me k kinds.Query x Initiator))
+    (option_and_then reply_in (body_on me k kinds.Reply x Responder))
 
 abbrev pub terms_of : Member → Knowledge → Exchange → Option Terms
 terms_of me k x = terms_by x.kind me k x

@@ -36,7 +36,9 @@ lacks_answer me k x =
 -- its own CASE is said, and the partner's isn't heard
 abbrev pub lacks_case : Member → Knowledge → Exchange → Bool
 lacks_case me k x =
-    has_said_of k kinds.Case x (role_of me x) && not (has_heard_of k kinds.Case x (other_role (role_of me x))) && is_in_time me.session k kinds.Case x.round
+    has_said_of k kinds.Case x (role_of me x)
+    && not (has_heard_of k kinds.Case x (other_role (role_of me x)))
+    && is_in_time me.session k kinds.Case x.round
 
 -- its own CASE is said and the partner's is heard, but no KEY is
 abbrev pub lacks_key : Member → Knowledge → Exchange → Bool
@@ -67,12 +69,13 @@ new_requests me k round =
 abbrev pub reports : Member → Knowledge → List Order
 reports me k = map Report (filter (λ q. is_some (k.evidence q) && not (k.is_announced q)) (range_with_len 1 me.session.shape.peers))
 
--- what is sent again for each open exchange whose partner isn't announced evicted; at slot 0 of a round of the session its requests; at slot 7
--- the reports
+-- what is sent again for each open exchange whose partner isn't announced evicted; at slot 0 of a round of the session its requests; at
+-- slot 7 the reports
 abbrev pub orders_at_tick : Member → Knowledge → List Order
 orders_at_tick me k =
     flat_map (λ x. orders_when (not (k.is_announced (partner_in me x))) (again me k x)) k.opens
-    ++ orders_when ((slot_after k.ticks == 0) && (nat_le 1 (this_round k) && nat_le (this_round k) me.session.shape.rounds)) (new_requests me k (this_round k))
+    ++ orders_when ((slot_after k.ticks == 0) && (nat_le 1 (this_round k) && nat_le (this_round k) me.session.shape.rounds))
+    (new_requests me k (this_round k))
     ++ orders_when (slot_after k.ticks == 7) (reports me k)
 
 -- ---- played contents
