@@ -33,7 +33,7 @@ pub use Rattle.bar_laws.proofs.Logs.Tables.{digest-extends, admitted-row, table-
 pub use Rattle.bar_laws.proofs.Logs.OneIdentity.{parts-of, part-round, same_exchange_refl, same_role_refl, eqb_refl, once-whole, is_whole, said-found}
 pub use Rattle.bar_laws.proofs.Logs.Valid.{all-take, all-filtered, spoken-reply, IsGoodAnswer, terms-valid, IsValid, updates_from-rounds}
 pub use Rattle.bar_laws.proofs.Logs.Unique.{SaidIn, said-in, was-said, unique, never_bad_terms, agrees-before, never_twice, same_bytes_refl}
-pub use Rattle.bar_laws.proofs.Logs.Grammar.{reads-back, heard-fits, spells, fits-reads, was-heard-fits, part-in-range, IsOwn, heard-own, heard-round, read-fits}
+pub use Rattle.bar_laws.proofs.Logs.Grammar.{reads-back, heard-fits, spells, fits-reads, was-heard-fits, part-in-range, IsOwn, heard-own, heard-round, read-fits, fits-back}
 pub use Rattle.bar_laws.proofs.Logs.Elsewhere.{is_of-is, party-on, party-over, kind-on, role-own, sign-elsewhere, own-unheard, sender-on, receiver-on, role-initiator, is_of-own, terms-said, CaseMoment, case-moment}
 pub use Rattle.bar_laws.proofs.Logs.MessageSides.{is_of-part, receiver-role, receiver-partner, other-other}
 pub use Rattle.bar_laws.proofs.Logs.WindowSets.{set-filter, set-take, history-set, young-set, aged-set}

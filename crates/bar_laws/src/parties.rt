@@ -3,7 +3,7 @@
 //! Each function's contract speaks of a set of trusted parties with the broadcaster in it, and of any list of moves that forges no signature that
 //! is accepted as one of theirs. That signatures can't be forged is this premise, and no theorem.
 
-ghost use Rattle.bar_laws.specs.Worlds.{NobodyIsEvicted, NobodyIsAccused, KeysOpenWell, TablesAreExtended, SentIsAccepted};
+ghost use Rattle.bar_laws.specs.Worlds.{NobodyIsEvicted, NobodyIsAccused, KeysOpenWell, TablesAreExtended, StepIsAccepted, SentIsAccepted};
 
 /// No trusted peer is evicted.
 pub fn nobody_is_evicted()
@@ -25,7 +25,11 @@ pub fn tables_are_extended()
     ensures { TablesAreExtended }
 {}
 
-/// Whatever is forged, each signed datagram that a party sends is accepted under its key (RFC 8554, 5.4.2).
+/// Whatever is forged, each datagram that a party sends is read, names the party as its sender, and if its kind is signed is accepted under
+/// the party's key (RFC 8554, 5.4.2).
 pub fn sent_is_accepted()
-    ensures { SentIsAccepted }
+    // at each input that a party may take
+    ensures step { StepIsAccepted }
+    // of all that was ever sent
+    ensures pool { SentIsAccepted }
 {}

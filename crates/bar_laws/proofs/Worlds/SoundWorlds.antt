@@ -32,7 +32,7 @@ set-cases (x ∷ xs) (suc p) (suc q) y z e = go (set-cases xs p q y z e)
     go (inl h) = inl (ap (λ n. suc n) h.0, h.1)
     go (inr h) = inr h
 
-set-same : {X : Type 0} (xs : List X) (p : ℕ) (x y : X) → slice_get xs p ≡ Some x → slice_get (slice_set xs p y) p ≡ Some y
+pub set-same : {X : Type 0} (xs : List X) (p : ℕ) (x y : X) → slice_get xs p ≡ Some x → slice_get (slice_set xs p y) p ≡ Some y
 set-same [] p x y e = cc
 set-same (z ∷ xs) zero x y e = refl
 set-same (z ∷ xs) (suc p) x y e = set-same xs p x y e

@@ -2,7 +2,7 @@
 use Rattle.bar_rules.specs.Broadcaster.Broadcaster.{evicted, peers_of}
 use Rattle.bar_rules.specs.Peer.Log.{kept}
 use Rattle.bar_rules.specs.World.World.{opened, Cast, Move}
-use Rattle.bar_laws.specs.Worlds.{after, IsHonest, NobodyIsEvicted, NobodyIsAccused, KeysOpenWell, TablesAreExtended, SentIsAccepted}
+use Rattle.bar_laws.specs.Worlds.{after, IsHonest, NobodyIsEvicted, NobodyIsAccused, KeysOpenWell, TablesAreExtended}
 use Rattle.std.specs.List.{list_all}
 use Rattle.std.specs.Prelude.{None, is_some, Contains, slice_index_or}
 use Rattle.bar_laws.proofs.Logs.{all-filter}
@@ -12,7 +12,6 @@ use Rattle.bar_laws.proofs.Worlds.SoundWorlds.{IsSound, steps-keep, run-sound, o
 use Rattle.bar_laws.proofs.Worlds.Evictions.{caster-keeps-none, peer-keeps-none}
 use Rattle.bar_laws.proofs.Worlds.Openings.{key-opens-well}
 use Rattle.bar_laws.proofs.Worlds.Released.{table-extended}
-use Rattle.bar_laws.proofs.Worlds.SentAccepted.{pool-accepted}
 
 sound-after : (cast : Cast) (trusted : ℕ → Bool) (moves : List Move) → IsHonest cast trusted moves → IsSound cast trusted (after cast moves)
 sound-after cast trusted moves h = run-sound cast trusted (opened cast) moves (steps-keep cast h.cast_is) (opened-sound cast trusted h.cast_is.parties) h.unforged
@@ -56,6 +55,3 @@ keys-open-well cast trusted moves h receiver sender mine theirs p q low some lat
 pub tables-extended : TablesAreExtended
 tables-extended cast trusted moves h peer log caster p low at =
     table-extended cast trusted (after cast moves) peer log caster (sound-after cast trusted moves h) h.broadcaster (not-zero peer low) p.log_is at
-
-pub sent-accepted : SentIsAccepted
-sent-accepted cast moves is = pool-accepted cast moves is
