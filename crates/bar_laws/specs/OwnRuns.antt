@@ -9,8 +9,8 @@ use Rattle.bar_rules.specs.Member.{Session}
 use Rattle.bar_rules.specs.Peer.Run.{step}
 use Rattle.bar_rules.specs.Runs.{Outcome, state_after, played_from, sends_from}
 use Rattle.bar_rules.specs.Values.{datagram_bytes, datagram_of}
-use Rattle.bar_rules.specs.World.World.{Cast, IsCast, World, Move, TickOf, Deliver, Hostile, member, happens, opened}
-use Rattle.bar_laws.specs.Worlds.{after}
+use Rattle.bar_rules.specs.World.World.{World, Move, TickOf, Deliver, Hostile, member, happens, Setup, IsSetup, initial}
+use Rattle.bar_laws.specs.Parties.{after}
 
 -- ---- the inputs of a party
 
@@ -25,16 +25,16 @@ brought_to party (Some packet) = given_to party packet.0 (Came packet.1)
 -- what a move gives the party
 abbrev pub input_at : World → ℕ → Move → List Input
 input_at w party (TickOf receiver) = given_to party receiver Tick
-input_at w party (Deliver number) = brought_to party (slice_get w.pool number)
+input_at w party (Deliver number) = brought_to party (slice_get w.packets number)
 input_at w party (Hostile receiver bytes) = given_to party receiver (Came bytes)
 
-abbrev pub inputs_from : Cast → World → ℕ → List Move → List Input
-inputs_from cast w party [] = []
-inputs_from cast w party (m ∷ ms) = input_at w party m ++ inputs_from cast (happens cast w m) party ms
+abbrev pub inputs_from : Setup → World → ℕ → List Move → List Input
+inputs_from setup w party [] = []
+inputs_from setup w party (m ∷ ms) = input_at w party m ++ inputs_from setup (happens setup w m) party ms
 
 -- its ticks, what is delivered to it out of the pool, and what hostile parties hand it, in order
-abbrev pub inputs_of : Cast → List Move → ℕ → List Input
-inputs_of cast moves party = inputs_from cast (opened cast) party moves
+abbrev pub inputs_of : Setup → List Move → ℕ → List Input
+inputs_of setup moves party = inputs_from setup (initial setup) party moves
 
 -- ---- its packets
 
@@ -50,20 +50,20 @@ packets_of s sends = map (λ sent. (sent.1, datagram_bytes s sent.2)) sends
 
 -- After the moves a party has the log that its own steps leave over its inputs, from nothing on, and has played what they play; and of all
 -- packets that were ever sent, those that spell a datagram of the party are the ones that its steps send, in order.
-pub record IsOwnRun (cast : Cast) (moves : List Move) (party : ℕ) (steps : Log → Input → Outcome Log) : Type 0 where
-  pub log : slice_get (after cast moves).logs party ≡ Some (state_after steps [] (inputs_of cast moves party))
-  pub played : slice_get (after cast moves).played party ≡ Some (played_from steps [] (inputs_of cast moves party))
+pub record IsOwnRun (setup : Setup) (moves : List Move) (party : ℕ) (steps : Log → Input → Outcome Log) : Type 0 where
+  pub log : slice_get (after setup moves).logs party ≡ Some (state_after steps [] (inputs_of setup moves party))
+  pub played : slice_get (after setup moves).played party ≡ Some (played_from steps [] (inputs_of setup moves party))
   pub sent :
-      filter (is_from cast.session party) (after cast moves).pool
-      ≡ packets_of cast.session (sends_from steps [] 1 (inputs_of cast moves party))
+      filter (is_from setup.session party) (after setup moves).packets
+      ≡ packets_of setup.session (sends_from steps [] 1 (inputs_of setup moves party))
 
 -- of each peer
 abbrev pub PeersRun : Type 0
 PeersRun =
-    (cast : Cast) (moves : List Move) → IsCast cast → (peer : ℕ) → 1 ≤ peer → peer ≤ cast.session.shape.peers
-    → IsOwnRun cast moves peer (step (member cast peer))
+    (setup : Setup) (moves : List Move) → IsSetup setup → (peer : ℕ) → 1 ≤ peer → peer ≤ setup.session.shape.peers
+    → IsOwnRun setup moves peer (step (member setup peer))
 
 -- of the broadcaster
 abbrev pub BroadcasterRuns : Type 0
 BroadcasterRuns =
-    (cast : Cast) (moves : List Move) → IsCast cast → IsOwnRun cast moves 0 (caster_step (member cast 0) cast.stream)
+    (setup : Setup) (moves : List Move) → IsSetup setup → IsOwnRun setup moves 0 (caster_step (member setup 0) setup.stream)

@@ -3,7 +3,7 @@
 //! Each function's contract speaks of a set of trusted parties with the broadcaster in it, and of any list of moves that forges no signature that
 //! is accepted as one of theirs. That signatures can't be forged is this premise, and no theorem.
 
-ghost use Rattle.bar_laws.specs.Worlds.{NobodyIsEvicted, NobodyIsAccused, KeysOpenWell, TablesAreExtended, StepIsAccepted, SentIsAccepted};
+ghost use Rattle.bar_laws.specs.Parties.{NobodyIsEvicted, NobodyIsAccused, KeysOpenWell, TablesAreExtended, StepIsAccepted, SentIsAccepted};
 
 /// No trusted peer is evicted.
 pub fn nobody_is_evicted()
@@ -31,5 +31,5 @@ pub fn sent_is_accepted()
     // at each input that a party may take
     ensures step { StepIsAccepted }
     // of all that was ever sent
-    ensures pool { SentIsAccepted }
+    ensures packets { SentIsAccepted }
 {}

@@ -9,7 +9,7 @@ use Rattle.bar_rules.specs.Member.{Session, Member, IsMember}
 use Rattle.bar_rules.specs.Peer.Rules.{IsObedient, Allows}
 use Rattle.bar_rules.specs.Values.{datagram_of, is_signed_by}
 use Rattle.bar_rules.specs.Judge.Verdict.{Shown, NotShown, Malformed, NotSigned, Fault, verdict, verdict_on, all_read, fault_of, judged, sender_of, are_of_one_peer}
-use Rattle.bar_rules.specs.World.World.{Cast, World, member, HasSaid, AllGenuine}
+use Rattle.bar_rules.specs.World.World.{World, member, HasSaid, AllGenuine, Setup}
 use Rattle.bar_terms.specs.Table.{Table, Agrees}
 use Rattle.bar_wire.specs.Datagram.{Datagram, Body, Request, Response, Query, Reply, Case, Key, is_signed, Manifest}
 use Rattle.std.proofs.Common.{◌≡◌, ℕ, Bool, true, false, List, [], ◌∷◌, refl, sym, ap, ◌∙◌, subst, ◌&&◌, eqb}
@@ -65,13 +65,13 @@ peer-signed (Key k) e = refl
 peer-signed _ e = cc
 
 -- genuine evidence of a trusted party is made of what it said
-all-said : (cast : Cast) (trusted : ℕ → Bool) (w : World) (q : ℕ) (log : Log) (ev : List (List ℕ)) (ds : List Datagram) → trusted q ≡ true → slice_get w.logs q ≡ Some log → AllGenuine cast trusted w ev
-    → all_read cast.session ev ≡ Some ds → list_all (λ d. is_peer_kind d.message.body && eqb d.message.from q) ds ≡ true → list_all (is_signed_by cast.session) ds ≡ true → AllByRecursion (λ (d : Datagram). HasSaid log d.message) ds
-all-said cast trusted w q log [] ds t at g r p s = let same : [] ≡ ds = cc in subst (λ z. AllByRecursion (λ (d : Datagram). HasSaid log d.message) z) same tt
-all-said cast trusted w q log (b ∷ ev) ds t at g r p s = go (datagram_of cast.session b) (all_read cast.session ev) refl refl r (all-said cast trusted w q log ev)
+all-said : (setup : Setup) (trusted : ℕ → Bool) (w : World) (q : ℕ) (log : Log) (ev : List (List ℕ)) (ds : List Datagram) → trusted q ≡ true → slice_get w.logs q ≡ Some log → AllGenuine setup trusted w ev
+    → all_read setup.session ev ≡ Some ds → list_all (λ d. is_peer_kind d.message.body && eqb d.message.from q) ds ≡ true → list_all (is_signed_by setup.session) ds ≡ true → AllByRecursion (λ (d : Datagram). HasSaid log d.message) ds
+all-said setup trusted w q log [] ds t at g r p s = let same : [] ≡ ds = cc in subst (λ z. AllByRecursion (λ (d : Datagram). HasSaid log d.message) z) same tt
+all-said setup trusted w q log (b ∷ ev) ds t at g r p s = go (datagram_of setup.session b) (all_read setup.session ev) refl refl r (all-said setup trusted w q log ev)
   where
-    go : (o : Option Datagram) (l : Option (List Datagram)) → datagram_of cast.session b ≡ o → all_read cast.session ev ≡ l → option_and_then (λ d. option_map (λ ds. d ∷ ds) l) o ≡ Some ds
-        → ((es : List Datagram) → trusted q ≡ true → slice_get w.logs q ≡ Some log → AllGenuine cast trusted w ev → all_read cast.session ev ≡ Some es → list_all (λ d. is_peer_kind d.message.body && eqb d.message.from q) es ≡ true → list_all (is_signed_by cast.session) es ≡ true
+    go : (o : Option Datagram) (l : Option (List Datagram)) → datagram_of setup.session b ≡ o → all_read setup.session ev ≡ l → option_and_then (λ d. option_map (λ ds. d ∷ ds) l) o ≡ Some ds
+        → ((es : List Datagram) → trusted q ≡ true → slice_get w.logs q ≡ Some log → AllGenuine setup trusted w ev → all_read setup.session ev ≡ Some es → list_all (λ d. is_peer_kind d.message.body && eqb d.message.from q) es ≡ true → list_all (is_signed_by setup.session) es ≡ true
         → AllByRecursion (λ (d : Datagram). HasSaid log d.message) es)
         → AllByRecursion (λ (d : Datagram). HasSaid log d.message) ds
     go None l f h r rest = cc
@@ -79,7 +79,7 @@ all-said cast trusted w q log (b ∷ ev) ds t at g r p s = go (datagram_of cast.
     go (Some d) (Some es) f h r rest =
         let same : d ∷ es ≡ ds = cc in
         let p' : list_all (λ d. is_peer_kind d.message.body && eqb d.message.from q) (d ∷ es) ≡ true = subst (λ z. list_all (λ d. is_peer_kind d.message.body && eqb d.message.from q) z ≡ true) (sym same) p in
-        let s' : list_all (is_signed_by cast.session) (d ∷ es) ≡ true = subst (λ z. list_all (is_signed_by cast.session) z ≡ true) (sym same) s in
+        let s' : list_all (is_signed_by setup.session) (d ∷ es) ≡ true = subst (λ z. list_all (is_signed_by setup.session) z ≡ true) (sym same) s in
         let pp = and_parts _ _ p' in
         let one = and_parts _ _ pp.0 in
         let ss = and_parts _ _ s' in
@@ -90,14 +90,14 @@ all-said cast trusted w q log (b ∷ ev) ds t at g r p s = go (datagram_of cast.
         )
 
 -- so no genuine evidence is shown against a trusted peer, under a table that agrees with its own
-pub not-shown : (cast : Cast) (trusted : ℕ → Bool) (w : World) (q : ℕ) (log : Log) (t : Table) (ev : List (List ℕ)) (f : Fault) → IsMember (member cast q) → IsSound cast trusted w → eqb q 0 ≡ false → trusted q ≡ true → slice_get w.logs q ≡ Some log
-    → Agrees (table log) t → AllGenuine cast trusted w ev → verdict cast.session t ev ≡ Shown q f → ⊥
-not-shown cast trusted w q log t ev f is sound n trust at agree g e =
-    let s : IsShown cast.session t ev q f = shown-is cast.session t ev q f e in
+pub not-shown : (setup : Setup) (trusted : ℕ → Bool) (w : World) (q : ℕ) (log : Log) (t : Table) (ev : List (List ℕ)) (f : Fault) → IsMember (member setup q) → IsSound setup trusted w → eqb q 0 ≡ false → trusted q ≡ true → slice_get w.logs q ≡ Some log
+    → Agrees (table log) t → AllGenuine setup trusted w ev → verdict setup.session t ev ≡ Shown q f → ⊥
+not-shown setup trusted w q log t ev f is sound n trust at agree g e =
+    let s : IsShown setup.session t ev q f = shown-is setup.session t ev q f e in
     let peer : list_all (λ d. is_peer_kind d.message.body && eqb d.message.from q) s.datagrams ≡ true = subst (λ z. list_all (λ d. is_peer_kind d.message.body && eqb d.message.from z) s.datagrams ≡ true) s.sender s.peer in
-    let said = all-said cast trusted w q log ev s.datagrams trust at g s.read peer s.signed in
-    let none : fault_of cast.session t s.datagrams ≡ None = no-framing (member cast q) log t s.datagrams is ((sound.proper q log at).0 n) agree said in
-    let some : fault_of cast.session t s.datagrams ≡ Some f = s.fault in
+    let said = all-said setup trusted w q log ev s.datagrams trust at g s.read peer s.signed in
+    let none : fault_of setup.session t s.datagrams ≡ None = no-framing (member setup q) log t s.datagrams is ((sound.proper q log at).0 n) agree said in
+    let some : fault_of setup.session t s.datagrams ≡ Some f = s.fault in
     cc
 
 -- ---- tables
@@ -132,29 +132,29 @@ accepted me before d e s = go (is_signed d.message.body) (and_parts _ _ (and_par
     go false h s = cc
 
 -- each list of a peer's table was said by the broadcaster
-pub list-said : (cast : Cast) (trusted : ℕ → Bool) (w : World) (q : ℕ) (log log0 : Log) (r : ℕ) (ds : List (List ℕ)) → IsSound cast trusted w → trusted 0 ≡ true → eqb q 0 ≡ false
+pub list-said : (setup : Setup) (trusted : ℕ → Bool) (w : World) (q : ℕ) (log log0 : Log) (r : ℕ) (ds : List (List ℕ)) → IsSound setup trusted w → trusted 0 ≡ true → eqb q 0 ≡ false
     → slice_get w.logs q ≡ Some log → slice_get w.logs 0 ≡ Some log0 → (table log) r ≡ Some ds → (d : Datagram) × SaidIn log0 d × (d.message.body ≡ Manifest r ds)
-list-said cast trusted w q log log0 r ds sound trust n at at0 e =
+list-said setup trusted w q log log0 r ds sound trust n at at0 e =
     let h = list-heard log r ds e in
-    let al = heard-allowed (member cast q) log h.0 ((sound.proper q log at).0 n) h.1 in
-    let zero : h.0.message.from ≡ 0 = manifest-from cast.session h.0 r ds (heard-fits (member cast q) al.0 h.0 al.1) h.2 in
+    let al = heard-allowed (member setup q) log h.0 ((sound.proper q log at).0 n) h.1 in
+    let zero : h.0.message.from ≡ 0 = manifest-from setup.session h.0 r ds (heard-fits (member setup q) al.0 h.0 al.1) h.2 in
     let sign : is_signed h.0.message.body ≡ true = ap is_signed h.2 in
-    let said : HasSaid log0 h.0.message = sound.heard q log h.0 at h.1 h.0 log0 al.1.1 sign (subst (λ z. trusted z ≡ true) (sym zero) trust) (accepted (member cast q) al.0 h.0 al.1.0 sign) (subst (λ z. slice_get w.logs z ≡ Some log0) (sym zero) at0) in
+    let said : HasSaid log0 h.0.message = sound.heard q log h.0 at h.1 h.0 log0 al.1.1 sign (subst (λ z. trusted z ≡ true) (sym zero) trust) (accepted (member setup q) al.0 h.0 al.1.0 sign) (subst (λ z. slice_get w.logs z ≡ Some log0) (sym zero) at0) in
     let d = said-message log0 h.0.message said in
     (d.0, d.1, ap (λ m. m.body) d.2 ∙ h.2)
 
 -- and is the stream's
-pub list-is : (cast : Cast) (trusted : ℕ → Bool) (w : World) (q : ℕ) (log log0 : Log) (r : ℕ) (ds : List (List ℕ)) → IsSound cast trusted w → trusted 0 ≡ true → eqb q 0 ≡ false
-    → slice_get w.logs q ≡ Some log → slice_get w.logs 0 ≡ Some log0 → (table log) r ≡ Some ds → ds ≡ manifest_list cast.session cast.stream r
-list-is cast trusted w q log log0 r ds sound trust n at at0 e =
-    let d = list-said cast trusted w q log log0 r ds sound trust n at at0 e in
-    subst (λ b. IsOwnBody cast.session cast.stream b) d.2 (sound.mine 0 log0 d.0 at0 d.1).body
+pub list-is : (setup : Setup) (trusted : ℕ → Bool) (w : World) (q : ℕ) (log log0 : Log) (r : ℕ) (ds : List (List ℕ)) → IsSound setup trusted w → trusted 0 ≡ true → eqb q 0 ≡ false
+    → slice_get w.logs q ≡ Some log → slice_get w.logs 0 ≡ Some log0 → (table log) r ≡ Some ds → ds ≡ manifest_list setup.session setup.stream r
+list-is setup trusted w q log log0 r ds sound trust n at at0 e =
+    let d = list-said setup trusted w q log log0 r ds sound trust n at at0 e in
+    subst (λ b. IsOwnBody setup.session setup.stream b) d.2 (sound.mine 0 log0 d.0 at0 d.1).body
 
 -- the broadcaster's table has the stream's lists
-caster-list : (cast : Cast) (log : Log) (r : ℕ) (ds : List (List ℕ)) → caster_table (member cast 0) cast.stream log r ≡ Some ds → ds ≡ manifest_list cast.session cast.stream r
-caster-list cast log r ds e = go (nat_le 1 r && (nat_le r (round_now log) && nat_le r cast.session.shape.rounds)) e
+caster-list : (setup : Setup) (log : Log) (r : ℕ) (ds : List (List ℕ)) → caster_table (member setup 0) setup.stream log r ≡ Some ds → ds ≡ manifest_list setup.session setup.stream r
+caster-list setup log r ds e = go (nat_le 1 r && (nat_le r (round_now log) && nat_le r setup.session.shape.rounds)) e
   where
-    go : (b : Bool) → then_some b (manifest_list cast.session cast.stream r) ≡ Some ds → ds ≡ manifest_list cast.session cast.stream r
+    go : (b : Bool) → then_some b (manifest_list setup.session setup.stream r) ≡ Some ds → ds ≡ manifest_list setup.session setup.stream r
     go true e = cc
     go false e = cc
 
@@ -188,22 +188,22 @@ fair-kept me stream (x ∷ log) q ev h e = go x h (option_or-cases (kept log q) 
     go x h (inr a) k = new x h a.1
 
 -- a log that was made before one of a trusted peer, or that one, has the stream's lists
-pub agrees-with-stream : (cast : Cast) (trusted : ℕ → Bool) (w : World) (q : ℕ) (log log0 : Log) (two : Table) → IsSound cast trusted w → trusted 0 ≡ true → eqb q 0 ≡ false
-    → slice_get w.logs q ≡ Some log → slice_get w.logs 0 ≡ Some log0 → ((r : ℕ) (ds : List (List ℕ)) → two r ≡ Some ds → ds ≡ manifest_list cast.session cast.stream r) → Agrees (table log) two
-agrees-with-stream cast trusted w q log log0 two sound trust n at at0 lists =
-    record { same = λ r ds es a b. list-is cast trusted w q log log0 r ds sound trust n at at0 a ∙ sym (lists r es b) }
+pub agrees-with-stream : (setup : Setup) (trusted : ℕ → Bool) (w : World) (q : ℕ) (log log0 : Log) (two : Table) → IsSound setup trusted w → trusted 0 ≡ true → eqb q 0 ≡ false
+    → slice_get w.logs q ≡ Some log → slice_get w.logs 0 ≡ Some log0 → ((r : ℕ) (ds : List (List ℕ)) → two r ≡ Some ds → ds ≡ manifest_list setup.session setup.stream r) → Agrees (table log) two
+agrees-with-stream setup trusted w q log log0 two sound trust n at at0 lists =
+    record { same = λ r ds es a b. list-is setup trusted w q log log0 r ds sound trust n at at0 a ∙ sym (lists r es b) }
 
 -- the broadcaster keeps no evidence against a trusted peer
-pub caster-keeps-none : (cast : Cast) (trusted : ℕ → Bool) (w : World) (q : ℕ) (log log0 : Log) → IsMember (member cast q) → IsSound cast trusted w → trusted 0 ≡ true → trusted q ≡ true → eqb q 0 ≡ false
+pub caster-keeps-none : (setup : Setup) (trusted : ℕ → Bool) (w : World) (q : ℕ) (log log0 : Log) → IsMember (member setup q) → IsSound setup trusted w → trusted 0 ≡ true → trusted q ≡ true → eqb q 0 ≡ false
     → slice_get w.logs q ≡ Some log → slice_get w.logs 0 ≡ Some log0 → kept log0 q ≡ None
-caster-keeps-none cast trusted w q log log0 is sound trust0 trust n at at0 = go (kept log0 q) refl
+caster-keeps-none setup trusted w q log log0 is sound trust0 trust n at at0 = go (kept log0 q) refl
   where
     no : (ev : List (List ℕ)) → kept log0 q ≡ Some ev → ⊥
     no ev e =
-        let f = fair-kept (member cast 0) cast.stream log0 q ev ((sound.proper 0 log0 at0).1 refl).0 e in
-        not-shown cast trusted w q log (caster_table (member cast 0) cast.stream f.0) ev f.1.0 is sound n trust at
-        (agrees-with-stream cast trusted w q log log0 (caster_table (member cast 0) cast.stream f.0) sound trust0 n at at0
-        (λ r ds b. caster-list cast f.0 r ds b))
+        let f = fair-kept (member setup 0) setup.stream log0 q ev ((sound.proper 0 log0 at0).1 refl).0 e in
+        not-shown setup trusted w q log (caster_table (member setup 0) setup.stream f.0) ev f.1.0 is sound n trust at
+        (agrees-with-stream setup trusted w q log log0 (caster_table (member setup 0) setup.stream f.0) sound trust0 n at at0
+        (λ r ds b. caster-list setup f.0 r ds b))
         (sound.kept 0 log0 ev at0 (kept-in log0 q ev e)) f.1.1
 
     go : (o : Option (List (List ℕ))) → kept log0 q ≡ o → kept log0 q ≡ None
@@ -232,17 +232,17 @@ obedient-kept me log q ev h e = go (find-of (λ before e. kept_in q e) log ev e)
     go w = by w.before w.entry w.place w.found
 
 -- no trusted peer keeps evidence against a trusted peer
-pub peer-keeps-none : (cast : Cast) (trusted : ℕ → Bool) (w : World) (p q : ℕ) (mine log log0 : Log) → IsMember (member cast q) → IsSound cast trusted w → trusted 0 ≡ true → trusted q ≡ true → eqb p 0 ≡ false → eqb q 0 ≡ false
+pub peer-keeps-none : (setup : Setup) (trusted : ℕ → Bool) (w : World) (p q : ℕ) (mine log log0 : Log) → IsMember (member setup q) → IsSound setup trusted w → trusted 0 ≡ true → trusted q ≡ true → eqb p 0 ≡ false → eqb q 0 ≡ false
     → slice_get w.logs p ≡ Some mine → slice_get w.logs q ≡ Some log → slice_get w.logs 0 ≡ Some log0 → kept mine q ≡ None
-peer-keeps-none cast trusted w p q mine log log0 is sound trust0 trust np nq atp atq at0 = go (kept mine q) refl
+peer-keeps-none setup trusted w p q mine log log0 is sound trust0 trust np nq atp atq at0 = go (kept mine q) refl
   where
     no : (ev : List (List ℕ)) → kept mine q ≡ Some ev → ⊥
     no ev e =
-        let k = obedient-kept (member cast p) mine q ev ((sound.proper p mine atp).0 np) e in
-        let f = named-shown (verdict cast.session (table k.0) ev) q k.2 in
-        not-shown cast trusted w q log (table k.0) ev f.0 is sound nq trust atq
-        (agrees-with-stream cast trusted w q log log0 (table k.0) sound trust0 nq atq at0
-        (λ r ds b. list-is cast trusted w p mine log0 r ds sound trust0 np atp at0 ((table-later mine k.0 k.1).same r ds b)))
+        let k = obedient-kept (member setup p) mine q ev ((sound.proper p mine atp).0 np) e in
+        let f = named-shown (verdict setup.session (table k.0) ev) q k.2 in
+        not-shown setup trusted w q log (table k.0) ev f.0 is sound nq trust atq
+        (agrees-with-stream setup trusted w q log log0 (table k.0) sound trust0 nq atq at0
+        (λ r ds b. list-is setup trusted w p mine log0 r ds sound trust0 np atp at0 ((table-later mine k.0 k.1).same r ds b)))
         (sound.kept p mine ev atp (kept-in mine q ev e)) f.1
 
     go : (o : Option (List (List ℕ))) → kept mine q ≡ o → kept mine q ≡ None

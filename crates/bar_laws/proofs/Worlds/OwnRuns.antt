@@ -4,11 +4,11 @@ use Rattle.bar_rules.specs.Peer.Log.{Log}
 use Rattle.bar_rules.specs.Peer.Run.{Out, step}
 use Rattle.bar_rules.specs.Runs.{state_after, played_from, sends_from}
 use Rattle.bar_rules.specs.Values.{datagram_bytes}
-use Rattle.bar_rules.specs.World.World.{opened, Cast, IsCast, World, Move, TickOf, Deliver, Hostile, member, step_of, spelled, takes, takes_by, delivered, run}
+use Rattle.bar_rules.specs.World.World.{World, Move, TickOf, Deliver, Hostile, member, step_of, spelled, takes, takes_by, delivered, run, Setup, IsSetup, initial}
 use Rattle.bar_wire.specs.Datagram.{Datagram}
 use Rattle.bar_wire.specs.Inputs.{Input, Tick, Came}
 use Rattle.bar_laws.specs.OwnRuns.{given_to, brought_to, inputs_from, is_from, packets_of, IsOwnRun, PeersRun, BroadcasterRuns}
-use Rattle.bar_laws.specs.Worlds.{IsSentBy}
+use Rattle.bar_laws.specs.Parties.{IsSentBy}
 use Rattle.std.proofs.Common.{◌≡◌, ℕ, zero, suc, ◌+◌, ◌<◌, ◌≤◌, Bool, true, false, List, [], ◌∷◌, ◌++◌, refl, sym, ap, ◌∙◌, subst, map, eqb, length, append_assoc, append-nil, arith}
 use Rattle.std.specs.Prelude.{Option, Some, None, cond, filter, slice_get, slice_set, unwrap_or}
 use Rattle.std.specs.List.{AllByRecursion, concat}
@@ -37,125 +37,125 @@ first-of (s ∷ secrets) zero x h = refl
 first-of (s ∷ secrets) (suc p) x h = first-of secrets p x (omega (arith, h))
 
 -- the packets of one step's sends, whatever its number is
-numbered : (cast : Cast) (number : ℕ) (sends : List (ℕ × Datagram)) → packets_of cast.session (map (λ send. (number, send.0, send.1)) sends) ≡ spelled cast.session sends
-numbered cast number [] = refl
-numbered cast number (s ∷ sends) = ap (λ rest. (s.0, datagram_bytes cast.session s.1) ∷ rest) (numbered cast number sends)
+numbered : (setup : Setup) (number : ℕ) (sends : List (ℕ × Datagram)) → packets_of setup.session (map (λ send. (number, send.0, send.1)) sends) ≡ spelled setup.session sends
+numbered setup number [] = refl
+numbered setup number (s ∷ sends) = ap (λ rest. (s.0, datagram_bytes setup.session s.1) ∷ rest) (numbered setup number sends)
 
 -- ---- whose a packet is
 
-is-from : (cast : Cast) (p q : ℕ) (s : ℕ × Datagram) → IsSentBy cast q s → is_from cast.session p (s.0, datagram_bytes cast.session s.1) ≡ eqb q p
-is-from cast p q s a = ap (λ o. option_map_or (λ (d : Datagram). eqb d.message.from p) o false) a.reads ∙ ap (λ n. eqb n p) a.from
+is-from : (setup : Setup) (p q : ℕ) (s : ℕ × Datagram) → IsSentBy setup q s → is_from setup.session p (s.0, datagram_bytes setup.session s.1) ≡ eqb q p
+is-from setup p q s a = ap (λ o. option_map_or (λ (d : Datagram). eqb d.message.from p) o false) a.reads ∙ ap (λ n. eqb n p) a.from
 
-own-packets : (cast : Cast) (p : ℕ) (sends : List (ℕ × Datagram)) → AllByRecursion (IsSentBy cast p) sends → filter (is_from cast.session p) (spelled cast.session sends) ≡ spelled cast.session sends
-own-packets cast p [] a = refl
-own-packets cast p (s ∷ sends) a =
-    let yes : is_from cast.session p (s.0, datagram_bytes cast.session s.1) ≡ true = is-from cast p p s a.0 ∙ grind arith in
-    rw (yes, own-packets cast p sends a.1) refl
+own-packets : (setup : Setup) (p : ℕ) (sends : List (ℕ × Datagram)) → AllByRecursion (IsSentBy setup p) sends → filter (is_from setup.session p) (spelled setup.session sends) ≡ spelled setup.session sends
+own-packets setup p [] a = refl
+own-packets setup p (s ∷ sends) a =
+    let yes : is_from setup.session p (s.0, datagram_bytes setup.session s.1) ≡ true = is-from setup p p s a.0 ∙ grind arith in
+    rw (yes, own-packets setup p sends a.1) refl
 
-other-packets : (cast : Cast) (p q : ℕ) (sends : List (ℕ × Datagram)) → eqb q p ≡ false → AllByRecursion (IsSentBy cast q) sends → filter (is_from cast.session p) (spelled cast.session sends) ≡ []
-other-packets cast p q [] n a = refl
-other-packets cast p q (s ∷ sends) n a =
-    let no : is_from cast.session p (s.0, datagram_bytes cast.session s.1) ≡ false = is-from cast p q s a.0 ∙ n in
-    rw no (other-packets cast p q sends n a.1)
+other-packets : (setup : Setup) (p q : ℕ) (sends : List (ℕ × Datagram)) → eqb q p ≡ false → AllByRecursion (IsSentBy setup q) sends → filter (is_from setup.session p) (spelled setup.session sends) ≡ []
+other-packets setup p q [] n a = refl
+other-packets setup p q (s ∷ sends) n a =
+    let no : is_from setup.session p (s.0, datagram_bytes setup.session s.1) ≡ false = is-from setup p q s a.0 ∙ n in
+    rw no (other-packets setup p q sends n a.1)
 
 -- ---- one input
 
 -- what a world has of a party
-record IsAt (cast : Cast) (p : ℕ) (w : World) (log : Log) (played : List ℕ) (sent : List (ℕ × List ℕ)) : Type 0 where
+record IsAt (setup : Setup) (p : ℕ) (w : World) (log : Log) (played : List ℕ) (sent : List (ℕ × List ℕ)) : Type 0 where
   log_is : slice_get w.logs p ≡ Some log
   played_is : slice_get w.played p ≡ Some played
-  sent_is : filter (is_from cast.session p) w.pool ≡ sent
+  sent_is : filter (is_from setup.session p) w.packets ≡ sent
 
-takes-own : (cast : Cast) (p : ℕ) (w : World) (i : Input) (log : Log) (played : List ℕ) (sent : List (ℕ × List ℕ)) → StepsKeep cast → IsSound cast nobody w → IsAt cast p w log played sent
-    → IsAt cast p (takes cast w p i) (step_of cast p log i).state (played ++ concat (step_of cast p log i).contents) (sent ++ spelled cast.session (step_of cast p log i).sends)
-takes-own cast p w i log played sent laws sound at = subst (λ o. IsAt cast p (takes_by cast w p i o) out.state (played ++ concat out.contents) (sent ++ spelled cast.session out.sends)) (sym at.log_is) (record {
+takes-own : (setup : Setup) (p : ℕ) (w : World) (i : Input) (log : Log) (played : List ℕ) (sent : List (ℕ × List ℕ)) → StepsKeep setup → IsSound setup nobody w → IsAt setup p w log played sent
+    → IsAt setup p (takes setup w p i) (step_of setup p log i).state (played ++ concat (step_of setup p log i).contents) (sent ++ spelled setup.session (step_of setup p log i).sends)
+takes-own setup p w i log played sent laws sound at = subst (λ o. IsAt setup p (takes_by setup w p i o) out.state (played ++ concat out.contents) (sent ++ spelled setup.session out.sends)) (sym at.log_is) (record {
   log_is = set-same w.logs p log out.state at.log_is;
   played_is = set-same w.played p played (unwrap_or (slice_get w.played p) [] ++ concat out.contents) at.played_is ∙ ap (λ o. Some (unwrap_or o [] ++ concat out.contents)) at.played_is;
   sent_is =
-      filter-append (is_from cast.session p) w.pool (spelled cast.session out.sends)
-      ∙ ap (λ old. old ++ filter (is_from cast.session p) (spelled cast.session out.sends)) at.sent_is
-      ∙ ap (λ new. sent ++ new) (own-packets cast p out.sends (step-accepted cast w p log i laws sound at.log_is));
+      filter-append (is_from setup.session p) w.packets (spelled setup.session out.sends)
+      ∙ ap (λ old. old ++ filter (is_from setup.session p) (spelled setup.session out.sends)) at.sent_is
+      ∙ ap (λ new. sent ++ new) (own-packets setup p out.sends (step-accepted setup w p log i laws sound at.log_is));
 })
   where
     out : Out
-    out = step_of cast p log i
+    out = step_of setup p log i
 
-takes-other : (cast : Cast) (p q : ℕ) (w : World) (i : Input) (log : Log) (played : List ℕ) (sent : List (ℕ × List ℕ)) → StepsKeep cast → IsSound cast nobody w → eqb q p ≡ false → IsAt cast p w log played sent
-    → IsAt cast p (takes cast w q i) log played sent
-takes-other cast p q w i log played sent laws sound n at = go (slice_get w.logs q) refl
+takes-other : (setup : Setup) (p q : ℕ) (w : World) (i : Input) (log : Log) (played : List ℕ) (sent : List (ℕ × List ℕ)) → StepsKeep setup → IsSound setup nobody w → eqb q p ≡ false → IsAt setup p w log played sent
+    → IsAt setup p (takes setup w q i) log played sent
+takes-other setup p q w i log played sent laws sound n at = go (slice_get w.logs q) refl
   where
-    go : (o : Option Log) → slice_get w.logs q ≡ o → IsAt cast p (takes_by cast w q i o) log played sent
+    go : (o : Option Log) → slice_get w.logs q ≡ o → IsAt setup p (takes_by setup w q i o) log played sent
     go None e = at
     go (Some l) e = record {
-      log_is = set-other w.logs q p (step_of cast q l i).state n ∙ at.log_is;
-      played_is = set-other w.played q p (unwrap_or (slice_get w.played q) [] ++ concat (step_of cast q l i).contents) n ∙ at.played_is;
+      log_is = set-other w.logs q p (step_of setup q l i).state n ∙ at.log_is;
+      played_is = set-other w.played q p (unwrap_or (slice_get w.played q) [] ++ concat (step_of setup q l i).contents) n ∙ at.played_is;
       sent_is =
-          filter-append (is_from cast.session p) w.pool (spelled cast.session (step_of cast q l i).sends)
-          ∙ ap (λ old. old ++ filter (is_from cast.session p) (spelled cast.session (step_of cast q l i).sends)) at.sent_is
-          ∙ ap (λ new. sent ++ new) (other-packets cast p q (step_of cast q l i).sends n (step-accepted cast w q l i laws sound e))
+          filter-append (is_from setup.session p) w.packets (spelled setup.session (step_of setup q l i).sends)
+          ∙ ap (λ old. old ++ filter (is_from setup.session p) (spelled setup.session (step_of setup q l i).sends)) at.sent_is
+          ∙ ap (λ new. sent ++ new) (other-packets setup p q (step_of setup q l i).sends n (step-accepted setup w q l i laws sound e))
           ∙ append-nil sent;
     }
 
 -- ---- any moves
 
 -- from one world to another the party goes by its own steps over these inputs
-abbrev Reaches : Cast → ℕ → World → World → List Input → Type 0
-Reaches cast p w end inputs =
-    (log : Log) (played : List ℕ) (sent : List (ℕ × List ℕ)) (number : ℕ) → IsAt cast p w log played sent
-    → IsAt cast p end (state_after (step_of cast p) log inputs) (played ++ played_from (step_of cast p) log inputs) (sent ++ packets_of cast.session (sends_from (step_of cast p) log number inputs))
+abbrev Reaches : Setup → ℕ → World → World → List Input → Type 0
+Reaches setup p w end inputs =
+    (log : Log) (played : List ℕ) (sent : List (ℕ × List ℕ)) (number : ℕ) → IsAt setup p w log played sent
+    → IsAt setup p end (state_after (step_of setup p) log inputs) (played ++ played_from (step_of setup p) log inputs) (sent ++ packets_of setup.session (sends_from (step_of setup p) log number inputs))
 
-reaches-own : (cast : Cast) (p : ℕ) (w end : World) (i : Input) (inputs : List Input) → StepsKeep cast → IsSound cast nobody w → Reaches cast p (takes cast w p i) end inputs → Reaches cast p w end (i ∷ inputs)
-reaches-own cast p w end i inputs laws sound more log played sent number at =
-    let out : Out = step_of cast p log i in
-    let far = more out.state (played ++ concat out.contents) (sent ++ spelled cast.session out.sends) (number + 1) (takes-own cast p w i log played sent laws sound at) in
+reaches-own : (setup : Setup) (p : ℕ) (w end : World) (i : Input) (inputs : List Input) → StepsKeep setup → IsSound setup nobody w → Reaches setup p (takes setup w p i) end inputs → Reaches setup p w end (i ∷ inputs)
+reaches-own setup p w end i inputs laws sound more log played sent number at =
+    let out : Out = step_of setup p log i in
+    let far = more out.state (played ++ concat out.contents) (sent ++ spelled setup.session out.sends) (number + 1) (takes-own setup p w i log played sent laws sound at) in
     record {
       log_is = far.log_is;
-      played_is = far.played_is ∙ ap (λ bytes. Some bytes) (append_assoc played (concat out.contents) (played_from (step_of cast p) out.state inputs));
+      played_is = far.played_is ∙ ap (λ bytes. Some bytes) (append_assoc played (concat out.contents) (played_from (step_of setup p) out.state inputs));
       sent_is =
-          far.sent_is ∙ append_assoc sent (spelled cast.session out.sends) (packets_of cast.session (sends_from (step_of cast p) out.state (number + 1) inputs))
-          ∙ ap (λ new. sent ++ (new ++ packets_of cast.session (sends_from (step_of cast p) out.state (number + 1) inputs))) (sym (numbered cast number out.sends))
-          ∙ ap (λ new. sent ++ new) (sym (map-append _ (map (λ send. (number, send.0, send.1)) out.sends) (sends_from (step_of cast p) out.state (number + 1) inputs)));
+          far.sent_is ∙ append_assoc sent (spelled setup.session out.sends) (packets_of setup.session (sends_from (step_of setup p) out.state (number + 1) inputs))
+          ∙ ap (λ new. sent ++ (new ++ packets_of setup.session (sends_from (step_of setup p) out.state (number + 1) inputs))) (sym (numbered setup number out.sends))
+          ∙ ap (λ new. sent ++ new) (sym (map-append _ (map (λ send. (number, send.0, send.1)) out.sends) (sends_from (step_of setup p) out.state (number + 1) inputs)));
     }
 
-reaches-next : (cast : Cast) (p q : ℕ) (w end : World) (i : Input) (inputs : List Input) → StepsKeep cast → IsSound cast nobody w → Reaches cast p (takes cast w q i) end inputs → Reaches cast p w end (given_to p q i ++ inputs)
-reaches-next cast p q w end i inputs laws sound more = go (eqb q p) refl
+reaches-next : (setup : Setup) (p q : ℕ) (w end : World) (i : Input) (inputs : List Input) → StepsKeep setup → IsSound setup nobody w → Reaches setup p (takes setup w q i) end inputs → Reaches setup p w end (given_to p q i ++ inputs)
+reaches-next setup p q w end i inputs laws sound more = go (eqb q p) refl
   where
-    go : (b : Bool) → eqb q p ≡ b → Reaches cast p w end (cond b (i ∷ []) [] ++ inputs)
-    go true e = reaches-own cast p w end i inputs laws sound (subst (λ z. Reaches cast p (takes cast w z i) end inputs) (eqb-true q p e) more)
-    go false e = λ log played sent number at. more log played sent number (takes-other cast p q w i log played sent laws sound e at)
+    go : (b : Bool) → eqb q p ≡ b → Reaches setup p w end (cond b (i ∷ []) [] ++ inputs)
+    go true e = reaches-own setup p w end i inputs laws sound (subst (λ z. Reaches setup p (takes setup w z i) end inputs) (eqb-true q p e) more)
+    go false e = λ log played sent number at. more log played sent number (takes-other setup p q w i log played sent laws sound e at)
 
-run-reaches : (cast : Cast) (p : ℕ) (w : World) (moves : List Move) → StepsKeep cast → IsSound cast nobody w → Reaches cast p w (run cast w moves) (inputs_from cast w p moves)
-run-reaches cast p w [] laws sound = λ log played sent number at. record {
+run-reaches : (setup : Setup) (p : ℕ) (w : World) (moves : List Move) → StepsKeep setup → IsSound setup nobody w → Reaches setup p w (run setup w moves) (inputs_from setup w p moves)
+run-reaches setup p w [] laws sound = λ log played sent number at. record {
   log_is = at.log_is;
   played_is = at.played_is ∙ ap (λ bytes. Some bytes) (sym (append-nil played));
   sent_is = at.sent_is ∙ sym (append-nil sent);
 }
-run-reaches cast p w (TickOf q ∷ ms) laws sound =
-    reaches-next cast p q w _ Tick _ laws sound (run-reaches cast p (takes cast w q Tick) ms laws (takes-sound cast nobody w q Tick laws sound tt))
-run-reaches cast p w (Hostile q bytes ∷ ms) laws sound =
-    reaches-next cast p q w _ (Came bytes) _ laws sound (run-reaches cast p (takes cast w q (Came bytes)) ms laws (takes-sound cast nobody w q (Came bytes) laws sound (nobody-came cast w (Came bytes))))
-run-reaches cast p w (Deliver k ∷ ms) laws sound = go (slice_get w.pool k) (λ v good. run-reaches cast p v ms laws good)
+run-reaches setup p w (TickOf q ∷ ms) laws sound =
+    reaches-next setup p q w _ Tick _ laws sound (run-reaches setup p (takes setup w q Tick) ms laws (takes-sound setup nobody w q Tick laws sound tt))
+run-reaches setup p w (Hostile q bytes ∷ ms) laws sound =
+    reaches-next setup p q w _ (Came bytes) _ laws sound (run-reaches setup p (takes setup w q (Came bytes)) ms laws (takes-sound setup nobody w q (Came bytes) laws sound (nobody-came setup w (Came bytes))))
+run-reaches setup p w (Deliver k ∷ ms) laws sound = go (slice_get w.packets k) (λ v good. run-reaches setup p v ms laws good)
   where
-    go : (o : Option (ℕ × List ℕ)) → ((v : World) → IsSound cast nobody v → Reaches cast p v (run cast v ms) (inputs_from cast v p ms))
-        → Reaches cast p w (run cast (delivered cast w o) ms) (brought_to p o ++ inputs_from cast (delivered cast w o) p ms)
+    go : (o : Option (ℕ × List ℕ)) → ((v : World) → IsSound setup nobody v → Reaches setup p v (run setup v ms) (inputs_from setup v p ms))
+        → Reaches setup p w (run setup (delivered setup w o) ms) (brought_to p o ++ inputs_from setup (delivered setup w o) p ms)
     go None more = more w sound
     go (Some packet) more =
-        let next : World = takes cast w packet.0 (Came packet.1) in
-        let good : IsSound cast nobody next = takes-sound cast nobody w packet.0 (Came packet.1) laws sound (nobody-came cast w (Came packet.1)) in
-        reaches-next cast p packet.0 w _ (Came packet.1) _ laws sound (more next good)
+        let next : World = takes setup w packet.0 (Came packet.1) in
+        let good : IsSound setup nobody next = takes-sound setup nobody w packet.0 (Came packet.1) laws sound (nobody-came setup w (Came packet.1)) in
+        reaches-next setup p packet.0 w _ (Came packet.1) _ laws sound (more next good)
 
 -- from the first move on
-own-run : (cast : Cast) (moves : List Move) (p : ℕ) → IsCast cast → p ≤ cast.session.shape.peers → IsOwnRun cast moves p (step_of cast p)
-own-run cast moves p is low =
-    let all : length cast.secrets ≡ cast.session.shape.peers + 1 = is.parties in
-    let few : p < length cast.secrets = omega (arith, all, low) in
-    let end = run-reaches cast p (opened cast) moves (steps-keep cast is) (opened-sound cast nobody is.parties) [] [] [] 1 (record { log_is = first-of cast.secrets p [] few; played_is = first-of cast.secrets p [] few; sent_is = refl }) in
+own-run : (setup : Setup) (moves : List Move) (p : ℕ) → IsSetup setup → p ≤ setup.session.shape.peers → IsOwnRun setup moves p (step_of setup p)
+own-run setup moves p is low =
+    let all : length setup.secrets ≡ setup.session.shape.peers + 1 = is.parties in
+    let few : p < length setup.secrets = omega (arith, all, low) in
+    let end = run-reaches setup p (initial setup) moves (steps-keep setup is) (opened-sound setup nobody is.parties) [] [] [] 1 (record { log_is = first-of setup.secrets p [] few; played_is = first-of setup.secrets p [] few; sent_is = refl }) in
     record { log = end.log_is; played = end.played_is; sent = end.sent_is }
 
 pub peers-run : PeersRun
-peers-run cast moves is p low high =
+peers-run setup moves is p low high =
     let n : eqb p 0 ≡ false = ne_eqb p 0 (λ z. absurd (omega arith)) in
-    subst (λ (b : Bool). IsOwnRun cast moves p (λ log input. cond b (caster_step (member cast 0) cast.stream log input) (step (member cast p) log input))) n (own-run cast moves p is high)
+    subst (λ (b : Bool). IsOwnRun setup moves p (λ log input. cond b (caster_step (member setup 0) setup.stream log input) (step (member setup p) log input))) n (own-run setup moves p is high)
 
 pub broadcaster-runs : BroadcasterRuns
-broadcaster-runs cast moves is = own-run cast moves 0 is (omega arith)
+broadcaster-runs setup moves is = own-run setup moves 0 is (omega arith)

@@ -2,7 +2,7 @@
 use Rattle.bar_rules.specs.Broadcaster.Broadcaster.{caster_table, manifest_list}
 use Rattle.bar_rules.specs.Peer.Log.{Log, table, round_now}
 use Rattle.bar_rules.specs.Member.{Session}
-use Rattle.bar_rules.specs.World.World.{Cast, World, member}
+use Rattle.bar_rules.specs.World.World.{World, member, Setup}
 use Rattle.bar_terms.specs.Table.{Table, Extends}
 use Rattle.bar_wire.specs.Datagram.{Datagram, Manifest}
 use Rattle.bar_wire.specs.Grammar.{InRange, IsRound}
@@ -16,37 +16,37 @@ use Rattle.bar_laws.proofs.Worlds.SoundWorlds.{IsSound}
 use Rattle.bar_laws.proofs.Worlds.Evictions.{list-said}
 
 -- a list that a trusted peer's table has is one of the stream's, of a round that has begun
-pub record IsReleased (cast : Cast) (log0 : Log) (r : ℕ) (ds : List (List ℕ)) : Type 0 where
-  pub list : ds ≡ manifest_list cast.session cast.stream r
+pub record IsReleased (setup : Setup) (log0 : Log) (r : ℕ) (ds : List (List ℕ)) : Type 0 where
+  pub list : ds ≡ manifest_list setup.session setup.stream r
   pub low : 1 ≤ r
-  pub high : r ≤ cast.session.shape.rounds
+  pub high : r ≤ setup.session.shape.rounds
   pub begun : r ≤ round_now log0
 
-released-by : (cast : Cast) (log0 : Log) (r : ℕ) (ds : List (List ℕ)) (d : Datagram) → IsOwnMessage cast.session cast.stream 0 d → IsBegun log0 d.message.body → d.message.body ≡ Manifest r ds → IsReleased cast log0 r ds
-released-by cast log0 r ds d own begun e =
-    let range : IsRound cast.session.shape r = (subst (λ b. InRange cast.session.shape b) e own.fits.range).0 in
+released-by : (setup : Setup) (log0 : Log) (r : ℕ) (ds : List (List ℕ)) (d : Datagram) → IsOwnMessage setup.session setup.stream 0 d → IsBegun log0 d.message.body → d.message.body ≡ Manifest r ds → IsReleased setup log0 r ds
+released-by setup log0 r ds d own begun e =
+    let range : IsRound setup.session.shape r = (subst (λ b. InRange setup.session.shape b) e own.fits.range).0 in
     record {
-      list = subst (λ b. IsOwnBody cast.session cast.stream b) e own.body;
+      list = subst (λ b. IsOwnBody setup.session setup.stream b) e own.body;
       low = omega (arith, range.0);
       high = range.1;
       begun = subst (λ b. IsBegun log0 b) e begun;
     }
 
-pub list-released : (cast : Cast) (trusted : ℕ → Bool) (w : World) (q : ℕ) (log log0 : Log) (r : ℕ) (ds : List (List ℕ)) → IsSound cast trusted w → trusted 0 ≡ true → eqb q 0 ≡ false
-    → slice_get w.logs q ≡ Some log → slice_get w.logs 0 ≡ Some log0 → (table log) r ≡ Some ds → IsReleased cast log0 r ds
-list-released cast trusted w q log log0 r ds sound trust n at at0 e =
-    let d = list-said cast trusted w q log log0 r ds sound trust n at at0 e in
+pub list-released : (setup : Setup) (trusted : ℕ → Bool) (w : World) (q : ℕ) (log log0 : Log) (r : ℕ) (ds : List (List ℕ)) → IsSound setup trusted w → trusted 0 ≡ true → eqb q 0 ≡ false
+    → slice_get w.logs q ≡ Some log → slice_get w.logs 0 ≡ Some log0 → (table log) r ≡ Some ds → IsReleased setup log0 r ds
+list-released setup trusted w q log log0 r ds sound trust n at at0 e =
+    let d = list-said setup trusted w q log log0 r ds sound trust n at at0 e in
     let own = ((sound.proper 0 log0 at0).1 refl).1 d.0 d.1 in
-    released-by cast log0 r ds d.0 own.0 own.1 d.2
+    released-by setup log0 r ds d.0 own.0 own.1 d.2
 
-pub table-extended : (cast : Cast) (trusted : ℕ → Bool) (w : World) (q : ℕ) (log log0 : Log) → IsSound cast trusted w → trusted 0 ≡ true → eqb q 0 ≡ false
-    → slice_get w.logs q ≡ Some log → slice_get w.logs 0 ≡ Some log0 → Extends (table log) (caster_table (member cast 0) cast.stream log0)
-table-extended cast trusted w q log log0 sound trust n at at0 =
+pub table-extended : (setup : Setup) (trusted : ℕ → Bool) (w : World) (q : ℕ) (log log0 : Log) → IsSound setup trusted w → trusted 0 ≡ true → eqb q 0 ≡ false
+    → slice_get w.logs q ≡ Some log → slice_get w.logs 0 ≡ Some log0 → Extends (table log) (caster_table (member setup 0) setup.stream log0)
+table-extended setup trusted w q log log0 sound trust n at at0 =
     record {
       same = λ r ds e.
-          let is : IsReleased cast log0 r ds = list-released cast trusted w q log log0 r ds sound trust n at at0 e in
+          let is : IsReleased setup log0 r ds = list-released setup trusted w q log log0 r ds sound trust n at at0 e in
           let low : nat_le 1 r ≡ true = le-leb 1 r is.low in
           let begun : nat_le r (round_now log0) ≡ true = le-leb r (round_now log0) is.begun in
-          let high : nat_le r cast.session.shape.rounds ≡ true = le-leb r cast.session.shape.rounds is.high in
-          (λ i. then_some (low i && (begun i && high i)) (manifest_list cast.session cast.stream r)) ∙ ap (λ z. Some z) (sym is.list);
+          let high : nat_le r setup.session.shape.rounds ≡ true = le-leb r setup.session.shape.rounds is.high in
+          (λ i. then_some (low i && (begun i && high i)) (manifest_list setup.session setup.stream r)) ∙ ap (λ z. Some z) (sym is.list);
     }

@@ -7,7 +7,7 @@ use Rattle.bar_rules.specs.Peer.Rules.{IsObedient}
 use Rattle.bar_rules.specs.Peer.Run.{Out, step}
 use Rattle.bar_rules.specs.Peer.Signing.{MaySay}
 use Rattle.bar_rules.specs.Values.{datagram_bytes, datagram_of}
-use Rattle.bar_rules.specs.World.World.{opened, Cast, IsCast, World, Move, TickOf, Deliver, Hostile, member, step_of, spelled, takes, takes_by, delivered, happens, run, HasSaid, IsGenuine, AllGenuine, IsUnforged, AreUnforged, inside}
+use Rattle.bar_rules.specs.World.World.{World, Move, TickOf, Deliver, Hostile, member, step_of, spelled, takes, takes_by, delivered, happens, run, HasSaid, IsGenuine, AllGenuine, IsUnforged, AreUnforged, inside, Setup, IsSetup, initial}
 use Rattle.bar_wire.specs.Datagram.{Message, Datagram, Body, Evidence, Manifest, is_signed}
 use Rattle.bar_wire.specs.Inputs.{Input, Tick, Came}
 use Rattle.std.proofs.Common.{◌≡◌, ℕ, zero, suc, Bool, true, false, List, [], ◌∷◌, ◌++◌, refl, sym, ap, ◌∙◌, subst, inl, inr, map, eqb, arith, ◌<◌, ◌≤◌, ◌+◌, length}
@@ -74,17 +74,17 @@ said-has (Kept q f ∷ log) d (inr h) = said-has log d h
 pub record IsWider (new old : World) : Type 0 where
   pub grown : (p : ℕ) (log : Log) → slice_get new.logs p ≡ Some log → (before : Log) × (slice_get old.logs p ≡ Some before) × IsLater log before
 
-genuine-wider : (cast : Cast) (trusted : ℕ → Bool) (new old : World) (b : List ℕ) → IsWider new old → IsGenuine cast trusted old b → IsGenuine cast trusted new b
-genuine-wider cast trusted new old b w g = λ d log reads sign trust accepted at.
+genuine-wider : (setup : Setup) (trusted : ℕ → Bool) (new old : World) (b : List ℕ) → IsWider new old → IsGenuine setup trusted old b → IsGenuine setup trusted new b
+genuine-wider setup trusted new old b w g = λ d log reads sign trust accepted at.
     let h = w.grown d.message.from log at in
     has-said-later log h.0 d.message h.2 (g d h.0 reads sign trust accepted h.1)
 
-all-wider : (cast : Cast) (trusted : ℕ → Bool) (new old : World) (bs : List (List ℕ)) → IsWider new old → AllGenuine cast trusted old bs → AllGenuine cast trusted new bs
-all-wider cast trusted new old [] w a = tt
-all-wider cast trusted new old (b ∷ bs) w a = (genuine-wider cast trusted new old b w a.0, all-wider cast trusted new old bs w a.1)
+all-wider : (setup : Setup) (trusted : ℕ → Bool) (new old : World) (bs : List (List ℕ)) → IsWider new old → AllGenuine setup trusted old bs → AllGenuine setup trusted new bs
+all-wider setup trusted new old [] w a = tt
+all-wider setup trusted new old (b ∷ bs) w a = (genuine-wider setup trusted new old b w a.0, all-wider setup trusted new old bs w a.1)
 
-unforged-wider : (cast : Cast) (trusted : ℕ → Bool) (new old : World) (b : List ℕ) → IsWider new old → IsUnforged cast trusted old b → IsUnforged cast trusted new b
-unforged-wider cast trusted new old b w u = (genuine-wider cast trusted new old b w u.0, λ d reads. all-wider cast trusted new old (inside d.message.body) w (u.1 d reads))
+unforged-wider : (setup : Setup) (trusted : ℕ → Bool) (new old : World) (b : List ℕ) → IsWider new old → IsUnforged setup trusted old b → IsUnforged setup trusted new b
+unforged-wider setup trusted new old b w u = (genuine-wider setup trusted new old b w u.0, λ d reads. all-wider setup trusted new old (inside d.message.body) w (u.1 d reads))
 
 -- ---- what holds of a world
 
@@ -97,19 +97,19 @@ KeptIn (Heard d ∷ log) e = KeptIn log e
 KeptIn (Said d ∷ log) e = KeptIn log e
 
 -- a log as its party's should be: obedient, and the broadcaster's fair
-abbrev pub IsProper : Cast → ℕ → Log → Type 0
-IsProper cast p log =
-    (eqb p 0 ≡ false → IsObedient (member cast p) log)
-    × (eqb p 0 ≡ true → IsFair (member cast 0) cast.stream log × AreOwn cast.session cast.stream log)
+abbrev pub IsProper : Setup → ℕ → Log → Type 0
+IsProper setup p log =
+    (eqb p 0 ≡ false → IsObedient (member setup p) log)
+    × (eqb p 0 ≡ true → IsFair (member setup 0) setup.stream log × AreOwn setup.session setup.stream log)
 
-pub record IsSound (cast : Cast) (trusted : ℕ → Bool) (w : World) : Type 0 where
-  pub all : length w.logs ≡ cast.session.shape.peers + 1
-  pub peers : (p : ℕ) (log : Log) → slice_get w.logs p ≡ Some log → p ≤ cast.session.shape.peers
-  pub proper : (p : ℕ) (log : Log) → slice_get w.logs p ≡ Some log → IsProper cast p log
-  pub heard : (p : ℕ) (log : Log) (d : Datagram) → slice_get w.logs p ≡ Some log → HeardIn log d → IsGenuine cast trusted w (datagram_bytes cast.session d)
-  pub kept : (p : ℕ) (log : Log) (e : List (List ℕ)) → slice_get w.logs p ≡ Some log → KeptIn log e → AllGenuine cast trusted w e
-  pub mine : (p : ℕ) (log : Log) (d : Datagram) → slice_get w.logs p ≡ Some log → SaidIn log d → IsOwnMessage cast.session cast.stream p d
-  pub pool : AllByRecursion (λ (d : ℕ × List ℕ). IsUnforged cast trusted w d.1) w.pool
+pub record IsSound (setup : Setup) (trusted : ℕ → Bool) (w : World) : Type 0 where
+  pub all : length w.logs ≡ setup.session.shape.peers + 1
+  pub peers : (p : ℕ) (log : Log) → slice_get w.logs p ≡ Some log → p ≤ setup.session.shape.peers
+  pub proper : (p : ℕ) (log : Log) → slice_get w.logs p ≡ Some log → IsProper setup p log
+  pub heard : (p : ℕ) (log : Log) (d : Datagram) → slice_get w.logs p ≡ Some log → HeardIn log d → IsGenuine setup trusted w (datagram_bytes setup.session d)
+  pub kept : (p : ℕ) (log : Log) (e : List (List ℕ)) → slice_get w.logs p ≡ Some log → KeptIn log e → AllGenuine setup trusted w e
+  pub mine : (p : ℕ) (log : Log) (d : Datagram) → slice_get w.logs p ≡ Some log → SaidIn log d → IsOwnMessage setup.session setup.stream p d
+  pub packets : AllByRecursion (λ (d : ℕ × List ℕ). IsUnforged setup trusted w d.1) w.packets
 
 -- ---- one input of one party
 
@@ -138,24 +138,24 @@ kept-in (x ∷ log) q e h = go (option_or-cases (kept log q) (kept_in q x) e h) 
     go (inr a) k = new x a.1
 
 -- what came is unforged
-abbrev pub CameUnforged : Cast → (ℕ → Bool) → World → Input → Type 0
-CameUnforged cast trusted w Tick = Unit {0}
-CameUnforged cast trusted w (Came bytes) = IsUnforged cast trusted w bytes
+abbrev pub CameUnforged : Setup → (ℕ → Bool) → World → Input → Type 0
+CameUnforged setup trusted w Tick = Unit {0}
+CameUnforged setup trusted w (Came bytes) = IsUnforged setup trusted w bytes
 
 -- a step's facts, as the invariant takes them
-pub record IsStep (cast : Cast) (p : ℕ) (log : Log) (i : Input) (out : Out) : Type 0 where
-  pub adds : Adds (member cast p) log (came (member cast p) i) out
-  pub proper : IsProper cast p out.state
-  pub mine : (d : Datagram) → SaidIn out.state d → IsOwnMessage cast.session cast.stream p d
-  pub fits : AllFit cast.session out.sends
+pub record IsStep (setup : Setup) (p : ℕ) (log : Log) (i : Input) (out : Out) : Type 0 where
+  pub adds : Adds (member setup p) log (came (member setup p) i) out
+  pub proper : IsProper setup p out.state
+  pub mine : (d : Datagram) → SaidIn out.state d → IsOwnMessage setup.session setup.stream p d
+  pub fits : AllFit setup.session out.sends
 
-module _ (cast : Cast) (trusted : ℕ → Bool) (w : World) (p : ℕ) (log : Log) (i : Input) (out : Out) (sound : IsSound cast trusted w) (at : slice_get w.logs p ≡ Some log)
-    (fresh : CameUnforged cast trusted w i) (st : IsStep cast p log i out) where
+module _ (setup : Setup) (trusted : ℕ → Bool) (w : World) (p : ℕ) (log : Log) (i : Input) (out : Out) (sound : IsSound setup trusted w) (at : slice_get w.logs p ≡ Some log)
+    (fresh : CameUnforged setup trusted w i) (st : IsStep setup p log i out) where
   abbrev pub after : World
   after = record {
     logs = slice_set w.logs p out.state;
     played = slice_set w.played p (unwrap_or (slice_get w.played p) [] ++ concat out.contents);
-    pool = w.pool ++ spelled cast.session out.sends;
+    packets = w.packets ++ spelled setup.session out.sends;
   }
 
   grown-log : IsLater out.state log
@@ -168,43 +168,43 @@ module _ (cast : Cast) (trusted : ℕ → Bool) (w : World) (p : ℕ) (log : Log
       go q l (inl h) = (log, subst (λ z. slice_get w.logs z ≡ Some log) (sym h.0) at, subst (λ z. IsLater z log) (sym h.1) grown-log)
       go q l (inr h) = (l, h, record { new = []; split = refl })
 
-  came-genuine : (d : Datagram) → came (member cast p) i ≡ Some d → IsGenuine cast trusted w (datagram_bytes cast.session d) × AllGenuine cast trusted w (inside d.message.body)
+  came-genuine : (d : Datagram) → came (member setup p) i ≡ Some d → IsGenuine setup trusted w (datagram_bytes setup.session d) × AllGenuine setup trusted w (inside d.message.body)
   came-genuine d e = go i fresh e
     where
-      go : (j : Input) → CameUnforged cast trusted w j → came (member cast p) j ≡ Some d → IsGenuine cast trusted w (datagram_bytes cast.session d) × AllGenuine cast trusted w (inside d.message.body)
+      go : (j : Input) → CameUnforged setup trusted w j → came (member setup p) j ≡ Some d → IsGenuine setup trusted w (datagram_bytes setup.session d) × AllGenuine setup trusted w (inside d.message.body)
       go Tick f e = cc
-      go (Came bytes) f e = (subst (λ b. IsGenuine cast trusted w b) (sym (spells cast.session bytes d e)) f.0, f.1 d e)
+      go (Came bytes) f e = (subst (λ b. IsGenuine setup trusted w b) (sym (spells setup.session bytes d e)) f.0, f.1 d e)
 
-  heard-new : (new : Log) (d : Datagram) → AllByRecursion (AddedBy (member cast p) log (came (member cast p) i)) new → HeardIn (new ++ log) d → IsGenuine cast trusted w (datagram_bytes cast.session d)
+  heard-new : (new : Log) (d : Datagram) → AllByRecursion (AddedBy (member setup p) log (came (member setup p) i)) new → HeardIn (new ++ log) d → IsGenuine setup trusted w (datagram_bytes setup.session d)
   heard-new [] d a h = sound.heard p log d at h
   heard-new (x ∷ new) d a (inl e) = go x a.0 e
     where
-      go : (x : Entry) → AddedBy (member cast p) log (came (member cast p) i) x → x ≡ Heard d → IsGenuine cast trusted w (datagram_bytes cast.session d)
-      go (Heard c) b e = let same : c ≡ d = cc in (came-genuine d (subst (λ z. came (member cast p) i ≡ Some z) same b)).0
+      go : (x : Entry) → AddedBy (member setup p) log (came (member setup p) i) x → x ≡ Heard d → IsGenuine setup trusted w (datagram_bytes setup.session d)
+      go (Heard c) b e = let same : c ≡ d = cc in (came-genuine d (subst (λ z. came (member setup p) i ≡ Some z) same b)).0
       go _ b e = cc
   heard-new (x ∷ new) d a (inr h) = heard-new new d a.1 h
 
-  sources : (e : List (List ℕ)) → AllByRecursion (IsSource (member cast p) log (came (member cast p) i)) e → AllGenuine cast trusted w e
+  sources : (e : List (List ℕ)) → AllByRecursion (IsSource (member setup p) log (came (member setup p) i)) e → AllGenuine setup trusted w e
   sources [] a = tt
-  sources (b ∷ bs) a = (subst (λ z. IsGenuine cast trusted w z) (sym a.0.1) (go a.0.0 a.0.2), sources bs a.1)
+  sources (b ∷ bs) a = (subst (λ z. IsGenuine setup trusted w z) (sym a.0.1) (go a.0.0 a.0.2), sources bs a.1)
     where
-      go : (d : Datagram) → (came (member cast p) i ≡ Some d) ⊎ HeardIn log d → IsGenuine cast trusted w (datagram_bytes cast.session d)
+      go : (d : Datagram) → (came (member setup p) i ≡ Some d) ⊎ HeardIn log d → IsGenuine setup trusted w (datagram_bytes setup.session d)
       go d (inl e) = (came-genuine d e).0
       go d (inr h) = sound.heard p log d at h
 
-  kept-new : (new : Log) (e : List (List ℕ)) → AllByRecursion (AddedBy (member cast p) log (came (member cast p) i)) new → KeptIn (new ++ log) e → AllGenuine cast trusted w e
+  kept-new : (new : Log) (e : List (List ℕ)) → AllByRecursion (AddedBy (member setup p) log (came (member setup p) i)) new → KeptIn (new ++ log) e → AllGenuine setup trusted w e
   kept-new [] e a h = sound.kept p log e at h
-  kept-new (Kept q f ∷ new) e a (inl h) = subst (λ z. AllGenuine cast trusted w z) h (go a.0)
+  kept-new (Kept q f ∷ new) e a (inl h) = subst (λ z. AllGenuine setup trusted w z) h (go a.0)
     where
-      go : AllByRecursion (IsSource (member cast p) log (came (member cast p) i)) f ⊎ ((d : Datagram) × (came (member cast p) i ≡ Some d) × (inside d.message.body ≡ f)) → AllGenuine cast trusted w f
+      go : AllByRecursion (IsSource (member setup p) log (came (member setup p) i)) f ⊎ ((d : Datagram) × (came (member setup p) i ≡ Some d) × (inside d.message.body ≡ f)) → AllGenuine setup trusted w f
       go (inl s) = sources f s
-      go (inr s) = subst (λ z. AllGenuine cast trusted w z) s.2 (came-genuine s.0 s.1).1
+      go (inr s) = subst (λ z. AllGenuine setup trusted w z) s.2 (came-genuine s.0 s.1).1
   kept-new (Kept q f ∷ new) e a (inr h) = kept-new new e a.1 h
   kept-new (Ticked ∷ new) e a h = kept-new new e a.1 h
   kept-new (Heard d ∷ new) e a h = kept-new new e a.1 h
   kept-new (Said d ∷ new) e a h = kept-new new e a.1 h
 
-  kept-after : (e : List (List ℕ)) → KeptIn out.state e → AllGenuine cast trusted w e
+  kept-after : (e : List (List ℕ)) → KeptIn out.state e → AllGenuine setup trusted w e
   kept-after e h = kept-new st.adds.new e st.adds.added (subst (λ l. KeptIn l e) st.adds.split h)
 
   here : (l : Log) → slice_get after.logs p ≡ Some l → l ≡ out.state
@@ -220,148 +220,148 @@ module _ (cast : Cast) (trusted : ℕ → Bool) (w : World) (p : ℕ) (log : Log
       let is : l ≡ out.state = here l (subst (λ z. slice_get after.logs z ≡ Some l) own f) in
       subst (λ z. HasSaid z e.message) (sym is) (subst (λ z. HasSaid out.state z.message) (sym same) (said-has out.state d s))
 
-  sent-unforged : (s : ℕ × Datagram) → SentBy (member cast p) out.state s → ((d : Datagram) → datagram_of cast.session (datagram_bytes cast.session s.1) ≡ Some d → d ≡ s.1) → IsUnforged cast trusted after (datagram_bytes cast.session s.1)
+  sent-unforged : (s : ℕ × Datagram) → SentBy (member setup p) out.state s → ((d : Datagram) → datagram_of setup.session (datagram_bytes setup.session s.1) ≡ Some d → d ≡ s.1) → IsUnforged setup trusted after (datagram_bytes setup.session s.1)
   sent-unforged s (inl said) r = (
     λ d l reads sign trust accepted f. said-genuine s.1 d said (r d reads) l f,
-    λ d reads. subst (λ z. AllGenuine cast trusted after z) (sym (ap (λ z. inside z.message.body) (r d reads) ∙ own-inside cast.session cast.stream s.1.message.body (st.mine s.1 said).body)) tt,
+    λ d reads. subst (λ z. AllGenuine setup trusted after z) (sym (ap (λ z. inside z.message.body) (r d reads) ∙ own-inside setup.session setup.stream s.1.message.body (st.mine s.1 said).body)) tt,
   )
   sent-unforged s (inr plain) r = (
     λ d l reads sign trust accepted f. absurd (both_ways _ (ap (λ z. is_signed z.message.body) (r d reads) ∙ plain.1.unsigned_kind) sign),
-    λ d reads. subst (λ z. AllGenuine cast trusted after z) (sym (ap (λ z. inside z.message.body) (r d reads))) (go plain.1.evidence),
+    λ d reads. subst (λ z. AllGenuine setup trusted after z) (sym (ap (λ z. inside z.message.body) (r d reads))) (go plain.1.evidence),
   )
     where
-      go : (inside s.1.message.body ≡ []) ⊎ ((q : ℕ) × (kept out.state q ≡ Some (inside s.1.message.body))) → AllGenuine cast trusted after (inside s.1.message.body)
-      go (inl e) = subst (λ z. AllGenuine cast trusted after z) (sym e) tt
-      go (inr k) = all-wider cast trusted after w (inside s.1.message.body) wider (kept-after (inside s.1.message.body) (kept-in out.state k.0 (inside s.1.message.body) k.1))
+      go : (inside s.1.message.body ≡ []) ⊎ ((q : ℕ) × (kept out.state q ≡ Some (inside s.1.message.body))) → AllGenuine setup trusted after (inside s.1.message.body)
+      go (inl e) = subst (λ z. AllGenuine setup trusted after z) (sym e) tt
+      go (inr k) = all-wider setup trusted after w (inside s.1.message.body) wider (kept-after (inside s.1.message.body) (kept-in out.state k.0 (inside s.1.message.body) k.1))
 
-  sends-unforged : (sends : List (ℕ × Datagram)) → AllByRecursion (SentBy (member cast p) out.state) sends
-      → AllFit cast.session sends → AllByRecursion (λ (d : ℕ × List ℕ). IsUnforged cast trusted after d.1) (spelled cast.session sends)
+  sends-unforged : (sends : List (ℕ × Datagram)) → AllByRecursion (SentBy (member setup p) out.state) sends
+      → AllFit setup.session sends → AllByRecursion (λ (d : ℕ × List ℕ). IsUnforged setup trusted after d.1) (spelled setup.session sends)
   sends-unforged [] a r = tt
-  sends-unforged (s ∷ sends) a r = (sent-unforged s a.0 (fits-reads cast.session s.1 r.0), sends-unforged sends a.1 r.1)
+  sends-unforged (s ∷ sends) a r = (sent-unforged s a.0 (fits-reads setup.session s.1 r.0), sends-unforged sends a.1 r.1)
 
-  old-pool : (pool : List (ℕ × List ℕ)) → AllByRecursion (λ (d : ℕ × List ℕ). IsUnforged cast trusted w d.1) pool → AllByRecursion (λ (d : ℕ × List ℕ). IsUnforged cast trusted after d.1) pool
-  old-pool [] a = tt
-  old-pool (d ∷ pool) a = (unforged-wider cast trusted after w d.1 wider a.0, old-pool pool a.1)
+  old-packets : (packets : List (ℕ × List ℕ)) → AllByRecursion (λ (d : ℕ × List ℕ). IsUnforged setup trusted w d.1) packets → AllByRecursion (λ (d : ℕ × List ℕ). IsUnforged setup trusted after d.1) packets
+  old-packets [] a = tt
+  old-packets (d ∷ packets) a = (unforged-wider setup trusted after w d.1 wider a.0, old-packets packets a.1)
 
-  both-pools : (xs ys : List (ℕ × List ℕ)) → AllByRecursion (λ (d : ℕ × List ℕ). IsUnforged cast trusted after d.1) xs → AllByRecursion (λ (d : ℕ × List ℕ). IsUnforged cast trusted after d.1) ys
-      → AllByRecursion (λ (d : ℕ × List ℕ). IsUnforged cast trusted after d.1) (xs ++ ys)
-  both-pools [] ys a b = b
-  both-pools (x ∷ xs) ys a b = (a.0, both-pools xs ys a.1 b)
+  both-packets : (xs ys : List (ℕ × List ℕ)) → AllByRecursion (λ (d : ℕ × List ℕ). IsUnforged setup trusted after d.1) xs → AllByRecursion (λ (d : ℕ × List ℕ). IsUnforged setup trusted after d.1) ys
+      → AllByRecursion (λ (d : ℕ × List ℕ). IsUnforged setup trusted after d.1) (xs ++ ys)
+  both-packets [] ys a b = b
+  both-packets (x ∷ xs) ys a b = (a.0, both-packets xs ys a.1 b)
 
   -- one input of one party keeps the world sound
-  pub after-sound : IsSound cast trusted after
+  pub after-sound : IsSound setup trusted after
   after-sound = record {
     all = set-length w.logs p out.state ∙ sound.all;
     peers = λ q l e. pe q l (set-cases w.logs p q out.state l e);
     proper = λ q l e. ob q l (set-cases w.logs p q out.state l e);
-    heard = λ q l d e h. genuine-wider cast trusted after w (datagram_bytes cast.session d) wider (he q l d (set-cases w.logs p q out.state l e) h);
-    kept = λ q l e f h. all-wider cast trusted after w e wider (ke q l e (set-cases w.logs p q out.state l f) h);
+    heard = λ q l d e h. genuine-wider setup trusted after w (datagram_bytes setup.session d) wider (he q l d (set-cases w.logs p q out.state l e) h);
+    kept = λ q l e f h. all-wider setup trusted after w e wider (ke q l e (set-cases w.logs p q out.state l f) h);
     mine = λ q l d e s. mi q l d (set-cases w.logs p q out.state l e) s;
-    pool = both-pools w.pool (spelled cast.session out.sends) (old-pool w.pool sound.pool) (sends-unforged out.sends st.adds.sent st.fits);
+    packets = both-packets w.packets (spelled setup.session out.sends) (old-packets w.packets sound.packets) (sends-unforged out.sends st.adds.sent st.fits);
   }
     where
-      pe : (q : ℕ) (l : Log) → ((q ≡ p) × (l ≡ out.state)) ⊎ (slice_get w.logs q ≡ Some l) → q ≤ cast.session.shape.peers
+      pe : (q : ℕ) (l : Log) → ((q ≡ p) × (l ≡ out.state)) ⊎ (slice_get w.logs q ≡ Some l) → q ≤ setup.session.shape.peers
       pe q l (inr h) = sound.peers q l h
-      pe q l (inl h) = subst (λ z. z ≤ cast.session.shape.peers) (sym h.0) (sound.peers p log at)
+      pe q l (inl h) = subst (λ z. z ≤ setup.session.shape.peers) (sym h.0) (sound.peers p log at)
 
-      ob : (q : ℕ) (l : Log) → ((q ≡ p) × (l ≡ out.state)) ⊎ (slice_get w.logs q ≡ Some l) → IsProper cast q l
+      ob : (q : ℕ) (l : Log) → ((q ≡ p) × (l ≡ out.state)) ⊎ (slice_get w.logs q ≡ Some l) → IsProper setup q l
       ob q l (inr h) = sound.proper q l h
-      ob q l (inl h) = subst (λ z. IsProper cast q z) (sym h.1) (subst (λ z. IsProper cast z out.state) (sym h.0) st.proper)
+      ob q l (inl h) = subst (λ z. IsProper setup q z) (sym h.1) (subst (λ z. IsProper setup z out.state) (sym h.0) st.proper)
 
-      he : (q : ℕ) (l : Log) (d : Datagram) → ((q ≡ p) × (l ≡ out.state)) ⊎ (slice_get w.logs q ≡ Some l) → HeardIn l d → IsGenuine cast trusted w (datagram_bytes cast.session d)
+      he : (q : ℕ) (l : Log) (d : Datagram) → ((q ≡ p) × (l ≡ out.state)) ⊎ (slice_get w.logs q ≡ Some l) → HeardIn l d → IsGenuine setup trusted w (datagram_bytes setup.session d)
       he q l d (inr h) k = sound.heard q l d h k
       he q l d (inl h) k = heard-new st.adds.new d st.adds.added (subst (λ z. HeardIn z d) (h.1 ∙ st.adds.split) k)
 
-      ke : (q : ℕ) (l : Log) (e : List (List ℕ)) → ((q ≡ p) × (l ≡ out.state)) ⊎ (slice_get w.logs q ≡ Some l) → KeptIn l e → AllGenuine cast trusted w e
+      ke : (q : ℕ) (l : Log) (e : List (List ℕ)) → ((q ≡ p) × (l ≡ out.state)) ⊎ (slice_get w.logs q ≡ Some l) → KeptIn l e → AllGenuine setup trusted w e
       ke q l e (inr h) k = sound.kept q l e h k
       ke q l e (inl h) k = kept-after e (subst (λ z. KeptIn z e) h.1 k)
 
-      mi : (q : ℕ) (l : Log) (d : Datagram) → ((q ≡ p) × (l ≡ out.state)) ⊎ (slice_get w.logs q ≡ Some l) → SaidIn l d → IsOwnMessage cast.session cast.stream q d
+      mi : (q : ℕ) (l : Log) (d : Datagram) → ((q ≡ p) × (l ≡ out.state)) ⊎ (slice_get w.logs q ≡ Some l) → SaidIn l d → IsOwnMessage setup.session setup.stream q d
       mi q l d (inr h) s = sound.mine q l d h s
-      mi q l d (inl h) s = subst (λ z. IsOwnMessage cast.session cast.stream z d) (sym h.0) (st.mine d (subst (λ z. SaidIn z d) h.1 s))
+      mi q l d (inl h) s = subst (λ z. IsOwnMessage setup.session setup.stream z d) (sym h.0) (st.mine d (subst (λ z. SaidIn z d) h.1 s))
 
 -- each party has a log
-pub has-log : (cast : Cast) (trusted : ℕ → Bool) (w : World) (p : ℕ) → IsSound cast trusted w → p ≤ cast.session.shape.peers → (log : Log) × (slice_get w.logs p ≡ Some log)
-has-log cast trusted w p sound low = let all : length w.logs ≡ cast.session.shape.peers + 1 = sound.all in get-below w.logs p (omega (arith, all, low))
+pub has-log : (setup : Setup) (trusted : ℕ → Bool) (w : World) (p : ℕ) → IsSound setup trusted w → p ≤ setup.session.shape.peers → (log : Log) × (slice_get w.logs p ≡ Some log)
+has-log setup trusted w p sound low = let all : length w.logs ≡ setup.session.shape.peers + 1 = sound.all in get-below w.logs p (omega (arith, all, low))
 
 -- ---- every list of moves
 
 -- what a step of each party is, where its log is as it should be
-abbrev pub StepsKeep : Cast → Type 0
-StepsKeep cast = (p : ℕ) (log : Log) (i : Input) → p ≤ cast.session.shape.peers → IsProper cast p log → IsStep cast p log i (step_of cast p log i)
+abbrev pub StepsKeep : Setup → Type 0
+StepsKeep setup = (p : ℕ) (log : Log) (i : Input) → p ≤ setup.session.shape.peers → IsProper setup p log → IsStep setup p log i (step_of setup p log i)
 
-pub takes-sound : (cast : Cast) (trusted : ℕ → Bool) (w : World) (p : ℕ) (i : Input) → StepsKeep cast → IsSound cast trusted w → CameUnforged cast trusted w i → IsSound cast trusted (takes cast w p i)
-takes-sound cast trusted w p i laws sound fresh = go (slice_get w.logs p) refl
+pub takes-sound : (setup : Setup) (trusted : ℕ → Bool) (w : World) (p : ℕ) (i : Input) → StepsKeep setup → IsSound setup trusted w → CameUnforged setup trusted w i → IsSound setup trusted (takes setup w p i)
+takes-sound setup trusted w p i laws sound fresh = go (slice_get w.logs p) refl
   where
-    go : (o : Option Log) → slice_get w.logs p ≡ o → IsSound cast trusted (takes_by cast w p i o)
+    go : (o : Option Log) → slice_get w.logs p ≡ o → IsSound setup trusted (takes_by setup w p i o)
     go None e = sound
     go (Some log) e =
-        after-sound cast trusted w p log i (step_of cast p log i) sound e fresh
+        after-sound setup trusted w p log i (step_of setup p log i) sound e fresh
         (laws p log i (sound.peers p log e) (sound.proper p log e))
 
-pool-at : (cast : Cast) (trusted : ℕ → Bool) (w : World) (pool : List (ℕ × List ℕ)) (k : ℕ) (d : ℕ × List ℕ) → AllByRecursion (λ (d : ℕ × List ℕ). IsUnforged cast trusted w d.1) pool → slice_get pool k ≡ Some d → IsUnforged cast trusted w d.1
-pool-at cast trusted w [] k d a e = cc
-pool-at cast trusted w (x ∷ pool) zero d a e = let same : x ≡ d = cc in subst (λ z. IsUnforged cast trusted w z.1) same a.0
-pool-at cast trusted w (x ∷ pool) (suc k) d a e = pool-at cast trusted w pool k d a.1 e
+packets-at : (setup : Setup) (trusted : ℕ → Bool) (w : World) (packets : List (ℕ × List ℕ)) (k : ℕ) (d : ℕ × List ℕ) → AllByRecursion (λ (d : ℕ × List ℕ). IsUnforged setup trusted w d.1) packets → slice_get packets k ≡ Some d → IsUnforged setup trusted w d.1
+packets-at setup trusted w [] k d a e = cc
+packets-at setup trusted w (x ∷ packets) zero d a e = let same : x ≡ d = cc in subst (λ z. IsUnforged setup trusted w z.1) same a.0
+packets-at setup trusted w (x ∷ packets) (suc k) d a e = packets-at setup trusted w packets k d a.1 e
 
-pub deliver-sound : (cast : Cast) (trusted : ℕ → Bool) (w : World) (k : ℕ) → StepsKeep cast → IsSound cast trusted w → IsSound cast trusted (happens cast w (Deliver k))
-deliver-sound cast trusted w k laws sound = go (slice_get w.pool k) refl
+pub deliver-sound : (setup : Setup) (trusted : ℕ → Bool) (w : World) (k : ℕ) → StepsKeep setup → IsSound setup trusted w → IsSound setup trusted (happens setup w (Deliver k))
+deliver-sound setup trusted w k laws sound = go (slice_get w.packets k) refl
   where
-    go : (o : Option (ℕ × List ℕ)) → slice_get w.pool k ≡ o → IsSound cast trusted (delivered cast w o)
+    go : (o : Option (ℕ × List ℕ)) → slice_get w.packets k ≡ o → IsSound setup trusted (delivered setup w o)
     go None e = sound
-    go (Some d) e = takes-sound cast trusted w d.0 (Came d.1) laws sound (pool-at cast trusted w w.pool k d sound.pool e)
+    go (Some d) e = takes-sound setup trusted w d.0 (Came d.1) laws sound (packets-at setup trusted w w.packets k d sound.packets e)
 
 -- whatever the moves are, if nothing is forged the world is sound
-pub run-sound : (cast : Cast) (trusted : ℕ → Bool) (w : World) (moves : List Move) → StepsKeep cast → IsSound cast trusted w → AreUnforged cast trusted w moves → IsSound cast trusted (run cast w moves)
-run-sound cast trusted w [] laws sound u = sound
-run-sound cast trusted w (TickOf p ∷ ms) laws sound u = run-sound cast trusted (happens cast w (TickOf p)) ms laws (takes-sound cast trusted w p Tick laws sound tt) u
-run-sound cast trusted w (Deliver k ∷ ms) laws sound u = run-sound cast trusted (happens cast w (Deliver k)) ms laws (deliver-sound cast trusted w k laws sound) u
-run-sound cast trusted w (Hostile to b ∷ ms) laws sound u = run-sound cast trusted (happens cast w (Hostile to b)) ms laws (takes-sound cast trusted w to (Came b) laws sound u.0) u.1
+pub run-sound : (setup : Setup) (trusted : ℕ → Bool) (w : World) (moves : List Move) → StepsKeep setup → IsSound setup trusted w → AreUnforged setup trusted w moves → IsSound setup trusted (run setup w moves)
+run-sound setup trusted w [] laws sound u = sound
+run-sound setup trusted w (TickOf p ∷ ms) laws sound u = run-sound setup trusted (happens setup w (TickOf p)) ms laws (takes-sound setup trusted w p Tick laws sound tt) u
+run-sound setup trusted w (Deliver k ∷ ms) laws sound u = run-sound setup trusted (happens setup w (Deliver k)) ms laws (deliver-sound setup trusted w k laws sound) u
+run-sound setup trusted w (Hostile to b ∷ ms) laws sound u = run-sound setup trusted (happens setup w (Hostile to b)) ms laws (takes-sound setup trusted w to (Came b) laws sound u.0) u.1
 
 -- a peer's step is such a step
-peer-keeps : (cast : Cast) (p : ℕ) (log : Log) (i : Input) → eqb p 0 ≡ false → IsMember (member cast p) → IsObedient (member cast p) log → IsStep cast p log i (step (member cast p) log i)
-peer-keeps cast p log i n is h =
-    let o : IsObedient (member cast p) (step (member cast p) log i).state = step-obedient (member cast p) log i h in
-    record { adds = step-adds (member cast p) log i; proper = (λ z. o, λ z. absurd (both_ways _ n z)); mine = λ d s. own o d s; fits = step-fits (member cast p) log i is h }
+peer-keeps : (setup : Setup) (p : ℕ) (log : Log) (i : Input) → eqb p 0 ≡ false → IsMember (member setup p) → IsObedient (member setup p) log → IsStep setup p log i (step (member setup p) log i)
+peer-keeps setup p log i n is h =
+    let o : IsObedient (member setup p) (step (member setup p) log i).state = step-obedient (member setup p) log i h in
+    record { adds = step-adds (member setup p) log i; proper = (λ z. o, λ z. absurd (both_ways _ n z)); mine = λ d s. own o d s; fits = step-fits (member setup p) log i is h }
   where
-    body : (before : Log) (to : ℕ) (b : Body) → MaySay (member cast p) (known (member cast p) before) to b → IsOwnBody cast.session cast.stream b
+    body : (before : Log) (to : ℕ) (b : Body) → MaySay (member setup p) (known (member setup p) before) to b → IsOwnBody setup.session setup.stream b
     body before to (Evidence ds) rule = absurd rule
     body before to (Manifest r ds) rule = absurd rule
     body before to _ rule = tt
 
-    own : IsObedient (member cast p) (step (member cast p) log i).state → (d : Datagram) → SaidIn (step (member cast p) log i).state d → IsOwnMessage cast.session cast.stream p d
+    own : IsObedient (member setup p) (step (member setup p) log i).state → (d : Datagram) → SaidIn (step (member setup p) log i).state d → IsOwnMessage setup.session setup.stream p d
     own o d s =
-        let w = was-said (step (member cast p) log i).state d s in
-        let r = (said-rule (member cast p) (step (member cast p) log i).state d w o).rule in
+        let w = was-said (step (member setup p) log i).state d s in
+        let r = (said-rule (member setup p) (step (member setup p) log i).state d w o).rule in
         record {
           from = r.mine;
           body = body w.before d.message.to d.message.body r.rule;
-          fits = said-fits (member cast p) (step (member cast p) log i).state d is o s;
-          accepted = said-accepted (member cast p) (step (member cast p) log i).state d is o s;
+          fits = said-fits (member setup p) (step (member setup p) log i).state d is o s;
+          accepted = said-accepted (member setup p) (step (member setup p) log i).state d is o s;
         }
 
 -- the broadcaster's step is such a step too
-caster-keeps : (cast : Cast) (log : Log) (i : Input) → IsCaster (member cast 0) → IsFair (member cast 0) cast.stream log → AreOwn cast.session cast.stream log
-    → IsStep cast 0 log i (caster_step (member cast 0) cast.stream log i)
-caster-keeps cast log i s fair own =
-    let c = caster-casts (member cast 0) cast.stream log i s own fair in
+caster-keeps : (setup : Setup) (log : Log) (i : Input) → IsCaster (member setup 0) → IsFair (member setup 0) setup.stream log → AreOwn setup.session setup.stream log
+    → IsStep setup 0 log i (caster_step (member setup 0) setup.stream log i)
+caster-keeps setup log i s fair own =
+    let c = caster-casts (member setup 0) setup.stream log i s own fair in
     record { adds = c.adds; proper = (λ n. cc, λ z. (c.fair, c.own)); mine = λ d said. (c.own d said).0; fits = c.fits }
 
 -- ---- casts
 
-pub cast-member : (cast : Cast) (p : ℕ) → IsCast cast → 1 ≤ p → p ≤ cast.session.shape.peers → IsMember (member cast p)
-cast-member cast p is low high = record { session = is.session; peer = (omega (arith, low), high); fits = is.fits p high }
+pub cast-member : (setup : Setup) (p : ℕ) → IsSetup setup → 1 ≤ p → p ≤ setup.session.shape.peers → IsMember (member setup p)
+cast-member setup p is low high = record { session = is.session; peer = (omega (arith, low), high); fits = is.fits p high }
 
-cast-caster : (cast : Cast) → IsCast cast → IsCaster (member cast 0)
-cast-caster cast is = record { session = is.session; party = refl; fits = is.fits 0 (omega arith) }
+cast-caster : (setup : Setup) → IsSetup setup → IsCaster (member setup 0)
+cast-caster setup is = record { session = is.session; party = refl; fits = is.fits 0 (omega arith) }
 
 -- each party's step, where the session fits each party's secret
-pub steps-keep : (cast : Cast) → IsCast cast → StepsKeep cast
-steps-keep cast is zero log i low o = let f = o.1 refl in caster-keeps cast log i (cast-caster cast is) f.0 f.1
-steps-keep cast is (suc p) log i low o =
+pub steps-keep : (setup : Setup) → IsSetup setup → StepsKeep setup
+steps-keep setup is zero log i low o = let f = o.1 refl in caster-keeps setup log i (cast-caster setup is) f.0 f.1
+steps-keep setup is (suc p) log i low o =
     let n : eqb (suc p) 0 ≡ false = ne_eqb (suc p) 0 (λ z. absurd (omega arith)) in
-    let out : step_of cast (suc p) log i ≡ step (member cast (suc p)) log i = rw n refl in
-    subst (λ z. IsStep cast (suc p) log i z) (sym out) (peer-keeps cast (suc p) log i n (cast-member cast (suc p) is (omega arith) low) (o.0 n))
+    let out : step_of setup (suc p) log i ≡ step (member setup (suc p)) log i = rw n refl in
+    subst (λ z. IsStep setup (suc p) log i z) (sym out) (peer-keeps setup (suc p) log i n (cast-member setup (suc p) is (omega arith) low) (o.0 n))
 
 -- the world at the beginning is sound
 opened-log : (secrets : List (List ℕ)) (p : ℕ) (log : Log) → ◌≡◌ {A = Option Log} (slice_get (map (λ secret. []) secrets) p) (Some log) → ◌≡◌ {A = Log} [] log
@@ -378,15 +378,15 @@ opened-few [] p log e = cc
 opened-few (s ∷ secrets) zero log e = omega arith
 opened-few (s ∷ secrets) (suc p) log e = let deep : p < length secrets = opened-few secrets p log e in omega (arith, deep)
 
-pub opened-sound : (cast : Cast) (trusted : ℕ → Bool) → length cast.secrets ≡ cast.session.shape.peers + 1 → IsSound cast trusted (opened cast)
-opened-sound cast trusted all = record {
-  all = opened-length cast.secrets ∙ all;
-  peers = λ p log e. (let few : p < length cast.secrets = opened-few cast.secrets p log e in omega (arith, few, all));
-  proper = λ p log e. subst (λ l. IsProper cast p l) (opened-log cast.secrets p log e) (λ z. tt, λ z. (tt, λ d s. absurd s));
-  heard = λ p log d e h. absurd (subst (λ l. HeardIn l d) (sym (opened-log cast.secrets p log e)) h);
-  kept = λ p log ev e h. absurd (subst (λ l. KeptIn l ev) (sym (opened-log cast.secrets p log e)) h);
-  mine = λ p log d e h. absurd (subst (λ l. SaidIn l d) (sym (opened-log cast.secrets p log e)) h);
-  pool = tt;
+pub opened-sound : (setup : Setup) (trusted : ℕ → Bool) → length setup.secrets ≡ setup.session.shape.peers + 1 → IsSound setup trusted (initial setup)
+opened-sound setup trusted all = record {
+  all = opened-length setup.secrets ∙ all;
+  peers = λ p log e. (let few : p < length setup.secrets = opened-few setup.secrets p log e in omega (arith, few, all));
+  proper = λ p log e. subst (λ l. IsProper setup p l) (opened-log setup.secrets p log e) (λ z. tt, λ z. (tt, λ d s. absurd s));
+  heard = λ p log d e h. absurd (subst (λ l. HeardIn l d) (sym (opened-log setup.secrets p log e)) h);
+  kept = λ p log ev e h. absurd (subst (λ l. KeptIn l ev) (sym (opened-log setup.secrets p log e)) h);
+  mine = λ p log d e h. absurd (subst (λ l. SaidIn l d) (sym (opened-log setup.secrets p log e)) h);
+  packets = tt;
 }
 
 -- ---- whatever the moves are
@@ -395,9 +395,9 @@ opened-sound cast trusted all = record {
 abbrev pub nobody : ℕ → Bool
 nobody p = false
 
-pub nobody-genuine : (cast : Cast) (w : World) (b : List ℕ) → IsGenuine cast nobody w b
-nobody-genuine cast w b = λ d log reads sign trust. cc
+pub nobody-genuine : (setup : Setup) (w : World) (b : List ℕ) → IsGenuine setup nobody w b
+nobody-genuine setup w b = λ d log reads sign trust. cc
 
-pub all-nobody : (cast : Cast) (w : World) (bs : List (List ℕ)) → AllGenuine cast nobody w bs
-all-nobody cast w [] = tt
-all-nobody cast w (b ∷ bs) = (nobody-genuine cast w b, all-nobody cast w bs)
+pub all-nobody : (setup : Setup) (w : World) (bs : List (List ℕ)) → AllGenuine setup nobody w bs
+all-nobody setup w [] = tt
+all-nobody setup w (b ∷ bs) = (nobody-genuine setup w b, all-nobody setup w bs)

@@ -1,8 +1,8 @@
 -- What holds among trusted parties after any moves.
 use Rattle.bar_rules.specs.Broadcaster.Broadcaster.{evicted, peers_of}
 use Rattle.bar_rules.specs.Peer.Log.{kept}
-use Rattle.bar_rules.specs.World.World.{opened, Cast, Move}
-use Rattle.bar_laws.specs.Worlds.{after, IsHonest, NobodyIsEvicted, NobodyIsAccused, KeysOpenWell, TablesAreExtended}
+use Rattle.bar_rules.specs.World.World.{Move, Setup, initial}
+use Rattle.bar_laws.specs.Parties.{after, ForgesNothing, NobodyIsEvicted, NobodyIsAccused, KeysOpenWell, TablesAreExtended}
 use Rattle.std.specs.List.{list_all}
 use Rattle.std.specs.Prelude.{None, is_some, Contains, slice_index_or}
 use Rattle.bar_laws.proofs.Logs.{all-filter}
@@ -13,21 +13,21 @@ use Rattle.bar_laws.proofs.Worlds.Evictions.{caster-keeps-none, peer-keeps-none}
 use Rattle.bar_laws.proofs.Worlds.Openings.{key-opens-well}
 use Rattle.bar_laws.proofs.Worlds.Released.{table-extended}
 
-sound-after : (cast : Cast) (trusted : ℕ → Bool) (moves : List Move) → IsHonest cast trusted moves → IsSound cast trusted (after cast moves)
-sound-after cast trusted moves h = run-sound cast trusted (opened cast) moves (steps-keep cast h.cast_is) (opened-sound cast trusted h.cast_is.parties) h.unforged
+sound-after : (setup : Setup) (trusted : ℕ → Bool) (moves : List Move) → ForgesNothing setup trusted moves → IsSound setup trusted (after setup moves)
+sound-after setup trusted moves h = run-sound setup trusted (initial setup) moves (steps-keep setup h.setup_is) (opened-sound setup trusted h.setup_is.parties) h.unforged
 
 not-zero : (p : ℕ) → 1 ≤ p → eqb p 0 ≡ false
 not-zero p low = ne_eqb p 0 (λ z. absurd (omega (arith, low, z)))
 
 pub nobody-accused : NobodyIsAccused
-nobody-accused cast trusted moves h zero accused mine theirs p q low =
-    let sound = sound-after cast trusted moves h in
-    caster-keeps-none cast trusted (after cast moves) accused theirs mine (cast-member cast accused h.cast_is low (sound.peers accused theirs q.log_is)) sound h.broadcaster q.trust (not-zero accused low) q.log_is p.log_is
-nobody-accused cast trusted moves h (suc accuser) accused mine theirs p q low =
-    let sound = sound-after cast trusted moves h in
-    let caster = has-log cast trusted (after cast moves) 0 sound (omega arith) in
-    peer-keeps-none cast trusted (after cast moves) (suc accuser) accused mine theirs caster.0 (cast-member cast accused h.cast_is low (sound.peers accused theirs q.log_is)) sound h.broadcaster q.trust
-    (not-zero (suc accuser) (omega arith)) (not-zero accused low) p.log_is q.log_is caster.1
+nobody-accused setup trusted moves h zero accused mine theirs p q =
+    let sound = sound-after setup trusted moves h in
+    caster-keeps-none setup trusted (after setup moves) accused theirs mine (cast-member setup accused h.setup_is q.low (sound.peers accused theirs q.log_is)) sound h.broadcaster q.trust (not-zero accused q.low) q.log_is p.log_is
+nobody-accused setup trusted moves h (suc accuser) accused mine theirs p q =
+    let sound = sound-after setup trusted moves h in
+    let caster = has-log setup trusted (after setup moves) 0 sound (omega arith) in
+    peer-keeps-none setup trusted (after setup moves) (suc accuser) accused mine theirs caster.0 (cast-member setup accused h.setup_is q.low (sound.peers accused theirs q.log_is)) sound h.broadcaster q.trust
+    (not-zero (suc accuser) (omega arith)) (not-zero accused q.low) p.log_is q.log_is caster.1
 
 -- what stands among those of a list that pass, passes
 contained-passes : (p : ℕ → Bool) (xs : List ℕ) (x : ℕ) → list_all p xs ≡ true → Contains xs x → p x ≡ true
@@ -39,19 +39,19 @@ contained-passes p (y ∷ xs) x all c = go c.0 c.1 c.2 (and_parts _ _ all) (cont
     go (suc k) below at all f = f all.1 (k, omega (arith, below), at)
 
 pub nobody-evicted : NobodyIsEvicted
-nobody-evicted cast trusted moves h peer log caster p low at has =
-    let sound = sound-after cast trusted moves h in
-    let none : kept caster peer ≡ None = caster-keeps-none cast trusted (after cast moves) peer log caster (cast-member cast peer h.cast_is low (sound.peers peer log p.log_is)) sound h.broadcaster p.trust (not-zero peer low) p.log_is at in
-    let some : is_some (kept caster peer) ≡ true = contained-passes (λ q. is_some (kept caster q)) (evicted cast.session caster) peer (all-filter (λ q. is_some (kept caster q)) (peers_of cast.session)) has in
+nobody-evicted setup trusted moves h peer log caster p at has =
+    let sound = sound-after setup trusted moves h in
+    let none : kept caster peer ≡ None = caster-keeps-none setup trusted (after setup moves) peer log caster (cast-member setup peer h.setup_is p.low (sound.peers peer log p.log_is)) sound h.broadcaster p.trust (not-zero peer p.low) p.log_is at in
+    let some : is_some (kept caster peer) ≡ true = contained-passes (λ q. is_some (kept caster q)) (evicted setup.session caster) peer (all-filter (λ q. is_some (kept caster q)) (peers_of setup.session)) has in
     both_ways _ (ap is_some none) some
 
 pub keys-open-well : KeysOpenWell
-keys-open-well cast trusted moves h receiver sender mine theirs p q low some later before d k split body from =
-    let sound = sound-after cast trusted moves h in
-    let caster = has-log cast trusted (after cast moves) 0 sound (omega arith) in
-    key-opens-well cast trusted (after cast moves) receiver sender mine theirs caster.0 before d k sound h.broadcaster q.trust (not-zero receiver low) (not-zero sender some) p.log_is q.log_is caster.1
-    (record { after = later; split = split }) body from
+keys-open-well setup trusted moves h receiver sender mine theirs before d k p q key =
+    let sound = sound-after setup trusted moves h in
+    let caster = has-log setup trusted (after setup moves) 0 sound (omega arith) in
+    key-opens-well setup trusted (after setup moves) receiver sender mine theirs caster.0 before d k sound h.broadcaster q.trust (not-zero receiver p.low) (not-zero sender q.low) p.log_is q.log_is caster.1
+    (record { after = key.later; split = key.split }) key.is_key key.from
 
 pub tables-extended : TablesAreExtended
-tables-extended cast trusted moves h peer log caster p low at =
-    table-extended cast trusted (after cast moves) peer log caster (sound-after cast trusted moves h) h.broadcaster (not-zero peer low) p.log_is at
+tables-extended setup trusted moves h peer log caster p at =
+    table-extended setup trusted (after setup moves) peer log caster (sound-after setup trusted moves h) h.broadcaster (not-zero peer p.low) p.log_is at

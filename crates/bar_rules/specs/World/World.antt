@@ -18,62 +18,62 @@ pub data Move : Type 0 where
   Hostile : (to : ℕ) → (bytes : List ℕ) → Move
 
 -- what a session is made of: its parties' secrets, the broadcaster's first, and the stream
-pub record Cast : Type 0 where
+pub record Setup : Type 0 where
   pub session : Session
   pub secrets : List (List ℕ)
   pub stream : List ℕ
 
 -- There is a secret for each party, and the session holds the keys and anchors that come from these.
-pub record IsCast (cast : Cast) : Type 0 where
-  pub session : IsSession cast.session
-  pub parties : length cast.secrets ≡ cast.session.shape.peers + 1
-  pub fits : (p : ℕ) → p ≤ cast.session.shape.peers → Fits cast.session p (unwrap_or (slice_get cast.secrets p) [])
+pub record IsSetup (setup : Setup) : Type 0 where
+  pub session : IsSession setup.session
+  pub parties : length setup.secrets ≡ setup.session.shape.peers + 1
+  pub fits : (p : ℕ) → p ≤ setup.session.shape.peers → Fits setup.session p (unwrap_or (slice_get setup.secrets p) [])
 
 -- the logs of the parties from 0 on, what each has played, and each datagram that was ever sent, with its receiver
 pub record World : Type 0 where
   pub logs : List Log
   pub played : List (List ℕ)
-  pub pool : List (ℕ × List ℕ)
+  pub packets : List (ℕ × List ℕ)
 
-abbrev pub member : Cast → ℕ → Member
-member cast p = record { session = cast.session; party = p; secret = unwrap_or (slice_get cast.secrets p) [] }
+abbrev pub member : Setup → ℕ → Member
+member setup p = record { session = setup.session; party = p; secret = unwrap_or (slice_get setup.secrets p) [] }
 
-abbrev pub step_of : Cast → ℕ → Log → Input → Outcome Log
-step_of cast p log input = if p == 0 then caster_step (member cast 0) cast.stream log input else step (member cast p) log input
+abbrev pub step_of : Setup → ℕ → Log → Input → Outcome Log
+step_of setup p log input = if p == 0 then caster_step (member setup 0) setup.stream log input else step (member setup p) log input
 
 abbrev pub spelled : Session → List (ℕ × Datagram) → List (ℕ × List ℕ)
 spelled s sends = map (λ d. (d.0, datagram_bytes s d.1)) sends
 
 -- a party takes one input
-abbrev pub takes_by : Cast → World → ℕ → Input → Option Log → World
-takes_by cast w p input None = w
-takes_by cast w p input (Some log) =
-    let out : Outcome Log = step_of cast p log input in
+abbrev pub takes_by : Setup → World → ℕ → Input → Option Log → World
+takes_by setup w p input None = w
+takes_by setup w p input (Some log) =
+    let out : Outcome Log = step_of setup p log input in
     record {
       logs = slice_set w.logs p out.state;
       played = slice_set w.played p (unwrap_or (slice_get w.played p) [] ++ concat out.contents);
-      pool = w.pool ++ spelled cast.session out.sends;
+      packets = w.packets ++ spelled setup.session out.sends;
     }
 
-abbrev pub takes : Cast → World → ℕ → Input → World
-takes cast w p input = takes_by cast w p input (slice_get w.logs p)
+abbrev pub takes : Setup → World → ℕ → Input → World
+takes setup w p input = takes_by setup w p input (slice_get w.logs p)
 
-abbrev pub delivered : Cast → World → Option (ℕ × List ℕ) → World
-delivered cast w None = w
-delivered cast w (Some d) = takes cast w d.0 (Came d.1)
+abbrev pub delivered : Setup → World → Option (ℕ × List ℕ) → World
+delivered setup w None = w
+delivered setup w (Some d) = takes setup w d.0 (Came d.1)
 
-abbrev pub happens : Cast → World → Move → World
-happens cast w (TickOf party) = takes cast w party Tick
-happens cast w (Deliver number) = delivered cast w (slice_get w.pool number)
-happens cast w (Hostile to bytes) = takes cast w to (Came bytes)
+abbrev pub happens : Setup → World → Move → World
+happens setup w (TickOf party) = takes setup w party Tick
+happens setup w (Deliver number) = delivered setup w (slice_get w.packets number)
+happens setup w (Hostile to bytes) = takes setup w to (Came bytes)
 
-abbrev pub run : Cast → World → List Move → World
-run cast w [] = w
-run cast w (m ∷ ms) = run cast (happens cast w m) ms
+abbrev pub run : Setup → World → List Move → World
+run setup w [] = w
+run setup w (m ∷ ms) = run setup (happens setup w m) ms
 
 -- before the first move
-abbrev pub opened : Cast → World
-opened cast = record { logs = map (λ secret. []) cast.secrets; played = map (λ secret. []) cast.secrets; pool = [] }
+abbrev pub initial : Setup → World
+initial setup = record { logs = map (λ secret. []) setup.secrets; played = map (λ secret. []) setup.secrets; packets = [] }
 
 -- ---- the premise on signatures
 
@@ -84,14 +84,14 @@ HasSaid (Said d ∷ log) m = (d.message ≡ m) ⊎ HasSaid log m
 HasSaid (_ ∷ log) m = HasSaid log m
 
 -- what these bytes spell, if it is signed by a party that is trusted, is what that party's log has signed
-abbrev pub IsGenuine : Cast → (ℕ → Bool) → World → List ℕ → Type 0
-IsGenuine cast trusted w bytes =
-    (d : Datagram) (log : Log) → datagram_of cast.session bytes ≡ Some d → is_signed d.message.body ≡ true → trusted d.message.from ≡ true
-    → is_signed_by cast.session d ≡ true → slice_get w.logs d.message.from ≡ Some log → HasSaid log d.message
+abbrev pub IsGenuine : Setup → (ℕ → Bool) → World → List ℕ → Type 0
+IsGenuine setup trusted w bytes =
+    (d : Datagram) (log : Log) → datagram_of setup.session bytes ≡ Some d → is_signed d.message.body ≡ true → trusted d.message.from ≡ true
+    → is_signed_by setup.session d ≡ true → slice_get w.logs d.message.from ≡ Some log → HasSaid log d.message
 
-abbrev pub AllGenuine : Cast → (ℕ → Bool) → World → List (List ℕ) → Type 0
-AllGenuine cast trusted w [] = Unit {0}
-AllGenuine cast trusted w (b ∷ bs) = IsGenuine cast trusted w b × AllGenuine cast trusted w bs
+abbrev pub AllGenuine : Setup → (ℕ → Bool) → World → List (List ℕ) → Type 0
+AllGenuine setup trusted w [] = Unit {0}
+AllGenuine setup trusted w (b ∷ bs) = IsGenuine setup trusted w b × AllGenuine setup trusted w bs
 
 -- the datagrams that stand in a body as evidence
 abbrev pub inside : Body → List (List ℕ)
@@ -99,11 +99,11 @@ inside (Evidence datagrams) = datagrams
 inside _ = []
 
 -- so for the bytes and for each datagram that stands in them as evidence
-abbrev pub IsUnforged : Cast → (ℕ → Bool) → World → List ℕ → Type 0
-IsUnforged cast trusted w bytes =
-    IsGenuine cast trusted w bytes × ((d : Datagram) → datagram_of cast.session bytes ≡ Some d → AllGenuine cast trusted w (inside d.message.body))
+abbrev pub IsUnforged : Setup → (ℕ → Bool) → World → List ℕ → Type 0
+IsUnforged setup trusted w bytes =
+    IsGenuine setup trusted w bytes × ((d : Datagram) → datagram_of setup.session bytes ≡ Some d → AllGenuine setup trusted w (inside d.message.body))
 
-abbrev pub AreUnforged : Cast → (ℕ → Bool) → World → List Move → Type 0
-AreUnforged cast trusted w [] = Unit {0}
-AreUnforged cast trusted w (Hostile to bytes ∷ ms) = IsUnforged cast trusted w bytes × AreUnforged cast trusted (happens cast w (Hostile to bytes)) ms
-AreUnforged cast trusted w (m ∷ ms) = AreUnforged cast trusted (happens cast w m) ms
+abbrev pub AreUnforged : Setup → (ℕ → Bool) → World → List Move → Type 0
+AreUnforged setup trusted w [] = Unit {0}
+AreUnforged setup trusted w (Hostile to bytes ∷ ms) = IsUnforged setup trusted w bytes × AreUnforged setup trusted (happens setup w (Hostile to bytes)) ms
+AreUnforged setup trusted w (m ∷ ms) = AreUnforged setup trusted (happens setup w m) ms
