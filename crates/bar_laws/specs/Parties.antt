@@ -1,12 +1,13 @@
 -- What holds among several parties, whatever the network and hostile parties do.
 use Rattle.std.specs.Prelude.{◌≡◌, ℕ, ◌≤◌, Bool, true, List, ◌∷◌, ◌++◌, Some, None, slice_get, Contains}
 use Rattle.std.specs.List.{AllByRecursion}
+use Rattle.bar_rules.specs.Broadcaster.Sending.{evicted}
+use Rattle.bar_rules.specs.Broadcaster.Stream.{caster_table}
 use Rattle.bar_terms.specs.Table.{Extends}
 use Rattle.bar_terms.specs.Terms.{promised_updates}
 use Rattle.bar_window.specs.declared.update.UpdateId.{UpdateId}
 use Rattle.bar_wire.specs.Inputs.{Input}
 use Rattle.bar_wire.specs.Datagram.{Datagram, Key, Briefcase, KeyGiven, is_signed, exchange_by}
-use Rattle.bar_rules.specs.Broadcaster.Broadcaster.{caster_table, evicted}
 use Rattle.bar_rules.specs.Peer.Holdings.{is_held, case_heard_from}
 use Rattle.bar_rules.specs.Peer.Log.{Log, Heard, table, round_now, kept}
 use Rattle.bar_rules.specs.Member.{Session, Member, is_alive}

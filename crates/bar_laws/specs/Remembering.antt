@@ -1,9 +1,8 @@
 -- What a memory keeps in place of the datagrams that were said.
-use Rattle.std.specs.Prelude.{◌≡◌, List, []}
+use Rattle.std.specs.Prelude.{◌≡◌}
 use Rattle.bar_window.specs.declared.update.UpdateId.{UpdateId}
 use Rattle.bar_window.specs.declared.exchange.Exchange.{Exchange}
 use Rattle.bar_window.specs.declared.exchange.Role.{Role}
-use Rattle.bar_wire.specs.Inputs.{Input}
 use Rattle.bar_wire.specs.declared.kind.Kind.{Kind}
 use Rattle.bar_rules.specs.Peer.Agreement.{IsRecent, IsFresh, IsRepeatable, promise_of}
 use Rattle.bar_rules.specs.Peer.Exchanges.{role_of}
@@ -11,7 +10,6 @@ use Rattle.bar_rules.specs.Peer.Knowledge.{Knowledge, known, has_said_of}
 use Rattle.bar_rules.specs.Peer.Log.{Log}
 use Rattle.bar_rules.specs.Member.{Member, IsMember}
 use Rattle.bar_rules.specs.Peer.Rules.{IsObedient}
-use Rattle.bar_rules.specs.Peer.Run.{log_after}
 use Rattle.bar_laws.specs.Always.{InEachPeersLog}
 use Rattle.bar_laws.specs.Rewriting.{offer_of, answer_of, reply_of, IsRewritten}
 

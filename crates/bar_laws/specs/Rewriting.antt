@@ -1,12 +1,11 @@
 -- What was said is what would be written now: a peer has to keep none of its own datagrams.
-use Rattle.std.specs.Prelude.{◌≡◌, ℕ, List, [], Option, Some, None, option_map, option_and_then}
+use Rattle.std.specs.Prelude.{◌≡◌, ℕ, List, Option, Some, None, option_map, option_and_then}
 use Rattle.bar_wire.specs.Bodies.{history_in, offer_in, reply_in}
 use Rattle.bar_window.specs.declared.exchange.Exchange.{Exchange}
 use Rattle.bar_window.specs.declared.update.UpdateId.{UpdateId}
 use Rattle.bar_window.specs.declared.exchange.Role.{Role}
 use Rattle.bar_window.specs.declared.exchange.Role.TheVariants.{Initiator, Responder}
 use Rattle.bar_wire.specs.Datagram.{Datagram, Body, Request, Response, Query, Reply}
-use Rattle.bar_wire.specs.Inputs.{Input}
 use Rattle.bar_wire.specs.declared.kind.Kind.TheVariants as kinds
 use Rattle.bar_wire.specs.declared.kind.Kind.{Kind}
 use Rattle.bar_rules.specs.Peer.Exchanges.{role_of}
@@ -16,7 +15,6 @@ use Rattle.bar_rules.specs.Peer.Machine.{message_to}
 use Rattle.bar_rules.specs.Member.{Member}
 use Rattle.bar_rules.specs.Peer.Orders.{case_body, key_body}
 use Rattle.bar_rules.specs.Peer.Rules.{IsObedient}
-use Rattle.bar_rules.specs.Peer.Run.{log_after}
 use Rattle.bar_rules.specs.Secrets.{seed_of, commitment_of}
 use Rattle.bar_rules.specs.Peer.Signing.{signed}
 use Rattle.bar_rules.specs.Peer.Terms.{terms_of, body_on}

@@ -1,5 +1,5 @@
 -- Few exchanges: of each round a peer keeps six at most, each in a room of its own.
-use Rattle.std.specs.Prelude.{◌≡◌, ℕ, zero, suc, ◌+◌, ◌*◌, ◌==◌, ◌&&◌, ◌≤◌, nat_le, Bool, true, List, [], length, Option, Some, None, is_some, option_map, option_and_then}
+use Rattle.std.specs.Prelude.{◌≡◌, ℕ, zero, suc, ◌+◌, ◌*◌, ◌==◌, ◌&&◌, ◌≤◌, nat_le, Bool, true, List, length, Option, Some, None, is_some, option_map, option_and_then}
 use Rattle.std.specs.Bool.{then_some}
 use Rattle.std.specs.List.{list_all, IsDistinct}
 use Rattle.bar_window.specs.Exchange.{same_exchange}
@@ -7,14 +7,12 @@ use Rattle.bar_window.specs.declared.exchange.Exchange.{Exchange}
 use Rattle.bar_window.specs.declared.exchange.Role.{Role}
 use Rattle.bar_window.specs.declared.exchange.Role.TheVariants.{Initiator, Responder}
 use Rattle.bar_window.specs.declared.exchange.XKind.{XKind}
-use Rattle.bar_wire.specs.Inputs.{Input}
 use Rattle.bar_wire.specs.declared.kind.Kind.{Kind}
 use Rattle.bar_rules.specs.Peer.Exchanges.{role_of, request_kind}
 use Rattle.bar_rules.specs.Peer.Knowledge.{Knowledge, known, this_round, has_heard_of, has_said_of}
 use Rattle.bar_rules.specs.Peer.Log.{Log}
 use Rattle.bar_rules.specs.Member.{Member}
 use Rattle.bar_rules.specs.Peer.Rules.{IsObedient}
-use Rattle.bar_rules.specs.Peer.Run.{log_after}
 use Rattle.bar_laws.specs.Always.{InEachLog}
 
 -- among the exchanges of one round and kind: the one that this member asked for, or the first or the second that it was asked for

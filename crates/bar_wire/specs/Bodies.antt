@@ -3,7 +3,7 @@ use Rattle.std.specs.Prelude.{ℕ, ◌==◌, Bool, true, false, List, [], Option
 use Rattle.bar_window.specs.declared.update.UpdateId.{UpdateId}
 use Rattle.bar_window.specs.declared.exchange.XKind.{XKind}
 use Rattle.bar_window.specs.declared.exchange.XKind.TheVariants.{Balanced, Push}
-use Rattle.bar_wire.specs.Datagram.{Body, Briefcase, KeyGiven, Manifest, Request, Response, Divulge, Query, Reply, Case, Key, Evict}
+use Rattle.bar_wire.specs.Datagram.{Body, Briefcase, KeyGiven, Manifest, Request, Response, Divulge, Query, Reply, Case, Key, Evidence, Evict}
 
 -- ---- of a broadcaster's message
 
@@ -22,6 +22,11 @@ evictions_in (Evict round parties) = parties
 evictions_in _ = []
 
 -- ---- of a peer's message
+
+-- the datagrams that stand in an EVIDENCE
+abbrev pub evidence_in : Body → List (List ℕ)
+evidence_in (Evidence datagrams) = datagrams
+evidence_in _ = []
 
 -- a message of a peer that it signs
 abbrev pub is_peer_kind : Body → Bool

@@ -1,14 +1,15 @@
 -- What one input adds to the broadcaster's log, and what it sends.
+use Rattle.bar_rules.specs.Broadcaster.Sending.{evicted, served, caster_message, caster_signed, send_all, announce_by, announce, announce_manifest, announce_evictions, send_block, send_blocks, caster_tick, evict_by, judge_body, judge_datagram, caster_take, caster_step}
+use Rattle.bar_rules.specs.Broadcaster.Stream.{round_blocks, manifest_list, caster_table, is_in_fanout}
+use Rattle.bar_wire.specs.Bodies.{evidence_in}
 use Rattle.bar_rules.specs.Runs.{begun, sending}
-use Rattle.bar_rules.specs.Broadcaster.Broadcaster.{caster_table, served, evicted, caster_signed, send_all, announce_by, announce, announce_manifest, announce_evictions, send_block, send_blocks, is_in_fanout, round_blocks, caster_tick, evict_by, judge_body, judge_datagram, caster_take, caster_step, manifest_list, caster_message}
 use Rattle.bar_rules.specs.Peer.Log.{kept, Entry, Heard, Log, Ticked, Said, Kept, first_said, has_kind_and_round, ticks, round_now}
 use Rattle.bar_rules.specs.Member.{Session, Member, last_tick}
 use Rattle.bar_rules.specs.Peer.Run.{Out}
 use Rattle.bar_rules.specs.Values.{datagram_of, is_signed_by, unsigned}
 use Rattle.bar_rules.specs.Judge.Verdict.{Verdict, Shown, NotShown, Fault, verdict}
-use Rattle.bar_rules.specs.World.World.{inside}
 use Rattle.bar_window.specs.declared.update.UpdateId.{UpdateId}
-use Rattle.bar_wire.specs.Datagram.{kind_of, Datagram, Body, Manifest, Block, Evidence, Evict, kind_number}
+use Rattle.bar_wire.specs.Datagram.{kind_of, Datagram, Body, Manifest, Block, Evidence, Evict}
 use Rattle.bar_wire.specs.Inputs.{Input, Tick, Came}
 use Rattle.std.proofs.Common.{◌≡◌, ℕ, Bool, true, false, List, [], ◌∷◌, ◌+◌, ◌-◌, ◌*◌, ◌^◌, ◌<◌, ◌≤◌, not, length, arith, refl, sym, ap, subst, inl, inr}
 use Rattle.std.specs.Prelude.{Option, Some, None, is_some, cond, nat_le, nat_lt, filter}
@@ -29,7 +30,7 @@ IsOwnBody s stream (Manifest r ds) = ds ≡ manifest_list s stream r
 IsOwnBody s stream (Evidence ds) = ⊥
 IsOwnBody s stream _ = Unit {0}
 
-pub own-inside : (s : Session) (stream : List ℕ) (b : Body) → IsOwnBody s stream b → inside b ≡ []
+pub own-inside : (s : Session) (stream : List ℕ) (b : Body) → IsOwnBody s stream b → evidence_in b ≡ []
 own-inside s stream (Evidence ds) h = absurd h
 own-inside s stream _ h = refl
 
@@ -198,7 +199,7 @@ casts-tick me stream log o out is low a = go (not (nat_le m me.session.shape.rou
 casts-begun : (me : Member) (stream : List ℕ) (log : Log) (o : Option Datagram) → AreOwn me.session stream log → IsFair me stream log → Casts me stream log o (begun log)
 casts-begun me stream log o own fair = record { adds = record { new = []; split = refl; added = tt; sent = tt }; own = own; fair = fair; fits = tt }
 
-casts-evict : (me : Member) (stream : List ℕ) (log : Log) (d : Datagram) (ev : List (List ℕ)) (v : Verdict) → verdict me.session (caster_table me stream log) ev ≡ v → inside d.message.body ≡ ev → AreOwn me.session stream log → IsFair me stream log → Casts me stream log (Some d) (begun (evict_by log ev v))
+casts-evict : (me : Member) (stream : List ℕ) (log : Log) (d : Datagram) (ev : List (List ℕ)) (v : Verdict) → verdict me.session (caster_table me stream log) ev ≡ v → evidence_in d.message.body ≡ ev → AreOwn me.session stream log → IsFair me stream log → Casts me stream log (Some d) (begun (evict_by log ev v))
 casts-evict me stream log d ev (NotShown why) r e own fair = casts-begun me stream log (Some d) own fair
 casts-evict me stream log d ev (Shown party fault) r e own fair = go (is_some (kept log party))
   where
@@ -210,7 +211,7 @@ casts-evict me stream log d ev (Shown party fault) r e own fair = go (is_some (k
     go false = record { adds = record { new = Kept party ev ∷ []; split = refl; added = (inr (d, refl, e), tt); sent = tt }; own = own'; fair = ((fault, r), fair); fits = tt }
 
 casts-judge : (me : Member) (stream : List ℕ) (log : Log) (d : Datagram) (b : Body) → d.message.body ≡ b → AreOwn me.session stream log → IsFair me stream log → Casts me stream log (Some d) (begun (judge_body me stream log b))
-casts-judge me stream log d (Evidence ev) e own fair = casts-evict me stream log d ev (verdict me.session (caster_table me stream log) ev) refl (ap inside e) own fair
+casts-judge me stream log d (Evidence ev) e own fair = casts-evict me stream log d ev (verdict me.session (caster_table me stream log) ev) refl (ap evidence_in e) own fair
 casts-judge me stream log d _ e own fair = casts-begun me stream log (Some d) own fair
 
 -- the broadcaster's step

@@ -1,8 +1,9 @@
 -- What the broadcaster sends is in the grammar.
+use Rattle.bar_rules.specs.Broadcaster.Sending.{evicted, served, caster_message, caster_signed}
+use Rattle.bar_rules.specs.Broadcaster.Stream.{block_bytes, piece_of, round_blocks, manifest_list, peers_of}
 use Rattle.bar_lms.specs.Params.{levels}
 use Rattle.bar_roster.specs.KeyFile.{signing_secret}
 use Rattle.bar_roster.specs.Sessions.{IsSession}
-use Rattle.bar_rules.specs.Broadcaster.Broadcaster.{manifest_list, evicted, served, caster_signed, caster_message, round_blocks, block_bytes, piece_of, peers_of}
 use Rattle.bar_rules.specs.Peer.Log.{kept, Log}
 use Rattle.bar_rules.specs.Member.{Session, Member}
 use Rattle.bar_rules.specs.Secrets.{signature_of}

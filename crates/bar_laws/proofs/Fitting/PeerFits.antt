@@ -1,6 +1,5 @@
 -- What a peer signs and sends is in the grammar.
 use Rattle.bar_rules.specs.Peer.Evidence.{new_evidence}
-use Rattle.bar_wire.specs.Kinds.{code_of}
 use Rattle.bar_roster.specs.KeyFile.{signing_secret}
 use Rattle.bar_rules.specs.Runs.{begun}
 use Rattle.bar_rules.specs.Peer.Admission.{is_admitted}

@@ -23,7 +23,7 @@ use Rattle.bar_window.specs.declared.exchange.XKind.{XKind}
 use Rattle.bar_window.specs.declared.exchange.XKind.TheVariants.{Balanced, Push}
 use Rattle.bar_window.specs.declared.update.UpdateId.{UpdateId}
 use Rattle.bar_wire.specs.declared.kind.Kind.TheVariants as kinds
-use Rattle.bar_wire.specs.Datagram.{kind_of, Message, Datagram, Body, Request, Response, Query, Reply, Case, Key, Briefcase, KeyGiven, round_of, exchange_by, is_of}
+use Rattle.bar_wire.specs.Datagram.{Message, Datagram, Body, Request, Response, Query, Reply, Case, Key, Briefcase, KeyGiven, round_of, exchange_by, is_of}
 use Rattle.bar_wire.specs.Grammar.{IsDatagram, words_of, HasForm, HasTermForm, HasFewJunk, InRange, IsRound, IsPeer, IsWindowSet}
 use Rattle.std.proofs.Common.{◌≡◌, ℕ, ◌+◌, ◌*◌, ◌-◌, ◌<◌, ◌≤◌, ◌^◌, true, List, [], ◌∷◌, length, refl, sym, ap, ◌∙◌, subst, inl, inr, arith, not, length-append, length-take}
 use Rattle.std.specs.Prelude.{Option, Some, None, option_and_then, filter}

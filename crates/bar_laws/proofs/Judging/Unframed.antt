@@ -6,14 +6,13 @@ use Rattle.bar_case.specs.Opened as opening
 use Rattle.bar_case.specs.Sealed.{IsTold}
 use Rattle.bar_rules.specs.Peer.Holdings.{block_of, is_held}
 use Rattle.bar_rules.specs.Peer.Knowledge.{known}
-use Rattle.bar_rules.specs.Peer.Log.{Log, Ticked, Heard, Said, Kept, table}
+use Rattle.bar_rules.specs.Peer.Log.{Log, Ticked, Heard, Said, Kept, table, HasSaid}
 use Rattle.bar_rules.specs.Member.{Session, Member, IsMember}
 use Rattle.bar_rules.specs.Peer.Rules.{IsObedient, IsSignedByRule}
 use Rattle.bar_rules.specs.Secrets.{briefcase_key, is_seed, seed_of, partner_of, secrets_of}
 use Rattle.bar_rules.specs.Peer.Signing.{MaySign, MaySay, MayGiveCase, MayGiveKey}
 use Rattle.bar_rules.specs.Values.{terms_ok, opening_of, counts_ok, is_signed_by}
 use Rattle.bar_rules.specs.Judge.Verdict.{key_fits, pair_opening, bad_opening, bad_terms, wrong_partner, fault_of_one, fault_of_two, fault_of, all_read, are_of_one_peer, judged, verdict, Fault, NotShown, Malformed, NotSigned}
-use Rattle.bar_rules.specs.World.World.{HasSaid}
 use Rattle.bar_terms.specs.Table.{no_lists, Table, Agrees, digest_of, digest_in, Known, NoManifest}
 use Rattle.bar_terms.specs.Terms.{promised_updates}
 use Rattle.bar_window.specs.declared.exchange.Exchange.{Exchange}

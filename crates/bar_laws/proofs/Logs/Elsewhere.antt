@@ -5,7 +5,7 @@ use Rattle.bar_wire.specs.declared.kind.Kind.TheVariants as kinds
 use Rattle.bar_wire.specs.declared.kind.Kind.{Kind}
 use Rattle.bar_wire.specs.Kinds.{code_of}
 use Rattle.bar_wire.specs.Datagram.{is_place, place_by, kind_of, Message, Datagram, Body, Request, Response, Query, Reply, Case, Key, Briefcase, is_of, kind_number, part_of, exchange_by}
-use Rattle.bar_window.specs.Exchange.{same_exchange, same_role, party_on, other_role}
+use Rattle.bar_window.specs.Exchange.{party_on, other_role}
 use Rattle.bar_window.specs.Terms.{Terms}
 use Rattle.bar_window.specs.declared.exchange.Exchange.{Exchange}
 use Rattle.bar_window.specs.declared.exchange.Role.{Role}
@@ -22,7 +22,7 @@ use Rattle.bar_rules.specs.Peer.Rules.{IsObedient}
 use Rattle.bar_rules.specs.Secrets.{nonce_of}
 use Rattle.bar_rules.specs.Peer.Signing.{MaySign, MaySay}
 use Rattle.bar_rules.specs.Peer.Terms.{body_on, terms_of, terms_by, trade_terms, offer_terms}
-use Rattle.std.proofs.Common.{◌≡◌, ℕ, Bool, true, false, List, refl, sym, ap, ◌∙◌, subst, ◌&&◌, eqb}
+use Rattle.std.proofs.Common.{◌≡◌, ℕ, Bool, true, false, List, refl, sym, ap, ◌∙◌, subst, eqb}
 use Rattle.std.specs.Prelude.{Option, Some, None, is_some, option_map, option_and_then, cond}
 use Rattle.std.specs.Bool.{then_some}
 use Rattle.std.specs.Option.{option_map_or}

@@ -1,7 +1,6 @@
 -- Messages of an exchange whose form, ranges and parties are those of the grammar, and what this says of what was told in them.
 use Rattle.bar_wire.specs.Bodies.{divulge_in, history_in, offer_in, reply_in}
 use Rattle.bar_wire.specs.declared.kind.Kind.TheVariants as kinds
-use Rattle.bar_wire.specs.Kinds.{code_of}
 use Rattle.bar_rules.specs.Peer.Exchanges.{revealed, revealed_in}
 use Rattle.bar_rules.specs.Peer.Holdings.{history, block_of}
 use Rattle.bar_rules.specs.Peer.Knowledge.{known}

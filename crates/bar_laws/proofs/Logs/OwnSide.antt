@@ -8,7 +8,7 @@ use Rattle.bar_rules.specs.Peer.Signing.{MaySign}
 use Rattle.bar_window.specs.declared.exchange.Exchange.{Exchange}
 use Rattle.bar_window.specs.declared.exchange.Role.{Role}
 use Rattle.bar_wire.specs.Datagram.{Message, Datagram, is_of, part_of, exchange_by}
-use Rattle.std.proofs.Common.{◌≡◌, ℕ, true, sym, ap, ◌∙◌}
+use Rattle.std.proofs.Common.{◌≡◌, true, sym, ap, ◌∙◌}
 use Rattle.std.specs.Prelude.{Some}
 use Rattle.bar_laws.proofs.Logs.FirstFinds.{allowed-at}
 use Rattle.bar_laws.proofs.Logs.Elsewhere.{is_of-is, role-own, sign-elsewhere}

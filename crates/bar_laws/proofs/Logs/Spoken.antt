@@ -9,9 +9,8 @@ use Rattle.bar_window.specs.declared.exchange.Exchange.{Exchange}
 use Rattle.bar_window.specs.declared.exchange.Role.{Role}
 use Rattle.bar_window.specs.declared.exchange.Role.TheVariants.{Initiator, Responder}
 use Rattle.bar_wire.specs.declared.kind.Kind.{Kind}
-use Rattle.bar_wire.specs.Kinds.{code_of}
 use Rattle.bar_wire.specs.Datagram.{Datagram, Body, is_of}
-use Rattle.std.proofs.Common.{◌≡◌, ℕ, Bool, true, false, refl}
+use Rattle.std.proofs.Common.{◌≡◌, Bool, true, false, refl}
 use Rattle.std.specs.Prelude.{Option, Some, None, cond}
 use Rattle.bar_laws.proofs.Logs.FirstFinds.{IsEntry}
 use Rattle.bar_laws.proofs.Logs.LaterLogs.{IsLater, find-later, WasSaid, WasHeard, first_said-was, first_heard-was, map-later}

@@ -17,7 +17,7 @@ use Rattle.bar_window.specs.declared.exchange.Exchange.{Exchange}
 use Rattle.bar_window.specs.declared.update.UpdateId.{UpdateId}
 use Rattle.bar_wire.specs.Datagram.{Message, Datagram, Body, Block, Key, Briefcase, exchange_by}
 use Rattle.sha2.specs.Sha256.{sha256}
-use Rattle.std.proofs.Common.{◌≡◌, ℕ, Bool, true, false, List, [], ◌∷◌, ◌++◌, refl, sym, ap, ◌∙◌, subst, inl, inr, eqb, cond}
+use Rattle.std.proofs.Common.{◌≡◌, ℕ, Bool, true, false, List, [], ◌∷◌, ◌++◌, refl, sym, ap, ◌∙◌, subst, inl, inr, cond}
 use Rattle.std.specs.Prelude.{Option, Some, None, ◌⊎◌, option_and_then, option_map, find, filter, zip}
 use Rattle.std.specs.Bool.{then_some}
 use Rattle.std.specs.List.{list_all}

@@ -16,7 +16,6 @@ use Rattle.bar_rules.specs.Peer.Terms.{terms_of, terms_by, trade_terms, offer_te
 use Rattle.bar_rules.specs.Values.{first_round, updates_of, updates_from, terms_ok}
 use Rattle.bar_terms.specs.Table.{Table, is_within, none_past_end, digest_of, Digest, Known, PastEnd, NoManifest, is_known, is_past_end}
 use Rattle.bar_terms.specs.Terms.{offer_ok, answer_ok, trade_count}
-use Rattle.bar_window.specs.Exchange.{same_exchange, same_role}
 use Rattle.bar_window.specs.Terms.{Terms, Trade, Offer}
 use Rattle.bar_window.specs.Updates.{has_update, same_update, is_inside, is_of_rounds}
 use Rattle.bar_window.specs.declared.exchange.Exchange.{Exchange}

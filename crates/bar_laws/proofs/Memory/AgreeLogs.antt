@@ -6,16 +6,15 @@ use Rattle.bar_window.specs.declared.exchange.Role.{Role}
 use Rattle.bar_window.specs.declared.exchange.Role.TheVariants.{Initiator}
 use Rattle.bar_wire.specs.declared.kind.Kind.TheVariants as kinds
 use Rattle.bar_wire.specs.declared.kind.Kind.{Kind}
-use Rattle.bar_wire.specs.Kinds.{code_of}
-use Rattle.bar_wire.specs.Datagram.{Message, Datagram, Body, Request, Response, Divulge, Query, Reply, Case, KeyRequest, Key, Briefcase, is_of, kind_number, exchange_by, exchange_of, round_of}
-use Rattle.bar_rules.specs.Peer.Agreement.{promised_by, told_for, AgreesWith, IsRecent, IsFresh}
+use Rattle.bar_wire.specs.Datagram.{Message, Datagram, Body, Request, Response, Divulge, Query, Reply, Case, KeyRequest, Key, is_of, kind_number, exchange_by, exchange_of, round_of}
+use Rattle.bar_rules.specs.Peer.Agreement.{promised_by, told_for, AgreesWith, IsRecent}
 use Rattle.bar_rules.specs.Peer.Exchanges.{request_kind, committed, with_exchange, recent_of}
 use Rattle.bar_rules.specs.Peer.Holdings.{block_by, block_opened, history, case_in}
 use Rattle.bar_rules.specs.Peer.Knowledge.{table_of, Knowledge, known, this_round, holds, case_heard_of, with_tick, with_heard, with_said, with_kept}
 use Rattle.bar_rules.specs.Peer.Log.{lists_of, Log, Ticked, Heard, Said, Kept, has_kind_and_round, names_party}
 use Rattle.bar_rules.specs.Member.{Member, round_after, is_alive}
 use Rattle.bar_rules.specs.Values.{window_of}
-use Rattle.std.proofs.Common.{◌≡◌, ℕ, ◌≤◌, ◌+◌, Bool, true, false, List, [], ◌∷◌, ◌++◌, refl, sym, ap, ◌∙◌, subst, arith, cond, ◌||◌, eqb}
+use Rattle.std.proofs.Common.{◌≡◌, ℕ, ◌≤◌, ◌+◌, Bool, true, false, List, [], ◌∷◌, refl, sym, ap, ◌∙◌, subst, arith, cond, ◌||◌, eqb}
 use Rattle.std.specs.Prelude.{option_map, Option, Some, None, is_some, filter}
 use Rattle.std.specs.Option.{option_or}
 use Rattle.std.specs.Bool.{then_some}

@@ -1,6 +1,5 @@
 -- A log, and what agrees with it in what a peer keeps, carry out the same orders alike.
 use Rattle.bar_wire.specs.Bodies.{offer_in}
-use Rattle.bar_wire.specs.Kinds.{code_of}
 use Rattle.bar_case.specs.Items.{plaintext, item_bytes, junk_key}
 use Rattle.bar_case.specs.Keystream.{keystream, xor_bytes}
 use Rattle.bar_case.specs.Sealed as sealing

@@ -1,14 +1,13 @@
 -- A log, and what agrees with it in what a peer keeps, answer a datagram alike.
 use Rattle.bar_wire.specs.Bodies.{is_peer_kind}
 use Rattle.bar_wire.specs.declared.kind.Kind.{Kind}
-use Rattle.bar_wire.specs.Kinds.{code_of}
 use Rattle.bar_window.specs.declared.exchange.Exchange.{Exchange}
 use Rattle.bar_window.specs.declared.exchange.Role.{Role}
 use Rattle.bar_window.specs.declared.exchange.Role.TheVariants.{Initiator, Responder}
 use Rattle.bar_window.specs.declared.exchange.XKind.{XKind}
 use Rattle.bar_window.specs.declared.exchange.XKind.TheVariants.{Balanced, Push}
 use Rattle.bar_wire.specs.declared.kind.Kind.TheVariants as kinds
-use Rattle.bar_wire.specs.Datagram.{Place, Datagram, Body, Manifest, Block, Request, Response, Divulge, Query, Reply, Case, KeyRequest, Key, Evidence, Evict, is_of, kind_of, kind_number, part_of, exchange_by, round_of, place_of, place_by}
+use Rattle.bar_wire.specs.Datagram.{Place, Datagram, Body, Manifest, Block, Request, Response, Divulge, Query, Reply, Case, KeyRequest, Key, Evidence, Evict, is_of, kind_of, part_of, exchange_by, round_of, place_of, place_by}
 use Rattle.bar_rules.specs.Runs.{Outcome, begun}
 use Rattle.bar_rules.specs.Peer.Agreement.{AgreesWith, IsRecent}
 use Rattle.bar_rules.specs.Peer.Admission.{is_admitted}

@@ -15,7 +15,7 @@ use Rattle.bar_rules.specs.Member.{Session, Member}
 use Rattle.bar_rules.specs.Peer.Terms.{totals, case_said, case_heard, promise_size}
 use Rattle.std.proofs.Common.{◌≡◌, ℕ, length, refl, sym, ap, ◌∙◌, cond}
 use Rattle.std.specs.Prelude.{Option, Some, None, option_map}
-use Rattle.bar_laws.proofs.Memory.AgreeRows.{said-same, heard-same}
+use Rattle.bar_laws.proofs.Memory.AgreeRows.{said-same}
 use Rattle.bar_laws.proofs.Memory.AgreeLogs.{case-same}
 
 -- the size of a promise, by its terms and side

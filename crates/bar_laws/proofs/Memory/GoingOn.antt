@@ -2,8 +2,7 @@
 use Rattle.bar_rules.specs.Peer.Agreement.{AgreesWith}
 use Rattle.bar_rules.specs.Peer.Knowledge.{Knowledge, known}
 use Rattle.bar_rules.specs.Peer.Log.{Log}
-use Rattle.bar_rules.specs.Peer.Machine.{minds, step_known}
-use Rattle.bar_rules.specs.Peer.Machine as machine
+use Rattle.bar_rules.specs.Peer.Machine.{step_known}
 use Rattle.bar_rules.specs.Member.{Member}
 use Rattle.bar_rules.specs.Peer.Rules.{IsObedient}
 use Rattle.bar_rules.specs.Peer.Run.{step}

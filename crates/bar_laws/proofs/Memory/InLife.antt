@@ -1,6 +1,5 @@
 -- The windows that a log tells: each update of one is of a round so near to the window's that it is alive in it.
 use Rattle.bar_wire.specs.Bodies.{divulge_in, history_in, offer_in, reply_in}
-use Rattle.bar_wire.specs.Kinds.{code_of}
 use Rattle.bar_terms.specs.Table.{is_known, digest_of}
 use Rattle.bar_terms.specs.Terms.{promised_updates, trade_count}
 use Rattle.bar_window.specs.Updates.{is_of_rounds, minus}

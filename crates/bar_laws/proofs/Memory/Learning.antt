@@ -1,17 +1,15 @@
 -- What a log tells after one more entry is what it told before, with the entry.
 use Rattle.bar_wire.specs.Bodies.{is_manifest_of, divulge_in}
 use Rattle.bar_wire.specs.declared.kind.Kind.TheVariants as kinds
-use Rattle.bar_window.specs.Exchange.{same_exchange, same_role}
 use Rattle.bar_window.specs.Updates.{same_update}
 use Rattle.bar_window.specs.declared.exchange.Exchange.{Exchange}
 use Rattle.bar_window.specs.declared.exchange.Role.{Role}
 use Rattle.bar_window.specs.declared.exchange.Role.TheVariants.{Initiator}
 use Rattle.bar_window.specs.declared.exchange.XKind.{XKind}
 use Rattle.bar_window.specs.declared.exchange.XKind.TheVariants.{Balanced, Push}
-use Rattle.bar_window.specs.declared.update.UpdateId.{UpdateId}
 use Rattle.bar_wire.specs.declared.kind.Kind.{Kind}
 use Rattle.bar_wire.specs.Kinds.{code_of}
-use Rattle.bar_wire.specs.Datagram.{is_place, place_by, Datagram, Body, Manifest, Block, Request, Response, Divulge, Query, Reply, Case, KeyRequest, Key, Evidence, Evict, is_of, exchange_of, exchange_by, part_of, kind_number, round_of}
+use Rattle.bar_wire.specs.Datagram.{is_place, place_by, Datagram, Body, Manifest, Block, Request, Response, Divulge, Query, Reply, Case, KeyRequest, Key, Evidence, Evict, is_of, exchange_of, part_of, kind_number, round_of}
 use Rattle.bar_rules.specs.Peer.Exchanges.{request_kind, inserted, with_exchange, recent_of, seat, revealed, exchanges_said}
 use Rattle.bar_rules.specs.Peer.Holdings.{block_of, block_by}
 use Rattle.bar_rules.specs.Peer.Knowledge.{Knowledge, table_of, known, this_round, case_heard_of, first_with, with_request, with_tick, with_heard, with_said, with_kept}
@@ -21,7 +19,7 @@ use Rattle.std.proofs.Common.{◌≡◌, ℕ, ◌≤◌, ◌+◌, Bool, true, fa
 use Rattle.std.specs.Prelude.{Option, Some, None, is_some, filter, nat_le, option_map}
 use Rattle.std.specs.Option.{option_or, option_map_or}
 use Rattle.std.specs.Bool.{then_some}
-use Rattle.std.specs.List.{AllByRecursion, list_any}
+use Rattle.std.specs.List.{list_any}
 use Rattle.std.proofs.lemmas.Bool.{leb-true, le-leb, both_ways}
 use Rattle.bar_laws.proofs.Memory.OpenList.{IsRising, opened-rising, picked-inserted, all-picked}
 

@@ -5,8 +5,8 @@ use Rattle.bar_wire.specs.Datagram.{Datagram, Body}
 use Rattle.bar_wire.specs.Inputs.{Input, Tick, Came}
 use Rattle.bar_rules.specs.Runs.{Outcome, begun, contents_from, sends_from, state_after}
 use Rattle.bar_rules.specs.Peer.Admission.{is_admitted}
-use Rattle.bar_rules.specs.Peer.Exchanges.{role_of, partner_in}
-use Rattle.bar_rules.specs.Peer.Knowledge.{Knowledge, known, nothing, with_entry, with_tick, with_heard, with_kept}
+use Rattle.bar_rules.specs.Peer.Exchanges.{partner_in}
+use Rattle.bar_rules.specs.Peer.Knowledge.{Knowledge, known, with_entry, with_heard}
 use Rattle.bar_rules.specs.Peer.Log.{Log, Entry, Ticked, Heard, Said, Kept, ticks}
 use Rattle.bar_rules.specs.Peer.Machine.{logs, minds, message_to, step_known}
 use Rattle.bar_rules.specs.Peer.Machine as machine
@@ -17,7 +17,7 @@ use Rattle.bar_rules.specs.Peer.Run.{step, log_after}
 use Rattle.bar_rules.specs.Peer.Signing.{signed}
 use Rattle.bar_rules.specs.Peer.Ticks.{orders_at_tick, contents_at_tick}
 use Rattle.bar_rules.specs.Values.{datagram_of}
-use Rattle.std.proofs.Common.{◌≡◌, ℕ, ◌+◌, Bool, true, false, List, [], ◌∷◌, ◌++◌, map, refl, sym, ap, ◌∙◌, cond}
+use Rattle.std.proofs.Common.{◌≡◌, ℕ, ◌+◌, Bool, true, false, List, [], ◌∷◌, ◌++◌, map, refl, ap, ◌∙◌, cond}
 use Rattle.std.specs.Prelude.{Option, Some, None, nat_le}
 use Rattle.bar_laws.specs.Knowing.{RunsAsKnown}
 use Rattle.bar_laws.proofs.Memory.Learning.{known-ticked, known-heard, known-said, known-kept}

@@ -18,7 +18,7 @@ use Rattle.bar_rules.specs.Peer.Signing.{MaySign, MaySay, signed, has_same_ident
 use Rattle.bar_rules.specs.Peer.Terms.{terms_of, terms_by, offer_terms, body_on}
 use Rattle.bar_rules.specs.Values.{updates_from, counts_ok}
 use Rattle.bar_terms.specs.Terms.{promised_updates, promised_junk}
-use Rattle.bar_window.specs.Exchange.{same_exchange, same_role, other_role, party_on}
+use Rattle.bar_window.specs.Exchange.{same_exchange, other_role, party_on}
 use Rattle.bar_window.specs.Terms.{Terms, Offer}
 use Rattle.bar_window.specs.declared.exchange.Exchange.{Exchange}
 use Rattle.bar_window.specs.declared.exchange.Role.{Role}

@@ -11,7 +11,7 @@ use Rattle.bar_rules.specs.Member.{Member}
 use Rattle.bar_rules.specs.Peer.Rules.{IsObedient, Allows}
 use Rattle.bar_rules.specs.Peer.Signing.{MaySign, MaySay, seat_by, signed, leaf_for}
 use Rattle.bar_rules.specs.Peer.Terms.{terms_of}
-use Rattle.bar_window.specs.Exchange.{same_exchange, same_role, kind_code, role_code}
+use Rattle.bar_window.specs.Exchange.{kind_code, role_code}
 use Rattle.bar_window.specs.Terms.{Terms}
 use Rattle.bar_window.specs.declared.exchange.Exchange.{Exchange}
 use Rattle.bar_window.specs.declared.exchange.Role.{Role}

@@ -1,6 +1,5 @@
 -- What a run sends.
 use Rattle.bar_rules.specs.Peer.Evidence.{new_evidence}
-use Rattle.bar_wire.specs.Kinds.{code_of}
 use Rattle.bar_rules.specs.Runs.{begun, sends_from}
 use Rattle.bar_rules.specs.Peer.Admission.{is_admitted}
 use Rattle.bar_rules.specs.Peer.Exchanges.{role_of, partner_in}

@@ -23,7 +23,7 @@ use Rattle.bar_window.specs.declared.exchange.Role.TheVariants.{Initiator, Respo
 use Rattle.bar_window.specs.declared.exchange.XKind.{XKind}
 use Rattle.bar_window.specs.declared.exchange.XKind.TheVariants.{Balanced, Push}
 use Rattle.bar_wire.specs.declared.kind.Kind.TheVariants as kinds
-use Rattle.bar_wire.specs.Datagram.{kind_of, Message, Datagram, kind_number, part_of, exchange_by, is_of, Place, place_of, Body}
+use Rattle.bar_wire.specs.Datagram.{kind_of, Datagram, is_of, Place, place_of, Body}
 use Rattle.bar_wire.specs.Inputs.{Input, Tick, Came}
 use Rattle.std.specs.Option.{option_or}
 use Rattle.std.proofs.Common.{◌≡◌, ℕ, ◌<◌, Bool, true, false, List, [], ◌∷◌, ◌++◌, refl, sym, subst, inl, inr, length, not}

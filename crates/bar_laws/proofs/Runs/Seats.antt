@@ -2,7 +2,6 @@
 use Rattle.bar_wire.specs.Kinds.{code_of}
 use Rattle.bar_rules.specs.Peer.Exchanges.{request_kind, seat}
 use Rattle.bar_rules.specs.Peer.Log.{Log, Entry, heard_in, if_passes, count_heard, has_kind_and_round}
-use Rattle.bar_window.specs.Exchange.{same_exchange, same_role}
 use Rattle.bar_window.specs.declared.exchange.Exchange.{Exchange}
 use Rattle.bar_window.specs.declared.exchange.Role.{Role}
 use Rattle.bar_window.specs.declared.exchange.Role.TheVariants.{Initiator}

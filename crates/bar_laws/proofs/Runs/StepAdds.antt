@@ -1,5 +1,5 @@
 -- What one input adds to a peer's log, and what it sends.
-use Rattle.bar_wire.specs.Kinds.{code_of}
+use Rattle.bar_wire.specs.Bodies.{evidence_in}
 use Rattle.bar_rules.specs.Runs.{begun, sending}
 use Rattle.bar_rules.specs.Peer.Admission.{is_admitted}
 use Rattle.bar_rules.specs.Peer.Evidence.{is_tried, pair_with, pairs_by, if_accuses, new_evidence}
@@ -14,10 +14,9 @@ use Rattle.bar_rules.specs.Peer.Run.{Out, perform, perform_all, say, say_or_repe
 use Rattle.bar_rules.specs.Peer.Signing.{signed}
 use Rattle.bar_rules.specs.Peer.Ticks.{orders_at_tick}
 use Rattle.bar_rules.specs.Values.{datagram_bytes, datagram_of, unsigned}
-use Rattle.bar_rules.specs.World.World.{inside}
 use Rattle.bar_rules.specs.Peer.Machine as machine
 use Rattle.bar_terms.specs.Table.{Table}
-use Rattle.bar_window.specs.Exchange.{same_exchange, same_role, party_on, other_role}
+use Rattle.bar_window.specs.Exchange.{party_on, other_role}
 use Rattle.bar_window.specs.declared.exchange.Exchange.{Exchange}
 use Rattle.bar_window.specs.declared.exchange.Role.{Role}
 use Rattle.bar_window.specs.declared.exchange.Role.TheVariants.{Initiator, Responder}
@@ -30,7 +29,7 @@ use Rattle.bar_wire.specs.Inputs.{Input, Tick, Came}
 use Rattle.std.specs.Option.{option_or, option_map_or}
 use Rattle.std.proofs.lemmas.Bool.{and_parts}
 use Rattle.bar_laws.proofs.Logs.{same_exchange-is, same_role-is, option_or-some, option_or-cases, WasHeard, first_heard-was, first_said-was, SaidIn, said-in, all-snoc, all-map}
-use Rattle.std.proofs.Common.{◌≡◌, ℕ, Bool, true, false, List, [], ◌∷◌, ◌++◌, refl, sym, ap, ◌∙◌, ◌&&◌, subst, inl, inr}
+use Rattle.std.proofs.Common.{◌≡◌, ℕ, Bool, true, false, List, [], ◌∷◌, ◌++◌, refl, sym, ap, ◌∙◌, subst, inl, inr}
 use Rattle.std.specs.Prelude.{Option, Some, None, ◌⊎◌, option_map, cond, nat_le}
 use Rattle.std.specs.List.{AllByRecursion}
 use Rattle.std.specs.Bool.{then_some}
@@ -48,12 +47,12 @@ abbrev pub AddedBy : Member → Log → Option Datagram → Entry → Type 0
 AddedBy me log o Ticked = Unit {0}
 AddedBy me log o (Said d) = Unit {0}
 AddedBy me log o (Heard d) = o ≡ Some d
-AddedBy me log o (Kept q evidence) = AllByRecursion (IsSource me log o) evidence ⊎ ((d : Datagram) × (o ≡ Some d) × (inside d.message.body ≡ evidence))
+AddedBy me log o (Kept q evidence) = AllByRecursion (IsSource me log o) evidence ⊎ ((d : Datagram) × (o ≡ Some d) × (evidence_in d.message.body ≡ evidence))
 
 -- what is sent is said, or is unsigned, and what stands in it as evidence is kept
 pub record IsPlain (log : Log) (b : Body) : Type 0 where
   pub unsigned_kind : is_signed b ≡ false
-  pub evidence : (inside b ≡ []) ⊎ ((q : ℕ) × (kept log q ≡ Some (inside b)))
+  pub evidence : (evidence_in b ≡ []) ⊎ ((q : ℕ) × (kept log q ≡ Some (evidence_in b)))
 
 abbrev pub SentBy : Member → Log → ℕ × Datagram → Type 0
 SentBy me log s = SaidIn log s.1 ⊎ ((s.1.message.from ≡ me.party) × IsPlain log s.1.message.body)
@@ -68,9 +67,9 @@ pub sent-said : (me : Member) (log : Log) (d : Datagram) (s : ℕ × Datagram) �
 sent-said me log d s (inl p) = inl (inr p)
 sent-said me log d s (inr (f, p)) = inr (f, record { unsigned_kind = p.unsigned_kind; evidence = go p.evidence })
   where
-    go : (inside s.1.message.body ≡ []) ⊎ ((q : ℕ) × (kept log q ≡ Some (inside s.1.message.body))) → (inside s.1.message.body ≡ []) ⊎ ((q : ℕ) × (kept (Said d ∷ log) q ≡ Some (inside s.1.message.body)))
+    go : (evidence_in s.1.message.body ≡ []) ⊎ ((q : ℕ) × (kept log q ≡ Some (evidence_in s.1.message.body))) → (evidence_in s.1.message.body ≡ []) ⊎ ((q : ℕ) × (kept (Said d ∷ log) q ≡ Some (evidence_in s.1.message.body)))
     go (inl e) = inl e
-    go (inr e) = inr (e.0, option_or-some (kept log e.0) None (inside s.1.message.body) e.1)
+    go (inr e) = inr (e.0, option_or-some (kept log e.0) None (evidence_in s.1.message.body) e.1)
 
 -- a message of a side of an exchange goes to the other
 exchange-to-other : (r : ℕ) (k : XKind) (side : Role) (from to : ℕ) (x : Exchange) → exchange_by r k side from to ≡ x → to ≡ party_on x (other_role side)

@@ -1,15 +1,15 @@
 -- Where nothing is forged, evidence that is accepted names no trusted peer, given that no member is framed by what it signed.
+use Rattle.bar_rules.specs.Broadcaster.Stream.{manifest_list, caster_table}
 use Rattle.bar_rules.specs.Peer.Evidence.{accuses}
 use Rattle.bar_wire.specs.Bodies.{digests_in, is_manifest_of, is_peer_kind}
 use Rattle.bar_rules.specs.Peer.Admission.{is_admitted}
-use Rattle.bar_rules.specs.Broadcaster.Broadcaster.{caster_table, manifest_list}
 use Rattle.bar_rules.specs.Peer.Knowledge.{known}
-use Rattle.bar_rules.specs.Peer.Log.{kept, kept_in, Log, table, Entry, Ticked, Heard, Said, Kept, manifest, round_now}
+use Rattle.bar_rules.specs.Peer.Log.{kept, kept_in, Log, table, Entry, Ticked, Heard, Said, Kept, manifest, round_now, HasSaid}
 use Rattle.bar_rules.specs.Member.{Session, Member, IsMember}
 use Rattle.bar_rules.specs.Peer.Rules.{IsObedient, Allows}
 use Rattle.bar_rules.specs.Values.{datagram_of, is_signed_by}
 use Rattle.bar_rules.specs.Judge.Verdict.{Shown, NotShown, Malformed, NotSigned, Fault, verdict, verdict_on, all_read, fault_of, judged, sender_of, are_of_one_peer}
-use Rattle.bar_rules.specs.World.World.{World, member, HasSaid, AllGenuine, Setup}
+use Rattle.bar_rules.specs.World.World.{World, member, AllGenuine, Setup}
 use Rattle.bar_terms.specs.Table.{Table, Agrees}
 use Rattle.bar_wire.specs.Datagram.{Datagram, Body, Request, Response, Query, Reply, Case, Key, is_signed, Manifest}
 use Rattle.std.proofs.Common.{◌≡◌, ℕ, Bool, true, false, List, [], ◌∷◌, refl, sym, ap, ◌∙◌, subst, ◌&&◌, eqb}
@@ -17,14 +17,14 @@ use Rattle.std.specs.Prelude.{Option, Some, None, slice_get, option_map, option_
 use Rattle.std.specs.List.{AllByRecursion, list_all}
 use Rattle.std.proofs.lemmas.Bool.{and_parts, eqb-true}
 use Rattle.bar_laws.proofs.Worlds.SoundWorlds.{IsSound}
-use Rattle.std.proofs.Common.{zero, suc, ◌+◌, ◌++◌, inl, inr}
+use Rattle.std.proofs.Common.{inl, inr}
 use Rattle.std.specs.Prelude.{◌⊎◌, nat_le, cond}
 use Rattle.std.specs.Bool.{then_some}
 use Rattle.bar_laws.proofs.Runs.{heard-in, HeardIn}
 use Rattle.bar_laws.proofs.Logs.{SaidIn, option_or-cases, IsEntry, IsFind, find-of, allowed-at, first_heard-was, IsLater, later-entry, table-later, heard-fits}
 use Rattle.bar_laws.proofs.Fitting.{IsFair, IsOwnBody}
 use Rattle.bar_wire.specs.Grammar.{IsDatagram, MaySend}
-use Rattle.bar_wire.specs.Datagram.{Block, Divulge, KeyRequest, Evidence, Evict, kind_of}
+use Rattle.bar_wire.specs.Datagram.{kind_of}
 use Rattle.bar_wire.specs.declared.kind.Kind.TheVariants as kinds
 use Rattle.bar_laws.proofs.Judging.{said-message, no-framing, named-shown}
 use Rattle.bar_laws.proofs.Worlds.SoundWorlds.{kept-in}

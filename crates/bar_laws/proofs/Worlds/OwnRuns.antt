@@ -1,5 +1,5 @@
 -- What moves leave of a party is what its own steps leave over the inputs that the moves gave it.
-use Rattle.bar_rules.specs.Broadcaster.Broadcaster.{caster_step}
+use Rattle.bar_rules.specs.Broadcaster.Sending.{caster_step}
 use Rattle.bar_rules.specs.Peer.Log.{Log}
 use Rattle.bar_rules.specs.Peer.Run.{Out, step}
 use Rattle.bar_rules.specs.Runs.{state_after, played_from, sends_from}

@@ -1,15 +1,13 @@
 -- The broadcaster's table has each list that a trusted peer has.
-use Rattle.bar_rules.specs.Broadcaster.Broadcaster.{caster_table, manifest_list}
+use Rattle.bar_rules.specs.Broadcaster.Stream.{manifest_list, caster_table}
 use Rattle.bar_rules.specs.Peer.Log.{Log, table, round_now}
-use Rattle.bar_rules.specs.Member.{Session}
 use Rattle.bar_rules.specs.World.World.{World, member, Setup}
-use Rattle.bar_terms.specs.Table.{Table, Extends}
+use Rattle.bar_terms.specs.Table.{Extends}
 use Rattle.bar_wire.specs.Datagram.{Datagram, Manifest}
 use Rattle.bar_wire.specs.Grammar.{InRange, IsRound}
-use Rattle.std.proofs.Common.{◌≡◌, ◌∙◌, ℕ, zero, suc, ◌+◌, ◌<◌, ◌≤◌, Bool, true, false, List, refl, sym, ap, subst, cond, eqb, map, arith, ◌&&◌}
+use Rattle.std.proofs.Common.{◌≡◌, ◌∙◌, ℕ, ◌≤◌, Bool, true, false, List, refl, sym, ap, subst, eqb, arith, ◌&&◌}
 use Rattle.std.specs.Prelude.{Some, slice_get, nat_le}
 use Rattle.std.specs.Bool.{then_some}
-use Rattle.std.specs.List.{range_with_len}
 use Rattle.std.proofs.lemmas.Bool.{le-leb}
 use Rattle.bar_laws.proofs.Fitting.{IsOwnMessage, IsBegun, IsOwnBody}
 use Rattle.bar_laws.proofs.Worlds.SoundWorlds.{IsSound}

@@ -1,13 +1,14 @@
 -- In a world where nothing is forged each delivered message of a trusted party was signed by it.
-use Rattle.bar_rules.specs.Broadcaster.Broadcaster.{caster_step}
+use Rattle.bar_rules.specs.Broadcaster.Sending.{caster_step}
+use Rattle.bar_wire.specs.Bodies.{evidence_in}
 use Rattle.bar_rules.specs.Peer.Knowledge.{known}
-use Rattle.bar_rules.specs.Peer.Log.{kept, kept_in, Log, Entry, Ticked, Heard, Said, Kept}
+use Rattle.bar_rules.specs.Peer.Log.{kept, kept_in, Log, Entry, Ticked, Heard, Said, Kept, HasSaid}
 use Rattle.bar_rules.specs.Member.{IsMember}
 use Rattle.bar_rules.specs.Peer.Rules.{IsObedient}
 use Rattle.bar_rules.specs.Peer.Run.{Out, step}
 use Rattle.bar_rules.specs.Peer.Signing.{MaySay}
 use Rattle.bar_rules.specs.Values.{datagram_bytes, datagram_of}
-use Rattle.bar_rules.specs.World.World.{World, Move, TickOf, Deliver, Hostile, member, step_of, spelled, takes, takes_by, delivered, happens, run, HasSaid, IsGenuine, AllGenuine, IsUnforged, AreUnforged, inside, Setup, IsSetup, initial}
+use Rattle.bar_rules.specs.World.World.{World, Move, TickOf, Deliver, Hostile, member, step_of, spelled, takes, takes_by, delivered, happens, run, IsGenuine, AllGenuine, IsUnforged, AreUnforged, Setup, IsSetup, initial}
 use Rattle.bar_wire.specs.Datagram.{Message, Datagram, Body, Evidence, Manifest, is_signed}
 use Rattle.bar_wire.specs.Inputs.{Input, Tick, Came}
 use Rattle.std.proofs.Common.{◌≡◌, ℕ, zero, suc, Bool, true, false, List, [], ◌∷◌, ◌++◌, refl, sym, ap, ◌∙◌, subst, inl, inr, map, eqb, arith, ◌<◌, ◌≤◌, ◌+◌, length}
@@ -84,7 +85,7 @@ all-wider setup trusted new old [] w a = tt
 all-wider setup trusted new old (b ∷ bs) w a = (genuine-wider setup trusted new old b w a.0, all-wider setup trusted new old bs w a.1)
 
 unforged-wider : (setup : Setup) (trusted : ℕ → Bool) (new old : World) (b : List ℕ) → IsWider new old → IsUnforged setup trusted old b → IsUnforged setup trusted new b
-unforged-wider setup trusted new old b w u = (genuine-wider setup trusted new old b w u.0, λ d reads. all-wider setup trusted new old (inside d.message.body) w (u.1 d reads))
+unforged-wider setup trusted new old b w u = (genuine-wider setup trusted new old b w u.0, λ d reads. all-wider setup trusted new old (evidence_in d.message.body) w (u.1 d reads))
 
 -- ---- what holds of a world
 
@@ -168,10 +169,10 @@ module _ (setup : Setup) (trusted : ℕ → Bool) (w : World) (p : ℕ) (log : L
       go q l (inl h) = (log, subst (λ z. slice_get w.logs z ≡ Some log) (sym h.0) at, subst (λ z. IsLater z log) (sym h.1) grown-log)
       go q l (inr h) = (l, h, record { new = []; split = refl })
 
-  came-genuine : (d : Datagram) → came (member setup p) i ≡ Some d → IsGenuine setup trusted w (datagram_bytes setup.session d) × AllGenuine setup trusted w (inside d.message.body)
+  came-genuine : (d : Datagram) → came (member setup p) i ≡ Some d → IsGenuine setup trusted w (datagram_bytes setup.session d) × AllGenuine setup trusted w (evidence_in d.message.body)
   came-genuine d e = go i fresh e
     where
-      go : (j : Input) → CameUnforged setup trusted w j → came (member setup p) j ≡ Some d → IsGenuine setup trusted w (datagram_bytes setup.session d) × AllGenuine setup trusted w (inside d.message.body)
+      go : (j : Input) → CameUnforged setup trusted w j → came (member setup p) j ≡ Some d → IsGenuine setup trusted w (datagram_bytes setup.session d) × AllGenuine setup trusted w (evidence_in d.message.body)
       go Tick f e = cc
       go (Came bytes) f e = (subst (λ b. IsGenuine setup trusted w b) (sym (spells setup.session bytes d e)) f.0, f.1 d e)
 
@@ -196,7 +197,7 @@ module _ (setup : Setup) (trusted : ℕ → Bool) (w : World) (p : ℕ) (log : L
   kept-new [] e a h = sound.kept p log e at h
   kept-new (Kept q f ∷ new) e a (inl h) = subst (λ z. AllGenuine setup trusted w z) h (go a.0)
     where
-      go : AllByRecursion (IsSource (member setup p) log (came (member setup p) i)) f ⊎ ((d : Datagram) × (came (member setup p) i ≡ Some d) × (inside d.message.body ≡ f)) → AllGenuine setup trusted w f
+      go : AllByRecursion (IsSource (member setup p) log (came (member setup p) i)) f ⊎ ((d : Datagram) × (came (member setup p) i ≡ Some d) × (evidence_in d.message.body ≡ f)) → AllGenuine setup trusted w f
       go (inl s) = sources f s
       go (inr s) = subst (λ z. AllGenuine setup trusted w z) s.2 (came-genuine s.0 s.1).1
   kept-new (Kept q f ∷ new) e a (inr h) = kept-new new e a.1 h
@@ -223,16 +224,16 @@ module _ (setup : Setup) (trusted : ℕ → Bool) (w : World) (p : ℕ) (log : L
   sent-unforged : (s : ℕ × Datagram) → SentBy (member setup p) out.state s → ((d : Datagram) → datagram_of setup.session (datagram_bytes setup.session s.1) ≡ Some d → d ≡ s.1) → IsUnforged setup trusted after (datagram_bytes setup.session s.1)
   sent-unforged s (inl said) r = (
     λ d l reads sign trust accepted f. said-genuine s.1 d said (r d reads) l f,
-    λ d reads. subst (λ z. AllGenuine setup trusted after z) (sym (ap (λ z. inside z.message.body) (r d reads) ∙ own-inside setup.session setup.stream s.1.message.body (st.mine s.1 said).body)) tt,
+    λ d reads. subst (λ z. AllGenuine setup trusted after z) (sym (ap (λ z. evidence_in z.message.body) (r d reads) ∙ own-inside setup.session setup.stream s.1.message.body (st.mine s.1 said).body)) tt,
   )
   sent-unforged s (inr plain) r = (
     λ d l reads sign trust accepted f. absurd (both_ways _ (ap (λ z. is_signed z.message.body) (r d reads) ∙ plain.1.unsigned_kind) sign),
-    λ d reads. subst (λ z. AllGenuine setup trusted after z) (sym (ap (λ z. inside z.message.body) (r d reads))) (go plain.1.evidence),
+    λ d reads. subst (λ z. AllGenuine setup trusted after z) (sym (ap (λ z. evidence_in z.message.body) (r d reads))) (go plain.1.evidence),
   )
     where
-      go : (inside s.1.message.body ≡ []) ⊎ ((q : ℕ) × (kept out.state q ≡ Some (inside s.1.message.body))) → AllGenuine setup trusted after (inside s.1.message.body)
+      go : (evidence_in s.1.message.body ≡ []) ⊎ ((q : ℕ) × (kept out.state q ≡ Some (evidence_in s.1.message.body))) → AllGenuine setup trusted after (evidence_in s.1.message.body)
       go (inl e) = subst (λ z. AllGenuine setup trusted after z) (sym e) tt
-      go (inr k) = all-wider setup trusted after w (inside s.1.message.body) wider (kept-after (inside s.1.message.body) (kept-in out.state k.0 (inside s.1.message.body) k.1))
+      go (inr k) = all-wider setup trusted after w (evidence_in s.1.message.body) wider (kept-after (evidence_in s.1.message.body) (kept-in out.state k.0 (evidence_in s.1.message.body) k.1))
 
   sends-unforged : (sends : List (ℕ × Datagram)) → AllByRecursion (SentBy (member setup p) out.state) sends
       → AllFit setup.session sends → AllByRecursion (λ (d : ℕ × List ℕ). IsUnforged setup trusted after d.1) (spelled setup.session sends)

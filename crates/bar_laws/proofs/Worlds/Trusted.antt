@@ -1,5 +1,6 @@
 -- What holds among trusted parties after any moves.
-use Rattle.bar_rules.specs.Broadcaster.Broadcaster.{evicted, peers_of}
+use Rattle.bar_rules.specs.Broadcaster.Sending.{evicted}
+use Rattle.bar_rules.specs.Broadcaster.Stream.{peers_of}
 use Rattle.bar_rules.specs.Peer.Log.{kept}
 use Rattle.bar_rules.specs.World.World.{Move, Setup, initial}
 use Rattle.bar_laws.specs.Parties.{after, ForgesNothing, NobodyIsEvicted, NobodyIsAccused, KeysOpenWell, TablesAreExtended}

@@ -15,7 +15,7 @@ use Rattle.bar_window.specs.Updates.{same_updates}
 use Rattle.bar_window.specs.Terms.{Terms, Trade, Offer}
 use Rattle.bar_terms.specs.Table.{Digest, Known, PastEnd, NoManifest, digest_of, is_within}
 use Rattle.bar_terms.specs.Terms.{offer_ok}
-use Rattle.bar_wire.specs.Datagram.{Message, Datagram, Body, Manifest, Block, Request, Response, Divulge, Query, Reply, Case, KeyRequest, Key, Evidence, Evict, is_signed, kind_of, round_of, Place, place_of, exchange_by, is_of}
+use Rattle.bar_wire.specs.Datagram.{Message, Datagram, Body, Manifest, Block, Request, Response, Divulge, Query, Reply, Case, KeyRequest, Key, Evidence, Evict, is_signed, kind_of, Place, place_of, exchange_by}
 use Rattle.bar_wire.specs.declared.kind.Kind.TheVariants as kinds
 use Rattle.bar_wire.specs.declared.kind.Kind.{Kind}
 use Rattle.bar_rules.specs.Member.{Session, Member, is_alive}

@@ -5,7 +5,6 @@ use Rattle.std.specs.Option.{option_or}
 use Rattle.bar_wire.specs.Bodies.{is_peer_kind}
 use Rattle.bar_window.specs.declared.exchange.Exchange.{Exchange}
 use Rattle.bar_window.specs.declared.exchange.Role.{Role}
-use Rattle.bar_window.specs.declared.exchange.XKind.{XKind}
 use Rattle.bar_terms.specs.Table.{Table}
 use Rattle.bar_wire.specs.Datagram.{Datagram, round_of, Place, place_of}
 use Rattle.bar_wire.specs.declared.kind.Kind.TheVariants as kinds

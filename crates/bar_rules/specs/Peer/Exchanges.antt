@@ -9,10 +9,9 @@ use Rattle.bar_window.specs.declared.exchange.Role.TheVariants.{Initiator, Respo
 use Rattle.bar_window.specs.declared.exchange.XKind.{XKind}
 use Rattle.bar_window.specs.declared.exchange.XKind.TheVariants.{Balanced, Push}
 use Rattle.bar_window.specs.Exchange.{other_role, party_on, kind_code, same_kind, same_exchange}
-use Rattle.bar_wire.specs.Datagram.{Datagram, Body, Divulge, is_of, exchange_of}
+use Rattle.bar_wire.specs.Datagram.{Datagram, is_of, exchange_of}
 use Rattle.bar_wire.specs.declared.kind.Kind.TheVariants as kinds
 use Rattle.bar_wire.specs.declared.kind.Kind.{Kind}
-use Rattle.bar_wire.specs.Kinds.{code_of}
 use Rattle.bar_rules.specs.Member.{Session, Member}
 use Rattle.bar_rules.specs.Secrets.{nonce_of}
 use Rattle.bar_rules.specs.Peer.Log.{Log, Entry, Ticked, Heard, Said, Kept, earliest, heard_in, said_in, if_passes, count_heard, has_kind_and_round, round_now}

@@ -8,7 +8,7 @@ use Rattle.bar_window.specs.declared.exchange.Exchange.{Exchange}
 use Rattle.bar_window.specs.declared.exchange.Role.{Role}
 use Rattle.bar_window.specs.Updates.{same_update}
 use Rattle.bar_terms.specs.Table.{Table}
-use Rattle.bar_wire.specs.Datagram.{Message, Datagram, Body, Block, Case, Key, Briefcase, is_of, exchange_by}
+use Rattle.bar_wire.specs.Datagram.{Message, Datagram, Body, Block, Key, Briefcase, is_of, exchange_by}
 use Rattle.bar_rules.specs.Member.{Session, is_alive}
 use Rattle.bar_rules.specs.Values.{window_of, opening_of, is_good, opened_block}
 use Rattle.bar_rules.specs.Peer.Log.{Log, Entry, Ticked, Heard, Said, Kept, earliest, first_heard, first_said, table, round_now}

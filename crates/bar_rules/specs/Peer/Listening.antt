@@ -1,6 +1,5 @@
 -- A peer that only listens: it admits manifests and blocks by the same rows, plays the same contents and sends nothing.
-use Rattle.std.specs.Prelude.{ℕ, ◌+◌, ◌&&◌, Bool, true, false, List, [], ◌∷◌, ◌++◌, map, Option, Some, None, nat_le, if◌then◌else◌}
-use Rattle.std.specs.List.{flat_map, concat}
+use Rattle.std.specs.Prelude.{ℕ, ◌&&◌, Bool, true, false, List, [], Option, Some, None, nat_le, if◌then◌else◌}
 use Rattle.bar_wire.specs.Datagram.{Datagram, Body, Manifest, Block}
 use Rattle.bar_wire.specs.Inputs.{Input, Tick, Came}
 use Rattle.bar_rules.specs.Member.{Member, last_tick}

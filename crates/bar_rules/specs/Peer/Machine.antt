@@ -1,5 +1,5 @@
 -- What a peer does at each input, over whatever keeps what it knows: its log, or the knowledge alone.
-use Rattle.std.specs.Prelude.{ℕ, ◌+◌, true, false, List, [], ◌∷◌, ◌++◌, map, Option, Some, None, nat_le, option_map, if◌then◌else◌}
+use Rattle.std.specs.Prelude.{ℕ, true, false, List, [], ◌∷◌, Option, Some, None, nat_le, option_map, if◌then◌else◌}
 use Rattle.bar_rules.specs.Peer.Evidence.{new_evidence}
 use Rattle.bar_window.specs.declared.exchange.Exchange.{Exchange}
 use Rattle.bar_wire.specs.Datagram.{Message, Datagram, Body, Divulge, KeyRequest, Evidence}

@@ -1,5 +1,5 @@
 -- What a peer is to send, as orders, and the message of each.
-use Rattle.std.specs.Prelude.{ℕ, ◌-◌, List, length, Option, Some, None, nat_lt, option_and_then}
+use Rattle.std.specs.Prelude.{ℕ, ◌-◌, List, length, Option, Some, nat_lt, option_and_then}
 use Rattle.std.specs.Bool.{then_some}
 use Rattle.bar_wire.specs.Bodies.{offer_in}
 use Rattle.bar_window.specs.declared.update.UpdateId.{UpdateId}

@@ -4,14 +4,13 @@ use Rattle.std.specs.Str.{bytes_eq}
 use Rattle.bar_wire.specs.Bodies.{offer_in}
 use Rattle.bar_window.specs.declared.update.UpdateId.{UpdateId}
 use Rattle.bar_window.specs.declared.exchange.Exchange.{Exchange}
-use Rattle.bar_window.specs.declared.exchange.Role.{Role}
 use Rattle.bar_window.specs.declared.exchange.Role.TheVariants.{Initiator, Responder}
 use Rattle.bar_window.specs.declared.exchange.XKind.{XKind}
 use Rattle.bar_window.specs.declared.exchange.XKind.TheVariants.{Balanced, Push}
 use Rattle.bar_window.specs.Exchange.{other_role}
 use Rattle.bar_window.specs.Terms.{Terms, Trade, Offer}
 use Rattle.bar_terms.specs.Table.{is_within}
-use Rattle.bar_wire.specs.Datagram.{Message, Datagram, Body, Request, Response, Query, Reply, Case, Key, Briefcase, KeyGiven, is_of, identity_of, exchange_by, Place, place_of, round_of}
+use Rattle.bar_wire.specs.Datagram.{Message, Datagram, Body, Request, Response, Query, Reply, Case, Key, Briefcase, KeyGiven, identity_of, exchange_by, Place, place_of, round_of}
 use Rattle.bar_seal.specs.Leaves as leaves
 use Rattle.bar_wire.specs.declared.kind.Kind.TheVariants as kinds
 use Rattle.bar_rules.specs.Member.{Member}

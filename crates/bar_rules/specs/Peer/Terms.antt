@@ -10,7 +10,7 @@ use Rattle.bar_window.specs.declared.exchange.XKind.TheVariants.{Balanced, Push}
 use Rattle.bar_window.specs.Exchange.{other_role, same_role}
 use Rattle.bar_window.specs.Terms.{Terms, Trade, Offer}
 use Rattle.bar_terms.specs.Terms.{promise}
-use Rattle.bar_wire.specs.Datagram.{Datagram, Body, Response, Query, Reply, Briefcase}
+use Rattle.bar_wire.specs.Datagram.{Datagram, Body, Briefcase}
 use Rattle.bar_wire.specs.declared.kind.Kind.TheVariants as kinds
 use Rattle.bar_wire.specs.declared.kind.Kind.{Kind}
 use Rattle.bar_rules.specs.Member.{Session, Member}

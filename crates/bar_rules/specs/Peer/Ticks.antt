@@ -1,5 +1,5 @@
 -- What a peer sends and plays at a tick.
-use Rattle.std.specs.Prelude.{ℕ, ◌+◌, ◌-◌, ◌==◌, ◌&&◌, ◌||◌, not, Bool, true, false, List, [], ◌∷◌, ◌++◌, length, map, filter, flat_map, Option, Some, None, is_some, if◌then◌else◌, nat_le, nat_lt, option_to_list, slice_index, slice_range, ◌*◌}
+use Rattle.std.specs.Prelude.{ℕ, ◌+◌, ◌-◌, ◌==◌, ◌&&◌, not, Bool, true, false, List, [], ◌∷◌, ◌++◌, length, map, filter, flat_map, is_some, if◌then◌else◌, nat_le, nat_lt, option_to_list, slice_index, slice_range, ◌*◌}
 use Rattle.std.specs.List.{range_with_len}
 use Rattle.bar_window.specs.declared.update.UpdateId.{UpdateId}
 use Rattle.bar_window.specs.declared.exchange.Exchange.{Exchange}

@@ -1,16 +1,17 @@
 -- All parties of a session, and a network that loses, repeats, reorders and forges.
-use Rattle.std.specs.Prelude.{◌≡◌, ℕ, ◌+◌, ◌≤◌, ◌==◌, Bool, true, List, [], ◌∷◌, ◌++◌, map, length, Option, Some, None, if◌then◌else◌, slice_get, slice_set, unwrap_or, ◌⊎◌}
+use Rattle.std.specs.Prelude.{◌≡◌, ℕ, ◌+◌, ◌≤◌, ◌==◌, Bool, true, List, [], ◌∷◌, ◌++◌, map, length, Option, Some, None, if◌then◌else◌, slice_get, slice_set, unwrap_or}
 use Rattle.std.specs.List.{concat}
-use Rattle.bar_wire.specs.Datagram.{Message, Datagram, Body, Evidence, is_signed}
+use Rattle.bar_rules.specs.Broadcaster.Sending.{caster_step}
+use Rattle.bar_wire.specs.Bodies.{evidence_in}
+use Rattle.bar_wire.specs.Datagram.{Datagram, is_signed}
 use Rattle.bar_wire.specs.Inputs.{Input, Tick, Came}
 use Rattle.bar_roster.specs.Sessions.{IsSession}
 use Rattle.bar_roster.specs.KeyFile.{Fits}
 use Rattle.bar_rules.specs.Member.{Session, Member}
 use Rattle.bar_rules.specs.Values.{datagram_bytes, datagram_of, is_signed_by}
-use Rattle.bar_rules.specs.Peer.Log.{Log, Said}
+use Rattle.bar_rules.specs.Peer.Log.{Log, HasSaid}
 use Rattle.bar_rules.specs.Runs.{Outcome}
 use Rattle.bar_rules.specs.Peer.Run.{step}
-use Rattle.bar_rules.specs.Broadcaster.Broadcaster.{caster_step}
 
 pub data Move : Type 0 where
   TickOf : (party : ℕ) → Move
@@ -77,12 +78,6 @@ initial setup = record { logs = map (λ secret. []) setup.secrets; played = map 
 
 -- ---- the premise on signatures
 
--- the message is among those that its log has signed
-abbrev pub HasSaid : Log → Message → Type 0
-HasSaid [] m = ⊥
-HasSaid (Said d ∷ log) m = (d.message ≡ m) ⊎ HasSaid log m
-HasSaid (_ ∷ log) m = HasSaid log m
-
 -- what these bytes spell, if it is signed by a party that is trusted, is what that party's log has signed
 abbrev pub IsGenuine : Setup → (ℕ → Bool) → World → List ℕ → Type 0
 IsGenuine setup trusted w bytes =
@@ -93,15 +88,10 @@ abbrev pub AllGenuine : Setup → (ℕ → Bool) → World → List (List ℕ) �
 AllGenuine setup trusted w [] = Unit {0}
 AllGenuine setup trusted w (b ∷ bs) = IsGenuine setup trusted w b × AllGenuine setup trusted w bs
 
--- the datagrams that stand in a body as evidence
-abbrev pub inside : Body → List (List ℕ)
-inside (Evidence datagrams) = datagrams
-inside _ = []
-
 -- so for the bytes and for each datagram that stands in them as evidence
 abbrev pub IsUnforged : Setup → (ℕ → Bool) → World → List ℕ → Type 0
 IsUnforged setup trusted w bytes =
-    IsGenuine setup trusted w bytes × ((d : Datagram) → datagram_of setup.session bytes ≡ Some d → AllGenuine setup trusted w (inside d.message.body))
+    IsGenuine setup trusted w bytes × ((d : Datagram) → datagram_of setup.session bytes ≡ Some d → AllGenuine setup trusted w (evidence_in d.message.body))
 
 abbrev pub AreUnforged : Setup → (ℕ → Bool) → World → List Move → Type 0
 AreUnforged setup trusted w [] = Unit {0}
