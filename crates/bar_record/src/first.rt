@@ -3,6 +3,7 @@ ghost use Rattle.std.specs.Prelude.{◌≡◌, ◌≤◌, length};
 ghost use Rattle.bar_record.specs.Items.{plain_first};
 ghost use Rattle.bar_record.specs.Recording.{datagram_first, first_of, sized_first};
 
+use bar_bytes::split_u16;
 use bar_wire::Input;
 
 /// The most bytes of a datagram.
@@ -38,9 +39,8 @@ fn sized_first(rest: &[u8]) -> First<'_>
     if rest.len() < 2 {
         return First::NoEntry;
     }
-    let len = 256 * usize::from(rest[0]) + usize::from(rest[1]);
-    let (_, bytes) = rest.split_at(2);
-    datagram_first(len, bytes)
+    let (len, bytes) = split_u16(rest);
+    datagram_first(usize::from(len), bytes)
 }
 
 /// What some bytes begin with.

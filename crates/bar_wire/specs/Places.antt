@@ -3,6 +3,7 @@ use Rattle.std.specs.Prelude.{ℕ, zero, suc, ◌+◌, ◌-◌, ◌*◌, ◌&&�
 use Rattle.std.specs.Bool.{then_some}
 use Rattle.std.specs.Option.{option_and_then}
 use Rattle.std.specs.Int.{w16, w32, w64, from_be_bytes}
+use Rattle.bar_bytes.specs.Bytes.{first_u16}
 use Rattle.bar_window.specs.declared.update.UpdateId.{UpdateId}
 use Rattle.bar_window.specs.declared.exchange.XKind.{XKind}
 use Rattle.bar_window.specs.declared.exchange.XKind.TheVariants.{Balanced, Push}
@@ -21,14 +22,10 @@ use Rattle.bar_wire.specs.Ranges.{is_datagram}
 
 -- ---- widths
 
--- the number of two bytes, of which those past the end count as zero
-abbrev pub raw_u16 : List ℕ → ℕ
-raw_u16 bytes = 256 * slice_index bytes 0 + slice_index bytes 1
-
 -- the length of so many datagrams, each after its own length
 abbrev pub entries_len : ℕ → List ℕ → ℕ
 entries_len zero bytes = 0
-entries_len (suc n) bytes = 2 + raw_u16 bytes + entries_len n (drop (2 + raw_u16 bytes) bytes)
+entries_len (suc n) bytes = 2 + first_u16 bytes + entries_len n (drop (2 + first_u16 bytes) bytes)
 
 abbrev pub window_len : Shape → ℕ
 window_len s = 8 * (words_of s * s.life)
@@ -72,13 +69,13 @@ chunks width (suc n) bytes = take width bytes ∷ chunks width n (drop width byt
 -- the datagrams of a list of so many lengths, each followed by as many bytes
 abbrev pub entries : ℕ → List ℕ → List (List ℕ)
 entries zero bytes = []
-entries (suc n) bytes = take (raw_u16 bytes) (drop 2 bytes) ∷ entries n (drop (2 + raw_u16 bytes) bytes)
+entries (suc n) bytes = take (first_u16 bytes) (drop 2 bytes) ∷ entries n (drop (2 + first_u16 bytes) bytes)
 
 -- the numbers of two bytes each
 abbrev pub pairs : List ℕ → List ℕ
 pairs [] = []
 pairs (high ∷ []) = []
-pairs (high ∷ low ∷ rest) = (256 * high + low) ∷ pairs rest
+pairs (high ∷ low ∷ rest) = first_u16 (high ∷ low ∷ rest) ∷ pairs rest
 
 abbrev pub kind_from : ℕ → XKind
 kind_from code = if code == 0 then Balanced else Push

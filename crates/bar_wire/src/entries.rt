@@ -3,7 +3,7 @@ ghost use Rattle.std.specs.List.{AllByRecursion};
 ghost use Rattle.bar_wire.specs.Grammar.{RisesTo, IsEntryInRange, AreDatagramsInRange, ArePartiesInRange};
 ghost use Rattle.bar_wire.specs.Places.{entries, entries_len, pairs};
 
-use crate::split::split_u16;
+use bar_bytes::split_u16;
 
 /// Whether the bytes are `count` lengths, each followed by as many bytes.
 pub(crate) fn has_entries(count: u8, bytes: &[u8]) -> bool

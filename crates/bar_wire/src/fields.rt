@@ -7,10 +7,10 @@ ghost use Rattle.bar_wire.specs.Reading.{HasBytes, Reads, ReadsForm, IsReadButRa
 use crate::kind::Kind;
 use crate::ranges::is_in_range;
 use crate::shape::Shape;
-use crate::split::{split_array, split_u8, split_u32};
 use crate::terms::read_terms;
 use crate::view::Body;
 use crate::windows::{read_window, read_windows};
+use bar_bytes::{split_array, split_u8, split_u32};
 use bar_window::XKind;
 
 fn manifest<'a>(bytes: &'a [u8], shape: &Shape) -> Body<'a>
