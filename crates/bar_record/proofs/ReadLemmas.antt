@@ -7,6 +7,7 @@ use Rattle.std.proofs.lemmas.List.{length-take-le}
 use Rattle.bar_bytes.specs.Bytes.{first_u16}
 use Rattle.bar_bytes.proofs.Lengths.{length_u16}
 use Rattle.bar_record.proofs.EntryLemmas.{entries_entry, entries_zero}
+use Rattle.bar_wire.specs.Limits.{largest_datagram}
 use Rattle.bar_wire.specs.Inputs.{Input, Tick, Came}
 use Rattle.bar_record.specs.declared.fault.RecordFault.{RecordFault}
 use Rattle.bar_record.specs.declared.fault.RecordFault.TheVariants.{NoEnd}
@@ -39,7 +40,7 @@ reads_by (suc most) last ticks at bytes some = let e : suc most - 1 ≡ most = o
 
 length_datagram : (len : ℕ) (rest others : List ℕ) (input : Input) → datagram_first len rest ≡ Entry input others
     → 3 + length rest ≡ length (entry_bytes input) + length others
-length_datagram len rest others input is = elim (cases_Bool (nat_le len 65507)) [
+length_datagram len rest others input is = elim (cases_Bool (nat_le len largest_datagram)) [
   | inl few ↦ elim (cases_Bool (nat_le len (length rest))) [
     | inl all ↦
         let e : Entry (Came (take len rest)) (drop len rest) ≡ Entry input others = rw (few, all) at is in

@@ -2,6 +2,7 @@
 use Rattle.std.specs.Prelude.{ℕ, zero, suc, ◌+◌, nat_le, ◌==◌, List, [], ◌∷◌, ◌++◌, codes, length, take, drop, bytes_eq, Result, Ok, Err, if◌then◌else◌}
 use Rattle.std.specs.List.{flat_map}
 use Rattle.bar_bytes.specs.Bytes.{u16_bytes, first_u16}
+use Rattle.bar_wire.specs.Limits.{largest_datagram}
 use Rattle.bar_wire.specs.Inputs.{Input, Tick, Came}
 use Rattle.bar_record.specs.declared.fault.RecordFault.{RecordFault}
 use Rattle.bar_record.specs.declared.fault.RecordFault.TheVariants.{BadHead, BadEntry, NoEnd, AfterEnd, AfterLast}
@@ -33,7 +34,7 @@ pub data First : Type 0 where
 -- so many bytes, and what follows them, where they are all there and not too many
 abbrev pub datagram_first : ℕ → List ℕ → First
 datagram_first len rest =
-    if nat_le len 65507 then (if nat_le len (length rest) then Entry (Came (take len rest)) (drop len rest) else NoEntry) else NoEntry
+    if nat_le len largest_datagram then (if nat_le len (length rest) then Entry (Came (take len rest)) (drop len rest) else NoEntry) else NoEntry
 
 -- what stands behind the mark of a datagram: its length in two bytes, and its bytes
 abbrev pub sized_first : List ℕ → First

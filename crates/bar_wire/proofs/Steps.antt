@@ -1,7 +1,8 @@
 -- One more number or datagram of a list.
 use Rattle.std.proofs.Common.{◌≡◌, ℕ, zero, suc, ◌+◌, ◌*◌, ◌/◌, ◌%◌, ◌<◌, ◌≤◌, ◌^◌, List, [], ◌∷◌, ◌++◌, length, take, drop, refl, ap, ◌∙◌, arith}
 use Rattle.bar_bytes.specs.Bytes.{u16_bytes, first_u16}
-use Rattle.bar_wire.specs.Places.{entries_len, entries, pairs, chunks}
+use Rattle.std.specs.Simd.{first_chunks}
+use Rattle.bar_wire.specs.Places.{entries_len, entries, pairs}
 
 u16_is : (n : ℕ) → n < 2 ^ 16 → u16_bytes n ≡ n / 256 ∷ n % 256 ∷ []
 unfolding u16_bytes
@@ -47,6 +48,6 @@ length_pairs count (h ∷ []) len = absurd (omega (arith, len))
 length_pairs zero (h ∷ l ∷ rest) len = absurd (omega (arith, len))
 length_pairs (suc count) (h ∷ l ∷ rest) len = omega (arith, length_pairs count rest (omega (arith, len)))
 
-pub length_chunks : (w n : ℕ) (bytes : List ℕ) → length (chunks w n bytes) ≡ n
+pub length_chunks : (w n : ℕ) (bytes : List ℕ) → length (first_chunks w n bytes) ≡ n
 length_chunks w zero bytes = refl
 length_chunks w (suc n) bytes = ap suc (length_chunks w n (drop w bytes))

@@ -14,7 +14,8 @@ use Rattle.bar_wire.specs.declared.view.Body.{Body as RawBody}
 use Rattle.bar_wire.specs.declared.view.Body.TheVariants as raw
 use Rattle.bar_wire.specs.Datagram.{Message, kind_of}
 use Rattle.bar_wire.specs.Grammar.{set_bytes, term_pieces, pieces, entry, start, message_bytes}
-use Rattle.bar_wire.specs.Places.{chunks, entries, entries_len, pairs, kind_from, role_from}
+use Rattle.std.specs.Simd.{first_chunks}
+use Rattle.bar_wire.specs.Places.{entries, entries_len, pairs, kind_from, role_from}
 use Rattle.bar_wire.specs.Views.{plain, IsBody}
 use Rattle.bar_wire.specs.Writing.{terms_written, body_written}
 use Rattle.bar_wire.proofs.Lists.{chunks_joined}
@@ -48,7 +49,7 @@ terms_len_is s r (terms.Push young aged want give junk) =
 
 pub written_is : (s : Shape) (b : RawBody) → IsBody s b → length (concat (pieces s (plain b))) ≡ body_written s b
 written_is s (raw.Manifest round count digests) of =
-    let parts = chunks 32 count digests.now in
+    let parts = first_chunks 32 count digests.now in
     let all = chunks_joined 32 count digests.now of.whole in
     omega (arith, ap length all.joined, length_u32 round, length-append (u32_bytes round) (length parts ∷ (concat parts ++ [])), length-append (concat parts) [])
 written_is s (raw.Block round index block) of = omega (arith, length_u32 round, length-append (u32_bytes round) (index ∷ (block.now ++ [])), length-append block.now [])

@@ -5,7 +5,8 @@ ghost use Rattle.bar_window.specs.Terms.{plain_terms};
 ghost use Rattle.bar_window.specs.Window.{members, IsWindowOf};
 ghost use Rattle.bar_wire.specs.Datagram.{kind_of, Evidence, Evict, Manifest};
 ghost use Rattle.bar_wire.specs.Grammar.{set_bytes, pieces, term_pieces, evidence_pieces, message_bytes};
-ghost use Rattle.bar_wire.specs.Places.{chunks, entries, entries_len, pairs, window_len};
+ghost use Rattle.std.specs.Simd.{first_chunks};
+ghost use Rattle.bar_wire.specs.Places.{entries, entries_len, pairs, window_len};
 ghost use Rattle.bar_wire.specs.Views.{plain, IsBody, AreTermWindows};
 ghost use Rattle.bar_wire.specs.Writing.{terms_written, body_written};
 
@@ -61,7 +62,7 @@ fn put_manifest(
 ) -> usize
     requires room { at + 5 + length digests.now ≤ length out.old }
     requires whole { length digests.now ≡ 32 * count }
-    ensures { Appends out.old at (concat (pieces shape.now (Manifest round (chunks 32 count digests.now)))) out.new result }
+    ensures { Appends out.old at (concat (pieces shape.now (Manifest round (first_chunks 32 count digests.now)))) out.new result }
 {
     let at = put_u32(out, at, round);
     let at = put_u8(out, at, count);
