@@ -1,10 +1,7 @@
 //! The real files and streams. They count their faults and tell nothing of their content.
-use bar_outside::{FileFault, Files, Sink, SinkFault};
+use bar_outside::{FileFault, Files, LARGEST_FILE, Sink, SinkFault};
 use std::io::{ErrorKind, Read, Stderr, Stdout, Write};
 use std::{fs, io, rt};
-
-/// The largest file that is read, in bytes.
-const MOST_BYTES: usize = 1_073_741_824;
 
 /// A file that was created, kept open for what is appended to it.
 #[derive(Drop)]
@@ -50,8 +47,8 @@ impl<'a, R: rt::Files + AllocGlobal> RealFiles<'a, R> {
 fn read_file<R: rt::Files + AllocGlobal>(rt: &R, path: &str) -> io::Result<Vec<u8>> {
     let mut bytes = Vec::new(rt.alloc());
     let file = fs::open(rt, path)?;
-    file.take(MOST_BYTES as u64 + 1).read_to_end(&mut bytes)?;
-    if bytes.len() > MOST_BYTES {
+    file.take(LARGEST_FILE as u64 + 1).read_to_end(&mut bytes)?;
+    if bytes.len() > LARGEST_FILE {
         return Err(io::Error::from(ErrorKind::FileTooLarge));
     }
     Ok(bytes)

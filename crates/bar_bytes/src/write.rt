@@ -1,6 +1,47 @@
 //! Bytes that are written one after another.
 
 ghost use Rattle.std.specs.Prelude.{◌≡◌, ℕ, ◌+◌, ◌<◌, ◌≤◌, ◌++◌, ◌↔◌, [], List, length, OnOk, OnErr, IsErr, drop};
+ghost use Rattle.bar_bytes.specs.Bytes.{u8_bytes, u16_bytes, u32_bytes};
+ghost use Rattle.bar_bytes.specs.Putting.{Appends};
+
+/// Writes the bytes at a place, and gives the place after them.
+pub fn put(out: &mut [u8], at: usize, bytes: &[u8]) -> usize
+    requires { at + length bytes.now ≤ length out.old }
+    ensures { Appends out.old at bytes.now out.new result }
+{
+    let end = at + bytes.len();
+    out[at..end].copy_from_slice(bytes);
+    end
+}
+
+/// Writes a byte at a place, and gives the place after it.
+pub fn put_u8(out: &mut [u8], at: usize, number: u8) -> usize
+    requires { at + 1 ≤ length out.old }
+    ensures writes { Appends out.old at (u8_bytes number) out.new result }
+    ensures end { result ≡ at + 1 }
+{
+    put(out, at, &[number])
+}
+
+/// Writes a number in two bytes at a place, the highest byte first, and gives the place after them.
+#[tactic(auto, unfolding(crate::specs::Bytes::u16_bytes))]
+pub fn put_u16(out: &mut [u8], at: usize, number: u16) -> usize
+    requires { at + 2 ≤ length out.old }
+    ensures writes { Appends out.old at (u16_bytes number) out.new result }
+    ensures end { result ≡ at + 2 }
+{
+    put(out, at, &number.to_be_bytes())
+}
+
+/// Writes a number in four bytes at a place, the highest byte first, and gives the place after them.
+#[tactic(auto, unfolding(crate::specs::Bytes::u32_bytes))]
+pub fn put_u32(out: &mut [u8], at: usize, number: u32) -> usize
+    requires { at + 4 ≤ length out.old }
+    ensures writes { Appends out.old at (u32_bytes number) out.new result }
+    ensures end { result ≡ at + 4 }
+{
+    put(out, at, &number.to_be_bytes())
+}
 
 /// The bytes don't fit.
 #[derive(Clone, Copy, Debug, PartialEq, Eq)]
@@ -38,9 +79,7 @@ impl<'a> Writer<'a> {
         if self.out.len() - self.len < bytes.len() {
             return Err(Full);
         }
-        let end = self.len + bytes.len();
-        self.out[self.len..end].copy_from_slice(bytes);
-        self.len = end;
+        self.len = put(self.out, self.len, bytes);
         Ok(())
     }
 

@@ -6,12 +6,9 @@ ghost use Rattle.bar_outside.specs.Schedule.{failing, next_call, fails_next, fai
 ghost use Rattle.bar_outside.specs.MemFiles.{content_of};
 
 use crate::schedule::{Schedule, is_listed, new_schedule};
-use crate::{CallKind, FileFault, Files, NoMemory};
+use crate::{CallKind, FileFault, Files, LARGEST_FILE, NoMemory};
 use std::alloc::Global;
 use std::collections::BTreeMap;
-
-/// The largest file that can be read.
-const MOST_BYTES: usize = 1_073_741_824;
 
 /// A call that failed.
 #[derive(Drop)]
@@ -103,7 +100,7 @@ impl Files for MemFiles {
             return Err(self.note_fault(CallKind::Read, path));
         }
         match self.files.get(path) {
-            Some(bytes) if bytes.len() <= MOST_BYTES => Ok(bytes.to_vec(self.alloc)?),
+            Some(bytes) if bytes.len() <= LARGEST_FILE => Ok(bytes.to_vec(self.alloc)?),
             _ => Err(self.note_fault(CallKind::Read, path)),
         }
     }

@@ -4,12 +4,14 @@ use Rattle.std.proofs.Common.{take, drop, ◌==◌, inl, inr, length-append, len
 use Rattle.std.proofs.lemmas.Bool.{cases_Bool}
 use Rattle.std.proofs.lemmas.Bool.Decides.{nat_tests}
 use Rattle.std.proofs.lemmas.List.{length-take-le}
+use Rattle.bar_bytes.specs.Bytes.{first_u16}
 use Rattle.bar_bytes.proofs.Lengths.{length_u16}
 use Rattle.bar_record.proofs.EntryLemmas.{entries_entry, entries_zero}
+use Rattle.bar_wire.specs.Limits.{largest_datagram}
 use Rattle.bar_wire.specs.Inputs.{Input, Tick, Came}
 use Rattle.bar_record.specs.declared.fault.RecordFault.{RecordFault}
 use Rattle.bar_record.specs.declared.fault.RecordFault.TheVariants.{NoEnd}
-use Rattle.bar_record.specs.Recording.{First, Entry, NoEntry, End, entry_bytes, datagram_first, sized_first, marked_first, len_at, first_of, inputs_from, inputs_by, before, ticks_in}
+use Rattle.bar_record.specs.Recording.{First, Entry, NoEntry, End, entry_bytes, datagram_first, sized_first, marked_first, first_of, inputs_from, inputs_by, before, ticks_in}
 use Rattle.bar_record.specs.Items.{entries}
 
 -- inputs before those of a reading
@@ -38,7 +40,7 @@ reads_by (suc most) last ticks at bytes some = let e : suc most - 1 ≡ most = o
 
 length_datagram : (len : ℕ) (rest others : List ℕ) (input : Input) → datagram_first len rest ≡ Entry input others
     → 3 + length rest ≡ length (entry_bytes input) + length others
-length_datagram len rest others input is = elim (cases_Bool (nat_le len 65507)) [
+length_datagram len rest others input is = elim (cases_Bool (nat_le len largest_datagram)) [
   | inl few ↦ elim (cases_Bool (nat_le len (length rest))) [
     | inl all ↦
         let e : Entry (Came (take len rest)) (drop len rest) ≡ Entry input others = rw (few, all) at is in
@@ -54,9 +56,9 @@ length_datagram len rest others input is = elim (cases_Bool (nat_le len 65507)) 
 length_sized : (rest others : List ℕ) (input : Input) → sized_first rest ≡ Entry input others → 1 + length rest ≡ length (entry_bytes input) + length others
 length_sized rest others input is = elim (cases_Bool (nat_le 2 (length rest))) [
   | inl room ↦
-      let e : datagram_first (len_at rest) (drop 2 rest) ≡ Entry input others = rw room at is in
+      let e : datagram_first (first_u16 rest) (drop 2 rest) ≡ Entry input others = rw room at is in
       let le : 2 ≤ length rest = le_of_test 2 (length rest) room in
-      omega (arith, length_datagram (len_at rest) (drop 2 rest) others input e, length-drop 2 rest)
+      omega (arith, length_datagram (first_u16 rest) (drop 2 rest) others input e, length-drop 2 rest)
   | inr short ↦ let e : NoEntry ≡ Entry input others = rw short at is in absurd cc
 ]
 

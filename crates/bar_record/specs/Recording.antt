@@ -1,7 +1,8 @@
 -- Recordings: a head, an entry for each input, and an end.
-use Rattle.std.specs.Prelude.{ℕ, zero, suc, ◌+◌, ◌*◌, nat_le, ◌==◌, List, [], ◌∷◌, ◌++◌, codes, length, take, drop, slice_index, bytes_eq, Result, Ok, Err, if◌then◌else◌}
+use Rattle.std.specs.Prelude.{ℕ, zero, suc, ◌+◌, nat_le, ◌==◌, List, [], ◌∷◌, ◌++◌, codes, length, take, drop, bytes_eq, Result, Ok, Err, if◌then◌else◌}
 use Rattle.std.specs.List.{flat_map}
-use Rattle.bar_bytes.specs.Bytes.{u16_bytes}
+use Rattle.bar_bytes.specs.Bytes.{u16_bytes, first_u16}
+use Rattle.bar_wire.specs.Limits.{largest_datagram}
 use Rattle.bar_wire.specs.Inputs.{Input, Tick, Came}
 use Rattle.bar_record.specs.declared.fault.RecordFault.{RecordFault}
 use Rattle.bar_record.specs.declared.fault.RecordFault.TheVariants.{BadHead, BadEntry, NoEnd, AfterEnd, AfterLast}
@@ -30,18 +31,14 @@ pub data First : Type 0 where
   Entry : (input : Input) → (rest : List ℕ) → First
   NoEntry : First
 
--- the number of two bytes
-abbrev pub len_at : List ℕ → ℕ
-len_at bytes = 256 * slice_index bytes 0 + slice_index bytes 1
-
 -- so many bytes, and what follows them, where they are all there and not too many
 abbrev pub datagram_first : ℕ → List ℕ → First
 datagram_first len rest =
-    if nat_le len 65507 then (if nat_le len (length rest) then Entry (Came (take len rest)) (drop len rest) else NoEntry) else NoEntry
+    if nat_le len largest_datagram then (if nat_le len (length rest) then Entry (Came (take len rest)) (drop len rest) else NoEntry) else NoEntry
 
 -- what stands behind the mark of a datagram: its length in two bytes, and its bytes
 abbrev pub sized_first : List ℕ → First
-sized_first rest = if nat_le 2 (length rest) then datagram_first (len_at rest) (drop 2 rest) else NoEntry
+sized_first rest = if nat_le 2 (length rest) then datagram_first (first_u16 rest) (drop 2 rest) else NoEntry
 
 abbrev pub marked_first : ℕ → List ℕ → First
 marked_first mark rest =

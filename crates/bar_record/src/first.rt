@@ -3,10 +3,8 @@ ghost use Rattle.std.specs.Prelude.{◌≡◌, ◌≤◌, length};
 ghost use Rattle.bar_record.specs.Items.{plain_first};
 ghost use Rattle.bar_record.specs.Recording.{datagram_first, first_of, sized_first};
 
-use bar_wire::Input;
-
-/// The most bytes of a datagram.
-const MOST_BYTES: usize = 65_507;
+use bar_bytes::split_u16;
+use bar_wire::{Input, LARGEST_DATAGRAM};
 
 /// What some bytes begin with, and what follows it.
 #[derive(Clone, Copy)]
@@ -18,12 +16,13 @@ pub enum First<'a> {
 }
 
 /// A datagram of this length, and what follows it.
-fn datagram_first(len: usize, rest: &[u8]) -> First<'_>
+fn datagram_first(len: u16, rest: &[u8]) -> First<'_>
     ensures { plain_first result ≡ datagram_first len rest.now }
 {
-    if len > MOST_BYTES {
+    if len > LARGEST_DATAGRAM {
         return First::NoEntry;
     }
+    let len = usize::from(len);
     if len > rest.len() {
         return First::NoEntry;
     }
@@ -38,8 +37,7 @@ fn sized_first(rest: &[u8]) -> First<'_>
     if rest.len() < 2 {
         return First::NoEntry;
     }
-    let len = 256 * usize::from(rest[0]) + usize::from(rest[1]);
-    let (_, bytes) = rest.split_at(2);
+    let (len, bytes) = split_u16(rest);
     datagram_first(len, bytes)
 }
 

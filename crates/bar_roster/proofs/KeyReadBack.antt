@@ -22,6 +22,7 @@ use Rattle.toml.specs.Text.{IsLinesText, IsValueText}
 use Rattle.toml.proofs.Turns.{document_some}
 use Rattle.toml.proofs.ReadLines.{run, AllPrinted, read_lines}
 use Rattle.toml.proofs.OnLiterals.{toml_on_literals}
+use Rattle.bar_roster.specs.NumberRanges.{most_rounds}
 use Rattle.bar_roster.specs.declared.key_fields.KeyData.{KeyData}
 use Rattle.bar_roster.specs.KeyText.{IsInRange, key_text_of, key_of_text, key_fields, truth}
 use Rattle.bar_roster.proofs.PlainText.{hex_digits, string_text-digits}
@@ -223,7 +224,7 @@ module _ (k : KeyData) where
       let party_low : nat_le 0 k.party ≡ true = grind (arith, nat_tests) in
       let party : nat_le k.party 200 ≡ true = grind (arith, nat_tests, h.range.party) in
       let rounds_low : nat_le 1 k.rounds ≡ true = grind (arith, nat_tests, h.range.rounds_low) in
-      let rounds_high : nat_le k.rounds 1820 ≡ true = grind (arith, nat_tests, h.range.rounds_high) in
+      let rounds_high : nat_le k.rounds most_rounds ≡ true = grind (arith, nat_tests, h.range.rounds_high) in
       let lms_low : nat_le 5 k.lms ≡ true = grind (arith, nat_tests, h.range.lms_low) in
       let lms_high : nat_le k.lms 7 ≡ true = grind (arith, nat_tests, h.range.lms_high) in
       let ots_low : nat_le 1 k.ots ≡ true = grind (arith, nat_tests, h.range.ots_low) in

@@ -4,6 +4,7 @@ use Rattle.std.specs.Fmt.{decimal}
 use Rattle.hex.specs.Hex.{encode_lower}
 use Rattle.toml.specs.Data.{Members, get_member, as_bool}
 use Rattle.bar_roster.specs.declared.key_fields.KeyData.{KeyData}
+use Rattle.bar_roster.specs.NumberRanges.{most_rounds}
 use Rattle.bar_roster.specs.Fields.{document, number_in, bytes_of}
 
 -- what a key text says: whose key it is, in which session, the types of its signatures, the party's secret, and whether it was used
@@ -14,7 +15,7 @@ key_data party id rounds lms ots secret spent = record { party = party; id = id;
 pub record IsInRange (k : KeyData) : Type 0 where
   pub party : k.party ≤ 200
   pub rounds_low : 1 ≤ k.rounds
-  pub rounds_high : k.rounds ≤ 1820
+  pub rounds_high : k.rounds ≤ most_rounds
   pub lms_low : 5 ≤ k.lms
   pub lms_high : k.lms ≤ 7
   pub ots_low : 1 ≤ k.ots
@@ -56,7 +57,7 @@ key_fields ms = do
   version ← get_member (codes "version") ms >>= number_in 1 1
   id ← get_member (codes "id") ms >>= bytes_of 8
   party ← get_member (codes "party") ms >>= number_in 0 200
-  rounds ← get_member (codes "rounds") ms >>= number_in 1 1820
+  rounds ← get_member (codes "rounds") ms >>= number_in 1 most_rounds
   lms ← get_member (codes "lms") ms >>= number_in 5 7
   ots ← get_member (codes "ots") ms >>= number_in 1 4
   secret ← get_member (codes "secret") ms >>= bytes_of 32

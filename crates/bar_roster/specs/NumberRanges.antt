@@ -1,11 +1,15 @@
 -- The ranges of a session's numbers.
-use Rattle.std.specs.Prelude.{◌≡◌, ◌≤◌}
+use Rattle.std.specs.Prelude.{◌≡◌, ℕ, ◌≤◌}
 use Rattle.bar_roster.specs.declared.numbers.Numbers.{Numbers}
+
+-- the most rounds of a session
+abbrev pub most_rounds : ℕ
+most_rounds = 1820
 
 pub record AreInRange (n : Numbers) : Type 0 where
   pub version : n.version ≡ 1
   pub rounds_low : 1 ≤ n.rounds
-  pub rounds_high : n.rounds ≤ 1820
+  pub rounds_high : n.rounds ≤ most_rounds
   pub life_low : 2 ≤ n.life
   pub life_high : n.life ≤ 16
   pub cap_low : 1 ≤ n.cap

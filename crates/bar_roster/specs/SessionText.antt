@@ -5,11 +5,13 @@ use Rattle.toml.specs.Data.{Data, Items, no_items, item, Members, as_table}
 use Rattle.bar_lms.specs.declared.params.Params.{Params}
 use Rattle.bar_lms.specs.declared.params.Height.{Height}
 use Rattle.bar_lms.specs.Params.{levels}
+use Rattle.bar_wire.specs.Limits.{leaves_a_round}
 use Rattle.bar_wire.specs.declared.shape.Shape.{Shape}
 use Rattle.bar_roster.specs.declared.fault.Key.TheVariants.{Version, Id, Rounds, Life, Cap, PerRound, Port, TickMs, Lms, Ots as OtsKey, CasterKey, Peers, PeerKey, PeerAnchor, Fanout}
 use Rattle.bar_roster.specs.declared.fault.SessionFault.{SessionFault}
 use Rattle.bar_roster.specs.declared.fault.SessionFault.TheVariants.{NotToml, BadValue, TooFewLeaves}
 use Rattle.bar_roster.specs.declared.numbers.Numbers.{Numbers}
+use Rattle.bar_roster.specs.NumberRanges.{most_rounds}
 use Rattle.bar_roster.specs.Shapes.{height_of, params_of, shape_of}
 use Rattle.bar_roster.specs.Fields.{◌>>=◌, field, number_in, bytes_of, key_of, peers_of, count_of, document}
 
@@ -31,7 +33,7 @@ abbrev pub numbers_of : Members → Result Numbers SessionFault
 numbers_of ms = do
   version ← field (number_in 1 1) Version (codes "version") ms
   id ← field (bytes_of 8) Id (codes "id") ms
-  rounds ← field (number_in 1 1820) Rounds (codes "rounds") ms
+  rounds ← field (number_in 1 most_rounds) Rounds (codes "rounds") ms
   life ← field (number_in 2 16) Life (codes "life") ms
   cap ← field (number_in 1 16) Cap (codes "cap") ms
   per_round ← field (number_in 1 64) PerRound (codes "per_round") ms
@@ -70,10 +72,10 @@ peers_from lms ots keys anchors (item d ds) =
 
 -- ---- the leaves
 
--- a party signs at most 18 messages a round, each with a leaf of its own
+-- each message that a party may sign has a leaf of its own
 abbrev pub enough_leaves : ℕ → Height → Result (Unit {0}) SessionFault
 enough_leaves rounds height =
-    if nat_le (18 * rounds) (2 ^ levels height) then Ok tt else Err (TooFewLeaves (18 * rounds) (2 ^ levels height))
+    if nat_le (leaves_a_round * rounds) (2 ^ levels height) then Ok tt else Err (TooFewLeaves (leaves_a_round * rounds) (2 ^ levels height))
 
 -- ---- the session
 

@@ -7,6 +7,7 @@ ghost use Rattle.bar_roster.specs.Fields.{bytes_of, number_in};
 ghost use Rattle.bar_roster.specs.KeyText.{key_fields};
 
 use crate::fields::{bytes, number};
+use crate::numbers::MOST_ROUNDS;
 use toml::{Table, Value};
 
 /// What a key text says: whose key it is, in which session, the types of its signatures, the party's secret, and whether it was used.
@@ -51,7 +52,7 @@ pub(crate) fn key_fields_at(table: &Table) -> Option<KeyData>
     Some(KeyData {
         id: bytes_in::<8>(table, "id")?,
         party: number_in(table, "party", 0, 200)? as u16,
-        rounds: number_in(table, "rounds", 1, 1820)? as u32,
+        rounds: number_in(table, "rounds", 1, MOST_ROUNDS)? as u32,
         lms: number_in(table, "lms", 5, 7)? as u32,
         ots: number_in(table, "ots", 1, 4)? as u32,
         secret: bytes_in::<32>(table, "secret")?,

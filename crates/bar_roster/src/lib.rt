@@ -17,6 +17,7 @@ pub use fault::{Key, SessionFault};
 pub use key_fault::KeyFileFault;
 pub use key_file::KeyFile;
 pub use key_writer::key_text;
+pub use numbers::MOST_ROUNDS;
 pub use session::{Session, check_leaves};
 
 #[cfg(test)]

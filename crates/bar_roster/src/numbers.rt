@@ -8,6 +8,9 @@ use crate::fields::{bytes_at, number_at};
 use crate::{Key, SessionFault};
 use toml::Table;
 
+/// The most rounds of a session.
+pub const MOST_ROUNDS: u64 = 1_820;
+
 /// The numbers of a session text, which stand before its keys.
 #[derive(Debug, Clone, Copy)]
 pub struct Numbers {
@@ -30,7 +33,7 @@ pub(crate) fn numbers_at(table: &Table) -> Result<Numbers, SessionFault>
 {
     let version = number_at(table, Key::Version, "version", 1, 1)? as u8;
     let id = bytes_at::<8>(table, Key::Id, "id")?;
-    let rounds = number_at(table, Key::Rounds, "rounds", 1, 1820)? as u32;
+    let rounds = number_at(table, Key::Rounds, "rounds", 1, MOST_ROUNDS)? as u32;
     let life = number_at(table, Key::Life, "life", 2, 16)? as u8;
     let cap = number_at(table, Key::Cap, "cap", 1, 16)? as u8;
     let per_round = number_at(table, Key::PerRound, "per_round", 1, 64)? as u8;

@@ -2,7 +2,8 @@
 ghost use Rattle.std.specs.Prelude.{◌≡◌, ◌≤◌, ◌<◌, ◌⊎◌, ◌-◌, ◌*◌, ◌^◌, Some, Err, Ok, IfOk, IfErr, OnOk, slice_get};
 ghost use Rattle.toml.specs.View.{table_view};
 ghost use Rattle.bar_lms.specs.Params.{levels};
-ghost use Rattle.bar_roster.specs.NumberRanges.{AreInRange};
+ghost use Rattle.bar_wire.specs.Limits.{leaves_a_round};
+ghost use Rattle.bar_roster.specs.NumberRanges.{AreInRange, most_rounds};
 ghost use Rattle.bar_roster.specs.SessionText.{enough_leaves, parties_of, session_of};
 ghost use Rattle.bar_roster.specs.Shapes.{params_of, shape_of};
 
@@ -11,7 +12,7 @@ use crate::numbers::{Numbers, numbers_at};
 use crate::parties::{caster_key, entries_at, peers};
 use crate::{Key, SessionFault};
 use bar_lms::{Height, Ots, Params};
-use bar_wire::Shape;
+use bar_wire::{LEAVES_A_ROUND, Shape};
 use std::alloc::Global;
 use std::marker::Model;
 use toml::Table;
@@ -95,13 +96,13 @@ fn shape_of(numbers: &Numbers, params: Params, peers: u16) -> Shape
     }
 }
 
-/// Whether there is a leaf for each message of the rounds, of which there are at most 1,820; else `TooFewLeaves` with both numbers.
+/// Whether there is a leaf for each message of the rounds, of which there are at most `MOST_ROUNDS`; else `TooFewLeaves` with both numbers.
 pub fn check_leaves(rounds: u32, height: Height) -> Result<(), SessionFault>
-    requires rounds { rounds ≤ 1820 }
+    requires rounds { rounds ≤ most_rounds }
     ensures value { result ≡ enough_leaves rounds height }
-    ensures enough { OnOk result (18 * rounds ≤ 2 ^ levels height) }
+    ensures enough { OnOk result (leaves_a_round * rounds ≤ 2 ^ levels height) }
 {
-    let need = 18 * rounds;
+    let need = LEAVES_A_ROUND * rounds;
     let have = height.leaves() as u32;
     if need <= have {
         Ok(())

@@ -4,6 +4,7 @@ use Rattle.bar_window.specs.declared.exchange.XKind.{XKind}
 use Rattle.bar_window.specs.declared.exchange.XKind.TheVariants.{Balanced, Push}
 use Rattle.bar_window.specs.declared.exchange.Role.{Role}
 use Rattle.bar_window.specs.declared.exchange.Role.TheVariants.{Initiator, Responder}
+use Rattle.bar_wire.specs.Limits.{leaves_a_round}
 use Rattle.bar_wire.specs.Datagram.{Body, Manifest, Case, Key, Evict, part_of}
 
 -- the slot of the first message of a side among the eighteen of a peer's round, where the responder has a seat
@@ -20,7 +21,7 @@ step_of (Key k) = 2
 step_of _ = 0
 
 abbrev pub leaf_at : ℕ → XKind → Role → ℕ → ℕ → ℕ
-leaf_at round kind role step seat = 18 * (round - 1) + (first_slot kind role seat + step)
+leaf_at round kind role step seat = leaves_a_round * (round - 1) + (first_slot kind role seat + step)
 
 -- the leaf of a step, by the round, kind and side of the exchange
 abbrev pub leaf_by : Option (ℕ × XKind × Role) → ℕ → ℕ → ℕ

@@ -5,6 +5,7 @@ ghost use Rattle.bar_window.specs.declared.exchange.XKind.{XKind};
 ghost use Rattle.bar_window.specs.declared.exchange.Role.{Role};
 ghost use Rattle.bar_window.specs.declared.exchange.Role.TheVariants.{Responder};
 ghost use Rattle.bar_wire.specs.Datagram.{Message, Body, is_signed, round_of, part_of, kind_number, identity_of};
+ghost use Rattle.bar_wire.specs.Limits.{leaves_a_round};
 ghost use Rattle.bar_seal.specs.Identities.{identity};
 ghost use Rattle.bar_seal.specs.Leaves.{leaf_of};
 
@@ -20,7 +21,7 @@ pub fn leaves_name_messages()
     ensures broadcaster { (b c : Body) (s t : ℕ) → is_signed b ≡ true → is_signed c ≡ true → part_of b ≡ None → part_of c ≡ None → 1 ≤ round_of b → 1 ≤ round_of c → leaf_of b s ≡ leaf_of c t → (kind_number b ≡ kind_number c) × (round_of b ≡ round_of c) }
 {}
 
-/// The leaves of so many rounds are fewer than eighteen for each round.
+/// The leaves of so many rounds are fewer than those that each round has.
 pub fn leaves_are_few()
-    ensures { (b : Body) (s rounds : ℕ) → is_signed b ≡ true → 1 ≤ round_of b → round_of b ≤ rounds → s < 2 → leaf_of b s < 18 * rounds }
+    ensures { (b : Body) (s rounds : ℕ) → is_signed b ≡ true → 1 ≤ round_of b → round_of b ≤ rounds → s < 2 → leaf_of b s < leaves_a_round * rounds }
 {}

@@ -2,7 +2,6 @@
 #![tactic(auto)]
 
 mod checker;
-mod codes;
 mod identities;
 pub mod laws;
 mod leaves;

@@ -5,9 +5,8 @@ ghost use Rattle.bar_wire.specs.Datagram.{is_signed};
 ghost use Rattle.bar_wire.specs.Views.{plain};
 ghost use Rattle.bar_seal.specs.Identities.{identity_by};
 
-use crate::codes::{kind_from, role_from};
 use crate::identities::Identity;
-use bar_wire::{Body, Kind, View};
+use bar_wire::{Body, Kind, View, kind_from, role_from};
 
 /// What a signed datagram is told by, or `None` for a kind that bears no signature.
 pub fn identity(view: &View<'_>) -> Option<Identity>

@@ -1,8 +1,6 @@
 -- Partners are other peers.
-use Rattle.std.proofs.Common.{◌≡◌, ℕ, ◌+◌, ◌-◌, ◌%◌, ◌<◌, ◌≤◌, ◌≢◌, List, take, lit<, arith}
+use Rattle.std.proofs.Common.{ℕ, ◌+◌, ◌-◌, ◌%◌, ◌<◌, ◌≤◌, ◌≢◌, List, arith}
 use Rattle.std.proofs.lemmas.Bool.Decides.{nat_tests}
-use Rattle.std.proofs.lemmas.List.{get_or-take}
-use Rattle.std.specs.Int.{w64, from_be_bytes}
 use Rattle.bar_window.specs.declared.exchange.XKind.{XKind}
 use Rattle.bar_seeds.specs.Partners.{number_of, peer_but, partner_of}
 
@@ -28,9 +26,3 @@ partner_high id peers seed kind me some =
 pub partner_other : (id : List ℕ) (peers : ℕ) (seed : List ℕ) (kind : XKind) (me : ℕ) → partner_of id peers seed kind me ≢ me
 unfolding partner_of
 partner_other id peers seed kind me = peer_but_other me (number_of id seed kind % (peers - 1))
-
--- a number is read from eight bytes alone
-pub number_of_front : (bytes : List ℕ) → from_be_bytes w64 (take 8 bytes) ≡ from_be_bytes w64 bytes
-number_of_front bytes =
-    let at = λ (i : ℕ) (below : i < 8). get_or-take 8 bytes i 0 below in
-    simp (at 0 (lit< tt), at 1 (lit< tt), at 2 (lit< tt), at 3 (lit< tt), at 4 (lit< tt), at 5 (lit< tt), at 6 (lit< tt), at 7 (lit< tt))

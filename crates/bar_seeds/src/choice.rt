@@ -7,16 +7,15 @@ ghost use Rattle.bar_bytes.specs.Tag.{tagged};
 ghost use Rattle.bar_window.specs.Exchange.{kind_code};
 ghost use Rattle.bar_seeds.specs.Partners.{number_of, partner_of};
 
-use bar_bytes::Tagged;
+use bar_bytes::{Tagged, split_u64};
 use bar_window::XKind;
 
 // The number of a hash's first eight bytes, the highest byte first.
 fn first_number(hash: &[u8; 32]) -> u64
     ensures { result ≡ from_be_bytes w64 (take 8 hash.now) }
 {
-    u64::from_be_bytes([
-        hash[0], hash[1], hash[2], hash[3], hash[4], hash[5], hash[6], hash[7],
-    ])
+    let (number, _) = split_u64(hash);
+    number
 }
 
 // The hash that chooses a partner.

@@ -3,12 +3,12 @@ use Rattle.std.proofs.Common.{◌≡◌, ℕ, zero, suc, ◌+◌, ◌<◌, ◌�
 use Rattle.std.specs.Prelude.{Result, Ok, Err, MatchResult, IsOkAnd}
 use Rattle.std.specs.List.{flat_map, AllByRecursion}
 use Rattle.std.proofs.lemmas.List.{append-nil, length-take, length-drop}
-use Rattle.bar_bytes.specs.Bytes.{u16_bytes}
+use Rattle.bar_bytes.specs.Bytes.{u16_bytes, first_u16}
 use Rattle.bar_wire.specs.declared.evidence.EvidenceView.{EvidenceView}
 use Rattle.bar_wire.specs.declared.fault.WireFault.{WireFault}
 use Rattle.bar_wire.specs.declared.fault.WireFault.TheVariants as faults
 use Rattle.bar_wire.specs.Grammar.{entry, IsEntryInRange, AreDatagramsInRange}
-use Rattle.bar_wire.specs.Places.{entries, entries_len, raw_u16}
+use Rattle.bar_wire.specs.Places.{entries, entries_len}
 use Rattle.bar_wire.specs.Evidence.{IsEntrySplit, IsEvidence, IsEvidenceFault, evidence_bytes, evidence_len, datagrams_of}
 use Rattle.bar_wire.proofs.FieldLengths.{entries_back}
 use Rattle.bar_wire.proofs.ReadBack.{entries_back as entries_read}
@@ -25,7 +25,7 @@ first_entry bytes after len is lt left fits =
       total = omega (arith, left, long, length-drop len after, fits);
     }
 
-pub room_for_one : (n : ℕ) (bytes : List ℕ) → 0 < n → length bytes ≡ entries_len n bytes → 2 + raw_u16 bytes ≤ length bytes
+pub room_for_one : (n : ℕ) (bytes : List ℕ) → 0 < n → length bytes ≡ entries_len n bytes → 2 + first_u16 bytes ≤ length bytes
 room_for_one zero bytes some len = absurd (omega (arith, some))
 room_for_one (suc n) bytes some len = omega (arith, len)
 

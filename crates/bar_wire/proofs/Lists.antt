@@ -8,7 +8,8 @@ use Rattle.std.proofs.lemmas.Grind.{flat_map-append}
 use Rattle.bar_bytes.specs.Bytes.{u16_bytes, u64_bytes}
 use Rattle.bar_window.specs.WindowBytes.{words_bytes}
 use Rattle.bar_wire.specs.Grammar.{entry}
-use Rattle.bar_wire.specs.Places.{entries, entries_len, pairs, chunks}
+use Rattle.std.specs.Simd.{first_chunks}
+use Rattle.bar_wire.specs.Places.{entries, entries_len, pairs}
 
 abbrev pub IsBytes : List ℕ → Type 0
 IsBytes bytes = (i : ℕ) → slice_index bytes i < 256
@@ -48,9 +49,9 @@ pairs_joined (suc count) (h ∷ l ∷ rest) fits len =
 -- ---- parts of one width
 
 pub record AreChunks (width count : ℕ) (bytes : List ℕ) : Type 0 where
-  pub long : length (chunks width count bytes) ≡ count
-  pub joined : concat (chunks width count bytes) ≡ bytes
-  pub fit : AllByRecursion (λ d. length d ≡ width) (chunks width count bytes)
+  pub long : length (first_chunks width count bytes) ≡ count
+  pub joined : concat (first_chunks width count bytes) ≡ bytes
+  pub fit : AllByRecursion (λ d. length d ≡ width) (first_chunks width count bytes)
 
 pub chunks_joined : (width count : ℕ) (bytes : List ℕ) → length bytes ≡ width * count → AreChunks width count bytes
 chunks_joined width zero [] len = record { long = refl; joined = refl; fit = tt }

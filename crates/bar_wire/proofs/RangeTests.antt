@@ -9,6 +9,7 @@ use Rattle.bar_window.specs.declared.exchange.XKind.TheVariants as exchanges
 use Rattle.bar_window.specs.Exchange.{same_kind}
 use Rattle.bar_window.specs.Terms.{Terms, Trade, Offer}
 use Rattle.bar_window.proofs.Spelling.{set_test, set_passes}
+use Rattle.bar_wire.specs.Limits.{everyone, largest_datagram}
 use Rattle.bar_wire.specs.declared.shape.Shape.{Shape}
 use Rattle.bar_wire.specs.declared.kind.Kind.{Kind}
 use Rattle.bar_wire.specs.declared.kind.Kind.TheVariants as kinds
@@ -105,7 +106,7 @@ rises_tells high low [] = (λ h. tt, λ h. refl)
 rises_tells high low (p ∷ ps) = three_tell (nat_lt low p) (nat_le p high) (rises_to high p ps) (lt_tells low p) (le_tells p high) (rises_tells high p ps)
 
 entry_tells : (d : List ℕ) → IsTrue (is_entry_in_range d) ↔ IsEntryInRange d
-entry_tells d = and_tells (nat_lt 0 (length d)) (nat_le (length d) 65507) (lt_tells 0 (length d)) (le_tells (length d) 65507)
+entry_tells d = and_tells (nat_lt 0 (length d)) (nat_le (length d) largest_datagram) (lt_tells 0 (length d)) (le_tells (length d) largest_datagram)
 
 datagrams_tell : (ds : List (List ℕ)) → IsTrue (are_datagrams_in_range ds) ↔ AreDatagramsInRange ds
 datagrams_tell ds = three_tell (nat_lt 0 (length ds)) (nat_le (length ds) 2) (list_all is_entry_in_range ds) (lt_tells 0 (length ds)) (le_tells (length ds) 2) (all_tell is_entry_in_range IsEntryInRange entry_tells ds)
@@ -131,8 +132,8 @@ range_tells s (Key k) = round_tells s k.round
 range_tells s (Evidence ds) = datagrams_tell ds
 range_tells s (Evict r ps) = and_tells (is_round s r) (are_parties_in_range s.peers ps) (round_tells s r) (parties_tell s.peers ps)
 
-to_all : (s : Shape) (from to : ℕ) → IsTrue ((from == 0) && (to == 65535)) ↔ ((from ≡ 0) × (to ≡ 65535))
-to_all s from to = and_tells (from == 0) (to == 65535) (eq_tells from 0) (eq_tells to 65535)
+to_all : (s : Shape) (from to : ℕ) → IsTrue ((from == 0) && (to == everyone)) ↔ ((from ≡ 0) × (to ≡ everyone))
+to_all s from to = and_tells (from == 0) (to == everyone) (eq_tells from 0) (eq_tells to everyone)
 
 to_peer : (s : Shape) (from to : ℕ) → IsTrue (is_peer s from && is_peer s to && not (from == to)) ↔ (IsPeer s from × IsPeer s to × (from ≢ to))
 to_peer s from to = three_tell (is_peer s from) (is_peer s to) (not (from == to)) (peer_tells s from) (peer_tells s to) (ne_tells from to)

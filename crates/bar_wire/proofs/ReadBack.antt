@@ -13,7 +13,8 @@ use Rattle.bar_window.specs.Terms.{Terms, Trade, Offer}
 use Rattle.bar_wire.specs.declared.shape.Shape.{Shape}
 use Rattle.bar_wire.specs.Datagram.{Body, Briefcase, Manifest, Block, Request, Response, Divulge, Query, Reply, Case, KeyRequest, Key, Evidence, Evict, kind_of}
 use Rattle.bar_wire.specs.Grammar.{set_bytes, pieces, term_pieces, entry, HasForm, HasTermForm, IsWindowSet}
-use Rattle.bar_wire.specs.Places.{widths, fields_len, window_len, cut, chunks, entries, pairs, kind_from, set_at, part, number, terms_at, round_body, body_at}
+use Rattle.std.specs.Simd.{first_chunks}
+use Rattle.bar_wire.specs.Places.{widths, fields_len, window_len, cut, entries, pairs, kind_from, set_at, part, number, terms_at, round_body, body_at}
 use Rattle.bar_wire.proofs.Codes.{kind_back, role_back}
 use Rattle.bar_wire.proofs.Steps.{entries_step, pairs_step}
 use Rattle.bar_wire.proofs.WindowLaws.{length_set}
@@ -37,9 +38,9 @@ cut_back (p ∷ ps) x =
     let back : drop (length p) ((p ++ concat ps) ++ x) ≡ concat ps ++ x = ap (drop (length p)) is ∙ drop_at p (concat ps ++ x) (length p) refl in
     λ i. front i ∷ (ap (cut (map length ps)) back ∙ cut_back ps x) i
 
-chunks_back : (n : ℕ) (ds : List (List ℕ)) → AllByRecursion (λ d. length d ≡ n) ds → chunks n (length ds) (concat ds) ≡ ds
+chunks_back : (n : ℕ) (ds : List (List ℕ)) → AllByRecursion (λ d. length d ≡ n) ds → first_chunks n (length ds) (concat ds) ≡ ds
 chunks_back n [] fit = refl
-chunks_back n (d ∷ ds) fit = λ i. take_at d (concat ds) n fit.0 i ∷ (ap (chunks n (length ds)) (drop_at d (concat ds) n fit.0) ∙ chunks_back n ds fit.1) i
+chunks_back n (d ∷ ds) fit = λ i. take_at d (concat ds) n fit.0 i ∷ (ap (first_chunks n (length ds)) (drop_at d (concat ds) n fit.0) ∙ chunks_back n ds fit.1) i
 
 pub entries_back : (ds : List (List ℕ)) → AllByRecursion (λ d. length d < 2 ^ 16) ds → entries (length ds) (flat_map entry ds) ≡ ds
 entries_back [] fit = refl

@@ -17,20 +17,21 @@ use Rattle.bar_window.proofs.Numbers.{number_bit}
 use Rattle.bar_window.proofs.Spelling.{word_at, length_window_words, window_words_fit, set_from_window}
 use Rattle.bar_wire.specs.declared.shape.Shape.{Shape}
 use Rattle.bar_wire.specs.Grammar.{set_bytes, IsWindowSet}
-use Rattle.bar_wire.specs.Places.{chunks, set_at}
+use Rattle.std.specs.Simd.{first_chunks}
+use Rattle.bar_wire.specs.Places.{set_at}
 
 number_back : (n : ℕ) → n < 2 ^ 64 → from_be_bytes w64 (u64_bytes n) ≡ n
 unfolding u64_bytes
 number_back n lt = from_be_bytes-to_be_bytes_8 n lt
 
 -- words are read back from their bytes
-words_back : (ws : List ℕ) → AllByRecursion (λ w. w < 2 ^ 64) ws → map (from_be_bytes w64) (chunks 8 (length ws) (words_bytes ws)) ≡ ws
+words_back : (ws : List ℕ) → AllByRecursion (λ w. w < 2 ^ 64) ws → map (from_be_bytes w64) (first_chunks 8 (length ws) (words_bytes ws)) ≡ ws
 unfolding words_bytes
 words_back [] fit = refl
 words_back (w ∷ ws) fit =
     let front : take 8 (u64_bytes w ++ flat_map u64_bytes ws) ≡ u64_bytes w = take_at (u64_bytes w) (flat_map u64_bytes ws) 8 (length_u64 w) in
     let back : drop 8 (u64_bytes w ++ flat_map u64_bytes ws) ≡ flat_map u64_bytes ws = drop_at (u64_bytes w) (flat_map u64_bytes ws) 8 (length_u64 w) in
-    λ i. (ap (from_be_bytes w64) front ∙ number_back w fit.0) i ∷ (ap (λ (x : List ℕ). map (from_be_bytes w64) (chunks 8 (length ws) x)) back ∙ words_back ws fit.1) i
+    λ i. (ap (from_be_bytes w64) front ∙ number_back w fit.0) i ∷ (ap (λ (x : List ℕ). map (from_be_bytes w64) (first_chunks 8 (length ws) x)) back ∙ words_back ws fit.1) i
 
 bit_test : (t : Bool) → (cond t 1 0 == 1) ≡ t
 bit_test true = refl
@@ -66,5 +67,5 @@ unfolding window_bytes
 set_back s r us set =
     let ws = window_words 1 s.life r us in
     let long : length ws ≡ 1 * s.life = length_window_words 1 s.life r us in
-    let numbers : map (from_be_bytes w64) (chunks 8 (1 * s.life) (words_bytes ws)) ≡ ws = ap (λ n. map (from_be_bytes w64) (chunks 8 n (words_bytes ws))) (sym long) ∙ words_back ws (window_words_fit 1 s.life r us) in
+    let numbers : map (from_be_bytes w64) (first_chunks 8 (1 * s.life) (words_bytes ws)) ≡ ws = ap (λ n. map (from_be_bytes w64) (first_chunks 8 n (words_bytes ws))) (sym long) ∙ words_back ws (window_words_fit 1 s.life r us) in
     ap (λ (x : List ℕ). filter (λ u. is_set x (64 * (u.round - first_round s.life r) + u.index)) (window_of 1 s.life r)) numbers ∙ flagged s.life r us s.shaped.alive set

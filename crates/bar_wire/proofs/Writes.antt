@@ -1,7 +1,7 @@
 -- Writes, one behind the other.
 use Rattle.std.proofs.Common.{◌≡◌, ℕ, ◌+◌, List, [], ◌++◌, length, take, drop, sym, ap, subst, ◌∙◌, append_assoc, length-append, arith}
 use Rattle.std.proofs.lemmas.List.{append-nil, drop-drop}
-use Rattle.bar_wire.specs.Writing.{Appends}
+use Rattle.bar_bytes.specs.Putting.{Appends}
 
 pub writes_then : {old mid new : List ℕ} {at end after : ℕ} {bytes more : List ℕ} → Appends old at bytes mid end → Appends mid end more new after → Appends old at (bytes ++ more) new after
 writes_then {old = old} {mid = mid} {new = new} {at = at} {end = end} {after = after} {bytes = bytes} {more = more} p q =

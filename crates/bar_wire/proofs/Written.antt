@@ -2,7 +2,7 @@
 use Rattle.std.proofs.Common.{◌≡◌, ℕ, zero, suc, ◌+◌, List, [], ◌∷◌, ◌++◌, length, take, drop, sym, ap, ◌∙◌, length-append, arith}
 use Rattle.std.specs.List.{concat, flat_map}
 use Rattle.std.proofs.lemmas.List.{length-take, length-drop}
-use Rattle.bar_bytes.specs.Bytes.{u16_bytes, u32_bytes}
+use Rattle.bar_bytes.specs.Bytes.{u16_bytes, u32_bytes, first_u16}
 use Rattle.bar_bytes.proofs.Lengths.{length_u16, length_u32}
 use Rattle.bar_window.specs.declared.terms.Terms.{Terms as RawTerms}
 use Rattle.bar_window.specs.declared.terms.Terms.TheVariants as terms
@@ -14,7 +14,8 @@ use Rattle.bar_wire.specs.declared.view.Body.{Body as RawBody}
 use Rattle.bar_wire.specs.declared.view.Body.TheVariants as raw
 use Rattle.bar_wire.specs.Datagram.{Message, kind_of}
 use Rattle.bar_wire.specs.Grammar.{set_bytes, term_pieces, pieces, entry, start, message_bytes}
-use Rattle.bar_wire.specs.Places.{chunks, entries, entries_len, pairs, raw_u16, kind_from, role_from}
+use Rattle.std.specs.Simd.{first_chunks}
+use Rattle.bar_wire.specs.Places.{entries, entries_len, pairs, kind_from, role_from}
 use Rattle.bar_wire.specs.Views.{plain, IsBody}
 use Rattle.bar_wire.specs.Writing.{terms_written, body_written}
 use Rattle.bar_wire.proofs.Lists.{chunks_joined}
@@ -27,7 +28,7 @@ use Rattle.bar_wire.proofs.Whole.{start_len, start_then}
 length_joined : (count : ℕ) (bytes : List ℕ) → length bytes ≡ entries_len count bytes → length (flat_map entry (entries count bytes)) ≡ length bytes
 length_joined zero bytes len = sym len
 length_joined (suc n) bytes len =
-    let k = raw_u16 bytes in
+    let k = first_u16 bytes in
     let rest = drop (2 + k) bytes in
     let one = take k (drop 2 bytes) in
     let more = flat_map entry (entries n rest) in
@@ -48,7 +49,7 @@ terms_len_is s r (terms.Push young aged want give junk) =
 
 pub written_is : (s : Shape) (b : RawBody) → IsBody s b → length (concat (pieces s (plain b))) ≡ body_written s b
 written_is s (raw.Manifest round count digests) of =
-    let parts = chunks 32 count digests.now in
+    let parts = first_chunks 32 count digests.now in
     let all = chunks_joined 32 count digests.now of.whole in
     omega (arith, ap length all.joined, length_u32 round, length-append (u32_bytes round) (length parts ∷ (concat parts ++ [])), length-append (concat parts) [])
 written_is s (raw.Block round index block) of = omega (arith, length_u32 round, length-append (u32_bytes round) (index ∷ (block.now ++ [])), length-append block.now [])

@@ -12,6 +12,7 @@ use Rattle.bar_window.specs.WindowBytes.{window_bytes}
 use Rattle.bar_wire.specs.declared.shape.Shape.{Shape}
 use Rattle.bar_wire.specs.declared.kind.Kind.{Kind}
 use Rattle.bar_wire.specs.declared.kind.Kind.TheVariants as kinds
+use Rattle.bar_wire.specs.Limits.{everyone, largest_datagram}
 use Rattle.bar_wire.specs.Kinds.{code_of, is_signed_kind}
 use Rattle.bar_wire.specs.Datagram.{Datagram, Message, Body, Manifest, Block, Request, Response, Divulge, Query, Reply, Case, KeyRequest, Key, Evidence, Evict, kind_of}
 
@@ -112,7 +113,7 @@ RisesTo high low [] = Unit {0}
 RisesTo high low (p ∷ ps) = (low < p) × (p ≤ high) × RisesTo high p ps
 
 abbrev pub IsEntryInRange : List ℕ → Type 0
-IsEntryInRange datagram = (0 < length datagram) × (length datagram ≤ 65507)
+IsEntryInRange datagram = (0 < length datagram) × (length datagram ≤ largest_datagram)
 
 abbrev pub AreDatagramsInRange : List (List ℕ) → Type 0
 AreDatagramsInRange datagrams = (0 < length datagrams) × (length datagrams ≤ 2) × AllByRecursion IsEntryInRange datagrams
@@ -141,10 +142,10 @@ InRange s (Key k) = IsRound s k.round
 InRange s (Evidence datagrams) = AreDatagramsInRange datagrams
 InRange s (Evict r parties) = IsRound s r × ArePartiesInRange s.peers parties
 
--- who sends a kind, and to whom: party 0 is the broadcaster, and 65535 means all peers
+-- who sends a kind, and to whom: party 0 is the broadcaster, and everyone is a receiver
 abbrev pub MaySend : Shape → Kind → ℕ → ℕ → Type 0
-MaySend s kinds.Manifest from to = (from ≡ 0) × (to ≡ 65535)
-MaySend s kinds.Evict from to = (from ≡ 0) × (to ≡ 65535)
+MaySend s kinds.Manifest from to = (from ≡ 0) × (to ≡ everyone)
+MaySend s kinds.Evict from to = (from ≡ 0) × (to ≡ everyone)
 MaySend s kinds.Block from to = (from ≡ 0) × IsPeer s to
 MaySend s kinds.Evidence from to = IsPeer s from × (to ≡ 0)
 MaySend s _ from to = IsPeer s from × IsPeer s to × (from ≢ to)

@@ -2,7 +2,9 @@
 use Rattle.std.specs.Prelude.{ℕ, zero, suc, ◌+◌, ◌-◌, ◌*◌, ◌&&◌, ◌==◌, if◌then◌else◌, List, [], ◌∷◌, take, drop, slice_index, slice_range, map, filter, sum, Option, bytes_eq}
 use Rattle.std.specs.Bool.{then_some}
 use Rattle.std.specs.Option.{option_and_then}
+use Rattle.std.specs.Simd.{first_chunks}
 use Rattle.std.specs.Int.{w16, w32, w64, from_be_bytes}
+use Rattle.bar_bytes.specs.Bytes.{first_u16}
 use Rattle.bar_window.specs.declared.update.UpdateId.{UpdateId}
 use Rattle.bar_window.specs.declared.exchange.XKind.{XKind}
 use Rattle.bar_window.specs.declared.exchange.XKind.TheVariants.{Balanced, Push}
@@ -21,14 +23,10 @@ use Rattle.bar_wire.specs.Ranges.{is_datagram}
 
 -- ---- widths
 
--- the number of two bytes, of which those past the end count as zero
-abbrev pub raw_u16 : List ℕ → ℕ
-raw_u16 bytes = 256 * slice_index bytes 0 + slice_index bytes 1
-
 -- the length of so many datagrams, each after its own length
 abbrev pub entries_len : ℕ → List ℕ → ℕ
 entries_len zero bytes = 0
-entries_len (suc n) bytes = 2 + raw_u16 bytes + entries_len n (drop (2 + raw_u16 bytes) bytes)
+entries_len (suc n) bytes = 2 + first_u16 bytes + entries_len n (drop (2 + first_u16 bytes) bytes)
 
 abbrev pub window_len : Shape → ℕ
 window_len s = 8 * (words_of s * s.life)
@@ -64,21 +62,16 @@ abbrev pub cut : List ℕ → List ℕ → List (List ℕ)
 cut [] bytes = []
 cut (n ∷ ns) bytes = take n bytes ∷ cut ns (drop n bytes)
 
--- so many parts of one width
-abbrev pub chunks : ℕ → ℕ → List ℕ → List (List ℕ)
-chunks width zero bytes = []
-chunks width (suc n) bytes = take width bytes ∷ chunks width n (drop width bytes)
-
 -- the datagrams of a list of so many lengths, each followed by as many bytes
 abbrev pub entries : ℕ → List ℕ → List (List ℕ)
 entries zero bytes = []
-entries (suc n) bytes = take (raw_u16 bytes) (drop 2 bytes) ∷ entries n (drop (2 + raw_u16 bytes) bytes)
+entries (suc n) bytes = take (first_u16 bytes) (drop 2 bytes) ∷ entries n (drop (2 + first_u16 bytes) bytes)
 
 -- the numbers of two bytes each
 abbrev pub pairs : List ℕ → List ℕ
 pairs [] = []
 pairs (high ∷ []) = []
-pairs (high ∷ low ∷ rest) = (256 * high + low) ∷ pairs rest
+pairs (high ∷ low ∷ rest) = first_u16 (high ∷ low ∷ rest) ∷ pairs rest
 
 abbrev pub kind_from : ℕ → XKind
 kind_from code = if code == 0 then Balanced else Push
@@ -89,7 +82,7 @@ role_from code = if code == 0 then Initiator else Responder
 -- the updates of the window of a round whose flags are set in its bytes
 abbrev pub set_at : Shape → ℕ → List ℕ → List UpdateId
 set_at s round bytes =
-    let numbers = map (from_be_bytes w64) (chunks 8 (words_of s * s.life) bytes) in
+    let numbers = map (from_be_bytes w64) (first_chunks 8 (words_of s * s.life) bytes) in
     filter (λ u. is_set numbers (64 * words_of s * (u.round - first_round s.life round) + u.index)) (window_of (words_of s) s.life round)
 
 -- part number i
@@ -111,7 +104,7 @@ terms_at s r Push bytes =
 
 -- the fields of a kind in their parts, after the round
 abbrev pub round_body : Shape → Kind → ℕ → List (List ℕ) → Body
-round_body s kinds.Manifest r ps = Manifest r (chunks 32 (number (part ps 1)) (part ps 2))
+round_body s kinds.Manifest r ps = Manifest r (first_chunks 32 (number (part ps 1)) (part ps 2))
 round_body s kinds.Block r ps = Block (record { round = r; index = number (part ps 1) }) (part ps 2)
 round_body s kinds.Request r ps = Request r (part ps 1) (part ps 2)
 round_body s kinds.Response r ps = Response r (set_at s r (part ps 1))

@@ -10,6 +10,7 @@ use Rattle.bar_window.specs.Terms.{Terms, Trade, Offer}
 use Rattle.bar_wire.specs.declared.shape.Shape.{Shape}
 use Rattle.bar_wire.specs.declared.kind.Kind.{Kind}
 use Rattle.bar_wire.specs.declared.kind.Kind.TheVariants as kinds
+use Rattle.bar_wire.specs.Limits.{everyone, largest_datagram}
 use Rattle.bar_wire.specs.Datagram.{Datagram, Body, Manifest, Block, Request, Response, Divulge, Query, Reply, Case, KeyRequest, Key, Evidence, Evict, kind_of}
 use Rattle.bar_wire.specs.Grammar.{words_of, signature_len}
 
@@ -55,7 +56,7 @@ rises_to high low [] = true
 rises_to high low (p ∷ ps) = nat_lt low p && nat_le p high && rises_to high p ps
 
 abbrev pub is_entry_in_range : List ℕ → Bool
-is_entry_in_range datagram = nat_lt 0 (length datagram) && nat_le (length datagram) 65507
+is_entry_in_range datagram = nat_lt 0 (length datagram) && nat_le (length datagram) largest_datagram
 
 abbrev pub are_datagrams_in_range : List (List ℕ) → Bool
 are_datagrams_in_range datagrams = nat_lt 0 (length datagrams) && nat_le (length datagrams) 2 && list_all is_entry_in_range datagrams
@@ -82,8 +83,8 @@ is_in_range s (Evidence datagrams) = are_datagrams_in_range datagrams
 is_in_range s (Evict r parties) = is_round s r && are_parties_in_range s.peers parties
 
 abbrev pub may_send : Shape → Kind → ℕ → ℕ → Bool
-may_send s kinds.Manifest from to = (from == 0) && (to == 65535)
-may_send s kinds.Evict from to = (from == 0) && (to == 65535)
+may_send s kinds.Manifest from to = (from == 0) && (to == everyone)
+may_send s kinds.Evict from to = (from == 0) && (to == everyone)
 may_send s kinds.Block from to = (from == 0) && is_peer s to
 may_send s kinds.Evidence from to = is_peer s from && (to == 0)
 may_send s _ from to = is_peer s from && is_peer s to && not (from == to)

@@ -11,11 +11,12 @@ use Rattle.bar_wire.specs.declared.view.Body.{Body as RawBody}
 use Rattle.bar_wire.specs.declared.view.Body.TheVariants as raw
 use Rattle.bar_wire.specs.Datagram.{Datagram, Body, Manifest, Block, Request, Response, Divulge, Query, Reply, Case, KeyRequest, Key, Evidence, Evict, is_signed}
 use Rattle.bar_wire.specs.Grammar.{SpellsDatagram, message_bytes}
-use Rattle.bar_wire.specs.Places.{chunks, entries, entries_len, pairs, kind_from, role_from}
+use Rattle.std.specs.Simd.{first_chunks}
+use Rattle.bar_wire.specs.Places.{entries, entries_len, pairs, kind_from, role_from}
 
 -- the value that a body stands for
 abbrev pub plain : RawBody → Body
-plain (raw.Manifest round count digests) = Manifest round (chunks 32 count digests.now)
+plain (raw.Manifest round count digests) = Manifest round (first_chunks 32 count digests.now)
 plain (raw.Block round index block) = Block (record { round = round; index = index }) block.now
 plain (raw.Request round seed commitment) = Request round seed.now commitment.now
 plain (raw.Response round hb) = Response round (members hb)

@@ -1,5 +1,5 @@
--- What a write of bytes at a place leaves.
-use Rattle.std.specs.Prelude.{◌≡◌, ℕ, ◌+◌, ◌*◌, List, ◌++◌, length, take, drop}
+-- In how many bytes terms and a body are written.
+use Rattle.std.specs.Prelude.{ℕ, ◌+◌, ◌*◌, length}
 use Rattle.bar_window.specs.declared.terms.Terms.{Terms as RawTerms}
 use Rattle.bar_window.specs.declared.terms.Terms.TheVariants as terms
 use Rattle.bar_wire.specs.declared.shape.Shape.{Shape}
@@ -7,14 +7,6 @@ use Rattle.bar_wire.specs.declared.view.Body.{Body as RawBody}
 use Rattle.bar_wire.specs.declared.view.Body.TheVariants as raw
 use Rattle.bar_wire.specs.Places.{window_len}
 
--- The bytes stand behind what stood before the place, up to the end, and what stood after the end stands there still.
-pub record Appends (old : List ℕ) (at : ℕ) (bytes new : List ℕ) (end : ℕ) : Type 0 where
-  pub front : take end new ≡ take at old ++ bytes
-  pub back : drop end new ≡ drop end old
-  pub end_is : end ≡ at + length bytes
-  pub long : length new ≡ length old
-
--- in how many bytes terms and a body are written
 abbrev pub terms_written : Shape → RawTerms → ℕ
 terms_written s (terms.Balanced nonce ha hb) = length nonce + 2 * window_len s
 terms_written s (terms.Push young aged want give junk) = 4 * window_len s + 1

@@ -3,7 +3,8 @@ ghost use Rattle.std.specs.List.{AllByRecursion};
 ghost use Rattle.bar_wire.specs.Grammar.{RisesTo, IsEntryInRange, AreDatagramsInRange, ArePartiesInRange};
 ghost use Rattle.bar_wire.specs.Places.{entries, entries_len, pairs};
 
-use crate::split::split_u16;
+use crate::limits::LARGEST_DATAGRAM;
+use bar_bytes::split_u16;
 
 /// Whether the bytes are `count` lengths, each followed by as many bytes.
 pub(crate) fn has_entries(count: u8, bytes: &[u8]) -> bool
@@ -33,7 +34,7 @@ fn has_lengths(count: u8, bytes: &[u8]) -> bool
     let mut rest = bytes;
     for _ in 0..count {
         let (len, after) = split_u16(rest);
-        if len == 0 || len > 65507 {
+        if len == 0 || len > LARGEST_DATAGRAM {
             return false;
         }
         let (_, next) = after.split_at(usize::from(len));

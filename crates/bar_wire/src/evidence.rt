@@ -1,10 +1,10 @@
 ghost use Rattle.std.specs.Prelude.{◌≡◌, ◌+◌, ◌≤◌, ℕ, List, length, IfOk, IfErr, IsOkAnd, MatchResult};
 ghost use Rattle.bar_wire.specs.Evidence.{datagrams_of, IsEvidence, IsEvidenceFault, IsEntrySplit};
-ghost use Rattle.bar_wire.specs.Places.{raw_u16};
+ghost use Rattle.bar_bytes.specs.Bytes.{first_u16};
 
 use crate::entries::{are_datagrams_in_range, has_entries};
 use crate::fault::WireFault;
-use crate::split::{split_u8, split_u16};
+use bar_bytes::{split_u8, split_u16};
 
 /// The one or two datagrams that an EVIDENCE shows.
 #[derive(Clone, Copy, Debug)]
@@ -15,7 +15,7 @@ pub struct EvidenceView<'a> {
 
 /// The first datagram of a list, and the bytes after it.
 fn split_entry(bytes: &[u8]) -> (&[u8], &[u8])
-    requires { 2 + raw_u16 bytes.now ≤ length bytes.now }
+    requires { 2 + first_u16 bytes.now ≤ length bytes.now }
     ensures { IsEntrySplit bytes.now result.0.now result.1.now }
 {
     let (len, rest) = split_u16(bytes);

@@ -1,17 +1,17 @@
 ghost use Rattle.std.specs.Prelude.{◌≡◌, ℕ, ◌+◌, ◌*◌, ◌<◌, ◌≤◌, ◌↔◌, ◌++◌, IsTrue, length, slice_index};
 ghost use Rattle.bar_wire.specs.declared.kind.Kind.TheVariants as kinds;
-ghost use Rattle.bar_wire.specs.Places.{fields_len, terms_len, kind_from};
+ghost use Rattle.bar_wire.specs.Places.{fields_len, terms_len};
 ghost use Rattle.bar_wire.specs.Views.{plain, AreWhole};
 ghost use Rattle.bar_wire.specs.Reading.{HasBytes, Reads, ReadsForm, IsReadButRanges};
 
+use crate::exchange::kind_from;
 use crate::kind::Kind;
 use crate::ranges::is_in_range;
 use crate::shape::Shape;
-use crate::split::{split_array, split_u8, split_u32};
 use crate::terms::read_terms;
 use crate::view::Body;
 use crate::windows::{read_window, read_windows};
-use bar_window::XKind;
+use bar_bytes::{split_array, split_u8, split_u32};
 
 fn manifest<'a>(bytes: &'a [u8], shape: &Shape) -> Body<'a>
     requires { length bytes.now ≡ fields_len shape.now kinds.Manifest bytes.now }
@@ -112,17 +112,6 @@ fn reply<'a>(bytes: &'a [u8], shape: &Shape) -> Option<Body<'a>>
     })
 }
 
-/// The kind of exchange of a code, which is 0 for a balanced one.
-fn exchange_kind(code: u8) -> XKind
-    ensures { result ≡ kind_from code }
-{
-    if code == 0 {
-        XKind::Balanced
-    } else {
-        XKind::Push
-    }
-}
-
 fn case<'a>(bytes: &'a [u8], shape: &Shape) -> Option<Body<'a>>
     requires { length bytes.now ≡ fields_len shape.now kinds.Case bytes.now }
     ensures { ReadsForm shape.now kinds.Case bytes.now result }
@@ -135,7 +124,7 @@ fn case<'a>(bytes: &'a [u8], shape: &Shape) -> Option<Body<'a>>
     if xkind > 1 || role > 1 {
         return None;
     }
-    let kind = exchange_kind(xkind);
+    let kind = kind_from(xkind);
     let Some((terms, cipher)) = read_terms(kind, rest, round, shape) else {
         return None;
     };

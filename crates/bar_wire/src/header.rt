@@ -6,7 +6,7 @@ use crate::fault::WireFault;
 use crate::kind::Kind;
 use crate::lengths::{has_length, signature_len};
 use crate::shape::Shape;
-use crate::split::{split_array, split_u16};
+use bar_bytes::{split_array, split_u16};
 
 /// What stands before the fields, and what follows.
 #[derive(Drop)]

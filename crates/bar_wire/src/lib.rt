@@ -3,6 +3,7 @@
 
 mod entries;
 mod evidence;
+mod exchange;
 mod fault;
 mod fields;
 mod header;
@@ -10,17 +11,17 @@ mod input;
 mod kind;
 mod laws;
 mod lengths;
-mod put;
+mod limits;
 mod ranges;
 mod reading;
 mod shape;
-mod split;
 mod terms;
 mod view;
 mod windows;
 mod writing;
 
 pub use evidence::{EvidenceView, split_evidence};
+pub use exchange::{kind_from, role_from};
 pub use fault::WireFault;
 pub use input::Input;
 pub use kind::Kind;
@@ -28,6 +29,7 @@ pub use laws::{
     a_datagram_has_one_spelling, bytes_spell_one, no_spelling_begins_another,
     the_datagram_is_spelled, the_test_tells_a_datagram,
 };
+pub use limits::{EVERYONE, LARGEST_CONTENT, LARGEST_DATAGRAM, LEAVES_A_ROUND};
 pub use reading::decode;
 pub use shape::Shape;
 pub use view::{Body, View};

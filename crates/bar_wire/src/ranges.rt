@@ -5,6 +5,7 @@ ghost use Rattle.bar_wire.specs.Views.{plain, AreWhole};
 
 use crate::entries::{are_datagrams_in_range, are_parties_in_range};
 use crate::kind::Kind;
+use crate::limits::EVERYONE;
 use crate::shape::Shape;
 use crate::view::Body;
 use crate::windows::is_round;
@@ -65,7 +66,7 @@ pub(crate) fn may_send(kind: Kind, from: u16, to: u16, shape: &Shape) -> bool
     ensures { IsTrue result ↔ MaySend shape.now kind from to }
 {
     match kind {
-        Kind::Manifest | Kind::Evict => from == 0 && to == 0xffff,
+        Kind::Manifest | Kind::Evict => from == 0 && to == EVERYONE,
         Kind::Block => from == 0 && is_peer(to, shape),
         Kind::Evidence => is_peer(from, shape) && to == 0,
         Kind::Request

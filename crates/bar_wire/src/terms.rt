@@ -6,8 +6,8 @@ ghost use Rattle.bar_wire.specs.Places.{terms_len};
 ghost use Rattle.bar_wire.specs.Terms.{ReadsTerms};
 
 use crate::shape::Shape;
-use crate::split::{split_array, split_u8};
 use crate::windows::read_windows;
+use bar_bytes::{split_array, split_u8};
 use bar_window::{Terms, XKind};
 
 fn balanced<'a>(bytes: &'a [u8], round: u32, shape: &Shape) -> Option<(Terms, &'a [u8])>

@@ -1,17 +1,36 @@
-ghost use Rattle.std.specs.Prelude.{◌≡◌, ℕ, ◌+◌, ◌*◌, ◌<◌, ◌≤◌, ◌↔◌, IsTrue, MatchOption, length, slice_index};
+ghost use Rattle.std.specs.Prelude.{◌≡◌, ℕ, ◌+◌, ◌*◌, ◌<◌, ◌≤◌, ◌↔◌, ◌++◌, IsTrue, MatchOption, length, take, slice_index};
+ghost use Rattle.bar_window.specs.WindowBytes.{words_bytes};
 ghost use Rattle.bar_wire.specs.Words.{AreWords};
 ghost use Rattle.bar_wire.specs.Grammar.{IsRound};
 ghost use Rattle.bar_wire.specs.Places.{window_len};
 ghost use Rattle.bar_wire.specs.Windows.{FitsWindow, IsWindowFound, ReadsWindow, ReadsWindows};
 
 use crate::shape::Shape;
-use crate::split::split_words;
+use bar_bytes::split_u64;
 use bar_window::Window;
 
 pub(crate) fn is_round(round: u32, shape: &Shape) -> bool
     ensures { IsTrue result ↔ IsRound shape.now round }
 {
     0 < round && round <= shape.rounds
+}
+
+/// The first `count` words, in an array that is zero past them.
+fn split_words(bytes: &[u8], count: u8) -> ([u64; 16], &[u8])
+    requires few { count ≤ 16 }
+    requires long { 8 * count ≤ length bytes.now }
+    ensures is { bytes.now ≡ words_bytes (take count result.0) ++ result.1.now }
+    ensures rest { length result.1.now + 8 * count ≡ length bytes.now }
+    ensures words { AreWords count result.0 }
+{
+    let mut words = [0; 16];
+    let mut rest = bytes;
+    for j in 0..usize::from(count) {
+        let (word, after) = split_u64(rest);
+        words[j] = word;
+        rest = after;
+    }
+    (words, rest)
 }
 
 fn is_zero_from(words: &[u64; 16], used: u8) -> bool

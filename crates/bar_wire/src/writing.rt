@@ -1,17 +1,29 @@
 ghost use Rattle.std.specs.Prelude.{◌≡◌, ℕ, ◌+◌, ◌*◌, ◌<◌, ◌≤◌, length, take, drop};
 ghost use Rattle.std.specs.List.{concat};
+ghost use Rattle.bar_bytes.specs.Putting.{Appends};
 ghost use Rattle.bar_window.specs.Terms.{plain_terms};
+ghost use Rattle.bar_window.specs.Window.{members, IsWindowOf};
 ghost use Rattle.bar_wire.specs.Datagram.{kind_of, Evidence, Evict, Manifest};
-ghost use Rattle.bar_wire.specs.Grammar.{pieces, term_pieces, evidence_pieces, message_bytes};
-ghost use Rattle.bar_wire.specs.Places.{chunks, entries, entries_len, pairs};
+ghost use Rattle.bar_wire.specs.Grammar.{set_bytes, pieces, term_pieces, evidence_pieces, message_bytes};
+ghost use Rattle.std.specs.Simd.{first_chunks};
+ghost use Rattle.bar_wire.specs.Places.{entries, entries_len, pairs, window_len};
 ghost use Rattle.bar_wire.specs.Views.{plain, IsBody, AreTermWindows};
-ghost use Rattle.bar_wire.specs.Writing.{Appends, terms_written, body_written};
+ghost use Rattle.bar_wire.specs.Writing.{terms_written, body_written};
 
 use crate::kind::Kind;
-use crate::put::{put, put_u8, put_u16, put_u32, put_window};
 use crate::shape::Shape;
 use crate::view::Body;
-use bar_window::Terms;
+use bar_bytes::{put, put_u8, put_u16, put_u32};
+use bar_window::{Terms, Window};
+
+/// Writes a window: one word for each round that an update lives.
+fn put_window(out: &mut [u8], at: usize, window: &Window, shape: &Shape) -> usize
+    requires { at + window_len shape.now ≤ length out.old }
+    ensures writes { (round : ℕ) → IsWindowOf shape.now.life round window.now → Appends out.old at (set_bytes shape.now round (members window.now)) out.new result }
+    ensures end { result ≡ at + window_len shape.now }
+{
+    put(out, at, &window.bytes()[..8 * usize::from(shape.life)])
+}
 
 fn put_terms(out: &mut [u8], at: usize, terms: &Terms, shape: &Shape) -> usize
     requires { at + terms_written shape.now terms.now ≤ length out.old }
@@ -50,7 +62,7 @@ fn put_manifest(
 ) -> usize
     requires room { at + 5 + length digests.now ≤ length out.old }
     requires whole { length digests.now ≡ 32 * count }
-    ensures { Appends out.old at (concat (pieces shape.now (Manifest round (chunks 32 count digests.now)))) out.new result }
+    ensures { Appends out.old at (concat (pieces shape.now (Manifest round (first_chunks 32 count digests.now)))) out.new result }
 {
     let at = put_u32(out, at, round);
     let at = put_u8(out, at, count);

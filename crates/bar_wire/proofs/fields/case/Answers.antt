@@ -30,7 +30,7 @@ read_terms-requires c =
     let z = c.split_u8-junk in
     let start = case_start r.result.0 k.result.0 p.result.0 u.result.0 z.result.0 c.args.bytes.now r.result.1.now k.result.1.now p.result.1.now u.result.1.now z.result.1.now (omega arith) r.ensures.is k.ensures.is p.ensures.is u.ensures.is z.ensures.is in
     let room = case_room c.args.shape.now r.result.0 k.result.0 p.result.0 u.result.0 z.result.0 c.args.bytes.now z.result.1.now start (omega arith) c.requires in
-    subst (λ (x : XKind). terms_len c.args.shape.now (kind_code x) ≤ length z.result.1.now) (sym c.exchange_kind-kind.ensures) room
+    subst (λ (x : XKind). terms_len c.args.shape.now (kind_code x) ≤ length z.result.1.now) (sym c.kind_from-kind.ensures) room
 
 pub returns-in_default : goal.returns-in_default
 returns-in_default c =
@@ -40,8 +40,8 @@ returns-in_default c =
     let u = c.split_u8-updates in
     let z = c.split_u8-junk in
     let start = case_start r.result.0 k.result.0 p.result.0 u.result.0 z.result.0 c.args.bytes.now r.result.1.now k.result.1.now p.result.1.now u.result.1.now z.result.1.now (omega arith) r.ensures.is k.ensures.is p.ensures.is u.ensures.is z.ensures.is in
-    let none : NoTermsAt c.args.shape.now c.exchange_kind-kind.result r.result.0 z.result.1.now = c.in_default.ensures in
-    no_case c.args.shape.now r.result.0 k.result.0 p.result.0 u.result.0 z.result.0 c.args.bytes.now z.result.1.now start (subst (λ (x : XKind). NoTermsAt c.args.shape.now x r.result.0 z.result.1.now) c.exchange_kind-kind.ensures none)
+    let none : NoTermsAt c.args.shape.now c.kind_from-kind.result r.result.0 z.result.1.now = c.in_default.ensures in
+    no_case c.args.shape.now r.result.0 k.result.0 p.result.0 u.result.0 z.result.0 c.args.bytes.now z.result.1.now start (subst (λ (x : XKind). NoTermsAt c.args.shape.now x r.result.0 z.result.1.now) c.kind_from-kind.ensures none)
 
 pub returns : goal.returns
 returns c =
@@ -51,7 +51,7 @@ returns c =
     let u = c.split_u8-updates in
     let z = c.split_u8-junk in
     let start = case_start r.result.0 k.result.0 p.result.0 u.result.0 z.result.0 c.args.bytes.now r.result.1.now k.result.1.now p.result.1.now u.result.1.now z.result.1.now (omega arith) r.ensures.is k.ensures.is p.ensures.is u.ensures.is z.ensures.is in
-    let at = subst (λ (x : XKind). AreTermsAt c.args.shape.now x r.result.0 z.result.1.now c.in-Some.terms c.in-Some.cipher.now) c.exchange_kind-kind.ensures c.in-Some.ensures in
+    let at = subst (λ (x : XKind). AreTermsAt c.args.shape.now x r.result.0 z.result.1.now c.in-Some.terms c.in-Some.cipher.now) c.kind_from-kind.ensures c.in-Some.ensures in
     record {
       has = case_has c.args.shape.now r.result.0 k.result.0 p.result.0 u.result.0 z.result.0 c.args.bytes.now z.result.1.now c.in-Some.cipher.now c.in-Some.terms start (omega arith) (omega arith) c.requires at;
       body = record { windows = at.windows; whole = tt; codes = (omega arith, omega arith) };

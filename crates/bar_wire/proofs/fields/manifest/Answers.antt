@@ -4,7 +4,7 @@ use Rattle.std.specs.List.{concat}
 use Rattle.std.proofs.lemmas.List.{append-nil, get_or_at}
 use Rattle.bar_bytes.specs.Bytes.{u32_bytes}
 use Rattle.bar_bytes.proofs.Lengths.{length_u32}
-use Rattle.bar_wire.specs.Places.{chunks}
+use Rattle.std.specs.Simd.{first_chunks}
 use Rattle.bar_wire.proofs.Lists.{chunks_joined}
 use Rattle.bar_wire.proofs.fields.manifest.Goals as goal
 
@@ -17,7 +17,7 @@ returns-clause-has c =
     let at : slice_index c.args.bytes.now 4 ≡ count = ap (λ (x : List ℕ). slice_index x 4) is ∙ get_or_at (u32_bytes round) count rest 0 4 (length_u32 round) in
     let len : length rest ≡ 32 * count = omega (arith, ap length is, c.requires, at, length_u32 round, length-append (u32_bytes round) (count ∷ rest)) in
     let all = chunks_joined 32 count rest len in
-    record { kind_is = refl; form = (omega arith, all.fit); is = is ∙ (λ i. u32_bytes round ++ (sym all.long i ∷ (sym all.joined ∙ sym (append-nil (concat (chunks 32 count rest)))) i)) }
+    record { kind_is = refl; form = (omega arith, all.fit); is = is ∙ (λ i. u32_bytes round ++ (sym all.long i ∷ (sym all.joined ∙ sym (append-nil (concat (first_chunks 32 count rest)))) i)) }
 
 pub returns-clause-whole : goal.returns-clause-whole
 returns-clause-whole c =

@@ -5,7 +5,7 @@ use Rattle.bar_window.specs.Terms.{plain_terms}
 use Rattle.bar_wire.specs.declared.view.Body.{Body as RawBody}
 use Rattle.bar_wire.specs.Grammar.{pieces, term_pieces}
 use Rattle.bar_wire.specs.Views.{plain, AreWindows, AreCodes}
-use Rattle.bar_wire.specs.Writing.{Appends}
+use Rattle.bar_bytes.specs.Putting.{Appends}
 use Rattle.bar_wire.proofs.Codes.{code_of_kind, code_of_role}
 use Rattle.bar_wire.proofs.Writes.{writes_then, writes_last, writes_same}
 use Rattle.bar_wire.proofs.writing.put_body.Goals as goal

@@ -1,11 +1,10 @@
-//! The codes of kinds of exchange and of roles in a body.
-
 ghost use Rattle.std.specs.Prelude.{◌≡◌};
 ghost use Rattle.bar_wire.specs.Places.{kind_from, role_from};
 
 use bar_window::{Role, XKind};
 
-pub(crate) fn kind_from(code: u8) -> XKind
+/// The kind of exchange of a code, which is 0 for a balanced one.
+pub fn kind_from(code: u8) -> XKind
     ensures { result ≡ kind_from code }
 {
     if code == 0 {
@@ -15,7 +14,8 @@ pub(crate) fn kind_from(code: u8) -> XKind
     }
 }
 
-pub(crate) fn role_from(code: u8) -> Role
+/// The role of a code, which is 0 for the initiator.
+pub fn role_from(code: u8) -> Role
     ensures { result ≡ role_from code }
 {
     if code == 0 {

@@ -2,7 +2,7 @@ use Rattle.std.proofs.Common.{◌≡◌, ◌<◌, ◌^◌, ◌++◌, take, arith
 use Rattle.std.specs.List.{AllByRecursion}
 use Rattle.bar_window.specs.WindowBytes.{words_bytes}
 use Rattle.bar_wire.proofs.Lists.{WordsSoFar-more, WordsSoFar-none, sixteen_zeros}
-use Rattle.bar_wire.proofs.split.split_words.Goals as goal
+use Rattle.bar_wire.proofs.windows.split_words.Goals as goal
 
 pub loop-j-init : goal.loop-j-init
 loop-j-init c = WordsSoFar-none c.args.bytes.now _ refl sixteen_zeros

@@ -1,7 +1,7 @@
 use Rattle.std.proofs.Common.{◌+◌, ◌-◌, length, arith}
 use Rattle.std.proofs.lemmas.Slice.{drop-put_mid}
 use Rattle.std.proofs.lemmas.Grind.{common_steps}
-use Rattle.bar_wire.proofs.put.put.Goals as goal
+use Rattle.bar_bytes.proofs.write.put.Goals as goal
 
 pub returns : goal.returns
 returns c =
