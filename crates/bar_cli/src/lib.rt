@@ -11,6 +11,7 @@ mod keygen_words;
 mod laws;
 mod line;
 mod listener;
+mod manifest;
 mod plays;
 mod reading;
 mod replay;

@@ -1,5 +1,6 @@
 -- What the grammar says of an admitted datagram: its parties, its round, and that it reads back.
-use Rattle.bar_rules.specs.Peer.Admission.{is_for, is_to_all, everyone}
+use Rattle.bar_wire.specs.Limits.{everyone}
+use Rattle.bar_rules.specs.Peer.Admission.{is_for, is_to_all}
 use Rattle.bar_rules.specs.Peer.Log.{Log, Heard}
 use Rattle.bar_rules.specs.Member.{Session, Member}
 use Rattle.bar_rules.specs.Peer.Rules.{Allows, IsObedient}

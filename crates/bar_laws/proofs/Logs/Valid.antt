@@ -1,7 +1,8 @@
 -- In an obedient log the terms of an exchange are within the table and valid.
+use Rattle.bar_wire.specs.Limits.{everyone}
 use Rattle.bar_wire.specs.Bodies.{divulge_in, history_in, offer_in, reply_in}
 use Rattle.bar_wire.specs.declared.kind.Kind.{Kind}
-use Rattle.bar_rules.specs.Peer.Admission.{is_row_met, is_for, is_to_all, everyone, terms_with, body_said}
+use Rattle.bar_rules.specs.Peer.Admission.{is_row_met, is_for, is_to_all, terms_with, body_said}
 use Rattle.bar_rules.specs.Peer.Choices.{young_of, aged_of, wanted_of, given_of}
 use Rattle.bar_rules.specs.Peer.Exchanges.{revealed, revealed_in}
 use Rattle.bar_rules.specs.Peer.Holdings.{history, is_held, block_of}

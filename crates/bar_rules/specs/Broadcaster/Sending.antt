@@ -1,5 +1,6 @@
 -- What the broadcaster sends, and whom it evicts.
 use Rattle.std.specs.Prelude.{ℕ, ◌+◌, ◌-◌, ◌*◌, ◌==◌, ◌||◌, not, List, [], ◌∷◌, length, filter, Option, Some, None, is_some, is_none, if◌then◌else◌, nat_le, nat_lt}
+use Rattle.bar_wire.specs.Limits.{everyone}
 use Rattle.bar_window.specs.declared.update.UpdateId.{UpdateId}
 use Rattle.bar_wire.specs.Datagram.{Message, Datagram, Body, Manifest, Block, Evidence, Evict, kind_of}
 use Rattle.bar_wire.specs.Inputs.{Input, Tick, Came}
@@ -8,7 +9,6 @@ use Rattle.bar_rules.specs.Values.{unsigned, datagram_of, message_bytes}
 use Rattle.bar_rules.specs.Secrets.{signature_of}
 use Rattle.bar_rules.specs.Peer.Log.{Log, Ticked, Said, Kept, ticks, round_now, first_said, has_kind_and_round, kept}
 use Rattle.bar_rules.specs.Judge.Verdict.{Verdict, Shown, NotShown, verdict}
-use Rattle.bar_rules.specs.Peer.Admission.{everyone}
 use Rattle.bar_rules.specs.Runs.{Outcome, begun, sending, state_after, sends_from}
 use Rattle.bar_rules.specs.Broadcaster.Stream.{round_blocks, manifest_list, caster_table, peers_of, is_in_fanout}
 

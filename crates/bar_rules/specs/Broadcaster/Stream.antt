@@ -5,6 +5,7 @@ use Rattle.std.specs.Ordering.{ordering_then, is_lt, nat_cmp}
 use Rattle.std.specs.Cmp.Lexicographic.{slice_cmp}
 use Rattle.std.specs.Bool.{then_some}
 use Rattle.sha2.specs.Sha256.{sha256}
+use Rattle.bar_wire.specs.Limits.{largest_content}
 use Rattle.bar_bytes.specs.Bytes.{u8_bytes, u16_bytes, u32_bytes}
 use Rattle.bar_bytes.specs.Tag.{tagged}
 use Rattle.bar_window.specs.declared.update.UpdateId.{UpdateId}
@@ -14,16 +15,16 @@ use Rattle.bar_rules.specs.Peer.Log.{Log, round_now}
 
 -- the stream's piece number b, as a block
 abbrev pub block_bytes : List ℕ → List ℕ
-block_bytes content = u16_bytes (length content) ++ content ++ replicate (1022 - length content) 0
+block_bytes content = u16_bytes (length content) ++ content ++ replicate (largest_content - length content) 0
 
 abbrev pub piece_of : List ℕ → ℕ → List ℕ
-piece_of stream b = slice_range stream (1022 * b) (1022 * b + 1022)
+piece_of stream b = slice_range stream (largest_content * b) (largest_content * b + largest_content)
 
 -- the blocks of a round, in order
 abbrev pub round_blocks : Session → List ℕ → ℕ → List (List ℕ)
 round_blocks s stream round =
     map (λ i. block_bytes (piece_of stream ((round - 1) * s.shape.per_round + i)))
-    (filter (λ i. nat_lt (1022 * ((round - 1) * s.shape.per_round + i)) (length stream)) (range_with_len 0 s.shape.per_round))
+    (filter (λ i. nat_lt (largest_content * ((round - 1) * s.shape.per_round + i)) (length stream)) (range_with_len 0 s.shape.per_round))
 
 abbrev pub manifest_list : Session → List ℕ → ℕ → List (List ℕ)
 manifest_list s stream round = map sha256 (round_blocks s stream round)

@@ -3,6 +3,7 @@ use Rattle.std.specs.Prelude.{ℕ, ◌+◌, ◌==◌, ◌&&◌, not, Bool, true,
 use Rattle.std.specs.Option.{option_map_or}
 use Rattle.std.specs.Str.{bytes_eq}
 use Rattle.sha2.specs.Sha256.{sha256}
+use Rattle.bar_wire.specs.Limits.{everyone}
 use Rattle.bar_wire.specs.Bodies.{offer_in, commitment_in}
 use Rattle.bar_window.specs.declared.update.UpdateId.{UpdateId}
 use Rattle.bar_window.specs.declared.exchange.Exchange.{Exchange}
@@ -25,10 +26,6 @@ use Rattle.bar_rules.specs.Peer.Exchanges.{request_kind}
 use Rattle.bar_rules.specs.Peer.Knowledge.{Knowledge, table_of, this_round, is_in_time, holds, has_heard_of, has_said_of}
 use Rattle.bar_rules.specs.Peer.Terms.{terms_of}
 use Rattle.bar_rules.specs.Peer.Choices.{wanted_of}
-
--- the receiver that means all peers
-abbrev pub everyone : ℕ
-everyone = 65535
 
 -- the kinds that go to all peers; every other kind goes to one party
 abbrev pub is_to_all : Body → Bool
