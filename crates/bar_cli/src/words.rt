@@ -29,14 +29,13 @@ fn are_digits(bytes: &[u8]) -> bool
     bytes.iter().all(|byte| byte.is_ascii_digit())
 }
 
-/// Whether bytes write a number: digits alone, with no zero before others.
+/// Whether bytes write a number: digits alone, and at least one.
 fn is_numeral(bytes: &[u8]) -> bool
     ensures { result ≡ is_numeral bytes.now }
 {
     match bytes {
         [] => false,
-        [_] => are_digits(bytes),
-        [first, ..] => are_digits(bytes) && *first != b'0',
+        [_, ..] => are_digits(bytes),
     }
 }
 
