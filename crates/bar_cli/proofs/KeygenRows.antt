@@ -10,7 +10,7 @@ use Rattle.bar_roster.specs.declared.fault.SessionFault.{SessionFault}
 use Rattle.bar_roster.specs.KeyText.{key_text_of}
 use Rattle.bar_roster.specs.SessionText.{enough_leaves}
 use Rattle.bar_cli.specs.Refusals.{session_refused, secret_refused}
-use Rattle.bar_cli.specs.KeygenPlan.{Keygen, KeygenAccepted, KeyMade, IsKeygenCall, secret_of, key_made, lines_of, keygen_actions, making_plan, secret_plan, keygen_plan}
+use Rattle.bar_cli.specs.KeygenPlan.{Keygen, KeygenAccepted, KeyMade, HasFewLeaves, IsKeygenCall, secret_of, key_made, lines_of, keygen_actions, making_plan, secret_plan, keygen_plan}
 use Rattle.bar_cli.proofs.EndLemmas.{differ}
 
 abbrev unread : List ℕ → Plan
@@ -101,11 +101,10 @@ made asked old new ends told = by_case (key_case asked old.files.content) (ends.
         }
 
 -- 4 comes only where there are too few leaves
-pub refused-leaves : (asked : Keygen) (old new : World) → Ends (keygen_plan asked) old new 4 → IsTrue old.files.told →
-    (fault : SessionFault) × (enough_leaves asked.rounds asked.params.height ≡ Err fault)
+pub refused-leaves : (asked : Keygen) (old new : World) → Ends (keygen_plan asked) old new 4 → IsTrue old.files.told → HasFewLeaves asked
 refused-leaves asked old new ends told = by_case (key_case asked old.files.content) (ends.carried told refl)
   where
-    by_case : KeyCase asked old.files.content → Carried (keygen_plan asked old.files.content) old new 4 → (fault : SessionFault) × (enough_leaves asked.rounds asked.params.height ≡ Err fault)
+    by_case : KeyCase asked old.files.content → Carried (keygen_plan asked old.files.content) old new 4 → HasFewLeaves asked
     by_case (few_leaves fault e plan) c = (fault, e)
     by_case (no_secret e f plan) c = absurd (differ 4 3 refl (c.is ∙ ap (λ (p : Plan). p.status) plan))
     by_case (refused_secret bytes e f other plan) c = absurd (differ 4 8 refl (c.is ∙ ap (λ (p : Plan). p.status) plan))

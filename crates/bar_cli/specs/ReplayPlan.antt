@@ -1,5 +1,5 @@
 -- What `replay` does.
-use Rattle.std.specs.Prelude.{◌≡◌, ◌≢◌, ◌⊎◌, ℕ, List, [], ◌∷◌, Some, Ok, map, take}
+use Rattle.std.specs.Prelude.{◌≡◌, ◌≢◌, ◌⊎◌, ℕ, List, [], ◌∷◌, ◌++◌, Some, Ok, map, take}
 use Rattle.std.specs.List.{flat_map, concat}
 use Rattle.std.specs.Option.{ok_or}
 use Rattle.bar_outside.specs.Disk.{Content, Failure, readable}
@@ -29,6 +29,11 @@ turn played contents = map (append played) contents
 
 abbrev pub turns : List ℕ → List (List (List ℕ)) → List Action
 turns played contents = flat_map (turn played) contents
+
+-- the contents of all inputs in order
+abbrev pub joined : List (List (List ℕ)) → List (List ℕ)
+joined [] = []
+joined (contents ∷ others) = contents ++ joined others
 
 -- the bytes that are played
 abbrev pub played_bytes : List (List (List ℕ)) → List ℕ
@@ -101,6 +106,16 @@ pub record PlayedFront (names : ReplayFiles) (old new : World) : Type 0 where
   pub accepted : Accepted names old.files.content
   pub count : ℕ
   pub played : new.files.content names.played ≡ Some (take count (bytes_of names old.files.content accepted))
+
+-- all were accepted, and the played file has the contents before one of them whole, and a front of this one
+pub record PlayedUpTo (names : ReplayFiles) (old new : World) : Type 0 where
+  pub accepted : Accepted names old.files.content
+  pub whole : List (List ℕ)
+  pub next : List ℕ
+  pub others : List (List ℕ)
+  pub count : ℕ
+  pub contents : joined (contents_of accepted.session accepted.secrets accepted.inputs) ≡ whole ++ next ∷ others
+  pub played : new.files.content names.played ≡ Some (concat whole ++ take count next)
 
 -- a call that a replay makes: a read of a file that it reads, or a create or an append of the one that it writes
 abbrev pub IsReplayCall : ReplayFiles → Failure → Type 0

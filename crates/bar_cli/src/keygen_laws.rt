@@ -8,7 +8,7 @@ ghost use Rattle.bar_outside.specs.Ends.{Ends};
 ghost use Rattle.bar_roster.specs.declared.fault.SessionFault.{SessionFault};
 ghost use Rattle.bar_roster.specs.SessionText.{enough_leaves};
 ghost use Rattle.bar_cli.specs.Refusals.{session_refused, secret_refused};
-ghost use Rattle.bar_cli.specs.KeygenPlan.{Keygen, KeygenAccepted, KeyMade, KeyBegun, IsKeygenCall, keygen_plan};
+ghost use Rattle.bar_cli.specs.KeygenPlan.{Keygen, KeygenAccepted, KeyMade, KeyWritten, KeyBegun, HasFewLeaves, IsKeygenCall, keygen_plan};
 
 /// 0 comes exactly where there are enough leaves and the secret is accepted, but for a fault or want of memory; then the key was made.
 pub fn key_made_exactly()
@@ -27,22 +27,28 @@ pub fn key_made_where_all_is_accepted()
         KeygenAccepted asked old.files.content → (status ≡ 0) ⊎ (status ≡ 70) }
 {}
 
-/// 3 comes only where the files' count rose, by a call that `keygen` makes; 7 only where the count of the output rose.
+/// 3 comes only where the files' count rose, and where they tell, by a call that `keygen` makes; 7 only where the count of the output rose.
 /// A secret that isn't there or is too large stops it.
 pub fn keygen_failed_only()
-    ensures file { (asked : Keygen) (old new : World) → Ends (keygen_plan asked) old new 3 → IsTrue old.files.told →
-        Rose old.files.faults new.files.faults × IsSomeAnd new.files.failed (IsKeygenCall asked) }
+    ensures file { (asked : Keygen) (old new : World) → Ends (keygen_plan asked) old new 3 → Rose old.files.faults new.files.faults }
+    ensures named { (asked : Keygen) (old new : World) → Ends (keygen_plan asked) old new 3 → IsTrue old.files.told →
+        IsSomeAnd new.files.failed (IsKeygenCall asked) }
     ensures output { (asked : Keygen) (old new : World) → Ends (keygen_plan asked) old new 7 → Rose old.out.faults new.out.faults }
     ensures no_secret { (asked : Keygen) (old new : World) (status : ℕ) → Ends (keygen_plan asked) old new status → IsTrue old.files.told →
         enough_leaves asked.rounds asked.params.height ≡ Ok tt → readable old.files.content asked.secret ≡ None → is_stop status ≡ true }
 {}
 
+/// 7 comes only behind the key file: where the files tell, it has its whole text, and a front of the lines was printed.
+pub fn output_fails_behind_the_key()
+    ensures { (asked : Keygen) (old new : World) → Ends (keygen_plan asked) old new 7 → IsTrue old.files.told → KeyWritten asked old new }
+{}
+
 /// 4 comes exactly where there are too few leaves, but for want of memory; its line has both numbers.
+/// That it comes only there is said where the files tell; `bar_run` says it whatever they tell.
 pub fn leaves_refused_exactly()
-    ensures only { (asked : Keygen) (old new : World) → Ends (keygen_plan asked) old new 4 → IsTrue old.files.told →
-        (fault : SessionFault) × (enough_leaves asked.rounds asked.params.height ≡ Err fault) }
-    ensures then { (asked : Keygen) (old new : World) (status : ℕ) (fault : SessionFault) → Ends (keygen_plan asked) old new status → IsTrue old.files.told →
-        enough_leaves asked.rounds asked.params.height ≡ Err fault → (status ≡ 4) ⊎ (is_stop status ≡ true) }
+    ensures only { (asked : Keygen) (old new : World) → Ends (keygen_plan asked) old new 4 → IsTrue old.files.told → HasFewLeaves asked }
+    ensures then { (asked : Keygen) (old new : World) (status : ℕ) → Ends (keygen_plan asked) old new status → HasFewLeaves asked →
+        (status ≡ 4) ⊎ (is_stop status ≡ true) }
     ensures line { (asked : Keygen) (content : Content) (fault : SessionFault) →
         enough_leaves asked.rounds asked.params.height ≡ Err fault → line_at (keygen_plan asked content) 4 ≡ session_refused fault }
 {}

@@ -12,7 +12,7 @@ ghost use Rattle.bar_roster.specs.SessionText.{SessionData};
 ghost use Rattle.bar_cli.specs.Line.{usage};
 ghost use Rattle.bar_cli.specs.Refusals.{session_refused, key_refused, input_refused};
 ghost use Rattle.bar_cli.specs.Replay.{session_of, key_of, recording_of};
-ghost use Rattle.bar_cli.specs.ReplayPlan.{ReplayFiles, SessionAccepted, KeyAccepted, Accepted, Replayed, PlayedFront, IsReplayCall, replay_plan};
+ghost use Rattle.bar_cli.specs.ReplayPlan.{ReplayFiles, SessionAccepted, KeyAccepted, Accepted, Replayed, PlayedFront, PlayedUpTo, IsReplayCall, replay_plan};
 
 use bar_roster::laws::accepted_secrets_are_held;
 
@@ -35,10 +35,11 @@ pub fn done_where_all_is_accepted()
         Accepted names old.files.content → (status ≡ 0) ⊎ (status ≡ 70) }
 {}
 
-/// 3 comes only where the files' count rose, by a call that a replay makes. A file that isn't there or is too large stops it.
+/// 3 comes only where the files' count rose, and where they tell, by a call that a replay makes. A file that isn't there or is too large stops it.
 pub fn file_failed_only()
-    ensures only { (names : ReplayFiles) (old new : World) → Ends (replay_plan names) old new 3 → IsTrue old.files.told →
-        Rose old.files.faults new.files.faults × IsSomeAnd new.files.failed (IsReplayCall names) }
+    ensures rose { (names : ReplayFiles) (old new : World) → Ends (replay_plan names) old new 3 → Rose old.files.faults new.files.faults }
+    ensures named { (names : ReplayFiles) (old new : World) → Ends (replay_plan names) old new 3 → IsTrue old.files.told →
+        IsSomeAnd new.files.failed (IsReplayCall names) }
     ensures no_session { (names : ReplayFiles) (old new : World) (status : ℕ) → Ends (replay_plan names) old new status → IsTrue old.files.told →
         readable old.files.content names.session ≡ None → is_stop status ≡ true }
     ensures no_key { (names : ReplayFiles) (old new : World) (status : ℕ) (session : SessionData) →
@@ -83,6 +84,13 @@ pub fn input_refused_exactly()
     ensures line { (names : ReplayFiles) (content : Content) (session : SessionData) (secrets : Secrets) (bytes : List ℕ) →
         KeyAccepted names content session secrets → readable content names.recording ≡ Some bytes → recording_of session secrets.party bytes ≡ None →
         line_at (replay_plan names content) 8 ≡ input_refused }
+{}
+
+/// Where the files tell, 3 says how far the replay came: all files are as they were, or the played file was made and is empty,
+/// or it has the contents before the one that failed, and a front of this one.
+pub fn a_replay_fails_in_order()
+    ensures { (names : ReplayFiles) (old new : World) → Ends (replay_plan names) old new 3 → IsTrue old.files.told →
+        (new.files.content ≡ old.files.content) ⊎ ((new.files.content names.played ≡ Some []) ⊎ PlayedUpTo names old new) }
 {}
 
 /// Whatever the status, only the played file is changed.

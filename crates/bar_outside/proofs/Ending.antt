@@ -10,11 +10,11 @@ use Rattle.bar_outside.specs.declared.files.FileFault.TheVariants as file
 use Rattle.bar_outside.specs.Faults.{fault_of_file, code_of_fault, line_of_fault, code_after, line_after}
 use Rattle.bar_outside.specs.declared.fault.Fault.{Fault}
 use Rattle.bar_outside.specs.declared.fault.Fault.TheVariants.{File, Output, NoMemory}
-use Rattle.bar_outside.specs.Plan.{World, world, Action, Plan, reading, read_then, before, accepting, ending, doing, is_stop, line_at, no_memory, Ran, Begun, Names, CanRun}
+use Rattle.bar_outside.specs.Plan.{World, world, Action, Plan, reading, read_then, before, accepting, ending, doing, is_stop, line_at, no_memory, Ran, Reached, Names, CanRun, IsFilesNext}
 use Rattle.bar_outside.specs.Plan.Action.{read}
 use Rattle.bar_outside.specs.Follows.{IsLater, Follows}
 use Rattle.bar_outside.specs.Ends.{Ends, Carried, EndsWith, Prints, Says, is_plain}
-use Rattle.bar_outside.proofs.ActionLists.{Begun-whole, Begun-behind, Ran-append}
+use Rattle.bar_outside.proofs.ActionLists.{Reached-whole, Reached-behind, Reached-nothing, Reached-memory, Ran-append, nil-cons}
 use Rattle.bar_outside.proofs.Following.{true-not_false, Ran-nothing, IsLater-trans, later-files, named-behind}
 
 file-memory : {T : Type 0} → ◌≡◌ {A = Result T Fault} (Err File) (Err NoMemory) → ⊥
@@ -37,7 +37,8 @@ Ends-ending status line old go = record {
   file_named = λ e told. absurd (no_stop 3 refl status go e);
   output_rose = λ e. absurd (no_stop 7 refl status go e);
   carried = λ told go. record { is = refl; ran = Ran-nothing old };
-  part = λ told. ([], Begun-whole [], Ran-nothing old);
+  at_once = λ none go. refl;
+  part = λ told. Reached-whole [] status old old (no_stop 3 refl status go) (no_stop 7 refl status go) (Ran-nothing old);
   complete = λ reliable. inl refl;
 }
 
@@ -51,7 +52,8 @@ module _ (actions : List Action) (final : ℕ) (line : List ℕ) (old new : Worl
     file_named = λ e told. absurd (no_stop 3 refl final go e);
     output_rose = λ e. absurd (no_stop 7 refl final go e);
     carried = λ told go. record { is = refl; ran = f.done told };
-    part = λ told. (actions, Begun-whole actions, f.done told);
+    at_once = λ none go. refl;
+    part = λ told. Reached-whole actions final old new (no_stop 3 refl final go) (no_stop 7 refl final go) (f.done told);
     complete = λ reliable. inl refl;
   }
   Ends-doing {T} (Err File) f = record {
@@ -60,6 +62,7 @@ module _ (actions : List Action) (final : ℕ) (line : List ℕ) (old new : Worl
     file_named = λ e told. (f.file refl).named told;
     output_rose = λ e. absurd (omega arith);
     carried = λ told go. cc;
+    at_once = λ none go. cc;
     part = f.part;
     complete = λ reliable. absurd (file-memory {T = T} (f.complete reliable (can reliable.told)));
   }
@@ -69,6 +72,7 @@ module _ (actions : List Action) (final : ℕ) (line : List ℕ) (old new : Worl
     file_named = λ e. absurd (omega arith);
     output_rose = λ e. f.output refl;
     carried = λ told go. cc;
+    at_once = λ none go. cc;
     part = f.part;
     complete = λ reliable. absurd (output-memory {T = T} (f.complete reliable (can reliable.told)));
   }
@@ -78,9 +82,18 @@ module _ (actions : List Action) (final : ℕ) (line : List ℕ) (old new : Worl
     file_named = λ e. absurd (omega arith);
     output_rose = λ e. absurd (omega arith);
     carried = λ told go. cc;
+    at_once = λ none go. cc;
     part = f.part;
     complete = λ reliable. inr refl;
   }
+
+begun-read : (path : List ℕ) (others : List ℕ → Content → Plan) (content : Content) (o : Option (List ℕ)) → (rest : List Action) × ((read_then path others content o).actions ≡ read path ∷ rest)
+begun-read path others content None = ([], refl)
+begun-read path others content (Some bytes) = ((others bytes content).actions, refl)
+
+-- where a file is read, something is done
+never-nothing : (path : List ℕ) (others : List ℕ → Content → Plan) (content : Content) → (reading path others content).actions ≡ [] → ⊥
+never-nothing path others content e = let b = begun-read path others content (readable content path) in nil-cons (read path) b.0 (sym e ∙ b.1)
 
 -- a file that was read, and what came after it
 module _ (path : List ℕ) (others : List ℕ → Content → Plan) (old mid : Disk) (out : Stream) (new : World) (bytes : Vec ℕ Global) (status : ℕ)
@@ -110,27 +123,24 @@ module _ (path : List ℕ) (others : List ℕ → Content → Plan) (old mid : D
         let c = ends.carried (told-mid told) go in
         subst (λ (p : Plan). Carried p (world old out) new status) (sym (plan-is told))
         (record { is = c.is; ran = Ran-append (read path ∷ []) (others bytes.items mid.content).actions (world old out) (world mid out) new refl first c.ran });
+    at_once = λ none go. absurd (never-nothing path others old.content (none old.content));
     part = λ told.
-        let p = ends.part (told-mid told) in
-        subst (λ (q : Plan). (done : List Action) × Begun q.actions done × Ran done (world old out) new) (sym (plan-is told))
-        (read path ∷ p.0, Begun-behind (read path ∷ []) (others bytes.items mid.content).actions p.0 p.1, Ran-append (read path ∷ []) p.0 (world old out) (world mid out) new refl first p.2);
+        subst (λ (q : Plan). Reached q.actions status (world old out) new) (sym (plan-is told))
+        (Reached-behind (read path ∷ []) (others bytes.items mid.content).actions status (world old out) (world mid out) new refl first (ends.part (told-mid told)));
     complete = λ reliable.
         either-same (sym (ap (λ (q : Plan). q.status) (plan-is reliable.told)))
         (ends.complete (record { told = told-mid reliable.told; files = subst IsTrue (sym reads.call.reliable) reliable.files; out = reliable.out }));
   }
 
-begun-read : (path : List ℕ) (others : List ℕ → Content → Plan) (content : Content) (o : Option (List ℕ)) → (rest : List Action) × ((read_then path others content o).actions ≡ read path ∷ rest)
-begun-read path others content None = ([], refl)
-begun-read path others content (Some bytes) = ((others bytes content).actions, refl)
-
 -- a file that wasn't read
 module _ (path : List ℕ) (others : List ℕ → Content → Plan) (old mid : Disk) (out : Stream) where
-  unread-part : mid.content ≡ old.content → (done : List Action) × Begun (reading path others old.content).actions done × Ran done (world old out) (world mid out)
-  unread-part same = (
-    [],
-    record { front = []; part = []; rest = (reading path others old.content).actions; plan_is = refl; done_is = refl; part_is = tt },
-    record { files = same; out = λ tells. sym (append-nil out.bytes) },
-  )
+  unread-next : IsFilesNext (reading path others old.content).actions
+  unread-next = let b = begun-read path others old.content (readable old.content path) in subst IsFilesNext (sym b.1) tt
+
+  unread-part : (status : ℕ) → (status ≡ 7 → ⊥) → mid.content ≡ old.content → Reached (reading path others old.content).actions status (world old out) (world mid out)
+  unread-part status no_output same =
+      Reached-nothing (reading path others old.content).actions status _ _ (λ e. unread-next) (λ e. absurd (no_output e))
+      (record { files = same; out = λ tells. sym (append-nil out.bytes) })
 
   unread-named : (call : Failure) → call ≡ record { kind = Read; path = path } → Names (reading path others old.content).actions call
   unread-named call e = let b = begun-read path others old.content (readable old.content path) in subst (λ xs. Names xs call) (sym b.1) (inl e)
@@ -142,7 +152,8 @@ module _ (path : List ℕ) (others : List ℕ → Content → Plan) (old mid : D
     file_named = λ e told. subst (λ o. IsSomeAnd o (Names (reading path others old.content).actions)) (sym (reads.call.failed told refl)) (unread-named _ refl);
     output_rose = λ e. absurd (omega arith);
     carried = λ told go. cc;
-    part = λ told. unread-part reads.same;
+    at_once = λ none go. cc;
+    part = λ told. unread-part 3 (λ e. absurd (omega arith)) reads.same;
     complete = λ reliable. inl (sym (ap (λ o. (read_then path others old.content o).status) (reads.refused reliable.told reliable.files refl)));
   }
   Ends-unread file.NoMemory reads = record {
@@ -151,7 +162,8 @@ module _ (path : List ℕ) (others : List ℕ → Content → Plan) (old mid : D
     file_named = λ e. absurd (omega arith);
     output_rose = λ e. absurd (omega arith);
     carried = λ told go. cc;
-    part = λ told. unread-part reads.same;
+    at_once = λ none go. cc;
+    part = λ told. unread-part 70 (λ e. absurd (omega arith)) reads.same;
     complete = λ reliable. inr refl;
   }
 
@@ -164,7 +176,8 @@ Ends-or_memory plan old new status result (inr e) h = record {
   file_named = λ f. absurd (omega arith);
   output_rose = λ f. absurd (omega arith);
   carried = λ told go. absurd (no_stop 70 refl result go e);
-  part = h.part;
+  at_once = λ none go. absurd (no_stop 70 refl result go e);
+  part = λ told. Reached-memory (plan old.files.content).actions status result old new e (h.part told);
   complete = λ reliable. inr e;
 }
 
@@ -254,7 +267,9 @@ EndsWith-memory plan old = record {
     file_named = λ e. absurd (omega arith);
     output_rose = λ e. absurd (omega arith);
     carried = λ told go. cc;
-    part = λ told. ([], record { front = []; part = []; rest = (plan old.files.content).actions; plan_is = refl; done_is = refl; part_is = tt }, Ran-nothing old);
+    at_once = λ none go. cc;
+    part = λ told.
+        Reached-nothing (plan old.files.content).actions 70 old old (λ e. absurd (omega arith)) (λ e. absurd (omega arith)) (Ran-nothing old);
     complete = λ reliable. inr refl;
   };
   line_is = λ either. refl;

@@ -50,7 +50,8 @@ Touches-one (append p bs) (show cs) rest path h t = absurd h
 Touches-one (show bs) b rest path h t = absurd t
 Touches-one (read p) b rest path h t = absurd t
 Touches-one (create p) (read q) rest path h t = absurd h
-Touches-one (create p) (create q) rest path h t = absurd h
+Touches-one (create p) (create q) rest path h (inl e) = inl (e ∙ h)
+Touches-one (create p) (create q) rest path h (inr t) = absurd t
 Touches-one (create p) (append q cs) rest path h t = absurd h
 Touches-one (create p) (show cs) rest path h t = absurd h
 
@@ -72,4 +73,4 @@ pub untouched : (plan : Content → Plan) (old new : World) (status : ℕ) (path
     (Touches (plan old.files.content).actions path → ⊥) → new.files.content path ≡ old.files.content path
 untouched plan old new status path ends told none =
     let p = ends.part told in
-    ap (λ c. c path) p.2.files ∙ content-untouched p.0 old.files.content path (λ t. none (Touches-begun (plan old.files.content).actions p.0 path p.1 t))
+    ap (λ c. c path) p.ran.files ∙ content-untouched p.done old.files.content path (λ t. none (Touches-begun (plan old.files.content).actions p.done path p.begun t))

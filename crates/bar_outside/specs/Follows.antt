@@ -1,13 +1,13 @@
 -- What a function says that does a list of actions.
-use Rattle.std.specs.Prelude.{◌≡◌, ℕ, ◌≤◌, List, Vec, Result, Ok, Err, IsTrue, OnOk, OnErr, IsErrOf, IsSomeAnd}
+use Rattle.std.specs.Prelude.{◌≡◌, ℕ, ◌≤◌, List, Vec, Result, Ok, Err, IsTrue, IfErr, OnOk, OnErr, IsErrOf, IsSomeAnd}
 use Rattle.bar_outside.specs.Causes.{Rose}
 use Rattle.bar_outside.specs.Disk.{Disk, Reads}
 use Rattle.std.specs.declared.alloc.Global.{Global}
 use Rattle.bar_outside.specs.declared.files.FileFault.{FileFault}
-use Rattle.bar_outside.specs.Faults.{fault_of_file}
+use Rattle.bar_outside.specs.Faults.{fault_of_file, code_of_fault}
 use Rattle.bar_outside.specs.declared.fault.Fault.{Fault}
 use Rattle.bar_outside.specs.declared.fault.Fault.TheVariants.{File, Output, NoMemory}
-use Rattle.bar_outside.specs.Plan.{World, Action, Ran, Begun, Names, CanRun}
+use Rattle.bar_outside.specs.Plan.{World, Action, Ran, Reached, Names, CanRun}
 
 -- no count fell, and the outside tells as much as before
 pub record IsLater (old new : World) : Type 0 where
@@ -35,7 +35,7 @@ pub record Follows {T : Type 0} (plan : List Action) (old new : World) (result :
   pub file : IsErrOf result File → FilesFailed plan old new
   pub output : IsErrOf result Output → Rose old.out.faults new.out.faults
   pub done : IsTrue old.files.told → OnOk result (Ran plan old new)
-  pub part : IsTrue old.files.told → OnErr result ((done : List Action) × Begun plan done × Ran done old new)
+  pub part : IsTrue old.files.told → IfErr result (λ fault. Reached plan (code_of_fault fault) old new)
   pub complete : IsReliable old → CanRun plan old.files.content → OnErr result (result ≡ Err NoMemory)
 
 -- a read of a file, whose fault is handed on
