@@ -3,6 +3,9 @@ use bar_outside::{FileFault, Files, Sink, SinkFault};
 use std::io::{ErrorKind, Read, Stderr, Stdout, Write};
 use std::{fs, io, rt};
 
+#[cfg(test)]
+mod tests;
+
 /// The largest file that is read, in bytes.
 const MOST_BYTES: usize = 1_073_741_824;
 
