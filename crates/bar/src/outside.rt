@@ -1,13 +1,10 @@
 //! The real files and streams. They count their faults and tell nothing of their content.
-use bar_outside::{FileFault, Files, Sink, SinkFault};
+use bar_outside::{FileFault, Files, MOST_BYTES, Sink, SinkFault};
 use std::io::{ErrorKind, Read, Stderr, Stdout, Write};
 use std::{fs, io, rt};
 
 #[cfg(test)]
 mod tests;
-
-/// The largest file that is read, in bytes.
-const MOST_BYTES: usize = 1_073_741_824;
 
 /// A file that was created, kept open for what is appended to it.
 #[derive(Drop)]

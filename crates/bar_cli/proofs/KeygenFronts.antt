@@ -2,7 +2,7 @@
 use Rattle.std.proofs.Common.{◌≡◌, ◌⊎◌, ℕ, List, [], ◌∷◌, ◌++◌, Some, Err, refl, sym, ap, ◌∙◌, subst, IsTrue, inl, inr, take, length, append-nil}
 use Rattle.std.proofs.Math.Seq.{take-length}
 use Rattle.bar_outside.specs.Disk.{Content, created}
-use Rattle.bar_outside.specs.Plan.{World, Plan, Ran, Begun, Reached, IsPartOf, IsPartOfNext, IsFilesNext, IsShowNext, content_after, content_by, shown, shown_by, Action}
+use Rattle.bar_outside.specs.Plan.{Outside, Plan, Ran, Begun, Reached, IsPartOf, IsPartOfNext, IsFilesNext, IsShowNext, content_after, content_by, shown, shown_by, Action}
 use Rattle.bar_outside.specs.Plan.Action.{read, create, append, show}
 use Rattle.bar_outside.specs.Ends.{Ends}
 use Rattle.bar_outside.proofs.Contents.{put_at-same, appended-same}
@@ -133,13 +133,13 @@ begun-all path key text lines content done b =
     ]
 
 -- what stands after it, by what was done
-abbrev AsBefore : World → World → Type 0
+abbrev AsBefore : Outside → Outside → Type 0
 AsBefore old new = (new.files.content ≡ old.files.content) × (IsTrue old.out.told → new.out.bytes ≡ old.out.bytes)
 
-pub as_before : (done : List Action) (old new : World) → IsQuiet done old.files.content → Ran done old new → AsBefore old new
+pub as_before : (done : List Action) (old new : Outside) → IsQuiet done old.files.content → Ran done old new → AsBefore old new
 as_before done old new quiet ran = (ran.files ∙ quiet.files, λ tells. ran.out tells ∙ ap (λ xs. old.out.bytes ++ xs) quiet.out ∙ append-nil old.out.bytes)
 
-begun : (asked : Keygen) (old new : World) (a : KeygenAccepted asked old.files.content) (done : List Action) → Ran done old new →
+begun : (asked : Keygen) (old new : Outside) (a : KeygenAccepted asked old.files.content) (done : List Action) → Ran done old new →
     IsMaking asked.key (key_text_of (key_made asked a.secret)) (lines_of asked a.secret) done old.files.content → KeyBegun asked old new
 begun asked old new a done ran m = record {
   accepted = a;
@@ -151,7 +151,7 @@ begun asked old new a done ran m = record {
 }
 
 -- whatever the status, nothing was changed and printed, or the key was begun
-pub a_front : (asked : Keygen) (old new : World) (status : ℕ) → Ends (keygen_plan asked) old new status → IsTrue old.files.told → AsBefore old new ⊎ KeyBegun asked old new
+pub a_front : (asked : Keygen) (old new : Outside) (status : ℕ) → Ends (keygen_plan asked) old new status → IsTrue old.files.told → AsBefore old new ⊎ KeyBegun asked old new
 a_front asked old new status ends told = by_case (key_case asked old.files.content) (ends.part told)
   where
     by_case : KeyCase asked old.files.content → Reached (keygen_plan asked old.files.content).actions status old new → AsBefore old new ⊎ KeyBegun asked old new
@@ -165,17 +165,17 @@ a_front asked old new status ends told = by_case (key_case asked old.files.conte
         ]
 
 -- what a refusal leaves
-refused : (asked : Keygen) (old new : World) (status : ℕ) (plan : Plan) → Ends (keygen_plan asked) old new status → IsTrue old.files.told →
+refused : (asked : Keygen) (old new : Outside) (status : ℕ) (plan : Plan) → Ends (keygen_plan asked) old new status → IsTrue old.files.told →
     keygen_plan asked old.files.content ≡ plan → ((done : List Action) → Begun plan.actions done → IsQuiet done old.files.content) → AsBefore old new
 refused asked old new status plan ends told is quiet =
     let d = ends.part told in as_before d.done old new (quiet d.done (subst (λ (p : Plan). Begun p.actions d.done) is d.begun)) d.ran
 
-pub leaves-change_nothing : (asked : Keygen) (old new : World) → Ends (keygen_plan asked) old new 4 → IsTrue old.files.told → AsBefore old new
+pub leaves-change_nothing : (asked : Keygen) (old new : Outside) → Ends (keygen_plan asked) old new 4 → IsTrue old.files.told → AsBefore old new
 leaves-change_nothing asked old new ends told =
     let few = refused-leaves asked old new ends told in
     refused asked old new 4 _ ends told (at-leaves asked old.files.content (Err few.0) few.1) (quiet-nothing old.files.content)
 
-pub secret-changes_nothing : (asked : Keygen) (old new : World) → Ends (keygen_plan asked) old new 8 → IsTrue old.files.told → AsBefore old new
+pub secret-changes_nothing : (asked : Keygen) (old new : Outside) → Ends (keygen_plan asked) old new 8 → IsTrue old.files.told → AsBefore old new
 secret-changes_nothing asked old new ends told =
     let other = refused-secret asked old new ends told in
     refused asked old new 8 _ ends told (at-refused asked old.files.content other.0 other.1 other.2 other.3) (quiet-read asked.secret old.files.content)
@@ -247,7 +247,7 @@ behind-text path key text lines content done b prints =
     )
 
 -- what stands where the output failed
-pub written-key : (asked : Keygen) (old new : World) → Ends (keygen_plan asked) old new 7 → IsTrue old.files.told → KeyWritten asked old new
+pub written-key : (asked : Keygen) (old new : Outside) → Ends (keygen_plan asked) old new 7 → IsTrue old.files.told → KeyWritten asked old new
 written-key asked old new ends told = by_case (key_case asked old.files.content)
   where
     at : (plan : Plan) → keygen_plan asked old.files.content ≡ plan → Reached plan.actions 7 old new

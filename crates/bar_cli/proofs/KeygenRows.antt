@@ -2,7 +2,7 @@
 use Rattle.std.proofs.Common.{◌≡◌, ◌≢◌, ◌==◌, ℕ, List, [], ◌∷◌, ◌++◌, Bool, true, false, Option, Some, None, Result, Ok, Err, refl, ap, ◌∙◌, subst, IsTrue, IsSomeAnd, inl, inr, length, append-nil, cond}
 use Rattle.std.proofs.lemmas.Bool.{eqb-true}
 use Rattle.bar_outside.specs.Disk.{Content, Failure, readable, created}
-use Rattle.bar_outside.specs.Plan.{World, Plan, Ran, Names, Touches, content_after, accepting, read_then, before, ending, file_failed}
+use Rattle.bar_outside.specs.Plan.{Outside, Plan, Ran, Names, Touches, content_after, accepting, read_then, before, ending, file_failed}
 use Rattle.bar_outside.specs.Plan.Action.{read, create, append, show}
 use Rattle.bar_outside.specs.Ends.{Ends, Carried}
 use Rattle.bar_outside.proofs.Contents.{put_at-same, put_at-other, appended-same, appended-other}
@@ -82,7 +82,7 @@ unwritten : (key text lines : List ℕ) (content : Content) (path : List ℕ) �
 unwritten key text lines content path differs = appended-other (created content key) key text path differs ∙ put_at-other content key [] path differs
 
 -- a key that was made, from how the command ended
-pub made : (asked : Keygen) (old new : World) → Ends (keygen_plan asked) old new 0 → IsTrue old.files.told → KeyMade asked old new
+pub made : (asked : Keygen) (old new : Outside) → Ends (keygen_plan asked) old new 0 → IsTrue old.files.told → KeyMade asked old new
 made asked old new ends told = by_case (key_case asked old.files.content) (ends.carried told refl)
   where
     by_case : KeyCase asked old.files.content → Carried (keygen_plan asked old.files.content) old new 0 → KeyMade asked old new
@@ -101,7 +101,7 @@ made asked old new ends told = by_case (key_case asked old.files.content) (ends.
         }
 
 -- 4 comes only where there are too few leaves
-pub refused-leaves : (asked : Keygen) (old new : World) → Ends (keygen_plan asked) old new 4 → IsTrue old.files.told → HasFewLeaves asked
+pub refused-leaves : (asked : Keygen) (old new : Outside) → Ends (keygen_plan asked) old new 4 → IsTrue old.files.told → HasFewLeaves asked
 refused-leaves asked old new ends told = by_case (key_case asked old.files.content) (ends.carried told refl)
   where
     by_case : KeyCase asked old.files.content → Carried (keygen_plan asked old.files.content) old new 4 → HasFewLeaves asked
@@ -111,7 +111,7 @@ refused-leaves asked old new ends told = by_case (key_case asked old.files.conte
     by_case (accepted_secret a plan) c = absurd (differ 4 0 refl (c.is ∙ ap (λ (p : Plan). p.status) plan))
 
 -- 8 comes only where the secret has another length
-pub refused-secret : (asked : Keygen) (old new : World) → Ends (keygen_plan asked) old new 8 → IsTrue old.files.told →
+pub refused-secret : (asked : Keygen) (old new : Outside) → Ends (keygen_plan asked) old new 8 → IsTrue old.files.told →
     (bytes : List ℕ) × (enough_leaves asked.rounds asked.params.height ≡ Ok tt) × (readable old.files.content asked.secret ≡ Some bytes) × (length bytes ≢ 32)
 refused-secret asked old new ends told = by_case (key_case asked old.files.content) (ends.carried told refl)
   where

@@ -3,7 +3,7 @@ use Rattle.std.proofs.Common.{◌≡◌, ◌≢◌, ◌⊎◌, ℕ, List, [], fa
 use Rattle.bar_outside.specs.Causes.{Rose}
 use Rattle.bar_outside.specs.Disk.{Disk, Content}
 use Rattle.bar_outside.specs.Stream.{Stream}
-use Rattle.bar_outside.specs.Plan.{world, Action, Plan}
+use Rattle.bar_outside.specs.Plan.{outside, Action, Plan}
 use Rattle.bar_outside.specs.Faults.{code_of_fault}
 use Rattle.bar_outside.specs.Follows.{Follows}
 use Rattle.bar_outside.specs.Ends.{EndsWith}
@@ -24,12 +24,12 @@ empty = record { told = false; reliable = false; content = λ path. None; failed
 
 -- a command that holds over any output doesn't end with 7
 pub never-output : (plan : Content → Plan) (old new : Disk) (status : ℕ) (line : List ℕ) →
-    ((out : Stream) → EndsWith plan (world old out) (world new out) status line) → status ≡ 7 → ⊥
+    ((out : Stream) → EndsWith plan (outside old out) (outside new out) status line) → status ≡ 7 → ⊥
 unfolding quiet
 never-output plan old new status line ends e = let h : Rose 0 0 = (ends quiet).ends.output_rose e in absurd (omega arith)
 
 -- an action that holds over any files doesn't fail by them
-pub never-file : {T : Type 0} (plan : List Action) (old new : Stream) (r : Result T Fault) → ((files : Disk) → Follows plan (world files old) (world files new) r) → r ≡ Err File → ⊥
+pub never-file : {T : Type 0} (plan : List Action) (old new : Stream) (r : Result T Fault) → ((files : Disk) → Follows plan (outside files old) (outside files new) r) → r ≡ Err File → ⊥
 unfolding empty
 never-file plan old new r follows e = let h : Rose 0 0 = ((follows empty).file (rw e refl)).rose in absurd (omega arith)
 

@@ -4,7 +4,7 @@ use Rattle.std.specs.List.{flat_map, concat}
 use Rattle.std.specs.Option.{ok_or}
 use Rattle.bar_outside.specs.Disk.{Content, Failure, readable}
 use Rattle.bar_outside.specs.declared.files.CallKind.TheVariants.{Read, Create, Append}
-use Rattle.bar_outside.specs.Plan.{World, Action, Plan, reading, accepting, ending, doing}
+use Rattle.bar_outside.specs.Plan.{Outside, Action, Plan, reading, accepting, ending, doing}
 use Rattle.bar_outside.specs.Plan.Action.{create, append}
 use Rattle.bar_wire.specs.Inputs.{Input}
 use Rattle.bar_seeds.specs.declared.secrets.Secrets.{Secrets}
@@ -94,7 +94,7 @@ bytes_of names content accepted = played_by_listener (peer_of names content acce
 
 -- all were accepted, the session holds the public key and the anchor that come from the key file's secret,
 -- the played file has exactly what the peer plays over the recording's inputs, and the peer sends nothing
-pub record Replayed (names : ReplayFiles) (old new : World) : Type 0 where
+pub record Replayed (names : ReplayFiles) (old new : Outside) : Type 0 where
   pub accepted : Accepted names old.files.content
   pub fits : Fits accepted.session accepted.secrets.party accepted.secrets.secret
   pub played : new.files.content names.played ≡ Some (bytes_of names old.files.content accepted)
@@ -102,13 +102,13 @@ pub record Replayed (names : ReplayFiles) (old new : World) : Type 0 where
   pub others : (path : List ℕ) → path ≢ names.played → new.files.content path ≡ old.files.content path
 
 -- all were accepted, and the played file has a front of what the recording's inputs play
-pub record PlayedFront (names : ReplayFiles) (old new : World) : Type 0 where
+pub record PlayedFront (names : ReplayFiles) (old new : Outside) : Type 0 where
   pub accepted : Accepted names old.files.content
   pub count : ℕ
   pub played : new.files.content names.played ≡ Some (take count (bytes_of names old.files.content accepted))
 
 -- all were accepted, and the played file has the contents before one of them whole, and a front of this one
-pub record PlayedUpTo (names : ReplayFiles) (old new : World) : Type 0 where
+pub record PlayedUpTo (names : ReplayFiles) (old new : Outside) : Type 0 where
   pub accepted : Accepted names old.files.content
   pub whole : List (List ℕ)
   pub next : List ℕ

@@ -32,6 +32,10 @@ abbrev pub number_in : ℕ → ℕ → List ℕ → Option ℕ
 number_in low high word =
     if is_numeral word && (nat_le low (digits_value 10 word) && nat_le (digits_value 10 word) high) then Some (digits_value 10 word) else None
 
+-- the most rounds of a session
+abbrev pub most_rounds : ℕ
+most_rounds = 1820
+
 -- the eight bytes of sixteen hex digits
 abbrev pub id_of : List ℕ → Option (List ℕ)
 id_of word = result_ok (decode_sized word 8)

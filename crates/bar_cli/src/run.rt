@@ -1,6 +1,6 @@
 //! The top call.
 ghost use Rattle.std.specs.Prelude.{◌≡◌, ◌⊎◌, ◌↔◌, ◌||◌, None, Some, false, map, string_bytes, IsTrue};
-ghost use Rattle.bar_outside.specs.Plan.{world};
+ghost use Rattle.bar_outside.specs.Plan.{outside};
 ghost use Rattle.bar_outside.specs.Ends.{Ends, EndsWith, Says, is_plain};
 ghost use Rattle.bar_cli.specs.Line.{line_of, plan_of, is_status_of};
 ghost use Rattle.bar_cli.specs.Line as line;
@@ -34,7 +34,7 @@ pub fn bar_run<F: Files, K: Sink>(
 
     // what was done, and which status comes when
     ensures ends { Ends (plan_of (line_of (map string_bytes words.now)))
-        (world (F.disk files.old) (K.stream out.old)) (world (F.disk files.new) (K.stream out.new)) result }
+        (outside (F.disk files.old) (K.stream out.old)) (outside (F.disk files.new) (K.stream out.new)) result }
 
     // what err has
     ensures said { IsTrue ((F.disk files.old).told || is_plain result) →
@@ -54,12 +54,12 @@ pub fn bar_run<F: Files, K: Sink>(
     // a replay that ends with 0 has played what the recording's inputs play
     ensures headline { (names : ReplayFiles) → line_of (map string_bytes words.now) ≡ Some (line.replay names) →
         IsTrue (F.disk files.old).told → result ≡ 0 →
-        Replayed names (world (F.disk files.old) (K.stream out.old)) (world (F.disk files.new) (K.stream out.new)) }
+        Replayed names (outside (F.disk files.old) (K.stream out.old)) (outside (F.disk files.new) (K.stream out.new)) }
 
     // a key that was made has its file and its lines
     ensures key_made { (asked : Keygen) → line_of (map string_bytes words.now) ≡ Some (line.keygen asked) →
         IsTrue (F.disk files.old).told → result ≡ 0 →
-        KeyMade asked (world (F.disk files.old) (K.stream out.old)) (world (F.disk files.new) (K.stream out.new)) }
+        KeyMade asked (outside (F.disk files.old) (K.stream out.old)) (outside (F.disk files.new) (K.stream out.new)) }
 {
     accepted_secrets_are_held();
     let Some(command) = command_of(words) else {
@@ -77,7 +77,7 @@ fn run_command<F: Files, K: Sink>(
     out: &mut K,
 ) -> Status
     ensures ends { EndsWith (plan_of (Some (command_view command.now)))
-        (world (F.disk files.old) (K.stream out.old)) (world (F.disk files.new) (K.stream out.new)) (code_of result) (said_at result) }
+        (outside (F.disk files.old) (K.stream out.old)) (outside (F.disk files.new) (K.stream out.new)) (code_of result) (said_at result) }
     ensures statuses { IsTrue (is_status_of (Some (command_view command.now)) (code_of result)) }
     ensures silent { ((asked : Keygen) → command_view command.now ≡ line.keygen asked → ⊥) → K.stream out.new ≡ K.stream out.old }
     ensures leaves { (asked : Keygen) → command_view command.now ≡ line.keygen asked → (code_of result ≡ 4) ↔ HasFewLeaves asked }

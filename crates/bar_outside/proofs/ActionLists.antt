@@ -1,7 +1,7 @@
 -- Laws of lists of actions.
 use Rattle.std.proofs.Common.{◌≡◌, ℕ, List, [], ◌∷◌, ◌++◌, refl, sym, ap, ◌∙◌, subst, append_assoc, append-nil, IsTrue, ◌⊎◌, inl, inr, arith}
 use Rattle.bar_outside.specs.Disk.{Content, Failure, created}
-use Rattle.bar_outside.specs.Plan.{World, Action, Ran, Begun, Reached, Names, CanRun, IsFilesNext, IsShowNext, IsPartOf, IsPartOfNext, content_after, content_by, shown, shown_by}
+use Rattle.bar_outside.specs.Plan.{Outside, Action, Ran, Begun, Reached, Names, CanRun, IsFilesNext, IsShowNext, IsPartOf, IsPartOfNext, content_after, content_by, shown, shown_by}
 use Rattle.bar_outside.specs.Plan.Action.{read, create, append, show}
 
 pub content_after-append : (xs ys : List Action) (content : Content) → content_after (xs ++ ys) content ≡ content_after ys (content_after xs content)
@@ -13,7 +13,7 @@ shown-append [] ys = refl
 shown-append (x ∷ xs) ys = ap (λ bytes. shown_by x ++ bytes) (shown-append xs ys) ∙ sym (append_assoc (shown_by x) (shown xs) (shown ys))
 
 -- one run behind another
-pub Ran-append : (xs ys : List Action) (old mid new : World) → mid.out.told ≡ old.out.told → Ran xs old mid → Ran ys mid new → Ran (xs ++ ys) old new
+pub Ran-append : (xs ys : List Action) (old mid new : Outside) → mid.out.told ≡ old.out.told → Ran xs old mid → Ran ys mid new → Ran (xs ++ ys) old new
 Ran-append xs ys old mid new told first second = record {
   files = second.files ∙ ap (content_after ys) first.files ∙ sym (content_after-append xs ys old.files.content);
   out = λ tells.
@@ -79,7 +79,7 @@ ShowNext-longer (create path ∷ others) more h = absurd h
 ShowNext-longer (append path bytes ∷ others) more h = absurd h
 
 -- a longer plan was done as far
-pub Reached-longer : (plan more : List Action) (status : ℕ) (old new : World) → Reached plan status old new → Reached (plan ++ more) status old new
+pub Reached-longer : (plan more : List Action) (status : ℕ) (old new : Outside) → Reached plan status old new → Reached (plan ++ more) status old new
 Reached-longer plan more status old new r = record {
   done = r.done;
   begun = Begun-longer plan more r.done r.begun;
@@ -89,7 +89,7 @@ Reached-longer plan more status old new r = record {
 }
 
 -- one behind another
-pub Reached-behind : (front plan : List Action) (status : ℕ) (old mid new : World) → mid.out.told ≡ old.out.told → Ran front old mid → Reached plan status mid new →
+pub Reached-behind : (front plan : List Action) (status : ℕ) (old mid new : Outside) → mid.out.told ≡ old.out.told → Ran front old mid → Reached plan status mid new →
     Reached (front ++ plan) status old new
 Reached-behind front plan status old mid new told first r = record {
   done = front ++ r.done;
@@ -100,7 +100,7 @@ Reached-behind front plan status old mid new told first r = record {
 }
 
 -- all was done, and nothing failed
-pub Reached-whole : (plan : List Action) (status : ℕ) (old new : World) → (status ≡ 3 → ⊥) → (status ≡ 7 → ⊥) → Ran plan old new → Reached plan status old new
+pub Reached-whole : (plan : List Action) (status : ℕ) (old new : Outside) → (status ≡ 3 → ⊥) → (status ≡ 7 → ⊥) → Ran plan old new → Reached plan status old new
 Reached-whole plan status old new no_file no_output ran = record {
   done = plan;
   begun = Begun-whole plan;
@@ -110,12 +110,12 @@ Reached-whole plan status old new no_file no_output ran = record {
 }
 
 -- nothing was done
-pub Reached-nothing : (plan : List Action) (status : ℕ) (old new : World) → (status ≡ 3 → IsFilesNext plan) → (status ≡ 7 → IsShowNext plan) → Ran [] old new →
+pub Reached-nothing : (plan : List Action) (status : ℕ) (old new : Outside) → (status ≡ 3 → IsFilesNext plan) → (status ≡ 7 → IsShowNext plan) → Ran [] old new →
     Reached plan status old new
 Reached-nothing plan status old new file output ran = record { done = []; begun = Begun-nothing plan; ran = ran; at_file = file; at_output = output }
 
 -- want of memory may come in place of any status
-pub Reached-memory : (plan : List Action) (status result : ℕ) (old new : World) → result ≡ 70 → Reached plan status old new → Reached plan result old new
+pub Reached-memory : (plan : List Action) (status result : ℕ) (old new : Outside) → result ≡ 70 → Reached plan status old new → Reached plan result old new
 Reached-memory plan status result old new e r = record {
   done = r.done;
   begun = r.begun;

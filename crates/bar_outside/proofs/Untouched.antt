@@ -1,7 +1,7 @@
 -- Laws of how a command ends.
 use Rattle.std.proofs.Common.{◌≡◌, ◌⊎◌, ℕ, List, [], ◌∷◌, ◌++◌, refl, sym, ap, ◌∙◌, subst, IsTrue, inl, inr}
 use Rattle.bar_outside.specs.Disk.{Content}
-use Rattle.bar_outside.specs.Plan.{World, Action, Plan, Begun, IsPartOf, IsPartOfNext, Touches, content_after, content_by}
+use Rattle.bar_outside.specs.Plan.{Outside, Action, Plan, Begun, IsPartOf, IsPartOfNext, Touches, content_after, content_by}
 use Rattle.bar_outside.specs.Plan.Action.{read, create, append, show}
 use Rattle.bar_outside.specs.Ends.{Ends}
 use Rattle.bar_outside.proofs.Contents.{put_at-other, appended-other}
@@ -69,7 +69,7 @@ Touches-begun plan done path b t =
       | inr c ↦ Touches-right b.front b.rest path (Touches-part b.part b.rest path b.part_is c)
     ])
 
-pub untouched : (plan : Content → Plan) (old new : World) (status : ℕ) (path : List ℕ) → Ends plan old new status → IsTrue old.files.told →
+pub untouched : (plan : Content → Plan) (old new : Outside) (status : ℕ) (path : List ℕ) → Ends plan old new status → IsTrue old.files.told →
     (Touches (plan old.files.content).actions path → ⊥) → new.files.content path ≡ old.files.content path
 untouched plan old new status path ends told none =
     let p = ends.part told in

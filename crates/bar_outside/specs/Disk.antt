@@ -30,9 +30,13 @@ pub record Disk : Type 0 where
   pub failed : Option Failure
   pub faults : ℕ
 
+-- the most bytes of a file that is read
+abbrev pub most_bytes : ℕ
+most_bytes = 1073741824
+
 -- the bytes that a read gives: none where the file isn't there or is too large
 abbrev pub readable : Content → List ℕ → Option (List ℕ)
-readable content path = option_and_then (λ bytes. if nat_le (length bytes) 1073741824 then Some bytes else None) (content path)
+readable content path = option_and_then (λ bytes. if nat_le (length bytes) most_bytes then Some bytes else None) (content path)
 
 -- the files with one of this name that has these bytes
 unfoldable pub put_at : Content → List ℕ → List ℕ → Content

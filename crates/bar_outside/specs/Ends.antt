@@ -3,16 +3,16 @@ use Rattle.std.specs.Prelude.{◌≡◌, ◌≢◌, ◌⊎◌, ◌≤◌, ◌==�
 use Rattle.bar_outside.specs.Causes.{Rose}
 use Rattle.bar_outside.specs.Disk.{Content}
 use Rattle.bar_outside.specs.Stream.{Stream}
-use Rattle.bar_outside.specs.Plan.{World, Plan, Ran, Reached, Names, is_stop, line_at}
+use Rattle.bar_outside.specs.Plan.{Outside, Plan, Ran, Reached, Names, is_stop, line_at}
 use Rattle.bar_outside.specs.Follows.{IsLater, IsReliable}
 
 -- the plan was carried out to its end, with its status
-pub record Carried (plan : Plan) (old new : World) (status : ℕ) : Type 0 where
+pub record Carried (plan : Plan) (old new : Outside) (status : ℕ) : Type 0 where
   pub is : status ≡ plan.status
   pub ran : Ran plan.actions old new
 
 -- a command with this plan, by what the files held, ended with this status
-pub record Ends (plan : Content → Plan) (old new : World) (status : ℕ) : Type 0 where
+pub record Ends (plan : Content → Plan) (old new : Outside) (status : ℕ) : Type 0 where
   pub later : IsLater old new
   -- 3 only where the files' count rose, and where they tell, by a call of the plan
   pub file_rose : status ≡ 3 → Rose old.files.faults new.files.faults
@@ -29,7 +29,7 @@ pub record Ends (plan : Content → Plan) (old new : World) (status : ℕ) : Typ
   pub complete : IsReliable old → (status ≡ (plan old.files.content).status) ⊎ (status ≡ 70)
 
 -- it ended so, and this is the line of its end
-pub record EndsWith (plan : Content → Plan) (old new : World) (status : ℕ) (line : List ℕ) : Type 0 where
+pub record EndsWith (plan : Content → Plan) (old new : Outside) (status : ℕ) (line : List ℕ) : Type 0 where
   pub ends : Ends plan old new status
   pub line_is : IsTrue (old.files.told || is_stop status) → line ≡ line_at (plan old.files.content) status
 

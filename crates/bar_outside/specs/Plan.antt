@@ -5,12 +5,12 @@ use Rattle.bar_outside.specs.Stream.{Stream}
 use Rattle.bar_outside.specs.declared.files.CallKind.TheVariants.{Read, Create, Append}
 
 -- the files, and what is printed
-pub record World : Type 0 where
+pub record Outside : Type 0 where
   pub files : Disk
   pub out : Stream
 
-abbrev pub world : Disk → Stream → World
-world files out = record { files = files; out = out }
+abbrev pub outside : Disk → Stream → Outside
+outside files out = record { files = files; out = out }
 
 pub data Action : Type 0 where
   read : (path : List ℕ) → Action
@@ -41,7 +41,7 @@ shown [] = []
 shown (a ∷ others) = shown_by a ++ shown others
 
 -- these actions, and nothing else, were done between old and new
-pub record Ran (done : List Action) (old new : World) : Type 0 where
+pub record Ran (done : List Action) (old new : Outside) : Type 0 where
   pub files : new.files.content ≡ content_after done old.files.content
   pub out : IsTrue old.out.told → new.out.bytes ≡ old.out.bytes ++ shown done
 
@@ -79,7 +79,7 @@ IsShowNext (show bytes ∷ others) = Unit {0}
 IsShowNext _ = ⊥
 
 -- how far a plan was done that ended with this status; a fault comes at the next action: 3 at one of the files, 7 at one that prints
-pub record Reached (plan : List Action) (status : ℕ) (old new : World) : Type 0 where
+pub record Reached (plan : List Action) (status : ℕ) (old new : Outside) : Type 0 where
   pub done : List Action
   pub begun : Begun plan done
   pub ran : Ran done old new

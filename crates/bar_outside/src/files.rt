@@ -1,6 +1,9 @@
 //! Files by name.
 use std::alloc::{AllocError, AllocFailed};
 
+/// The most bytes of a file that is read.
+pub const MOST_BYTES: usize = 1_073_741_824;
+
 /// Why a call of the files failed.
 #[derive(Clone, Copy, Debug, PartialEq, Eq)]
 pub enum FileFault {
@@ -45,7 +48,7 @@ pub trait Files {
 
     ghost disk: { Self → Disk };
 
-    /// All the bytes of a file. A file that isn't there, or that has more than 1,073,741,824 bytes, is `Failed`.
+    /// All the bytes of a file. A file that isn't there, or that has more than `MOST_BYTES` bytes, is `Failed`.
     fn read(&mut self, path: &str) -> Result<Vec<u8>, FileFault>
         ensures { Reads path.now (disk self.old) (disk self.new) result };
 

@@ -15,7 +15,7 @@ mod tests;
 
 pub use actions::{append_file, create_file, read_file, show_bytes};
 pub use fault::Fault;
-pub use files::{CallKind, FileFault, Files};
+pub use files::{CallKind, FileFault, Files, MOST_BYTES};
 pub use laws::{carried_or_stopped, done_without_faults, others_stay};
 pub use mem_files::MemFiles;
 pub use mem_sink::MemSink;

@@ -6,12 +6,9 @@ ghost use Rattle.bar_outside.specs.Schedule.{failing, next_call, fails_next, fai
 ghost use Rattle.bar_outside.specs.MemFiles.{content_of};
 
 use crate::schedule::{Schedule, is_listed, new_schedule};
-use crate::{CallKind, FileFault, Files, NoMemory};
+use crate::{CallKind, FileFault, Files, MOST_BYTES, NoMemory};
 use std::alloc::Global;
 use std::collections::BTreeMap;
-
-/// The largest file that can be read.
-const MOST_BYTES: usize = 1_073_741_824;
 
 /// A call that failed.
 #[derive(Drop)]
