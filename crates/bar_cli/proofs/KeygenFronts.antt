@@ -237,12 +237,11 @@ behind-text path key text lines content done b prints =
     let three = behind-files (append key text) (show lines ∷ []) two.0 two.2 tt two.3 in
     let rest = begun-shown lines three.0 three.2 in
     let is : done ≡ read path ∷ create key ∷ append key text ∷ three.0 =
-        one.1 ∙ ap (λ xs. read path ∷ xs) (two.1 ∙ ap (λ xs. create key ∷ xs) three.1) in
-    (
+    one.1 ∙ ap (λ xs. read path ∷ xs) (two.1 ∙ ap (λ xs. create key ∷ xs) three.1) in (
       rest.0,
       ap (λ xs. content_after xs content key) is
-      ∙ ap (λ (holds : Content). holds key) (rest.2 (content_after (create key ∷ append key text ∷ []) content))
-      ∙ appended-same (created content key) key text [] (put_at-same content key []),
+          ∙ ap (λ (holds : Content). holds key) (rest.2 (content_after (create key ∷ append key text ∷ []) content))
+          ∙ appended-same (created content key) key text [] (put_at-same content key []),
       ap shown is ∙ rest.1,
     )
 

@@ -49,7 +49,8 @@ run_plan names session secrets inputs = doing (replay_actions names (contents_of
 -- the recording of the key's party is read, and accepted or refused
 abbrev pub recording_plan : ReplayFiles → SessionData → Secrets → Content → Plan
 recording_plan names session secrets =
-    reading names.recording (λ bytes. accepting (ok_or (recording_of session secrets.party bytes) (tt {0})) (run_plan names session secrets) (λ _. ending 8 input_refused))
+    reading names.recording (λ bytes.
+    accepting (ok_or (recording_of session secrets.party bytes) (tt {0})) (run_plan names session secrets) (λ _. ending 8 input_refused))
 
 -- the key file is read, and accepted or refused
 abbrev pub key_plan : ReplayFiles → SessionData → Content → Plan

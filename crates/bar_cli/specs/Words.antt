@@ -20,7 +20,8 @@ value_of name (key ∷ value ∷ others) = if bytes_eq key name then Some value 
 -- as there are two words for each option, each stands once
 abbrev pub values_of : List (List ℕ) → List (List ℕ) → Option (List (List ℕ))
 values_of [] words = Some []
-values_of (name ∷ names) words = option_and_then (λ value. option_map (λ values. value ∷ values) (values_of names words)) (value_of name words)
+values_of (name ∷ names) words =
+    option_and_then (λ value. option_map (λ values. value ∷ values) (values_of names words)) (value_of name words)
 
 -- ASCII digits alone, and at least one
 abbrev pub is_numeral : List ℕ → Bool
@@ -30,7 +31,9 @@ is_numeral (digit ∷ digits) = list_all is_ascii_digit (digit ∷ digits)
 -- the number that a word writes, where it is in the range; zeros may stand before other digits
 abbrev pub number_in : ℕ → ℕ → List ℕ → Option ℕ
 number_in low high word =
-    if is_numeral word && (nat_le low (digits_value 10 word) && nat_le (digits_value 10 word) high) then Some (digits_value 10 word) else None
+    if is_numeral word && (nat_le low (digits_value 10 word) && nat_le (digits_value 10 word) high)
+    then Some (digits_value 10 word)
+    else None
 
 -- the most rounds of a session
 abbrev pub most_rounds : ℕ

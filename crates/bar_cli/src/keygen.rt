@@ -36,7 +36,8 @@ pub fn keygen<F: Files, K: Sink>(
     out: &mut K,
 ) -> Result<Status, Fault>
     ensures ends { EndsWith (keygen_plan (keygen_view asked.now))
-        (outside (F.disk files.old) (K.stream out.old)) (outside (F.disk files.new) (K.stream out.new)) (code_of_run result) (said_by_run result) }
+        (outside (F.disk files.old) (K.stream out.old))
+        (outside (F.disk files.new) (K.stream out.new)) (code_of_run result) (said_by_run result) }
     ensures answers { IfOk result (λ status. IsTrue (is_keygen_end status)) }
     ensures leaves { (code_of_run result ≡ 4) ↔ HasFewLeaves (keygen_view asked.now) }
     ensures unprinted { may_print (code_of_run result) ≡ false → K.stream out.new ≡ K.stream out.old }
@@ -55,7 +56,8 @@ fn keygen_by_secret<F: Files, K: Sink>(
     out: &mut K,
 ) -> Result<Status, Fault>
     ensures ends { EndsWith (secret_plan (keygen_view asked.now))
-        (outside (F.disk files.old) (K.stream out.old)) (outside (F.disk files.new) (K.stream out.new)) (code_of_run result) (said_by_run result) }
+        (outside (F.disk files.old) (K.stream out.old))
+        (outside (F.disk files.new) (K.stream out.new)) (code_of_run result) (said_by_run result) }
     ensures answers { IfOk result (λ status. IsTrue (is_keygen_end status)) }
     ensures enough { code_of_run result ≢ 4 }
     ensures unprinted { may_print (code_of_run result) ≡ false → K.stream out.new ≡ K.stream out.old }

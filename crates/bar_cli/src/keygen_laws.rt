@@ -12,7 +12,8 @@ ghost use Rattle.bar_cli.specs.KeygenPlan.{Keygen, KeygenAccepted, KeyMade, KeyW
 
 /// 0 comes exactly where there are enough leaves and the secret is accepted, but for a fault or want of memory; then the key was made.
 pub fn key_made_exactly()
-    ensures only { (asked : Keygen) (old new : Outside) → Ends (keygen_plan asked) old new 0 → IsTrue old.files.told → KeyMade asked old new }
+    ensures only { (asked : Keygen) (old new : Outside) → Ends (keygen_plan asked) old new 0 → IsTrue old.files.told →
+        KeyMade asked old new }
     ensures then { (asked : Keygen) (old new : Outside) (status : ℕ) → Ends (keygen_plan asked) old new status → IsTrue old.files.told →
         KeygenAccepted asked old.files.content → (status ≡ 0) ⊎ (is_stop status ≡ true) }
     ensures line { (asked : Keygen) (content : Content) → KeygenAccepted asked content → line_at (keygen_plan asked content) 0 ≡ [] }
@@ -20,7 +21,8 @@ pub fn key_made_exactly()
 
 /// Where all is accepted and no count rose, the status is 0, but for want of memory. So it is where nothing fails by itself.
 pub fn key_made_where_all_is_accepted()
-    ensures without_faults { (asked : Keygen) (old new : Outside) (status : ℕ) → Ends (keygen_plan asked) old new status → IsTrue old.files.told →
+    ensures without_faults { (asked : Keygen) (old new : Outside) (status : ℕ) → Ends (keygen_plan asked) old new status →
+        IsTrue old.files.told →
         KeygenAccepted asked old.files.content → (Rose old.files.faults new.files.faults → ⊥) → (Rose old.out.faults new.out.faults → ⊥) →
         (status ≡ 0) ⊎ (status ≡ 70) }
     ensures reliable { (asked : Keygen) (old new : Outside) (status : ℕ) → Ends (keygen_plan asked) old new status → IsReliable old →
@@ -34,7 +36,8 @@ pub fn keygen_failed_only()
     ensures named { (asked : Keygen) (old new : Outside) → Ends (keygen_plan asked) old new 3 → IsTrue old.files.told →
         IsSomeAnd new.files.failed (IsKeygenCall asked) }
     ensures output { (asked : Keygen) (old new : Outside) → Ends (keygen_plan asked) old new 7 → Rose old.out.faults new.out.faults }
-    ensures no_secret { (asked : Keygen) (old new : Outside) (status : ℕ) → Ends (keygen_plan asked) old new status → IsTrue old.files.told →
+    ensures no_secret { (asked : Keygen) (old new : Outside) (status : ℕ) → Ends (keygen_plan asked) old new status →
+        IsTrue old.files.told →
         enough_leaves asked.rounds asked.params.height ≡ Ok tt → readable old.files.content asked.secret ≡ None → is_stop status ≡ true }
 {}
 
@@ -53,12 +56,14 @@ pub fn leaves_refused_exactly()
         enough_leaves asked.rounds asked.params.height ≡ Err fault → line_at (keygen_plan asked content) 4 ≡ session_refused fault }
 {}
 
-/// 8 comes exactly where there are enough leaves and the secret is there and hasn't 32 bytes, but for a fault or want of memory; its line has the length.
+/// 8 comes exactly where there are enough leaves and the secret is there and hasn't 32 bytes, but for a fault or want of memory; its
+/// line has the length.
 pub fn secret_refused_exactly()
     ensures only { (asked : Keygen) (old new : Outside) → Ends (keygen_plan asked) old new 8 → IsTrue old.files.told →
         (bytes : List ℕ) × (enough_leaves asked.rounds asked.params.height ≡ Ok tt)
         × (readable old.files.content asked.secret ≡ Some bytes) × (length bytes ≢ 32) }
-    ensures then { (asked : Keygen) (old new : Outside) (status : ℕ) (bytes : List ℕ) → Ends (keygen_plan asked) old new status → IsTrue old.files.told →
+    ensures then { (asked : Keygen) (old new : Outside) (status : ℕ) (bytes : List ℕ) → Ends (keygen_plan asked) old new status →
+        IsTrue old.files.told →
         enough_leaves asked.rounds asked.params.height ≡ Ok tt → readable old.files.content asked.secret ≡ Some bytes → length bytes ≢ 32 →
         (status ≡ 8) ⊎ (is_stop status ≡ true) }
     ensures line { (asked : Keygen) (content : Content) (bytes : List ℕ) →
@@ -68,16 +73,19 @@ pub fn secret_refused_exactly()
 
 /// Whatever the status, only the key file is changed.
 pub fn only_the_key_is_changed()
-    ensures { (asked : Keygen) (old new : Outside) (status : ℕ) (path : List ℕ) → Ends (keygen_plan asked) old new status → IsTrue old.files.told →
+    ensures { (asked : Keygen) (old new : Outside) (status : ℕ) (path : List ℕ) → Ends (keygen_plan asked) old new status →
+        IsTrue old.files.told →
         path ≢ asked.key → new.files.content path ≡ old.files.content path }
 {}
 
 /// After a refusal every file is as it was, and nothing was printed.
 pub fn refused_keys_change_nothing()
-    ensures leaves { (asked : Keygen) (old new : Outside) → Ends (keygen_plan asked) old new 4 → IsTrue old.files.told → new.files.content ≡ old.files.content }
+    ensures leaves { (asked : Keygen) (old new : Outside) → Ends (keygen_plan asked) old new 4 → IsTrue old.files.told →
+        new.files.content ≡ old.files.content }
     ensures leaves_printed { (asked : Keygen) (old new : Outside) → Ends (keygen_plan asked) old new 4 → IsTrue old.files.told →
         IsTrue old.out.told → new.out.bytes ≡ old.out.bytes }
-    ensures secret { (asked : Keygen) (old new : Outside) → Ends (keygen_plan asked) old new 8 → IsTrue old.files.told → new.files.content ≡ old.files.content }
+    ensures secret { (asked : Keygen) (old new : Outside) → Ends (keygen_plan asked) old new 8 → IsTrue old.files.told →
+        new.files.content ≡ old.files.content }
     ensures secret_printed { (asked : Keygen) (old new : Outside) → Ends (keygen_plan asked) old new 8 → IsTrue old.files.told →
         IsTrue old.out.told → new.out.bytes ≡ old.out.bytes }
 {}

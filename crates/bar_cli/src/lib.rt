@@ -28,8 +28,8 @@ pub use keygen_laws::{
     output_fails_behind_the_key, refused_keys_change_nothing, secret_refused_exactly,
 };
 pub use laws::{
-    a_front_is_played, a_replay_fails_in_order, done_exactly, done_where_all_is_accepted, file_failed_only,
-    input_refused_exactly, key_refused_exactly, only_played_is_changed, refusals_change_nothing,
-    session_refused_exactly,
+    a_front_is_played, a_replay_fails_in_order, done_exactly, done_where_all_is_accepted,
+    file_failed_only, input_refused_exactly, key_refused_exactly, only_played_is_changed,
+    refusals_change_nothing, session_refused_exactly,
 };
 pub use run::bar_run;

@@ -41,7 +41,8 @@ pub fn bar_run<F: Files, K: Sink>(
         Says (plan_of (line_of (map string_bytes words.now)) (F.disk files.old).content) result (K.stream err.old) (K.stream err.new) }
 
     // 4 comes at `keygen` exactly where there are too few leaves, but for want of memory, whatever the files tell
-    ensures few_leaves { (asked : Keygen) → line_of (map string_bytes words.now) ≡ Some (line.keygen asked) → result ≡ 4 → HasFewLeaves asked }
+    ensures few_leaves { (asked : Keygen) → line_of (map string_bytes words.now) ≡ Some (line.keygen asked) → result ≡ 4 →
+        HasFewLeaves asked }
     ensures leaves_refused { (asked : Keygen) → line_of (map string_bytes words.now) ≡ Some (line.keygen asked) → HasFewLeaves asked →
         (result ≡ 4) ⊎ (result ≡ 70) }
 
@@ -49,7 +50,8 @@ pub fn bar_run<F: Files, K: Sink>(
     ensures unprinted { may_print result ≡ false → K.stream out.new ≡ K.stream out.old }
 
     // nothing is printed but by `keygen`: a listening peer sends nothing
-    ensures silent { ((asked : Keygen) → line_of (map string_bytes words.now) ≡ Some (line.keygen asked) → ⊥) → K.stream out.new ≡ K.stream out.old }
+    ensures silent { ((asked : Keygen) → line_of (map string_bytes words.now) ≡ Some (line.keygen asked) → ⊥) →
+        K.stream out.new ≡ K.stream out.old }
 
     // a replay that ends with 0 has played what the recording's inputs play
     ensures headline { (names : ReplayFiles) → line_of (map string_bytes words.now) ≡ Some (line.replay names) →

@@ -25,7 +25,8 @@ pub fn create_file<F: Files>(files: &mut F, path: &str) -> Result<(), Fault>
 
 /// Adds bytes to a file.
 pub fn append_file<F: Files>(files: &mut F, path: &str, bytes: &[u8]) -> Result<(), Fault>
-    ensures { (out : Stream) → Follows (append path.now bytes.now ∷ []) (outside (F.disk files.old) out) (outside (F.disk files.new) out) result }
+    ensures { (out : Stream) →
+        Follows (append path.now bytes.now ∷ []) (outside (F.disk files.old) out) (outside (F.disk files.new) out) result }
 {
     files.append(path, bytes)?;
     Ok(())
