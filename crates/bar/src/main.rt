@@ -2,10 +2,13 @@
 #![tactic(auto)]
 
 mod outside;
+#[cfg(test)]
+mod tests;
 
 use bar_cli::bar_run;
-use bar_outside::Sink;
+use bar_outside::{Files, Sink};
 use outside::{RealFiles, RealSink, Standard};
+use std::alloc::Global;
 use std::env::Env;
 use std::io::ErrorKind;
 use std::process::ExitCode;
@@ -23,21 +26,32 @@ fn words_of<R: Env + AllocGlobal>(rt: &R) -> io::Result<Vec<String>> {
     Ok(words)
 }
 
-fn main(rt: HostRuntime) -> ExitCode {
-    let alloc = rt.alloc();
-    let mut files = RealFiles::new(&rt);
-    let mut out = RealSink::new(Standard::Out(rt.stdout()));
-    let mut err = RealSink::new(Standard::Err(rt.stderr()));
-    let words = match words_of(&rt) {
+// Does what the words say, and answers the exit status.
+fn run_words<F: Files, K: Sink>(
+    alloc: Global,
+    words: io::Result<Vec<String>>,
+    files: &mut F,
+    out: &mut K,
+    err: &mut K,
+) -> u8 {
+    let words = match words {
         Ok(words) => words,
         Err(error) => {
             if error.kind() == ErrorKind::OutOfMemory {
                 let _ = err.write(b"bar: no memory\n");
-                return ExitCode::from(NO_MEMORY);
+                return NO_MEMORY;
             }
             // Words that aren't text are no line, just as no words are.
             Vec::new(alloc)
         }
     };
-    ExitCode::from(bar_run(alloc, &words, &mut files, &mut out, &mut err))
+    bar_run(alloc, &words, files, out, err)
+}
+
+fn main(rt: HostRuntime) -> ExitCode {
+    let mut files = RealFiles::new(&rt);
+    let mut out = RealSink::new(Standard::Out(rt.stdout()));
+    let mut err = RealSink::new(Standard::Err(rt.stderr()));
+    let words = words_of(&rt);
+    ExitCode::from(run_words(rt.alloc(), words, &mut files, &mut out, &mut err))
 }

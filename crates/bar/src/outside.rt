@@ -3,6 +3,9 @@ use bar_outside::{FileFault, Files, LARGEST_FILE, Sink, SinkFault};
 use std::io::{ErrorKind, Read, Stderr, Stdout, Write};
 use std::{fs, io, rt};
 
+#[cfg(test)]
+mod tests;
+
 /// A file that was created, kept open for what is appended to it.
 #[derive(Drop)]
 struct CreatedFile<F> {

@@ -2,7 +2,7 @@
 use Rattle.std.proofs.Common.{◌≡◌, ◌≢◌, ◌==◌, ℕ, List, [], ◌∷◌, ◌++◌, Bool, true, false, Option, Some, None, Result, Ok, Err, refl, ap, ◌∙◌, subst, IsTrue, IsSomeAnd, inl, inr, length, append-nil, cond}
 use Rattle.std.proofs.lemmas.Bool.{eqb-true}
 use Rattle.bar_outside.specs.Disk.{Content, Failure, readable, created}
-use Rattle.bar_outside.specs.Plan.{World, Plan, Ran, Names, Touches, content_after, accepting, read_then, before, ending, file_failed}
+use Rattle.bar_outside.specs.Plan.{Outside, Plan, Ran, Names, Touches, content_after, accepting, read_then, before, ending, file_failed}
 use Rattle.bar_outside.specs.Plan.Action.{read, create, append, show}
 use Rattle.bar_outside.specs.Ends.{Ends, Carried}
 use Rattle.bar_outside.proofs.Contents.{put_at-same, put_at-other, appended-same, appended-other}
@@ -10,7 +10,7 @@ use Rattle.bar_roster.specs.declared.fault.SessionFault.{SessionFault}
 use Rattle.bar_roster.specs.KeyText.{key_text_of}
 use Rattle.bar_roster.specs.SessionText.{enough_leaves}
 use Rattle.bar_cli.specs.Refusals.{session_refused, secret_refused}
-use Rattle.bar_cli.specs.KeygenPlan.{Keygen, KeygenAccepted, KeyMade, IsKeygenCall, secret_of, key_made, lines_of, keygen_actions, making_plan, secret_plan, keygen_plan}
+use Rattle.bar_cli.specs.KeygenPlan.{Keygen, KeygenAccepted, KeyMade, HasFewLeaves, IsKeygenCall, secret_of, key_made, lines_of, keygen_actions, making_plan, secret_plan, keygen_plan}
 use Rattle.bar_cli.proofs.EndLemmas.{differ}
 
 abbrev unread : List ℕ → Plan
@@ -82,7 +82,7 @@ unwritten : (key text lines : List ℕ) (content : Content) (path : List ℕ) �
 unwritten key text lines content path differs = appended-other (created content key) key text path differs ∙ put_at-other content key [] path differs
 
 -- a key that was made, from how the command ended
-pub made : (asked : Keygen) (old new : World) → Ends (keygen_plan asked) old new 0 → IsTrue old.files.told → KeyMade asked old new
+pub made : (asked : Keygen) (old new : Outside) → Ends (keygen_plan asked) old new 0 → IsTrue old.files.told → KeyMade asked old new
 made asked old new ends told = by_case (key_case asked old.files.content) (ends.carried told refl)
   where
     by_case : KeyCase asked old.files.content → Carried (keygen_plan asked old.files.content) old new 0 → KeyMade asked old new
@@ -101,18 +101,17 @@ made asked old new ends told = by_case (key_case asked old.files.content) (ends.
         }
 
 -- 4 comes only where there are too few leaves
-pub refused-leaves : (asked : Keygen) (old new : World) → Ends (keygen_plan asked) old new 4 → IsTrue old.files.told →
-    (fault : SessionFault) × (enough_leaves asked.rounds asked.params.height ≡ Err fault)
+pub refused-leaves : (asked : Keygen) (old new : Outside) → Ends (keygen_plan asked) old new 4 → IsTrue old.files.told → HasFewLeaves asked
 refused-leaves asked old new ends told = by_case (key_case asked old.files.content) (ends.carried told refl)
   where
-    by_case : KeyCase asked old.files.content → Carried (keygen_plan asked old.files.content) old new 4 → (fault : SessionFault) × (enough_leaves asked.rounds asked.params.height ≡ Err fault)
+    by_case : KeyCase asked old.files.content → Carried (keygen_plan asked old.files.content) old new 4 → HasFewLeaves asked
     by_case (few_leaves fault e plan) c = (fault, e)
     by_case (no_secret e f plan) c = absurd (differ 4 3 refl (c.is ∙ ap (λ (p : Plan). p.status) plan))
     by_case (refused_secret bytes e f other plan) c = absurd (differ 4 8 refl (c.is ∙ ap (λ (p : Plan). p.status) plan))
     by_case (accepted_secret a plan) c = absurd (differ 4 0 refl (c.is ∙ ap (λ (p : Plan). p.status) plan))
 
 -- 8 comes only where the secret has another length
-pub refused-secret : (asked : Keygen) (old new : World) → Ends (keygen_plan asked) old new 8 → IsTrue old.files.told →
+pub refused-secret : (asked : Keygen) (old new : Outside) → Ends (keygen_plan asked) old new 8 → IsTrue old.files.told →
     (bytes : List ℕ) × (enough_leaves asked.rounds asked.params.height ≡ Ok tt) × (readable old.files.content asked.secret ≡ Some bytes) × (length bytes ≢ 32)
 refused-secret asked old new ends told = by_case (key_case asked old.files.content) (ends.carried told refl)
   where

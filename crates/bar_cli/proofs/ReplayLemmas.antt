@@ -12,11 +12,11 @@ use Rattle.bar_record.specs.declared.items.Items.{Items}
 use Rattle.std.proofs.lemmas.List.{take_more, take-append-drop}
 use Rattle.std.proofs.lemmas.Grind.{flat_map-append}
 use Rattle.bar_outside.specs.Disk.{Content, appended, created}
-use Rattle.bar_outside.specs.Plan.{Action, Begun, CanRun, IsPartOf, content_after}
+use Rattle.bar_outside.specs.Plan.{Action, Begun, CanRun, IsFilesNext, IsPartOf, content_after}
 use Rattle.bar_outside.specs.Plan.Action.{read, create, append, show}
 use Rattle.bar_outside.proofs.Contents.{put_at-same, put_at-other, put_at-there, appended-same, appended-other, appended-stays}
-use Rattle.bar_outside.proofs.ActionLists.{content_after-append, Begun-cons, Begun-none}
-use Rattle.bar_cli.specs.ReplayPlan.{ReplayFiles, turn, turns, played_bytes, replay_actions}
+use Rattle.bar_outside.proofs.ActionLists.{content_after-append, Begun-cons, Begun-none, no-next}
+use Rattle.bar_cli.specs.ReplayPlan.{ReplayFiles, joined, turn, turns, played_bytes, replay_actions}
 
 map-append : {A B : Type 0} (f : A → B) (xs ys : List A) → map f (xs ++ ys) ≡ map f xs ++ map f ys
 map-append f [] ys = refl
@@ -122,17 +122,11 @@ front-turn played held (x ∷ xs) content done there b =
       ]
     ]
 
-joined : List (List (List ℕ)) → List (List ℕ)
-joined [] = []
-joined (x ∷ xs) = x ++ joined xs
-
-turns-joined : (played : List ℕ) (contents : List (List (List ℕ))) → turns played contents ≡ turn played (joined contents)
-unfolding joined
+pub turns-joined : (played : List ℕ) (contents : List (List (List ℕ))) → turns played contents ≡ turn played (joined contents)
 turns-joined played [] = refl
 turns-joined played (x ∷ xs) = ap (λ ys. turn played x ++ ys) (turns-joined played xs) ∙ sym (turn-append played x (joined xs))
 
 concat-joined : (contents : List (List (List ℕ))) → concat (joined contents) ≡ played_bytes contents
-unfolding joined
 concat-joined [] = refl
 concat-joined (x ∷ xs) = concat-append x (joined xs) ∙ ap (λ ys. concat x ++ ys) (concat-joined xs)
 
@@ -142,6 +136,42 @@ pub front-turns : (played : List ℕ) (contents : List (List (List ℕ))) (conte
 front-turns played contents content done there b =
     let p = front-turn played [] (joined contents) content done there (subst (λ plan. Begun plan done) (turns-joined played contents) b) in
     (p.0, p.1 ∙ ap (λ bytes. Some (take p.0 bytes)) (concat-joined contents))
+
+-- some bytes have the contents before one of them whole behind what was held, and a front of this one
+pub record IsUpTo (contents : List (List ℕ)) (held : List ℕ) (bytes : Option (List ℕ)) : Type 0 where
+  pub whole : List (List ℕ)
+  pub next : List ℕ
+  pub others : List (List ℕ)
+  pub count : ℕ
+  pub is : contents ≡ whole ++ next ∷ others
+  pub has : bytes ≡ Some (held ++ (concat whole ++ take count next))
+
+one-more : (held x rest front : List ℕ) → (held ++ x) ++ (rest ++ front) ≡ held ++ ((x ++ rest) ++ front)
+one-more held x rest front = append_assoc held x (rest ++ front) ∙ ap (λ bytes. held ++ bytes) (sym (append_assoc x rest front))
+
+-- what was done of some contents where a call failed
+pub stopped-turn : (played held : List ℕ) (contents : List (List ℕ)) (content : Content) (done : List Action) → content played ≡ Some held →
+    (b : Begun (turn played contents) done) → IsFilesNext b.rest → IsUpTo contents held (content_after done content played)
+stopped-turn played held [] content done there b next = absurd (subst IsFilesNext (no-next done b) next)
+stopped-turn played held (x ∷ xs) content done there b next =
+    elim (Begun-cons (append played x) (turn played xs) done b) [
+      | inl e ↦ record { whole = []; next = x; others = xs; count = 0; is = refl; has = rw e (there ∙ ap Some (sym (append-nil held))) }
+      | inr rest ↦ elim rest [
+        | inl part ↦
+            let p = part-turn part.0 played x held content there part.2 in
+            record { whole = []; next = x; others = xs; count = p.0; is = refl; has = rw part.1 p.1 }
+        | inr more ↦
+            let p = stopped-turn played (held ++ x) xs (appended content played x) more.0 (appended-same content played x held there) more.2 (subst IsFilesNext (sym more.3) next) in
+            record {
+              whole = x ∷ p.whole;
+              next = p.next;
+              others = p.others;
+              count = p.count;
+              is = ap (λ ys. x ∷ ys) p.is;
+              has = rw more.1 (p.has ∙ ap Some (one-more held x (concat p.whole) (take p.count p.next)));
+            }
+      ]
+    ]
 
 -- what was read stands for these inputs, and so it is accepted
 pub found : (result : Option Items) (items : Items) (meant : Option (List Input)) → result ≡ Some items → option_map inputs_left result ≡ meant →

@@ -1,14 +1,16 @@
 -- The statuses that each command has.
-use Rattle.std.proofs.Common.{◌≡◌, ◌⊎◌, ℕ, List, [], false, Some, Result, Ok, Err, IfOk, IsTrue, refl, subst, inl, inr, arith}
+use Rattle.std.proofs.Common.{◌≡◌, ◌≢◌, ◌⊎◌, ℕ, List, [], false, None, Some, Result, Ok, Err, IfOk, IsTrue, refl, subst, inl, inr, arith}
 use Rattle.bar_outside.specs.Causes.{Rose}
 use Rattle.bar_outside.specs.Disk.{Disk, Content}
 use Rattle.bar_outside.specs.Stream.{Stream}
-use Rattle.bar_outside.specs.Plan.{world, Plan}
+use Rattle.bar_outside.specs.Plan.{outside, Action, Plan}
+use Rattle.bar_outside.specs.Faults.{code_of_fault}
+use Rattle.bar_outside.specs.Follows.{Follows}
 use Rattle.bar_outside.specs.Ends.{EndsWith}
 use Rattle.bar_outside.specs.declared.fault.Fault.{Fault}
 use Rattle.bar_outside.specs.declared.fault.Fault.TheVariants.{File, Output, NoMemory as WantOfMemory}
 use Rattle.bar_cli.specs.Line.{Line, replay, keygen, is_status_of}
-use Rattle.bar_cli.specs.Status.{code_of_run, is_replay_end, is_keygen_end}
+use Rattle.bar_cli.specs.Status.{code_of_run, may_print, is_replay_end, is_keygen_end}
 use Rattle.bar_cli.specs.declared.status.Status.{Status}
 use Rattle.bar_cli.specs.declared.status.Status.TheVariants.{Done, Usage, FileFailed, SessionRefused, KeyRefused, OutputFailed, InputRefused, SecretRefused, NoMemory}
 use Rattle.bar_cli.specs.ReplayPlan.{ReplayFiles}
@@ -17,11 +19,31 @@ use Rattle.bar_cli.specs.KeygenPlan.{Keygen}
 quiet : Stream
 quiet = record { told = false; reliable = false; bytes = []; faults = 0 }
 
+empty : Disk
+empty = record { told = false; reliable = false; content = λ path. None; failed = None; faults = 0 }
+
 -- a command that holds over any output doesn't end with 7
 pub never-output : (plan : Content → Plan) (old new : Disk) (status : ℕ) (line : List ℕ) →
-    ((out : Stream) → EndsWith plan (world old out) (world new out) status line) → status ≡ 7 → ⊥
+    ((out : Stream) → EndsWith plan (outside old out) (outside new out) status line) → status ≡ 7 → ⊥
 unfolding quiet
 never-output plan old new status line ends e = let h : Rose 0 0 = (ends quiet).ends.output_rose e in absurd (omega arith)
+
+-- an action that holds over any files doesn't fail by them
+pub never-file : {T : Type 0} (plan : List Action) (old new : Stream) (r : Result T Fault) → ((files : Disk) → Follows plan (outside files old) (outside files new) r) → r ≡ Err File → ⊥
+unfolding empty
+never-file plan old new r follows e = let h : Rose 0 0 = ((follows empty).file (rw e refl)).rose in absurd (omega arith)
+
+-- a fault is no refusal
+pub no-refusal : (fault : Fault) → code_of_fault fault ≢ 4
+no-refusal File = λ e. absurd (omega arith)
+no-refusal Output = λ e. absurd (omega arith)
+no-refusal WantOfMemory = λ e. absurd (omega arith)
+
+-- of the faults only that of the files comes with nothing printed
+pub unprinted-at : (fault : Fault) (P : Type 0) → (fault ≡ File → P) → may_print (code_of_fault fault) ≡ false → P
+unprinted-at File P h e = h refl
+unprinted-at Output P h e = absurd cc
+unprinted-at WantOfMemory P h e = absurd cc
 
 -- the statuses of a replay
 pub replay-statuses : (names : ReplayFiles) (ended : Result Status Fault) → IfOk ended (λ status. IsTrue (is_replay_end status)) → (code_of_run ended ≡ 7 → ⊥) →

@@ -6,11 +6,12 @@ use Rattle.bar_lms.specs.Params.{lms_type, ots_type}
 use Rattle.bar_lms.specs.Secret.{public_key}
 use Rattle.bar_seeds.specs.Seeds.{anchor_of}
 use Rattle.bar_roster.specs.declared.key_fields.KeyData.{KeyData}
+use Rattle.bar_roster.specs.declared.fault.SessionFault.{SessionFault}
 use Rattle.bar_roster.specs.KeyText.{key_data, key_text_of}
 use Rattle.bar_roster.specs.SessionText.{enough_leaves}
 use Rattle.bar_outside.specs.Disk.{Content, Failure, readable}
 use Rattle.bar_outside.specs.declared.files.CallKind.TheVariants.{Read, Create, Append}
-use Rattle.bar_outside.specs.Plan.{World, Action, Plan, reading, accepting, ending, doing}
+use Rattle.bar_outside.specs.Plan.{Outside, Action, Plan, reading, accepting, ending, doing}
 use Rattle.bar_outside.specs.Plan.Action.{create, append, show}
 use Rattle.bar_cli.specs.Refusals.{session_refused, secret_refused}
 
@@ -73,14 +74,25 @@ pub record KeygenAccepted (asked : Keygen) (content : Content) : Type 0 where
   pub long : length secret ≡ 32
 
 -- both were accepted, the key file has exactly the text of the fresh key, and its lines were printed
-pub record KeyMade (asked : Keygen) (old new : World) : Type 0 where
+pub record KeyMade (asked : Keygen) (old new : Outside) : Type 0 where
   pub accepted : KeygenAccepted asked old.files.content
   pub written : new.files.content asked.key ≡ Some (key_text_of (key_made asked accepted.secret))
   pub printed : IsTrue old.out.told → new.out.bytes ≡ old.out.bytes ++ lines_of asked accepted.secret
   pub others : (path : List ℕ) → path ≢ asked.key → new.files.content path ≡ old.files.content path
 
+-- there are too few leaves
+abbrev pub HasFewLeaves : Keygen → Type 0
+HasFewLeaves asked = (fault : SessionFault) × (enough_leaves asked.rounds asked.params.height ≡ Err fault)
+
+-- both were accepted, the key file has exactly the text of the fresh key, and a front of its lines was printed
+pub record KeyWritten (asked : Keygen) (old new : Outside) : Type 0 where
+  pub accepted : KeygenAccepted asked old.files.content
+  pub printed_count : ℕ
+  pub written : new.files.content asked.key ≡ Some (key_text_of (key_made asked accepted.secret))
+  pub printed : IsTrue old.out.told → new.out.bytes ≡ old.out.bytes ++ take printed_count (lines_of asked accepted.secret)
+
 -- both were accepted, the key file has a front of the text, and behind the whole text a front of the lines was printed
-pub record KeyBegun (asked : Keygen) (old new : World) : Type 0 where
+pub record KeyBegun (asked : Keygen) (old new : Outside) : Type 0 where
   pub accepted : KeygenAccepted asked old.files.content
   pub written_count : ℕ
   pub printed_count : ℕ

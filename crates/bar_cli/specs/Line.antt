@@ -4,7 +4,7 @@ use Rattle.std.specs.Option.{option_and_then}
 use Rattle.std.specs.Str.{bytes_eq}
 use Rattle.bar_outside.specs.Disk.{Content}
 use Rattle.bar_outside.specs.Plan.{Plan, ending}
-use Rattle.bar_cli.specs.Words.{values_of, number_in, id_of, types_of}
+use Rattle.bar_cli.specs.Words.{values_of, most_rounds, number_in, id_of, types_of}
 use Rattle.bar_cli.specs.ReplayPlan.{ReplayFiles, replay_plan}
 use Rattle.bar_cli.specs.KeygenPlan.{Keygen, keygen_plan}
 
@@ -37,7 +37,7 @@ abbrev pub keygen_values : List (List ℕ) → Option Line
 keygen_values (party_word ∷ id_word ∷ rounds_word ∷ lms ∷ ots ∷ secret ∷ key ∷ []) = do
   party ← number_in 0 200 party_word
   id ← id_of id_word
-  rounds ← number_in 1 1820 rounds_word
+  rounds ← number_in 1 most_rounds rounds_word
   params ← types_of lms ots
   Some (keygen (record { party = party; id = id; rounds = rounds; params = params; secret = secret; key = key }))
 keygen_values _ = None

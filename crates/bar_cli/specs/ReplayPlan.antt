@@ -1,10 +1,10 @@
 -- What `replay` does.
-use Rattle.std.specs.Prelude.{◌≡◌, ◌≢◌, ◌⊎◌, ℕ, List, [], ◌∷◌, Some, Ok, map, take}
+use Rattle.std.specs.Prelude.{◌≡◌, ◌≢◌, ◌⊎◌, ℕ, List, [], ◌∷◌, ◌++◌, Some, Ok, map, take}
 use Rattle.std.specs.List.{flat_map, concat}
 use Rattle.std.specs.Option.{ok_or}
 use Rattle.bar_outside.specs.Disk.{Content, Failure, readable}
 use Rattle.bar_outside.specs.declared.files.CallKind.TheVariants.{Read, Create, Append}
-use Rattle.bar_outside.specs.Plan.{World, Action, Plan, reading, accepting, ending, doing}
+use Rattle.bar_outside.specs.Plan.{Outside, Action, Plan, reading, accepting, ending, doing}
 use Rattle.bar_outside.specs.Plan.Action.{create, append}
 use Rattle.bar_wire.specs.Inputs.{Input}
 use Rattle.bar_seeds.specs.declared.secrets.Secrets.{Secrets}
@@ -29,6 +29,11 @@ turn played contents = map (append played) contents
 
 abbrev pub turns : List ℕ → List (List (List ℕ)) → List Action
 turns played contents = flat_map (turn played) contents
+
+-- the contents of all inputs in order
+abbrev pub joined : List (List (List ℕ)) → List (List ℕ)
+joined [] = []
+joined (contents ∷ others) = contents ++ joined others
 
 -- the bytes that are played
 abbrev pub played_bytes : List (List (List ℕ)) → List ℕ
@@ -90,7 +95,7 @@ bytes_of names content accepted = played_by_listener (peer_of names content acce
 
 -- all were accepted, the session holds the public key and the anchor that come from the key file's secret,
 -- the played file has exactly what the peer plays over the recording's inputs, and the peer sends nothing
-pub record Replayed (names : ReplayFiles) (old new : World) : Type 0 where
+pub record Replayed (names : ReplayFiles) (old new : Outside) : Type 0 where
   pub accepted : Accepted names old.files.content
   pub fits : Fits accepted.session accepted.secrets.party accepted.secrets.secret
   pub played : new.files.content names.played ≡ Some (bytes_of names old.files.content accepted)
@@ -98,10 +103,20 @@ pub record Replayed (names : ReplayFiles) (old new : World) : Type 0 where
   pub others : (path : List ℕ) → path ≢ names.played → new.files.content path ≡ old.files.content path
 
 -- all were accepted, and the played file has a front of what the recording's inputs play
-pub record PlayedFront (names : ReplayFiles) (old new : World) : Type 0 where
+pub record PlayedFront (names : ReplayFiles) (old new : Outside) : Type 0 where
   pub accepted : Accepted names old.files.content
   pub count : ℕ
   pub played : new.files.content names.played ≡ Some (take count (bytes_of names old.files.content accepted))
+
+-- all were accepted, and the played file has the contents before one of them whole, and a front of this one
+pub record PlayedUpTo (names : ReplayFiles) (old new : Outside) : Type 0 where
+  pub accepted : Accepted names old.files.content
+  pub whole : List (List ℕ)
+  pub next : List ℕ
+  pub others : List (List ℕ)
+  pub count : ℕ
+  pub contents : joined (contents_of accepted.session accepted.secrets accepted.inputs) ≡ whole ++ next ∷ others
+  pub played : new.files.content names.played ≡ Some (concat whole ++ take count next)
 
 -- a call that a replay makes: a read of a file that it reads, or a create or an append of the one that it writes
 abbrev pub IsReplayCall : ReplayFiles → Failure → Type 0

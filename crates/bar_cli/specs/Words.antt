@@ -1,5 +1,5 @@
 -- The values of a command's words.
-use Rattle.std.specs.Prelude.{◌==◌, ◌&&◌, ◌||◌, not, nat_le, ℕ, Bool, true, false, List, [], ◌∷◌, Option, None, Some, if◌then◌else◌}
+use Rattle.std.specs.Prelude.{◌&&◌, nat_le, ℕ, Bool, false, List, [], ◌∷◌, Option, None, Some, if◌then◌else◌}
 use Rattle.std.specs.Option.{option_and_then, option_map}
 use Rattle.std.specs.Result.{result_ok}
 use Rattle.std.specs.List.{list_all}
@@ -20,21 +20,24 @@ value_of name (key ∷ value ∷ others) = if bytes_eq key name then Some value 
 -- as there are two words for each option, each stands once
 abbrev pub values_of : List (List ℕ) → List (List ℕ) → Option (List (List ℕ))
 values_of [] words = Some []
-values_of (name ∷ names) words = option_and_then (λ value. option_map (λ values. value ∷ values) (values_of names words)) (value_of name words)
+values_of (name ∷ names) words =
+    option_and_then (λ value. option_map (λ values. value ∷ values) (values_of names words)) (value_of name words)
 
-abbrev pub is_empty : List ℕ → Bool
-is_empty [] = true
-is_empty (x ∷ xs) = false
-
--- ASCII digits alone, and at least one; a zero before others is no digit of a number
+-- ASCII digits alone, and at least one
 abbrev pub is_numeral : List ℕ → Bool
 is_numeral [] = false
-is_numeral (digit ∷ digits) = list_all is_ascii_digit (digit ∷ digits) && (is_empty digits || not (digit == 48))
+is_numeral (digit ∷ digits) = list_all is_ascii_digit (digit ∷ digits)
 
--- the number that a word writes, where it is in the range
+-- the number that a word writes, where it is in the range; zeros may stand before other digits
 abbrev pub number_in : ℕ → ℕ → List ℕ → Option ℕ
 number_in low high word =
-    if is_numeral word && (nat_le low (digits_value 10 word) && nat_le (digits_value 10 word) high) then Some (digits_value 10 word) else None
+    if is_numeral word && (nat_le low (digits_value 10 word) && nat_le (digits_value 10 word) high)
+    then Some (digits_value 10 word)
+    else None
+
+-- the most rounds of a session
+abbrev pub most_rounds : ℕ
+most_rounds = 1820
 
 -- the eight bytes of sixteen hex digits
 abbrev pub id_of : List ℕ → Option (List ℕ)

@@ -1,14 +1,14 @@
 //! The command `keygen`.
-ghost use Rattle.std.specs.Prelude.{◌≡◌, ◌++◌, ◌∷◌, ℕ, List, Ok, Err, [], None, length, IfOk, IfSome, IsTrue, string_bytes};
+ghost use Rattle.std.specs.Prelude.{◌≡◌, ◌≢◌, ◌↔◌, ◌++◌, ◌∷◌, ℕ, List, Ok, Err, [], None, false, length, IfOk, IfSome, IsTrue, string_bytes};
 ghost use Rattle.bar_outside.specs.Disk.{Disk};
 ghost use Rattle.bar_outside.specs.Stream.{Stream};
-ghost use Rattle.bar_outside.specs.Plan.{world};
+ghost use Rattle.bar_outside.specs.Plan.{outside};
 ghost use Rattle.bar_outside.specs.Plan.Action.{create, append, show};
 ghost use Rattle.bar_outside.specs.Follows.{Follows};
 ghost use Rattle.bar_outside.specs.Ends.{EndsWith};
 ghost use Rattle.bar_roster.specs.KeyText.{key_text_of};
-ghost use Rattle.bar_cli.specs.KeygenPlan.{anchor_for, anchor_line, key_line, key_made, keygen_plan, lines_of, public_of, secret_of, secret_plan};
-ghost use Rattle.bar_cli.specs.Status.{code_of_run, said_by_run, is_keygen_end};
+ghost use Rattle.bar_cli.specs.KeygenPlan.{HasFewLeaves, anchor_for, anchor_line, key_line, key_made, keygen_plan, lines_of, public_of, secret_of, secret_plan};
+ghost use Rattle.bar_cli.specs.Status.{code_of_run, may_print, said_by_run, is_keygen_end};
 ghost use Rattle.bar_cli.specs.Views.{keygen_view};
 
 use crate::keygen_words::KeygenWords;
@@ -36,8 +36,11 @@ pub fn keygen<F: Files, K: Sink>(
     out: &mut K,
 ) -> Result<Status, Fault>
     ensures ends { EndsWith (keygen_plan (keygen_view asked.now))
-        (world (F.disk files.old) (K.stream out.old)) (world (F.disk files.new) (K.stream out.new)) (code_of_run result) (said_by_run result) }
+        (outside (F.disk files.old) (K.stream out.old))
+        (outside (F.disk files.new) (K.stream out.new)) (code_of_run result) (said_by_run result) }
     ensures answers { IfOk result (λ status. IsTrue (is_keygen_end status)) }
+    ensures leaves { (code_of_run result ≡ 4) ↔ HasFewLeaves (keygen_view asked.now) }
+    ensures unprinted { may_print (code_of_run result) ≡ false → K.stream out.new ≡ K.stream out.old }
 {
     match check_leaves(asked.rounds, asked.params.height) {
         Ok(()) => keygen_by_secret(alloc, asked, files, out),
@@ -53,8 +56,11 @@ fn keygen_by_secret<F: Files, K: Sink>(
     out: &mut K,
 ) -> Result<Status, Fault>
     ensures ends { EndsWith (secret_plan (keygen_view asked.now))
-        (world (F.disk files.old) (K.stream out.old)) (world (F.disk files.new) (K.stream out.new)) (code_of_run result) (said_by_run result) }
+        (outside (F.disk files.old) (K.stream out.old))
+        (outside (F.disk files.new) (K.stream out.new)) (code_of_run result) (said_by_run result) }
     ensures answers { IfOk result (λ status. IsTrue (is_keygen_end status)) }
+    ensures enough { code_of_run result ≢ 4 }
+    ensures unprinted { may_print (code_of_run result) ≡ false → K.stream out.new ≡ K.stream out.old }
 {
     let bytes = read_file(files, asked.secret)?;
     let Some(secret) = secret_of(&bytes) else {
@@ -80,8 +86,9 @@ fn write_key<F: Files, K: Sink>(
     files: &mut F,
     out: &mut K,
 ) -> Result<(), Fault>
-    ensures { Follows (create key.now ∷ append key.now made.now.text.items ∷ show (string_bytes made.now.lines) ∷ [])
-        (world (F.disk files.old) (K.stream out.old)) (world (F.disk files.new) (K.stream out.new)) result }
+    ensures unprinted { result ≡ Err Fault.File → K.stream out.new ≡ K.stream out.old }
+    ensures follows { Follows (create key.now ∷ append key.now made.now.text.items ∷ show (string_bytes made.now.lines) ∷ [])
+        (outside (F.disk files.old) (K.stream out.old)) (outside (F.disk files.new) (K.stream out.new)) result }
 {
     create_file(files, key)?;
     append_file(files, key, &made.text)?;

@@ -68,6 +68,10 @@ const CASTER_KEY: &str =
     "version = 1\nid = \"0011223344556677\"\nparty = 0\nrounds = 1\nlms = 5\nots = 4\n\
     secret = \"0707070707070707070707070707070707070707070707070707070707070707\"\nspent = false\n";
 
+// The same with zeros before other digits.
+const ZEROS: &str =
+    "keygen --party 00 --id 0011223344556677 --rounds 01 --lms 05 --ots 000000000000000000000000000004 --secret s --key k";
+
 // A key of a session of ten rounds, from the secret of 32 bytes 8.
 const TEN_ROUNDS: &str =
     "keygen --party 1 --id 0011223344556677 --rounds 10 --lms 6 --ots 4 --secret s --key k";
@@ -88,6 +92,7 @@ fn keys_are_made(rt: HostRuntime) -> Result<(), Fail> {
     for (line, secret, out, key) in [
         (PEER, secret, PEER_OUT, PEER_KEY),
         (CASTER, [7; 32], CASTER_OUT, CASTER_KEY),
+        (ZEROS, [7; 32], CASTER_OUT, CASTER_KEY),
         (TEN_ROUNDS, [8; 32], TEN_ROUNDS_OUT, TEN_ROUNDS_KEY),
     ] {
         let left = run(alloc, line, &secret, &[], &[])?;
@@ -190,7 +195,7 @@ fn statuses_and_lines_of_keys(rt: HostRuntime) -> Result<(), Fail> {
     Ok(())
 }
 
-const NO_LINES: [&str; 22] = [
+const NO_LINES: [&str; 24] = [
     "",
     "judge --session s --table t --evidence e",
     // an option of a replay is missing, stands twice, or there is a word too many
@@ -206,7 +211,9 @@ const NO_LINES: [&str; 22] = [
     "keygen --party 201 --id 0011223344556677 --rounds 1 --lms 5 --ots 1 --secret s --key k",
     "keygen --party -1 --id 0011223344556677 --rounds 1 --lms 5 --ots 1 --secret s --key k",
     "keygen --party +1 --id 0011223344556677 --rounds 1 --lms 5 --ots 1 --secret s --key k",
-    "keygen --party 01 --id 0011223344556677 --rounds 1 --lms 5 --ots 1 --secret s --key k",
+    "keygen --party 1a --id 0011223344556677 --rounds 1 --lms 5 --ots 1 --secret s --key k",
+    "keygen --party 111111111111111111111111111111 --id 0011223344556677 --rounds 1 --lms 5 --ots 1 --secret s --key k",
+    "keygen --party 18446744073709551617 --id 0011223344556677 --rounds 1 --lms 5 --ots 1 --secret s --key k",
     "keygen --party  --id 0011223344556677 --rounds 1 --lms 5 --ots 1 --secret s --key k",
     "keygen --party 1 --id 001122334455667 --rounds 1 --lms 5 --ots 1 --secret s --key k",
     "keygen --party 1 --id 001122334455667g --rounds 1 --lms 5 --ots 1 --secret s --key k",

@@ -1,5 +1,6 @@
 //! What `keygen` is asked for.
 ghost use Rattle.std.specs.Prelude.{◌≤◌};
+ghost use Rattle.bar_cli.specs.Words.{most_rounds};
 
 use bar_lms::Params;
 
@@ -12,5 +13,5 @@ pub struct KeygenWords<'a> {
     pub params: Params,
     pub secret: &'a str,
     pub key: &'a str,
-    ghost in_range: { rounds ≤ 1820 },
+    ghost in_range: { rounds ≤ most_rounds },
 }

@@ -25,11 +25,11 @@ mod words;
 pub use keygen_laws::{
     a_front_of_the_key_is_made, key_made_exactly, key_made_where_all_is_accepted,
     keygen_failed_only, leaves_refused_exactly, only_the_key_is_changed,
-    refused_keys_change_nothing, secret_refused_exactly,
+    output_fails_behind_the_key, refused_keys_change_nothing, secret_refused_exactly,
 };
 pub use laws::{
-    a_front_is_played, done_exactly, done_where_all_is_accepted, file_failed_only,
-    input_refused_exactly, key_refused_exactly, only_played_is_changed, refusals_change_nothing,
-    session_refused_exactly,
+    a_front_is_played, a_replay_fails_in_order, done_exactly, done_where_all_is_accepted,
+    file_failed_only, input_refused_exactly, key_refused_exactly, only_played_is_changed,
+    refusals_change_nothing, session_refused_exactly,
 };
 pub use run::bar_run;

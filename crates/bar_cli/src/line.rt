@@ -5,7 +5,7 @@ ghost use Rattle.bar_cli.specs.Line.{keygen_line, line_of, replay_line};
 ghost use Rattle.bar_cli.specs.Views.{asked_view, command_view, replay_view};
 
 use crate::keygen_words::KeygenWords;
-use crate::words::{id_of, number_in, option_value, types_of};
+use crate::words::{MOST_ROUNDS, id_of, number_in, option_value, types_of};
 
 /// The files of a replay.
 #[derive(Clone, Copy, Debug)]
@@ -73,7 +73,7 @@ fn keygen_words(words: &[String]) -> Option<KeygenWords<'_>>
     let key = option_value(words, "--key")?;
     let party = number_in(party, 0, 200)? as u16;
     let id = id_of(id)?;
-    let rounds = number_in(rounds, 1, 1820)? as u32;
+    let rounds = number_in(rounds, 1, MOST_ROUNDS)? as u32;
     let params = types_of(lms, ots)?;
     Some(KeygenWords {
         party,

@@ -1,13 +1,13 @@
 //! The top call.
-ghost use Rattle.std.specs.Prelude.{◌≡◌, ◌⊎◌, ◌||◌, None, Some, map, string_bytes, IsTrue};
-ghost use Rattle.bar_outside.specs.Plan.{world};
+ghost use Rattle.std.specs.Prelude.{◌≡◌, ◌⊎◌, ◌↔◌, ◌||◌, None, Some, false, map, string_bytes, IsTrue};
+ghost use Rattle.bar_outside.specs.Plan.{outside};
 ghost use Rattle.bar_outside.specs.Ends.{Ends, EndsWith, Says, is_plain};
 ghost use Rattle.bar_cli.specs.Line.{line_of, plan_of, is_status_of};
 ghost use Rattle.bar_cli.specs.Line as line;
-ghost use Rattle.bar_cli.specs.Status.{code_of, said_at};
+ghost use Rattle.bar_cli.specs.Status.{code_of, may_print, said_at};
 ghost use Rattle.bar_cli.specs.Views.{command_view};
 ghost use Rattle.bar_cli.specs.ReplayPlan.{ReplayFiles, Replayed};
-ghost use Rattle.bar_cli.specs.KeygenPlan.{Keygen, KeyMade};
+ghost use Rattle.bar_cli.specs.KeygenPlan.{HasFewLeaves, Keygen, KeyMade};
 
 use crate::keygen::keygen;
 use crate::line::{Command, command_of};
@@ -34,24 +34,34 @@ pub fn bar_run<F: Files, K: Sink>(
 
     // what was done, and which status comes when
     ensures ends { Ends (plan_of (line_of (map string_bytes words.now)))
-        (world (F.disk files.old) (K.stream out.old)) (world (F.disk files.new) (K.stream out.new)) result }
+        (outside (F.disk files.old) (K.stream out.old)) (outside (F.disk files.new) (K.stream out.new)) result }
 
     // what err has
     ensures said { IsTrue ((F.disk files.old).told || is_plain result) →
         Says (plan_of (line_of (map string_bytes words.now)) (F.disk files.old).content) result (K.stream err.old) (K.stream err.new) }
 
+    // 4 comes at `keygen` exactly where there are too few leaves, but for want of memory, whatever the files tell
+    ensures few_leaves { (asked : Keygen) → line_of (map string_bytes words.now) ≡ Some (line.keygen asked) → result ≡ 4 →
+        HasFewLeaves asked }
+    ensures leaves_refused { (asked : Keygen) → line_of (map string_bytes words.now) ≡ Some (line.keygen asked) → HasFewLeaves asked →
+        (result ≡ 4) ⊎ (result ≡ 70) }
+
+    // nothing is printed but at 0, 7 and 70
+    ensures unprinted { may_print result ≡ false → K.stream out.new ≡ K.stream out.old }
+
     // nothing is printed but by `keygen`: a listening peer sends nothing
-    ensures silent { ((asked : Keygen) → line_of (map string_bytes words.now) ≡ Some (line.keygen asked) → ⊥) → K.stream out.new ≡ K.stream out.old }
+    ensures silent { ((asked : Keygen) → line_of (map string_bytes words.now) ≡ Some (line.keygen asked) → ⊥) →
+        K.stream out.new ≡ K.stream out.old }
 
     // a replay that ends with 0 has played what the recording's inputs play
     ensures headline { (names : ReplayFiles) → line_of (map string_bytes words.now) ≡ Some (line.replay names) →
         IsTrue (F.disk files.old).told → result ≡ 0 →
-        Replayed names (world (F.disk files.old) (K.stream out.old)) (world (F.disk files.new) (K.stream out.new)) }
+        Replayed names (outside (F.disk files.old) (K.stream out.old)) (outside (F.disk files.new) (K.stream out.new)) }
 
     // a key that was made has its file and its lines
     ensures key_made { (asked : Keygen) → line_of (map string_bytes words.now) ≡ Some (line.keygen asked) →
         IsTrue (F.disk files.old).told → result ≡ 0 →
-        KeyMade asked (world (F.disk files.old) (K.stream out.old)) (world (F.disk files.new) (K.stream out.new)) }
+        KeyMade asked (outside (F.disk files.old) (K.stream out.old)) (outside (F.disk files.new) (K.stream out.new)) }
 {
     accepted_secrets_are_held();
     let Some(command) = command_of(words) else {
@@ -69,9 +79,11 @@ fn run_command<F: Files, K: Sink>(
     out: &mut K,
 ) -> Status
     ensures ends { EndsWith (plan_of (Some (command_view command.now)))
-        (world (F.disk files.old) (K.stream out.old)) (world (F.disk files.new) (K.stream out.new)) (code_of result) (said_at result) }
+        (outside (F.disk files.old) (K.stream out.old)) (outside (F.disk files.new) (K.stream out.new)) (code_of result) (said_at result) }
     ensures statuses { IsTrue (is_status_of (Some (command_view command.now)) (code_of result)) }
     ensures silent { ((asked : Keygen) → command_view command.now ≡ line.keygen asked → ⊥) → K.stream out.new ≡ K.stream out.old }
+    ensures leaves { (asked : Keygen) → command_view command.now ≡ line.keygen asked → (code_of result ≡ 4) ↔ HasFewLeaves asked }
+    ensures unprinted { may_print (code_of result) ≡ false → K.stream out.new ≡ K.stream out.old }
 {
     match command {
         Command::Replay(names) => status_of(replay(alloc, names, files)),

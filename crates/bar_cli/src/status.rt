@@ -88,7 +88,8 @@ fn print_line<K: Sink>(line: &[u8], code: u8, err: &mut K) -> u8
 // Prints a line that was made, or nothing for want of memory.
 fn print_text<K: Sink>(text: Result<String, AllocError>, code: u8, err: &mut K) -> u8
     ensures code { (result ≡ code) ⊎ (result ≡ 70) }
-    ensures said { (line : List ℕ) → IfOk text (λ text. string_bytes text ≡ line) → Prints line result (K.stream err.old) (K.stream err.new) }
+    ensures said { (line : List ℕ) → IfOk text (λ text. string_bytes text ≡ line) →
+        Prints line result (K.stream err.old) (K.stream err.new) }
 {
     match text {
         Ok(text) => print_line(text.as_bytes(), code, err),

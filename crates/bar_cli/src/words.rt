@@ -8,6 +8,9 @@ ghost use Rattle.bar_cli.specs.Words.{id_of, is_numeral, number_in, types_of, va
 use bar_lms::Params;
 use hex::FromHex;
 
+/// The most rounds of a session.
+pub const MOST_ROUNDS: u64 = 1820;
+
 /// The value behind the first option of this name, where the words go in pairs.
 pub fn option_value<'a>(words: &'a [String], name: &str) -> Option<&'a str>
     ensures { option_copied result ≡ value_of name.now (map string_bytes words.now) }
@@ -29,14 +32,13 @@ fn are_digits(bytes: &[u8]) -> bool
     bytes.iter().all(|byte| byte.is_ascii_digit())
 }
 
-/// Whether bytes write a number: digits alone, with no zero before others.
+/// Whether bytes write a number: digits alone, and at least one.
 fn is_numeral(bytes: &[u8]) -> bool
     ensures { result ≡ is_numeral bytes.now }
 {
     match bytes {
         [] => false,
-        [_] => are_digits(bytes),
-        [first, ..] => are_digits(bytes) && *first != b'0',
+        [_, ..] => are_digits(bytes),
     }
 }
 

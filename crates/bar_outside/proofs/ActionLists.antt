@@ -1,7 +1,7 @@
 -- Laws of lists of actions.
-use Rattle.std.proofs.Common.{◌≡◌, ℕ, List, [], ◌∷◌, ◌++◌, refl, sym, ap, ◌∙◌, subst, append_assoc, append-nil, IsTrue, ◌⊎◌, inl, inr}
+use Rattle.std.proofs.Common.{◌≡◌, ℕ, List, [], ◌∷◌, ◌++◌, refl, sym, ap, ◌∙◌, subst, append_assoc, append-nil, IsTrue, ◌⊎◌, inl, inr, arith}
 use Rattle.bar_outside.specs.Disk.{Content, Failure, created}
-use Rattle.bar_outside.specs.Plan.{World, Action, Ran, Begun, Names, CanRun, IsPartOf, IsPartOfNext, content_after, content_by, shown, shown_by}
+use Rattle.bar_outside.specs.Plan.{Outside, Action, Ran, Begun, Reached, Names, CanRun, IsFilesNext, IsShowNext, IsPartOf, IsPartOfNext, content_after, content_by, shown, shown_by}
 use Rattle.bar_outside.specs.Plan.Action.{read, create, append, show}
 
 pub content_after-append : (xs ys : List Action) (content : Content) → content_after (xs ++ ys) content ≡ content_after ys (content_after xs content)
@@ -13,7 +13,7 @@ shown-append [] ys = refl
 shown-append (x ∷ xs) ys = ap (λ bytes. shown_by x ++ bytes) (shown-append xs ys) ∙ sym (append_assoc (shown_by x) (shown xs) (shown ys))
 
 -- one run behind another
-pub Ran-append : (xs ys : List Action) (old mid new : World) → mid.out.told ≡ old.out.told → Ran xs old mid → Ran ys mid new → Ran (xs ++ ys) old new
+pub Ran-append : (xs ys : List Action) (old mid new : Outside) → mid.out.told ≡ old.out.told → Ran xs old mid → Ran ys mid new → Ran (xs ++ ys) old new
 Ran-append xs ys old mid new told first second = record {
   files = second.files ∙ ap (content_after ys) first.files ∙ sym (content_after-append xs ys old.files.content);
   out = λ tells.
@@ -23,7 +23,7 @@ Ran-append xs ys old mid new told first second = record {
       ∙ ap (λ bytes. old.out.bytes ++ bytes) (sym (shown-append xs ys));
 }
 
-pub Begun-behind : (front plan done : List Action) → Begun plan done → Begun (front ++ plan) (front ++ done)
+abbrev pub Begun-behind : (front plan done : List Action) → Begun plan done → Begun (front ++ plan) (front ++ done)
 Begun-behind front plan done b = record {
   front = front ++ b.front;
   part = b.part;
@@ -33,13 +33,13 @@ Begun-behind front plan done b = record {
   part_is = b.part_is;
 }
 
-IsPartOfNext-longer : (part rest more : List Action) → IsPartOfNext part rest → IsPartOfNext part (rest ++ more)
+pub IsPartOfNext-longer : (part rest more : List Action) → IsPartOfNext part rest → IsPartOfNext part (rest ++ more)
 IsPartOfNext-longer [] rest more h = tt
 IsPartOfNext-longer (x ∷ []) [] more h = absurd h
 IsPartOfNext-longer (x ∷ []) (y ∷ ys) more h = h
 IsPartOfNext-longer (x ∷ z ∷ zs) rest more h = absurd h
 
-pub Begun-longer : (plan more done : List Action) → Begun plan done → Begun (plan ++ more) done
+abbrev pub Begun-longer : (plan more done : List Action) → Begun plan done → Begun (plan ++ more) done
 Begun-longer plan more done b = record {
   front = b.front;
   part = b.part;
@@ -48,6 +48,10 @@ Begun-longer plan more done b = record {
   done_is = b.done_is;
   part_is = IsPartOfNext-longer b.part b.rest more b.part_is;
 }
+
+-- nothing was done of the plan
+abbrev pub Begun-nothing : (plan : List Action) → Begun plan []
+Begun-nothing plan = record { front = []; part = []; rest = plan; plan_is = refl; done_is = refl; part_is = tt }
 
 -- the whole plan was done
 pub Begun-whole : (plan : List Action) → Begun plan plan
@@ -58,6 +62,66 @@ Begun-whole plan = record {
   plan_is = sym (append-nil plan);
   done_is = sym (append-nil plan);
   part_is = tt;
+}
+
+FilesNext-longer : (plan more : List Action) → IsFilesNext plan → IsFilesNext (plan ++ more)
+FilesNext-longer [] more h = absurd h
+FilesNext-longer (show bytes ∷ others) more h = absurd h
+FilesNext-longer (read path ∷ others) more h = tt
+FilesNext-longer (create path ∷ others) more h = tt
+FilesNext-longer (append path bytes ∷ others) more h = tt
+
+ShowNext-longer : (plan more : List Action) → IsShowNext plan → IsShowNext (plan ++ more)
+ShowNext-longer [] more h = absurd h
+ShowNext-longer (show bytes ∷ others) more h = tt
+ShowNext-longer (read path ∷ others) more h = absurd h
+ShowNext-longer (create path ∷ others) more h = absurd h
+ShowNext-longer (append path bytes ∷ others) more h = absurd h
+
+-- a longer plan was done as far
+pub Reached-longer : (plan more : List Action) (status : ℕ) (old new : Outside) → Reached plan status old new → Reached (plan ++ more) status old new
+Reached-longer plan more status old new r = record {
+  done = r.done;
+  begun = Begun-longer plan more r.done r.begun;
+  ran = r.ran;
+  at_file = λ e. FilesNext-longer r.begun.rest more (r.at_file e);
+  at_output = λ e. ShowNext-longer r.begun.rest more (r.at_output e);
+}
+
+-- one behind another
+pub Reached-behind : (front plan : List Action) (status : ℕ) (old mid new : Outside) → mid.out.told ≡ old.out.told → Ran front old mid → Reached plan status mid new →
+    Reached (front ++ plan) status old new
+Reached-behind front plan status old mid new told first r = record {
+  done = front ++ r.done;
+  begun = Begun-behind front plan r.done r.begun;
+  ran = Ran-append front r.done old mid new told first r.ran;
+  at_file = r.at_file;
+  at_output = r.at_output;
+}
+
+-- all was done, and nothing failed
+pub Reached-whole : (plan : List Action) (status : ℕ) (old new : Outside) → (status ≡ 3 → ⊥) → (status ≡ 7 → ⊥) → Ran plan old new → Reached plan status old new
+Reached-whole plan status old new no_file no_output ran = record {
+  done = plan;
+  begun = Begun-whole plan;
+  ran = ran;
+  at_file = λ e. absurd (no_file e);
+  at_output = λ e. absurd (no_output e);
+}
+
+-- nothing was done
+pub Reached-nothing : (plan : List Action) (status : ℕ) (old new : Outside) → (status ≡ 3 → IsFilesNext plan) → (status ≡ 7 → IsShowNext plan) → Ran [] old new →
+    Reached plan status old new
+Reached-nothing plan status old new file output ran = record { done = []; begun = Begun-nothing plan; ran = ran; at_file = file; at_output = output }
+
+-- want of memory may come in place of any status
+pub Reached-memory : (plan : List Action) (status result : ℕ) (old new : Outside) → result ≡ 70 → Reached plan status old new → Reached plan result old new
+Reached-memory plan status result old new e r = record {
+  done = r.done;
+  begun = r.begun;
+  ran = r.ran;
+  at_file = λ f. absurd (omega arith);
+  at_output = λ f. absurd (omega arith);
 }
 
 pub Names-longer : (plan more : List Action) (call : Failure) → Names plan call → Names (plan ++ more) call
@@ -92,12 +156,12 @@ CanRun-rest (append path bytes ∷ others) rest content h = CanRun-rest others r
 CanRun-rest (show bytes ∷ others) rest content h = CanRun-rest others rest content h
 
 -- what was done of a plan: nothing, a part of its first action, or the first action and then some of the rest
-pub Begun-cons : (first : Action) (plan done : List Action) → Begun (first ∷ plan) done →
-    (done ≡ []) ⊎ (((part : Action) × (done ≡ part ∷ []) × IsPartOf part first) ⊎ ((more : List Action) × (done ≡ first ∷ more) × Begun plan more))
+pub Begun-cons : (first : Action) (plan done : List Action) (b : Begun (first ∷ plan) done) →
+    (done ≡ []) ⊎ (((part : Action) × (done ≡ part ∷ []) × IsPartOf part first) ⊎ ((more : List Action) × (done ≡ first ∷ more) × (m : Begun plan more) × (m.rest ≡ b.rest)))
 Begun-cons first plan done b = by_front first plan done b.front b.part b.rest b.plan_is b.done_is b.part_is
   where
     by_front : (first : Action) (plan done front part rest : List Action) → first ∷ plan ≡ front ++ rest → done ≡ front ++ part → IsPartOfNext part rest →
-        (done ≡ []) ⊎ (((part : Action) × (done ≡ part ∷ []) × IsPartOf part first) ⊎ ((more : List Action) × (done ≡ first ∷ more) × Begun plan more))
+        (done ≡ []) ⊎ (((part : Action) × (done ≡ part ∷ []) × IsPartOf part first) ⊎ ((more : List Action) × (done ≡ first ∷ more) × (m : Begun plan more) × (m.rest ≡ rest)))
     by_front first plan done [] [] rest p d h = inl d
     by_front first plan done [] (x ∷ []) [] p d h = absurd h
     by_front first plan done [] (x ∷ []) (y ∷ ys) p d h = let e : first ≡ y = cc in inr (inl (x, d, rw e h))
@@ -105,9 +169,9 @@ Begun-cons first plan done b = by_front first plan done b.front b.part b.rest b.
     by_front first plan done (x ∷ xs) part rest p d h =
         let e : first ≡ x = cc in
         let q : plan ≡ xs ++ rest = cc in
-        inr (inr (xs ++ part, rw e d, record { front = xs; part = part; rest = rest; plan_is = q; done_is = refl; part_is = h }))
+        inr (inr (xs ++ part, rw e d, record { front = xs; part = part; rest = rest; plan_is = q; done_is = refl; part_is = h }, refl))
 
-nil-cons : (x : Action) (xs : List Action) → ◌≡◌ {A = List Action} [] (x ∷ xs) → ⊥
+pub nil-cons : (x : Action) (xs : List Action) → ◌≡◌ {A = List Action} [] (x ∷ xs) → ⊥
 nil-cons x xs e = cc
 
 no-part-read : (part : Action) (path : List ℕ) → IsPartOf part (read path) → ⊥
@@ -116,11 +180,20 @@ no-part-read (create p) path h = h
 no-part-read (append p bytes) path h = h
 no-part-read (show bytes) path h = h
 
-no-part-create : (part : Action) (path : List ℕ) → IsPartOf part (create path) → ⊥
-no-part-create (read p) path h = h
-no-part-create (create p) path h = h
-no-part-create (append p bytes) path h = h
-no-part-create (show bytes) path h = h
+-- a part of a create is the create
+pub part-create : (part : Action) (path : List ℕ) → IsPartOf part (create path) → part ≡ create path
+part-create (read p) path h = absurd h
+part-create (create p) path h = ap create h
+part-create (append p bytes) path h = absurd h
+part-create (show bytes) path h = absurd h
+
+-- nothing is next in an empty plan
+pub no-next : (done : List Action) (b : Begun [] done) → b.rest ≡ []
+no-next done b = by_front b.front b.rest b.plan_is
+  where
+    by_front : (front rest : List Action) → ◌≡◌ {A = List Action} [] (front ++ rest) → rest ≡ []
+    by_front [] rest p = sym p
+    by_front (x ∷ xs) rest p = absurd (nil-cons x (xs ++ rest) p)
 
 -- nothing is done of an empty plan
 pub Begun-none : (done : List Action) → Begun [] done → done ≡ []
@@ -134,12 +207,16 @@ Begun-none done b = by_front done b.front b.part b.rest b.plan_is b.done_is b.pa
     by_front done (x ∷ xs) part rest p d h = absurd (nil-cons x (xs ++ rest) p)
 
 -- a read leaves the files as they were
-pub Begun-read : (path : List ℕ) (plan done : List Action) (content : Content) → Begun (read path ∷ plan) done →
-    (content_after done content ≡ content) ⊎ ((more : List Action) × Begun plan more × (content_after done content ≡ content_after more content))
+pub Begun-read : (path : List ℕ) (plan done : List Action) (content : Content) (b : Begun (read path ∷ plan) done) →
+    (content_after done content ≡ content)
+    ⊎ ((more : List Action) × (m : Begun plan more) × (content_after done content ≡ content_after more content) × (m.rest ≡ b.rest))
 Begun-read path plan done content b =
     elim (Begun-cons (read path) plan done b) [
       | inl e ↦ inl (ap (λ xs. content_after xs content) e)
-      | inr rest ↦ elim rest [ inl part ↦ absurd (no-part-read part.0 path part.2) | inr more ↦ inr (more.0, more.2, ap (λ xs. content_after xs content) more.1) ]
+      | inr rest ↦ elim rest [
+        | inl part ↦ absurd (no-part-read part.0 path part.2)
+        | inr more ↦ inr (more.0, more.2, ap (λ xs. content_after xs content) more.1, more.3)
+      ]
     ]
 
 -- a create leaves an empty file, or the files as they were
@@ -148,5 +225,8 @@ pub Begun-create : (path : List ℕ) (plan done : List Action) (content : Conten
 Begun-create path plan done content b =
     elim (Begun-cons (create path) plan done b) [
       | inl e ↦ inl (ap (λ xs. content_after xs content) e)
-      | inr rest ↦ elim rest [ inl part ↦ absurd (no-part-create part.0 path part.2) | inr more ↦ inr (more.0, more.2, ap (λ xs. content_after xs content) more.1) ]
+      | inr rest ↦ elim rest [
+        | inl part ↦ inr ([], Begun-nothing plan, ap (λ xs. content_after xs content) (part.1 ∙ ap (λ a. a ∷ []) (part-create part.0 path part.2)))
+        | inr more ↦ inr (more.0, more.2, ap (λ xs. content_after xs content) more.1)
+      ]
     ]

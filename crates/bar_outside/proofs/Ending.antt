@@ -10,11 +10,11 @@ use Rattle.bar_outside.specs.declared.files.FileFault.TheVariants as file
 use Rattle.bar_outside.specs.Faults.{fault_of_file, code_of_fault, line_of_fault, code_after, line_after}
 use Rattle.bar_outside.specs.declared.fault.Fault.{Fault}
 use Rattle.bar_outside.specs.declared.fault.Fault.TheVariants.{File, Output, NoMemory}
-use Rattle.bar_outside.specs.Plan.{World, world, Action, Plan, reading, read_then, before, accepting, ending, doing, is_stop, line_at, no_memory, Ran, Begun, Names, CanRun}
+use Rattle.bar_outside.specs.Plan.{Outside, outside, Action, Plan, reading, read_then, before, accepting, ending, doing, is_stop, line_at, no_memory, Ran, Reached, Names, CanRun, IsFilesNext}
 use Rattle.bar_outside.specs.Plan.Action.{read}
 use Rattle.bar_outside.specs.Follows.{IsLater, Follows}
 use Rattle.bar_outside.specs.Ends.{Ends, Carried, EndsWith, Prints, Says, is_plain}
-use Rattle.bar_outside.proofs.ActionLists.{Begun-whole, Begun-behind, Ran-append}
+use Rattle.bar_outside.proofs.ActionLists.{Reached-whole, Reached-behind, Reached-nothing, Reached-memory, Ran-append, nil-cons}
 use Rattle.bar_outside.proofs.Following.{true-not_false, Ran-nothing, IsLater-trans, later-files, named-behind}
 
 file-memory : {T : Type 0} → ◌≡◌ {A = Result T Fault} (Err File) (Err NoMemory) → ⊥
@@ -23,26 +23,27 @@ file-memory e = cc
 output-memory : {T : Type 0} → ◌≡◌ {A = Result T Fault} (Err Output) (Err NoMemory) → ⊥
 output-memory e = cc
 
-nothing-done : (old : World) → IsLater old old
+nothing-done : (old : Outside) → IsLater old old
 nothing-done old = record { told = refl; reliable = refl; out_told = refl; out_reliable = refl; faults = omega arith; out_faults = omega arith }
 
 no_stop : (stop : ℕ) → is_stop stop ≡ true → (status : ℕ) → is_stop status ≡ false → status ≡ stop → ⊥
 no_stop stop t status f e = let h : is_stop stop ≡ false = subst (λ s. is_stop s ≡ false) e f in cc
 
 -- nothing more is done
-pub Ends-ending : (status : ℕ) (line : List ℕ) (old : World) → is_stop status ≡ false → Ends (ending status line) old old status
+pub Ends-ending : (status : ℕ) (line : List ℕ) (old : Outside) → is_stop status ≡ false → Ends (ending status line) old old status
 Ends-ending status line old go = record {
   later = nothing-done old;
   file_rose = λ e. absurd (no_stop 3 refl status go e);
   file_named = λ e told. absurd (no_stop 3 refl status go e);
   output_rose = λ e. absurd (no_stop 7 refl status go e);
   carried = λ told go. record { is = refl; ran = Ran-nothing old };
-  part = λ told. ([], Begun-whole [], Ran-nothing old);
+  at_once = λ none go. refl;
+  part = λ told. Reached-whole [] status old old (no_stop 3 refl status go) (no_stop 7 refl status go) (Ran-nothing old);
   complete = λ reliable. inl refl;
 }
 
 -- actions, and then the end
-module _ (actions : List Action) (final : ℕ) (line : List ℕ) (old new : World)
+module _ (actions : List Action) (final : ℕ) (line : List ℕ) (old new : Outside)
     (can : IsTrue old.files.told → CanRun actions old.files.content) (go : is_stop final ≡ false) where
   pub Ends-doing : {T : Type 0} (r : Result T Fault) → Follows actions old new r → Ends (doing actions final line) old new (code_after final r)
   Ends-doing (Ok x) f = record {
@@ -51,7 +52,8 @@ module _ (actions : List Action) (final : ℕ) (line : List ℕ) (old new : Worl
     file_named = λ e told. absurd (no_stop 3 refl final go e);
     output_rose = λ e. absurd (no_stop 7 refl final go e);
     carried = λ told go. record { is = refl; ran = f.done told };
-    part = λ told. (actions, Begun-whole actions, f.done told);
+    at_once = λ none go. refl;
+    part = λ told. Reached-whole actions final old new (no_stop 3 refl final go) (no_stop 7 refl final go) (f.done told);
     complete = λ reliable. inl refl;
   }
   Ends-doing {T} (Err File) f = record {
@@ -60,6 +62,7 @@ module _ (actions : List Action) (final : ℕ) (line : List ℕ) (old new : Worl
     file_named = λ e told. (f.file refl).named told;
     output_rose = λ e. absurd (omega arith);
     carried = λ told go. cc;
+    at_once = λ none go. cc;
     part = f.part;
     complete = λ reliable. absurd (file-memory {T = T} (f.complete reliable (can reliable.told)));
   }
@@ -69,6 +72,7 @@ module _ (actions : List Action) (final : ℕ) (line : List ℕ) (old new : Worl
     file_named = λ e. absurd (omega arith);
     output_rose = λ e. f.output refl;
     carried = λ told go. cc;
+    at_once = λ none go. cc;
     part = f.part;
     complete = λ reliable. absurd (output-memory {T = T} (f.complete reliable (can reliable.told)));
   }
@@ -78,29 +82,38 @@ module _ (actions : List Action) (final : ℕ) (line : List ℕ) (old new : Worl
     file_named = λ e. absurd (omega arith);
     output_rose = λ e. absurd (omega arith);
     carried = λ told go. cc;
+    at_once = λ none go. cc;
     part = f.part;
     complete = λ reliable. inr refl;
   }
 
+begun-read : (path : List ℕ) (others : List ℕ → Content → Plan) (content : Content) (o : Option (List ℕ)) → (rest : List Action) × ((read_then path others content o).actions ≡ read path ∷ rest)
+begun-read path others content None = ([], refl)
+begun-read path others content (Some bytes) = ((others bytes content).actions, refl)
+
+-- where a file is read, something is done
+never-nothing : (path : List ℕ) (others : List ℕ → Content → Plan) (content : Content) → (reading path others content).actions ≡ [] → ⊥
+never-nothing path others content e = let b = begun-read path others content (readable content path) in nil-cons (read path) b.0 (sym e ∙ b.1)
+
 -- a file that was read, and what came after it
-module _ (path : List ℕ) (others : List ℕ → Content → Plan) (old mid : Disk) (out : Stream) (new : World) (bytes : Vec ℕ Global) (status : ℕ)
-    (reads : Reads path old mid (Ok bytes)) (ends : Ends (others bytes.items) (world mid out) new status) where
+module _ (path : List ℕ) (others : List ℕ → Content → Plan) (old mid : Disk) (out : Stream) (new : Outside) (bytes : Vec ℕ Global) (status : ℕ)
+    (reads : Reads path old mid (Ok bytes)) (ends : Ends (others bytes.items) (outside mid out) new status) where
   plan-is : IsTrue old.told → reading path others old.content ≡ before (read path) (others bytes.items mid.content)
   plan-is told = ap (read_then path others old.content) (reads.found told) ∙ ap (λ c. before (read path) (others bytes.items c)) (sym reads.same)
 
   told-mid : IsTrue old.told → IsTrue mid.told
   told-mid told = subst IsTrue (sym reads.call.told) told
 
-  first : Ran (read path ∷ []) (world old out) (world mid out)
+  first : Ran (read path ∷ []) (outside old out) (outside mid out)
   first = record { files = reads.same; out = λ tells. sym (append-nil out.bytes) }
 
   either-same : {a b : ℕ} → a ≡ b → (status ≡ a) ⊎ (status ≡ 70) → (status ≡ b) ⊎ (status ≡ 70)
   either-same e (inl h) = inl (h ∙ e)
   either-same e (inr h) = inr h
 
-  pub Ends-reading : Ends (reading path others) (world old out) new status
+  pub Ends-reading : Ends (reading path others) (outside old out) new status
   Ends-reading = record {
-    later = IsLater-trans (world old out) (world mid out) new (later-files old mid out reads.call.told reads.call.reliable reads.call.cause.later) ends.later;
+    later = IsLater-trans (outside old out) (outside mid out) new (later-files old mid out reads.call.told reads.call.reliable reads.call.cause.later) ends.later;
     file_rose = λ e. let h = ends.file_rose e in let k = reads.call.cause.later in omega arith;
     file_named = λ e told.
         subst (λ (p : Plan). IsSomeAnd new.files.failed (Names p.actions)) (sym (plan-is told))
@@ -108,41 +121,39 @@ module _ (path : List ℕ) (others : List ℕ → Content → Plan) (old mid : D
     output_rose = ends.output_rose;
     carried = λ told go.
         let c = ends.carried (told-mid told) go in
-        subst (λ (p : Plan). Carried p (world old out) new status) (sym (plan-is told))
-        (record { is = c.is; ran = Ran-append (read path ∷ []) (others bytes.items mid.content).actions (world old out) (world mid out) new refl first c.ran });
+        subst (λ (p : Plan). Carried p (outside old out) new status) (sym (plan-is told))
+        (record { is = c.is; ran = Ran-append (read path ∷ []) (others bytes.items mid.content).actions (outside old out) (outside mid out) new refl first c.ran });
+    at_once = λ none go. absurd (never-nothing path others old.content (none old.content));
     part = λ told.
-        let p = ends.part (told-mid told) in
-        subst (λ (q : Plan). (done : List Action) × Begun q.actions done × Ran done (world old out) new) (sym (plan-is told))
-        (read path ∷ p.0, Begun-behind (read path ∷ []) (others bytes.items mid.content).actions p.0 p.1, Ran-append (read path ∷ []) p.0 (world old out) (world mid out) new refl first p.2);
+        subst (λ (q : Plan). Reached q.actions status (outside old out) new) (sym (plan-is told))
+        (Reached-behind (read path ∷ []) (others bytes.items mid.content).actions status (outside old out) (outside mid out) new refl first (ends.part (told-mid told)));
     complete = λ reliable.
         either-same (sym (ap (λ (q : Plan). q.status) (plan-is reliable.told)))
         (ends.complete (record { told = told-mid reliable.told; files = subst IsTrue (sym reads.call.reliable) reliable.files; out = reliable.out }));
   }
 
-begun-read : (path : List ℕ) (others : List ℕ → Content → Plan) (content : Content) (o : Option (List ℕ)) → (rest : List Action) × ((read_then path others content o).actions ≡ read path ∷ rest)
-begun-read path others content None = ([], refl)
-begun-read path others content (Some bytes) = ((others bytes content).actions, refl)
-
 -- a file that wasn't read
 module _ (path : List ℕ) (others : List ℕ → Content → Plan) (old mid : Disk) (out : Stream) where
-  unread-part : mid.content ≡ old.content → (done : List Action) × Begun (reading path others old.content).actions done × Ran done (world old out) (world mid out)
-  unread-part same = (
-    [],
-    record { front = []; part = []; rest = (reading path others old.content).actions; plan_is = refl; done_is = refl; part_is = tt },
-    record { files = same; out = λ tells. sym (append-nil out.bytes) },
-  )
+  unread-next : IsFilesNext (reading path others old.content).actions
+  unread-next = let b = begun-read path others old.content (readable old.content path) in subst IsFilesNext (sym b.1) tt
+
+  unread-part : (status : ℕ) → (status ≡ 7 → ⊥) → mid.content ≡ old.content → Reached (reading path others old.content).actions status (outside old out) (outside mid out)
+  unread-part status no_output same =
+      Reached-nothing (reading path others old.content).actions status _ _ (λ e. unread-next) (λ e. absurd (no_output e))
+      (record { files = same; out = λ tells. sym (append-nil out.bytes) })
 
   unread-named : (call : Failure) → call ≡ record { kind = Read; path = path } → Names (reading path others old.content).actions call
   unread-named call e = let b = begun-read path others old.content (readable old.content path) in subst (λ xs. Names xs call) (sym b.1) (inl e)
 
-  pub Ends-unread : (cause : FileFault) → Reads path old mid (Err cause) → Ends (reading path others) (world old out) (world mid out) (code_of_fault (fault_of_file cause))
+  pub Ends-unread : (cause : FileFault) → Reads path old mid (Err cause) → Ends (reading path others) (outside old out) (outside mid out) (code_of_fault (fault_of_file cause))
   Ends-unread file.Failed reads = record {
     later = later-files old mid out reads.call.told reads.call.reliable reads.call.cause.later;
     file_rose = λ e. reads.call.cause.rose refl;
     file_named = λ e told. subst (λ o. IsSomeAnd o (Names (reading path others old.content).actions)) (sym (reads.call.failed told refl)) (unread-named _ refl);
     output_rose = λ e. absurd (omega arith);
     carried = λ told go. cc;
-    part = λ told. unread-part reads.same;
+    at_once = λ none go. cc;
+    part = λ told. unread-part 3 (λ e. absurd (omega arith)) reads.same;
     complete = λ reliable. inl (sym (ap (λ o. (read_then path others old.content o).status) (reads.refused reliable.told reliable.files refl)));
   }
   Ends-unread file.NoMemory reads = record {
@@ -151,12 +162,13 @@ module _ (path : List ℕ) (others : List ℕ → Content → Plan) (old mid : D
     file_named = λ e. absurd (omega arith);
     output_rose = λ e. absurd (omega arith);
     carried = λ told go. cc;
-    part = λ told. unread-part reads.same;
+    at_once = λ none go. cc;
+    part = λ told. unread-part 70 (λ e. absurd (omega arith)) reads.same;
     complete = λ reliable. inr refl;
   }
 
 -- want of memory may come in place of any status
-pub Ends-or_memory : (plan : Content → Plan) (old new : World) (status result : ℕ) → (result ≡ status) ⊎ (result ≡ 70) → Ends plan old new status → Ends plan old new result
+pub Ends-or_memory : (plan : Content → Plan) (old new : Outside) (status result : ℕ) → (result ≡ status) ⊎ (result ≡ 70) → Ends plan old new status → Ends plan old new result
 Ends-or_memory plan old new status result (inl e) h = subst (Ends plan old new) (sym e) h
 Ends-or_memory plan old new status result (inr e) h = record {
   later = h.later;
@@ -164,7 +176,8 @@ Ends-or_memory plan old new status result (inr e) h = record {
   file_named = λ f. absurd (omega arith);
   output_rose = λ f. absurd (omega arith);
   carried = λ told go. absurd (no_stop 70 refl result go e);
-  part = h.part;
+  at_once = λ none go. absurd (no_stop 70 refl result go e);
+  part = λ told. Reached-memory (plan old.files.content).actions status result old new e (h.part told);
   complete = λ reliable. inr e;
 }
 
@@ -189,11 +202,11 @@ line_at-stop : (p q : Plan) (status : ℕ) → is_stop status ≡ true → line_
 line_at-stop p q status h = line-cases (status == 3) (status == 7) (status == 70) _ _ _ p.line q.line h
 
 -- nothing more is done
-pub EndsWith-ending : (status : ℕ) (line : List ℕ) (old : World) → is_stop status ≡ false → EndsWith (ending status line) old old status line
+pub EndsWith-ending : (status : ℕ) (line : List ℕ) (old : Outside) → is_stop status ≡ false → EndsWith (ending status line) old old status line
 EndsWith-ending status line old go = record { ends = Ends-ending status line old go; line_is = λ either. sym (line_at-else (ending status line old.files.content) status go) }
 
 -- actions, and then the end
-pub EndsWith-doing : {T : Type 0} (actions : List Action) (final : ℕ) (line : List ℕ) (old new : World) →
+pub EndsWith-doing : {T : Type 0} (actions : List Action) (final : ℕ) (line : List ℕ) (old new : Outside) →
     (IsTrue old.files.told → CanRun actions old.files.content) → is_stop final ≡ false → (r : Result T Fault) → Follows actions old new r →
     EndsWith (doing actions final line) old new (code_after final r) (line_after line r)
 EndsWith-doing actions final line old new can go (Ok x) f = record {
@@ -216,8 +229,8 @@ or-stop true stop h = refl
 or-stop false stop h = h
 
 -- a file that was read, and what came after it
-pub EndsWith-reading : (path : List ℕ) (others : List ℕ → Content → Plan) (old mid : Disk) (out : Stream) (new : World) (bytes : Vec ℕ Global) (status : ℕ) (line : List ℕ) →
-    Reads path old mid (Ok bytes) → EndsWith (others bytes.items) (world mid out) new status line → EndsWith (reading path others) (world old out) new status line
+pub EndsWith-reading : (path : List ℕ) (others : List ℕ → Content → Plan) (old mid : Disk) (out : Stream) (new : Outside) (bytes : Vec ℕ Global) (status : ℕ) (line : List ℕ) →
+    Reads path old mid (Ok bytes) → EndsWith (others bytes.items) (outside mid out) new status line → EndsWith (reading path others) (outside old out) new status line
 EndsWith-reading path others old mid out new bytes status line reads h = record {
   ends = Ends-reading path others old mid out new bytes status reads h.ends;
   line_is = λ either.
@@ -231,22 +244,22 @@ EndsWith-reading path others old mid out new bytes status line reads h = record 
 
 -- a file that wasn't read
 pub EndsWith-unread : (path : List ℕ) (others : List ℕ → Content → Plan) (old mid : Disk) (out : Stream) (cause : FileFault) → Reads path old mid (Err cause) →
-    EndsWith (reading path others) (world old out) (world mid out) (code_of_fault (fault_of_file cause)) (line_of_fault (fault_of_file cause))
+    EndsWith (reading path others) (outside old out) (outside mid out) (code_of_fault (fault_of_file cause)) (line_of_fault (fault_of_file cause))
 EndsWith-unread path others old mid out file.Failed reads = record { ends = Ends-unread path others old mid out file.Failed reads; line_is = λ either. refl }
 EndsWith-unread path others old mid out file.NoMemory reads = record { ends = Ends-unread path others old mid out file.NoMemory reads; line_is = λ either. refl }
 
 -- what was read stands for something
-pub EndsWith-accepted : {A E : Type 0} (r : Result A E) (meant : A) (others : A → Content → Plan) (refused : E → Content → Plan) (old new : World) (status : ℕ) (line : List ℕ) →
+pub EndsWith-accepted : {A E : Type 0} (r : Result A E) (meant : A) (others : A → Content → Plan) (refused : E → Content → Plan) (old new : Outside) (status : ℕ) (line : List ℕ) →
     r ≡ Ok meant → EndsWith (others meant) old new status line → EndsWith (accepting r others refused) old new status line
 EndsWith-accepted r meant others refused old new status line e h = subst (λ x. EndsWith (accepting x others refused) old new status line) (sym e) h
 
 -- what was read is refused
-pub EndsWith-refused : {A E : Type 0} (r : Result A E) (fault : E) (others : A → Content → Plan) (refused : E → Content → Plan) (old new : World) (status : ℕ) (line : List ℕ) →
+pub EndsWith-refused : {A E : Type 0} (r : Result A E) (fault : E) (others : A → Content → Plan) (refused : E → Content → Plan) (old new : Outside) (status : ℕ) (line : List ℕ) →
     r ≡ Err fault → EndsWith (refused fault) old new status line → EndsWith (accepting r others refused) old new status line
 EndsWith-refused r fault others refused old new status line e h = subst (λ x. EndsWith (accepting x others refused) old new status line) (sym e) h
 
 -- memory was wanting before anything more was done
-pub EndsWith-memory : (plan : Content → Plan) (old : World) → EndsWith plan old old 70 no_memory
+pub EndsWith-memory : (plan : Content → Plan) (old : Outside) → EndsWith plan old old 70 no_memory
 EndsWith-memory plan old = record {
   ends = record {
     later = nothing-done old;
@@ -254,7 +267,9 @@ EndsWith-memory plan old = record {
     file_named = λ e. absurd (omega arith);
     output_rose = λ e. absurd (omega arith);
     carried = λ told go. cc;
-    part = λ told. ([], record { front = []; part = []; rest = (plan old.files.content).actions; plan_is = refl; done_is = refl; part_is = tt }, Ran-nothing old);
+    at_once = λ none go. cc;
+    part = λ told.
+        Reached-nothing (plan old.files.content).actions 70 old old (λ e. absurd (omega arith)) (λ e. absurd (omega arith)) (Ran-nothing old);
     complete = λ reliable. inr refl;
   };
   line_is = λ either. refl;
@@ -273,7 +288,7 @@ plain-memory : (status : ℕ) → is_plain status ≡ true → status ≡ 70 →
 plain-memory status h e = let k : is_plain 70 ≡ true = subst (λ n. is_plain n ≡ true) e h in cc
 
 -- what err has of it, where the line of the end was printed
-module _ (plan : Content → Plan) (old new : World) (status result : ℕ) (line : List ℕ) (before_err after_err : Stream)
+module _ (plan : Content → Plan) (old new : Outside) (status result : ℕ) (line : List ℕ) (before_err after_err : Stream)
     (h : EndsWith plan old new status line) (prints : Prints line result before_err after_err) (usage : status ≡ 2 → line ≡ (plan old.files.content).line) where
   said-same : result ≡ status → line ≡ line_at (plan old.files.content) result → Says (plan old.files.content) result before_err after_err
   said-same e line_is = record {

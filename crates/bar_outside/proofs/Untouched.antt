@@ -1,7 +1,7 @@
 -- Laws of how a command ends.
 use Rattle.std.proofs.Common.{◌≡◌, ◌⊎◌, ℕ, List, [], ◌∷◌, ◌++◌, refl, sym, ap, ◌∙◌, subst, IsTrue, inl, inr}
 use Rattle.bar_outside.specs.Disk.{Content}
-use Rattle.bar_outside.specs.Plan.{World, Action, Plan, Begun, IsPartOf, IsPartOfNext, Touches, content_after, content_by}
+use Rattle.bar_outside.specs.Plan.{Outside, Action, Plan, Begun, IsPartOf, IsPartOfNext, Touches, content_after, content_by}
 use Rattle.bar_outside.specs.Plan.Action.{read, create, append, show}
 use Rattle.bar_outside.specs.Ends.{Ends}
 use Rattle.bar_outside.proofs.Contents.{put_at-other, appended-other}
@@ -50,7 +50,8 @@ Touches-one (append p bs) (show cs) rest path h t = absurd h
 Touches-one (show bs) b rest path h t = absurd t
 Touches-one (read p) b rest path h t = absurd t
 Touches-one (create p) (read q) rest path h t = absurd h
-Touches-one (create p) (create q) rest path h t = absurd h
+Touches-one (create p) (create q) rest path h (inl e) = inl (e ∙ h)
+Touches-one (create p) (create q) rest path h (inr t) = absurd t
 Touches-one (create p) (append q cs) rest path h t = absurd h
 Touches-one (create p) (show cs) rest path h t = absurd h
 
@@ -68,8 +69,8 @@ Touches-begun plan done path b t =
       | inr c ↦ Touches-right b.front b.rest path (Touches-part b.part b.rest path b.part_is c)
     ])
 
-pub untouched : (plan : Content → Plan) (old new : World) (status : ℕ) (path : List ℕ) → Ends plan old new status → IsTrue old.files.told →
+pub untouched : (plan : Content → Plan) (old new : Outside) (status : ℕ) (path : List ℕ) → Ends plan old new status → IsTrue old.files.told →
     (Touches (plan old.files.content).actions path → ⊥) → new.files.content path ≡ old.files.content path
 untouched plan old new status path ends told none =
     let p = ends.part told in
-    ap (λ c. c path) p.2.files ∙ content-untouched p.0 old.files.content path (λ t. none (Touches-begun (plan old.files.content).actions p.0 path p.1 t))
+    ap (λ c. c path) p.ran.files ∙ content-untouched p.done old.files.content path (λ t. none (Touches-begun (plan old.files.content).actions p.done path p.begun t))

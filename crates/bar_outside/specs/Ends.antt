@@ -1,18 +1,18 @@
 -- How a command ends.
-use Rattle.std.specs.Prelude.{◌≡◌, ◌≢◌, ◌⊎◌, ◌≤◌, ◌==◌, ◌||◌, ◌++◌, ℕ, Bool, List, IsTrue, IsSomeAnd, take, false}
+use Rattle.std.specs.Prelude.{◌≡◌, ◌≢◌, ◌⊎◌, ◌≤◌, ◌==◌, ◌||◌, ◌++◌, ℕ, Bool, List, [], IsTrue, IsSomeAnd, take, false}
 use Rattle.bar_outside.specs.Causes.{Rose}
 use Rattle.bar_outside.specs.Disk.{Content}
 use Rattle.bar_outside.specs.Stream.{Stream}
-use Rattle.bar_outside.specs.Plan.{World, Action, Plan, Ran, Begun, Names, is_stop, line_at}
+use Rattle.bar_outside.specs.Plan.{Outside, Plan, Ran, Reached, Names, is_stop, line_at}
 use Rattle.bar_outside.specs.Follows.{IsLater, IsReliable}
 
 -- the plan was carried out to its end, with its status
-pub record Carried (plan : Plan) (old new : World) (status : ℕ) : Type 0 where
+pub record Carried (plan : Plan) (old new : Outside) (status : ℕ) : Type 0 where
   pub is : status ≡ plan.status
   pub ran : Ran plan.actions old new
 
 -- a command with this plan, by what the files held, ended with this status
-pub record Ends (plan : Content → Plan) (old new : World) (status : ℕ) : Type 0 where
+pub record Ends (plan : Content → Plan) (old new : Outside) (status : ℕ) : Type 0 where
   pub later : IsLater old new
   -- 3 only where the files' count rose, and where they tell, by a call of the plan
   pub file_rose : status ≡ 3 → Rose old.files.faults new.files.faults
@@ -21,13 +21,15 @@ pub record Ends (plan : Content → Plan) (old new : World) (status : ℕ) : Typ
   pub output_rose : status ≡ 7 → Rose old.out.faults new.out.faults
   -- any status but 3, 7 and 70 is the plan's, and all of it was done
   pub carried : IsTrue old.files.told → is_stop status ≡ false → Carried (plan old.files.content) old new status
-  -- at every status a front of it was done, and maybe a part of the next action
-  pub part : IsTrue old.files.told → (done : List Action) × Begun (plan old.files.content).actions done × Ran done old new
+  -- so it is, whatever the files tell, where nothing is to be done whatever they hold
+  pub at_once : ((content : Content) → (plan content).actions ≡ []) → is_stop status ≡ false → status ≡ (plan old.files.content).status
+  -- at every status a front of it was done, and maybe a part of the next action, at which a fault came
+  pub part : IsTrue old.files.told → Reached (plan old.files.content).actions status old new
   -- where nothing fails by itself, it is the plan's status or 70
   pub complete : IsReliable old → (status ≡ (plan old.files.content).status) ⊎ (status ≡ 70)
 
 -- it ended so, and this is the line of its end
-pub record EndsWith (plan : Content → Plan) (old new : World) (status : ℕ) (line : List ℕ) : Type 0 where
+pub record EndsWith (plan : Content → Plan) (old new : Outside) (status : ℕ) (line : List ℕ) : Type 0 where
   pub ends : Ends plan old new status
   pub line_is : IsTrue (old.files.told || is_stop status) → line ≡ line_at (plan old.files.content) status
 

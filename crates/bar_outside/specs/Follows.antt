@@ -1,16 +1,16 @@
 -- What a function says that does a list of actions.
-use Rattle.std.specs.Prelude.{◌≡◌, ℕ, ◌≤◌, List, Vec, Result, Ok, Err, IsTrue, OnOk, OnErr, IsErrOf, IsSomeAnd}
+use Rattle.std.specs.Prelude.{◌≡◌, ℕ, ◌≤◌, List, Vec, Result, Ok, Err, IsTrue, IfErr, OnOk, OnErr, IsErrOf, IsSomeAnd}
 use Rattle.bar_outside.specs.Causes.{Rose}
 use Rattle.bar_outside.specs.Disk.{Disk, Reads}
 use Rattle.std.specs.declared.alloc.Global.{Global}
 use Rattle.bar_outside.specs.declared.files.FileFault.{FileFault}
-use Rattle.bar_outside.specs.Faults.{fault_of_file}
+use Rattle.bar_outside.specs.Faults.{fault_of_file, code_of_fault}
 use Rattle.bar_outside.specs.declared.fault.Fault.{Fault}
 use Rattle.bar_outside.specs.declared.fault.Fault.TheVariants.{File, Output, NoMemory}
-use Rattle.bar_outside.specs.Plan.{World, Action, Ran, Begun, Names, CanRun}
+use Rattle.bar_outside.specs.Plan.{Outside, Action, Ran, Reached, Names, CanRun}
 
 -- no count fell, and the outside tells as much as before
-pub record IsLater (old new : World) : Type 0 where
+pub record IsLater (old new : Outside) : Type 0 where
   pub told : new.files.told ≡ old.files.told
   pub reliable : new.files.reliable ≡ old.files.reliable
   pub out_told : new.out.told ≡ old.out.told
@@ -19,23 +19,23 @@ pub record IsLater (old new : World) : Type 0 where
   pub out_faults : old.out.faults ≤ new.out.faults
 
 -- the files' count rose, and where they tell, their last failed call is one of the plan
-pub record FilesFailed (plan : List Action) (old new : World) : Type 0 where
+pub record FilesFailed (plan : List Action) (old new : Outside) : Type 0 where
   pub rose : Rose old.files.faults new.files.faults
   pub named : IsTrue old.files.told → IsSomeAnd new.files.failed (Names plan)
 
 -- nothing of the outside fails but for files that aren't there
-pub record IsReliable (world : World) : Type 0 where
-  pub told : IsTrue world.files.told
-  pub files : IsTrue world.files.reliable
-  pub out : IsTrue world.out.reliable
+pub record IsReliable (outside : Outside) : Type 0 where
+  pub told : IsTrue outside.files.told
+  pub files : IsTrue outside.files.reliable
+  pub out : IsTrue outside.out.reliable
 
 -- the actions were done in order; at Err up to a fault
-pub record Follows {T : Type 0} (plan : List Action) (old new : World) (result : Result T Fault) : Type 0 where
+pub record Follows {T : Type 0} (plan : List Action) (old new : Outside) (result : Result T Fault) : Type 0 where
   pub later : IsLater old new
   pub file : IsErrOf result File → FilesFailed plan old new
   pub output : IsErrOf result Output → Rose old.out.faults new.out.faults
   pub done : IsTrue old.files.told → OnOk result (Ran plan old new)
-  pub part : IsTrue old.files.told → OnErr result ((done : List Action) × Begun plan done × Ran done old new)
+  pub part : IsTrue old.files.told → IfErr result (λ fault. Reached plan (code_of_fault fault) old new)
   pub complete : IsReliable old → CanRun plan old.files.content → OnErr result (result ≡ Err NoMemory)
 
 -- a read of a file, whose fault is handed on

@@ -5,12 +5,12 @@ use Rattle.bar_outside.specs.Stream.{Stream}
 use Rattle.bar_outside.specs.declared.files.CallKind.TheVariants.{Read, Create, Append}
 
 -- the files, and what is printed
-pub record World : Type 0 where
+pub record Outside : Type 0 where
   pub files : Disk
   pub out : Stream
 
-abbrev pub world : Disk → Stream → World
-world files out = record { files = files; out = out }
+abbrev pub outside : Disk → Stream → Outside
+outside files out = record { files = files; out = out }
 
 pub data Action : Type 0 where
   read : (path : List ℕ) → Action
@@ -41,12 +41,13 @@ shown [] = []
 shown (a ∷ others) = shown_by a ++ shown others
 
 -- these actions, and nothing else, were done between old and new
-pub record Ran (done : List Action) (old new : World) : Type 0 where
+pub record Ran (done : List Action) (old new : Outside) : Type 0 where
   pub files : new.files.content ≡ content_after done old.files.content
   pub out : IsTrue old.out.told → new.out.bytes ≡ old.out.bytes ++ shown done
 
--- the action was done in part: a front of its bytes stands
+-- the action was done in part: a front of its bytes stands, or the file that it makes
 abbrev pub IsPartOf : Action → Action → Type 0
+IsPartOf (create path) (create same) = path ≡ same
 IsPartOf (append path part) (append same whole) = (path ≡ same) × ((k : ℕ) × (part ≡ take k whole))
 IsPartOf (show part) (show whole) = (k : ℕ) × (part ≡ take k whole)
 IsPartOf _ _ = ⊥
@@ -65,6 +66,25 @@ pub record Begun (plan done : List Action) : Type 0 where
   pub plan_is : plan ≡ front ++ rest
   pub done_is : done ≡ front ++ part
   pub part_is : IsPartOfNext part rest
+
+-- the next action is one of the files
+abbrev pub IsFilesNext : List Action → Type 0
+IsFilesNext [] = ⊥
+IsFilesNext (show bytes ∷ others) = ⊥
+IsFilesNext _ = Unit {0}
+
+-- the next action prints
+abbrev pub IsShowNext : List Action → Type 0
+IsShowNext (show bytes ∷ others) = Unit {0}
+IsShowNext _ = ⊥
+
+-- how far a plan was done that ended with this status; a fault comes at the next action: 3 at one of the files, 7 at one that prints
+pub record Reached (plan : List Action) (status : ℕ) (old new : Outside) : Type 0 where
+  pub done : List Action
+  pub begun : Begun plan done
+  pub ran : Ran done old new
+  pub at_file : status ≡ 3 → IsFilesNext begun.rest
+  pub at_output : status ≡ 7 → IsShowNext begun.rest
 
 -- the failed call is one of the plan
 abbrev pub Names : List Action → Failure → Type 0

@@ -2,7 +2,7 @@
 ghost use Rattle.std.specs.Prelude.{◌∷◌, []};
 ghost use Rattle.bar_outside.specs.Disk.{Disk};
 ghost use Rattle.bar_outside.specs.Stream.{Stream};
-ghost use Rattle.bar_outside.specs.Plan.{world};
+ghost use Rattle.bar_outside.specs.Plan.{outside};
 ghost use Rattle.bar_outside.specs.Plan.Action.{create, append, show};
 ghost use Rattle.bar_outside.specs.Follows.{Follows, ReadsFile};
 
@@ -17,7 +17,7 @@ pub fn read_file<F: Files>(files: &mut F, path: &str) -> Result<Vec<u8>, Fault>
 
 /// Leaves an empty file of this name.
 pub fn create_file<F: Files>(files: &mut F, path: &str) -> Result<(), Fault>
-    ensures { (out : Stream) → Follows (create path.now ∷ []) (world (F.disk files.old) out) (world (F.disk files.new) out) result }
+    ensures { (out : Stream) → Follows (create path.now ∷ []) (outside (F.disk files.old) out) (outside (F.disk files.new) out) result }
 {
     files.create(path)?;
     Ok(())
@@ -25,7 +25,8 @@ pub fn create_file<F: Files>(files: &mut F, path: &str) -> Result<(), Fault>
 
 /// Adds bytes to a file.
 pub fn append_file<F: Files>(files: &mut F, path: &str, bytes: &[u8]) -> Result<(), Fault>
-    ensures { (out : Stream) → Follows (append path.now bytes.now ∷ []) (world (F.disk files.old) out) (world (F.disk files.new) out) result }
+    ensures { (out : Stream) →
+        Follows (append path.now bytes.now ∷ []) (outside (F.disk files.old) out) (outside (F.disk files.new) out) result }
 {
     files.append(path, bytes)?;
     Ok(())
@@ -33,7 +34,7 @@ pub fn append_file<F: Files>(files: &mut F, path: &str, bytes: &[u8]) -> Result<
 
 /// Prints bytes.
 pub fn show_bytes<K: Sink>(out: &mut K, bytes: &[u8]) -> Result<(), Fault>
-    ensures { (files : Disk) → Follows (show bytes.now ∷ []) (world files (K.stream out.old)) (world files (K.stream out.new)) result }
+    ensures { (files : Disk) → Follows (show bytes.now ∷ []) (outside files (K.stream out.old)) (outside files (K.stream out.new)) result }
 {
     out.write(bytes)?;
     Ok(())

@@ -34,7 +34,8 @@ impl MemFiles {
 
     /// No files. `fail` has the numbers of the calls that are to fail.
     pub fn make(alloc: Global, fail: Vec<u64>) -> MemFiles
-        ensures disk { disk_of result ≡ record { told = true; reliable = fails_never (failing fail); content = λ path. None; failed = None; faults = 0 } }
+        ensures disk { disk_of result ≡
+            record { told = true; reliable = fails_never (failing fail); content = λ path. None; failed = None; faults = 0 } }
         ensures schedule { schedule_of result ≡ failing fail }
     {
         MemFiles {
@@ -48,7 +49,8 @@ impl MemFiles {
 
     /// Prepares a file. It counts as no call.
     pub fn put(&mut self, path: &str, bytes: &[u8]) -> Result<(), NoMemory>
-        ensures put { OnOk result (disk_of self.new ≡ record (disk_of self.old) { content = put_at (disk_of self.old).content path.now bytes.now }) }
+        ensures put { OnOk result (disk_of self.new ≡
+            record (disk_of self.old) { content = put_at (disk_of self.old).content path.now bytes.now }) }
         ensures err { OnErr result (disk_of self.new ≡ disk_of self.old) }
         ensures uncounted { schedule_of self.new ≡ schedule_of self.old }
     {
@@ -94,7 +96,8 @@ impl Files for MemFiles {
         ensures reads { Reads path.now (disk_of self.old) (disk_of self.new) result }
         ensures counted { schedule_of self.new ≡ next_call (schedule_of self.old) }
         ensures listed { IsTrue (fails_next (schedule_of self.old)) → IsErr result }
-        ensures only_listed { result ≡ Err FileFault.Failed → IsTrue (fails_next (schedule_of self.old)) ⊎ IsNone (readable (disk_of self.old).content path.now) }
+        ensures only_listed { result ≡ Err FileFault.Failed →
+            IsTrue (fails_next (schedule_of self.old)) ⊎ IsNone (readable (disk_of self.old).content path.now) }
     {
         if is_listed(&mut self.schedule) {
             return Err(self.note_fault(CallKind::Read, path));
@@ -122,7 +125,8 @@ impl Files for MemFiles {
         ensures appends { Appends path.now bytes.now (disk_of self.old) (disk_of self.new) result }
         ensures counted { schedule_of self.new ≡ next_call (schedule_of self.old) }
         ensures listed { IsTrue (fails_next (schedule_of self.old)) → IsErr result }
-        ensures only_listed { result ≡ Err FileFault.Failed → IsTrue (fails_next (schedule_of self.old)) ⊎ IsNone ((disk_of self.old).content path.now) }
+        ensures only_listed { result ≡ Err FileFault.Failed →
+            IsTrue (fails_next (schedule_of self.old)) ⊎ IsNone ((disk_of self.old).content path.now) }
     {
         if is_listed(&mut self.schedule) {
             let _ = add_bytes(&mut self.files, path, &bytes[..bytes.len() / 2]);

@@ -6,7 +6,10 @@ use Rattle.bar_cli.specs.KeygenPlan.{keygen_plan}
 use Rattle.bar_cli.proofs.keygen_laws.keygen_failed_only.Goals as goal
 
 pub returns-clause-file : goal.returns-clause-file
-returns-clause-file c = λ asked old new ends told. (ends.file_rose refl, named-some asked old.files.content new.files.failed (ends.file_named refl told))
+returns-clause-file c = λ asked old new ends. ends.file_rose refl
+
+pub returns-clause-named : goal.returns-clause-named
+returns-clause-named c = λ asked old new ends told. named-some asked old.files.content new.files.failed (ends.file_named refl told)
 
 pub returns-clause-output : goal.returns-clause-output
 returns-clause-output c = λ asked old new ends. ends.output_rose refl

@@ -6,8 +6,11 @@ use Rattle.bar_cli.proofs.Rows.{named-some}
 use Rattle.bar_cli.specs.ReplayPlan.{replay_plan}
 use Rattle.bar_cli.proofs.laws.file_failed_only.Goals as goal
 
-pub returns-clause-only : goal.returns-clause-only
-returns-clause-only c = λ names old new ends told. (ends.file_rose refl, named-some names old.files.content new.files.failed (ends.file_named refl told))
+pub returns-clause-rose : goal.returns-clause-rose
+returns-clause-rose c = λ names old new ends. ends.file_rose refl
+
+pub returns-clause-named : goal.returns-clause-named
+returns-clause-named c = λ names old new ends told. named-some names old.files.content new.files.failed (ends.file_named refl told)
 
 pub returns-clause-no_session : goal.returns-clause-no_session
 returns-clause-no_session c = λ names old new status ends told none. stopped (replay_plan names) old new status 3 ends told (ap (λ (p : Plan). p.status) (at-session names old.files.content None none)) refl

@@ -1,7 +1,17 @@
-use Rattle.std.proofs.Common.{ap}
+use Rattle.std.proofs.Common.{◌≡◌, ◌↔◌, ◌∙◌, ap, sym, subst}
+use Rattle.bar_cli.specs.KeygenPlan.{Keygen, HasFewLeaves}
+use Rattle.bar_cli.specs.Line.{Line, replay, keygen}
+use Rattle.bar_cli.specs.ReplayPlan.{ReplayFiles}
+use Rattle.bar_cli.specs.Status.{code_of_run}
 use Rattle.bar_cli.specs.Views.{names_view, keygen_view, command_view}
 use Rattle.bar_cli.proofs.StatusLemmas.{never-output, replay-statuses, keygen-statuses}
 use Rattle.bar_cli.proofs.run.run_command.Goals as goal
+
+other-line : (names : ReplayFiles) (asked : Keygen) → ◌≡◌ {A = Line} (replay names) (keygen asked) → ⊥
+other-line names asked e = cc
+
+same-line : (a b : Keygen) → ◌≡◌ {A = Line} (keygen a) (keygen b) → a ≡ b
+same-line a b e = cc
 
 pub returns-in-Replay-clause-ends : goal.returns-in-Replay-clause-ends
 returns-in-Replay-clause-ends g c = rw (c.in-Replay.is, c.status_of.ensures.code, c.status_of.ensures.line) (c.replay.ensures.ends (g.K.Sink.stream c.args.out.now))
@@ -18,3 +28,11 @@ returns-in-Keygen-clause-statuses g c = rw (c.in-Keygen.is, c.status_of-in-Keyge
 
 pub returns-in-Keygen-clause-silent : goal.returns-in-Keygen-clause-silent
 returns-in-Keygen-clause-silent g c = λ none. absurd (none (keygen_view c.in-Keygen.asked) (ap command_view c.in-Keygen.is))
+
+pub returns-in-Replay-clause-leaves : goal.returns-in-Replay-clause-leaves
+returns-in-Replay-clause-leaves g c = λ asked is. absurd (other-line (names_view c.in-Replay.names) asked (sym (ap command_view c.in-Replay.is) ∙ is))
+
+pub returns-in-Keygen-clause-leaves : goal.returns-in-Keygen-clause-leaves
+returns-in-Keygen-clause-leaves g c = λ asked is.
+    let same : keygen_view c.in-Keygen.asked ≡ asked = same-line _ _ (sym (ap command_view c.in-Keygen.is) ∙ is) in
+    rw c.status_of-in-Keygen.ensures.code (subst (λ (a : Keygen). (code_of_run c.keygen.result ≡ 4) ↔ HasFewLeaves a) same c.keygen.ensures.leaves)

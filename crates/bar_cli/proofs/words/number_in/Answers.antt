@@ -1,12 +1,12 @@
-use Rattle.std.proofs.Common.{rules, arith, ◌≡◌, ◌∙◌, ap, ◌||◌, ◌==◌, sym, ◌<◌, ◌^◌, ℕ, List, [], ◌∷◌, true, not, length, None, Result, Err}
+use Rattle.std.proofs.Common.{rules, arith, ◌≡◌, ◌∙◌, ap, sym, ◌<◌, ◌^◌, ℕ, List, [], ◌∷◌, true, length, None, Result, Err}
 use Rattle.std.specs.List.{list_all}
 use Rattle.std.specs.Char.{is_ascii_digit}
 use Rattle.std.specs.Str.Parse.{ParsesUnsigned, digits_value}
-use Rattle.std.proofs.lemmas.Bool.{and_parts, false≢true}
+use Rattle.std.proofs.lemmas.Bool.{false≢true}
 use Rattle.std.proofs.lemmas.Bool.Decides.{nat_tests}
 use Rattle.std.proofs.lemmas.Result.{OkIff-at_err}
 use Rattle.std.proofs.lemmas.Str.Parse.{IsNumeralModel, numerals_by_value, parse_digits}
-use Rattle.bar_cli.specs.Words.{is_empty, is_numeral, number_in}
+use Rattle.bar_cli.specs.Words.{is_numeral, number_in}
 use Rattle.bar_cli.proofs.words.number_in.Goals as goal
 
 own : IsNumeralModel (λ ds. list_all is_ascii_digit ds ≡ true) (digits_value 10)
@@ -19,7 +19,7 @@ some (digit ∷ digits) h = omega arith
 
 digits_alone : (word : List ℕ) → is_numeral word ≡ true → list_all is_ascii_digit word ≡ true
 digits_alone [] h = absurd (false≢true h)
-digits_alone (digit ∷ digits) h = (and_parts (list_all is_ascii_digit (digit ∷ digits)) (is_empty digits || not (digit == 48)) h).0
+digits_alone (digit ∷ digits) h = h
 
 -- digits that the parse refuses write a number past every range
 past : {E : Type 0} (low high : ℕ) (word : List ℕ) (r : Result ℕ E) (e : E) → high < 2 ^ 64 → is_numeral word ≡ true → ParsesUnsigned 64 10 word r → r ≡ Err e
