@@ -1,1 +1,3 @@
 mod Worked
+mod WorkedVerdicts
+mod WorkedBroadcast
