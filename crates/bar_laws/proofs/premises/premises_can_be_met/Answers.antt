@@ -4,7 +4,7 @@ use Rattle.bar_laws.proofs.premises.premises_can_be_met.Goals as goal
 pub returns-clause-sessions : goal.returns-clause-sessions
 returns-clause-sessions c = sessions-exist
 
-pub returns-clause-setups : goal.returns-clause-casts
+pub returns-clause-setups : goal.returns-clause-setups
 returns-clause-setups c = setups-exist
 
 pub returns-clause-members : goal.returns-clause-members
