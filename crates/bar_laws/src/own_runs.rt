@@ -2,8 +2,8 @@
 
 ghost use Rattle.bar_laws.specs.OwnRuns.{PeersRun, BroadcasterRuns};
 
-/// In every world that any moves make of a cast, each party's log, what it has played and what it has sent are those of its own run over the
-/// inputs that the moves gave it. So what holds of every run of a peer holds of each peer of a world.
+/// In every world that any moves make of a cast, each party's log, what it has played and what it has sent are those of its own run over
+/// the inputs that the moves gave it. So what holds of every run of a peer holds of each peer of a world.
 pub fn parties_run_alone()
     ensures peers { PeersRun }
     ensures broadcaster { BroadcasterRuns }
