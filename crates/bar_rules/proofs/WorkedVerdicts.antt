@@ -8,7 +8,7 @@ use Rattle.bar_bytes.specs.Bytes.{u16_bytes, u32_bytes, u64_bytes}
 use Rattle.bar_case.specs.Opened.{opening}
 use Rattle.bar_case.specs.Keystream.{keystream, keystream_words}
 use Rattle.bar_lms.specs.Acceptance.{is_accepted_under, is_key_of}
-use Rattle.bar_seeds.specs.Derived as derived
+use Rattle.bar_seeds.proofs.Lengths.{length-commitment_of}
 use Rattle.bar_seeds.specs.Partners as partners
 use Rattle.bar_seeds.specs.Seeds as seeds
 use Rattle.bar_terms.specs.Table.{Table, no_lists, digests_of}
@@ -221,13 +221,9 @@ trade_case role history =
 abbrev committed : List ℕ
 committed = commitment_of session (exchange_by 6 Balanced Initiator 1 2) [] ha
 
-committed-long : length committed ≡ 32
-unfolding derived.commitment_of
-committed-long = length-sha256 _
-
 a_broken_commitment_is_shown : both_judged no_lists (from_one (Request 6 [] [])) (trade_case Initiator hb) ≡ shown BrokenCommit
 a_broken_commitment_is_shown =
-    let other : bytes_eq [] committed ≡ false = another-length [] committed (λ e. omega (arith, committed-long)) in simp other
+    let other : bytes_eq [] committed ≡ false = another-length [] committed (λ e. omega (arith, length-commitment_of)) in simp other
 
 a_kept_commitment_shows_nothing : both_judged no_lists (from_one (Request 6 [] committed)) (trade_case Initiator hb) ≡ nothing
 a_kept_commitment_shows_nothing = let same : bytes_eq committed committed ≡ true = same-bytes committed in simp same
