@@ -2,7 +2,8 @@
 use Rattle.std.proofs.Common.{◌≡◌, List, [], ◌∷◌, refl}
 use Rattle.bar_window.specs.declared.update.UpdateId.{UpdateId}
 use Rattle.bar_window.specs.declared.exchange.Role.TheVariants.{Initiator, Responder}
-use Rattle.bar_window.specs.Terms.{Terms, Offer}
+use Rattle.bar_window.specs.Terms.{Terms}
+use Rattle.bar_window.specs.Terms as forms
 use Rattle.bar_case.specs.declared.findings.Finding.TheVariants.{Sound, Broken, Untold}
 use Rattle.bar_case.specs.declared.findings.Opening.TheVariants.{Good, Bad, Unknown}
 use Rattle.bar_case.specs.Items.{promised_len}
@@ -21,7 +22,7 @@ least_unknown = refl
 abbrev padded : Terms
 padded =
     let young : List UpdateId = record { round = 5; index = 0 } ∷ record { round = 5; index = 1 } ∷ [] in
-    Offer young (record { round = 3; index = 1 } ∷ []) young [] 2
+    forms.Push young (record { round = 3; index = 1 } ∷ []) young [] 2
 
 two_updates : promised_len 4 padded Initiator ≡ 2048
 two_updates = refl

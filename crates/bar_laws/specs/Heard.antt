@@ -2,7 +2,8 @@
 use Rattle.std.specs.Prelude.{◌≡◌, ℕ, false, List, [], ◌++◌, Some, Contains}
 use Rattle.bar_window.specs.declared.exchange.Exchange.{Exchange}
 use Rattle.bar_wire.specs.Datagram.{Datagram, Briefcase}
-use Rattle.bar_wire.specs.Inputs.{Input, Came}
+use Rattle.bar_wire.specs.Inputs.{Input}
+use Rattle.bar_wire.specs.Inputs as event
 use Rattle.bar_rules.specs.Peer.Knowledge.{known}
 use Rattle.bar_rules.specs.Peer.Log.{Log, Heard, table}
 use Rattle.bar_rules.specs.Member.{Session, Member}
@@ -14,7 +15,7 @@ use Rattle.bar_laws.specs.Always.{OnAllInputs}
 -- The bytes of one of the inputs spell the datagram.
 pub record IsSpelledIn (s : Session) (inputs : List Input) (d : Datagram) : Type 0 where
   pub bytes : List ℕ
-  pub came : Contains inputs (Came bytes)
+  pub came : Contains inputs (event.Datagram bytes)
   pub spells : datagram_of s bytes ≡ Some d
 
 -- so it is of each datagram that was admitted, whatever comes

@@ -3,7 +3,8 @@ use Rattle.std.specs.Prelude.{◌≡◌, ℕ, ◌≤◌, ◌==◌, Bool, false, 
 use Rattle.std.specs.Option.{option_map_or}
 use Rattle.bar_rules.specs.Broadcaster.Sending.{caster_step}
 use Rattle.bar_wire.specs.Datagram.{Datagram}
-use Rattle.bar_wire.specs.Inputs.{Input, Tick, Came}
+use Rattle.bar_wire.specs.Inputs.{Input}
+use Rattle.bar_wire.specs.Inputs as event
 use Rattle.bar_rules.specs.Peer.Log.{Log}
 use Rattle.bar_rules.specs.Member.{Session}
 use Rattle.bar_rules.specs.Peer.Run.{step}
@@ -20,13 +21,13 @@ given_to party receiver input = if receiver == party then input ∷ [] else []
 
 abbrev pub brought_to : ℕ → Option (ℕ × List ℕ) → List Input
 brought_to party None = []
-brought_to party (Some packet) = given_to party packet.0 (Came packet.1)
+brought_to party (Some packet) = given_to party packet.0 (event.Datagram packet.1)
 
 -- what a move gives the party
 abbrev pub input_at : World → ℕ → Move → List Input
-input_at w party (TickOf receiver) = given_to party receiver Tick
+input_at w party (TickOf receiver) = given_to party receiver event.Tick
 input_at w party (Deliver number) = brought_to party (slice_get w.packets number)
-input_at w party (Hostile receiver bytes) = given_to party receiver (Came bytes)
+input_at w party (Hostile receiver bytes) = given_to party receiver (event.Datagram bytes)
 
 abbrev pub inputs_from : Setup → World → ℕ → List Move → List Input
 inputs_from setup w party [] = []

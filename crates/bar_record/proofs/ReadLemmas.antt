@@ -8,7 +8,8 @@ use Rattle.bar_bytes.specs.Bytes.{first_u16}
 use Rattle.bar_bytes.proofs.Lengths.{length_u16}
 use Rattle.bar_record.proofs.EntryLemmas.{entries_entry, entries_zero}
 use Rattle.bar_wire.specs.Limits.{largest_datagram}
-use Rattle.bar_wire.specs.Inputs.{Input, Tick, Came}
+use Rattle.bar_wire.specs.Inputs.{Input}
+use Rattle.bar_wire.specs.Inputs as event
 use Rattle.bar_record.specs.declared.fault.RecordFault.{RecordFault}
 use Rattle.bar_record.specs.declared.fault.RecordFault.TheVariants.{NoEnd}
 use Rattle.bar_record.specs.Recording.{First, Entry, NoEntry, End, entry_bytes, datagram_first, sized_first, marked_first, first_of, inputs_from, inputs_by, before, ticks_in}
@@ -43,9 +44,9 @@ length_datagram : (len : ℕ) (rest others : List ℕ) (input : Input) → datag
 length_datagram len rest others input is = elim (cases_Bool (nat_le len largest_datagram)) [
   | inl few ↦ elim (cases_Bool (nat_le len (length rest))) [
     | inl all ↦
-        let e : Entry (Came (take len rest)) (drop len rest) ≡ Entry input others = rw (few, all) at is in
+        let e : Entry (event.Datagram (take len rest)) (drop len rest) ≡ Entry input others = rw (few, all) at is in
         let le : len ≤ length rest = le_of_test len (length rest) all in
-        let one : input ≡ Came (take len rest) = cc in
+        let one : input ≡ event.Datagram (take len rest) = cc in
         let two : others ≡ drop len rest = cc in
         rw (one, two) (simp (length-append, length_u16, length-drop) (omega (arith, length-take-le len rest le)))
     | inr short ↦ let e : NoEntry ≡ Entry input others = rw (few, short) at is in absurd cc
@@ -67,8 +68,8 @@ length_marked mark rest others input is = elim (cases_Bool (mark == 0)) [
   | inl end ↦ let e : End rest ≡ Entry input others = rw end at is in absurd cc
   | inr no_end ↦ elim (cases_Bool (mark == 1)) [
     | inl tick ↦
-        let e : Entry Tick rest ≡ Entry input others = rw (no_end, tick) at is in
-        let one : input ≡ Tick = cc in
+        let e : Entry event.Tick rest ≡ Entry input others = rw (no_end, tick) at is in
+        let one : input ≡ event.Tick = cc in
         let two : others ≡ rest = cc in
         rw (one, two) refl
     | inr no_tick ↦ elim (cases_Bool (mark == 2)) [

@@ -3,7 +3,8 @@ use Rattle.std.specs.Prelude.{ℕ, zero, suc, ◌+◌, nat_le, ◌==◌, List, [
 use Rattle.std.specs.List.{flat_map}
 use Rattle.bar_bytes.specs.Bytes.{u16_bytes, first_u16}
 use Rattle.bar_wire.specs.Limits.{largest_datagram}
-use Rattle.bar_wire.specs.Inputs.{Input, Tick, Came}
+use Rattle.bar_wire.specs.Inputs.{Input}
+use Rattle.bar_wire.specs.Inputs as event
 use Rattle.bar_record.specs.declared.fault.RecordFault.{RecordFault}
 use Rattle.bar_record.specs.declared.fault.RecordFault.TheVariants.{BadHead, BadEntry, NoEnd, AfterEnd, AfterLast}
 
@@ -15,8 +16,8 @@ head_bytes id party = codes "BARL" ++ (1 ∷ (id ++ u16_bytes party))
 
 -- the entry of an input
 abbrev pub entry_bytes : Input → List ℕ
-entry_bytes Tick = 1 ∷ []
-entry_bytes (Came bytes) = 2 ∷ (u16_bytes (length bytes) ++ bytes)
+entry_bytes event.Tick = 1 ∷ []
+entry_bytes (event.Datagram bytes) = 2 ∷ (u16_bytes (length bytes) ++ bytes)
 
 -- the recording of a list of inputs
 abbrev pub recording_bytes : List ℕ → ℕ → List Input → List ℕ
@@ -34,7 +35,7 @@ pub data First : Type 0 where
 -- so many bytes, and what follows them, where they are all there and not too many
 abbrev pub datagram_first : ℕ → List ℕ → First
 datagram_first len rest =
-    if nat_le len largest_datagram then (if nat_le len (length rest) then Entry (Came (take len rest)) (drop len rest) else NoEntry) else NoEntry
+    if nat_le len largest_datagram then (if nat_le len (length rest) then Entry (event.Datagram (take len rest)) (drop len rest) else NoEntry) else NoEntry
 
 -- what stands behind the mark of a datagram: its length in two bytes, and its bytes
 abbrev pub sized_first : List ℕ → First
@@ -42,15 +43,15 @@ sized_first rest = if nat_le 2 (length rest) then datagram_first (first_u16 rest
 
 abbrev pub marked_first : ℕ → List ℕ → First
 marked_first mark rest =
-    if mark == 0 then End rest else if mark == 1 then Entry Tick rest else if mark == 2 then sized_first rest else NoEntry
+    if mark == 0 then End rest else if mark == 1 then Entry event.Tick rest else if mark == 2 then sized_first rest else NoEntry
 
 unfoldable pub first_of : List ℕ → First
 first_of [] = NoByte
 first_of (mark ∷ rest) = marked_first mark rest
 
 abbrev pub ticks_in : Input → ℕ
-ticks_in Tick = 1
-ticks_in (Came bytes) = 0
+ticks_in event.Tick = 1
+ticks_in (event.Datagram bytes) = 0
 
 -- an input before others
 abbrev pub before : Input → Result (List Input) RecordFault → Result (List Input) RecordFault

@@ -9,7 +9,7 @@ use Rattle.bar_rules.specs.Broadcaster.Sending.{caster_signed, send_blocks, evic
 use Rattle.bar_rules.specs.Broadcaster.Stream.{block_bytes, manifest_list, caster_table, rank_of, is_in_fanout}
 use Rattle.bar_window.specs.declared.update.UpdateId.{UpdateId}
 use Rattle.bar_wire.specs.Datagram.{Datagram, Manifest, Block, Evidence, Evict}
-use Rattle.bar_wire.specs.Inputs.{Tick, Came}
+use Rattle.bar_wire.specs.Inputs as event
 use Rattle.bar_rules.specs.Peer.Log.{Log, Ticked, Said, Kept, kept}
 use Rattle.bar_rules.specs.Member.{Member}
 use Rattle.bar_rules.specs.Runs.{begun}
@@ -92,7 +92,7 @@ abbrev block_to : ℕ → UpdateId → List ℕ → ℕ × Datagram
 block_to p u block = (p, unsigned (record { from = 0; to = p; body = Block u block }))
 
 abbrev sends_after : Member → Log → List (ℕ × Datagram)
-sends_after me log = (caster_step me stream log Tick).sends
+sends_after me log = (caster_step me stream log event.Tick).sends
 
 is-within : (u : UpdateId) → is_in_fanout caster u 1 ≡ true
 is-within u = ap (λ bs. get_or bs 0 false) (two_of_two u)
@@ -177,7 +177,7 @@ evictions_go_out_in_slot_0 = refl
 
 -- what is signed is kept as said
 what_is_signed_is_kept :
-    (caster_step caster stream (Kept 2 [] ∷ after 8) Tick).state
+    (caster_step caster stream (Kept 2 [] ∷ after 8) event.Tick).state
     ≡ Said (eviction 2 (2 ∷ [])) ∷ Said (manifest 2) ∷ Ticked ∷ Kept 2 [] ∷ after 8
 unfolding caster_step
 what_is_signed_is_kept = refl
@@ -194,14 +194,14 @@ short = record {
 
 -- ticks 17, 18, 21 and 22 are the slots 0, 1, 4 and 5 of round 3, with a peer evicted
 nothing_goes_out_after_the_last_round :
-    map (λ ticks. (caster_step short (replicate 2045 7) (Kept 2 [] ∷ after ticks) Tick).sends) (16 ∷ 17 ∷ 20 ∷ 21 ∷ [])
+    map (λ ticks. (caster_step short (replicate 2045 7) (Kept 2 [] ∷ after ticks) event.Tick).sends) (16 ∷ 17 ∷ 20 ∷ 21 ∷ [])
     ≡ [] ∷ [] ∷ [] ∷ [] ∷ []
 unfolding caster_step
 nothing_goes_out_after_the_last_round = refl
 
 -- after the last tick nothing changes
 after_the_last_tick_nothing_is_done :
-    map (λ input. caster_step short stream (after 56) input) (Tick ∷ Came [] ∷ [])
+    map (λ input. caster_step short stream (after 56) input) (event.Tick ∷ event.Datagram [] ∷ [])
     ≡ begun (after 56) ∷ begun (after 56) ∷ []
 unfolding caster_step
 after_the_last_tick_nothing_is_done = refl

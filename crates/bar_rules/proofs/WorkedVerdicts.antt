@@ -17,7 +17,7 @@ use Rattle.bar_window.specs.declared.exchange.Role.TheVariants.{Initiator, Respo
 use Rattle.bar_window.specs.declared.exchange.XKind.{XKind}
 use Rattle.bar_window.specs.declared.exchange.XKind.TheVariants.{Balanced, Push}
 use Rattle.bar_window.specs.declared.update.UpdateId.{UpdateId}
-use Rattle.bar_window.specs.Terms.{Trade, Offer}
+use Rattle.bar_window.specs.Terms as forms
 use Rattle.bar_window.specs.WindowBytes.{window_bytes, words_bytes, number_of_bits}
 use Rattle.bar_wire.specs.Datagram.{Datagram, Body, Manifest, Request, Response, Divulge, Query, Reply, Case, Key, Evidence, exchange_by}
 use Rattle.bar_rules.specs.Member.{Session}
@@ -61,7 +61,7 @@ push_case role updates junk want give padding =
       role = role;
       updates = updates;
       junk = junk;
-      terms = Offer young aged want give padding;
+      terms = forms.Push young aged want give padding;
       cipher = [];
     }))
 
@@ -216,7 +216,7 @@ hb = update 3 2 ∷ update 4 7 ∷ []
 
 abbrev trade_case : Role → List UpdateId → Datagram
 trade_case role history =
-    from_one (Case (record { round = 6; kind = Balanced; role = role; updates = 1; junk = 0; terms = Trade [] ha history; cipher = [] }))
+    from_one (Case (record { round = 6; kind = Balanced; role = role; updates = 1; junk = 0; terms = forms.Balanced [] ha history; cipher = [] }))
 
 abbrev committed : List ℕ
 committed = commitment_of session (exchange_by 6 Balanced Initiator 1 2) [] ha

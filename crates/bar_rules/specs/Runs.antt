@@ -2,7 +2,8 @@
 use Rattle.std.specs.Prelude.{ℕ, ◌+◌, ◌==◌, List, [], ◌∷◌, ◌++◌, map, not, nat_le, if◌then◌else◌}
 use Rattle.std.specs.List.{flat_map, concat}
 use Rattle.bar_wire.specs.Datagram.{Datagram}
-use Rattle.bar_wire.specs.Inputs.{Input, Tick, Came}
+use Rattle.bar_wire.specs.Inputs.{Input}
+use Rattle.bar_wire.specs.Inputs as event
 use Rattle.bar_rules.specs.Member.{Session, last_tick}
 
 -- the state after an input, the datagrams that are sent, each with its receiver, and the contents that are played
@@ -49,12 +50,12 @@ most_in_a_row = 65536
 -- one tick is put before each datagram that would be one too many in a row; nothing stands after the last tick
 abbrev pub paced_from : ℕ → ℕ → ℕ → List Input → List Input
 paced_from last ticks run [] = []
-paced_from last ticks run (Tick ∷ inputs) = if nat_le last ticks then [] else Tick ∷ paced_from last (ticks + 1) 0 inputs
-paced_from last ticks run (Came bytes ∷ inputs) =
+paced_from last ticks run (event.Tick ∷ inputs) = if nat_le last ticks then [] else event.Tick ∷ paced_from last (ticks + 1) 0 inputs
+paced_from last ticks run (event.Datagram bytes ∷ inputs) =
     if nat_le last ticks then []
-    else if not (run == most_in_a_row) then Came bytes ∷ paced_from last ticks (run + 1) inputs
-    else if nat_le last (ticks + 1) then Tick ∷ []
-    else Tick ∷ Came bytes ∷ paced_from last (ticks + 1) 1 inputs
+    else if not (run == most_in_a_row) then event.Datagram bytes ∷ paced_from last ticks (run + 1) inputs
+    else if nat_le last (ticks + 1) then event.Tick ∷ []
+    else event.Tick ∷ event.Datagram bytes ∷ paced_from last (ticks + 1) 1 inputs
 
 abbrev pub paced : Session → List Input → List Input
 paced s inputs = paced_from (last_tick s) 0 0 inputs

@@ -5,7 +5,7 @@ use Rattle.bar_window.specs.declared.exchange.XKind.{XKind}
 use Rattle.bar_window.specs.declared.exchange.XKind.TheVariants.{Balanced, Push}
 use Rattle.bar_window.specs.declared.exchange.Role.{Role}
 use Rattle.bar_window.specs.declared.exchange.Role.TheVariants.{Initiator, Responder}
-use Rattle.bar_wire.specs.Datagram.{Body, Manifest, Block, Request, Response, Divulge, Query, Reply, Case, KeyRequest, Key, Evidence, Evict, is_signed, round_of, part_of, kind_number}
+use Rattle.bar_wire.specs.Datagram.{Body, Manifest, Block, Request, Response, Divulge, Query, Reply, Case, KeyReq, Key, Evidence, Evict, is_signed, round_of, part_of, kind_number}
 use Rattle.bar_seal.specs.Leaves.{first_slot, step_of, leaf_at, leaf_by, leaf_of}
 
 -- the six groups of three slots
@@ -38,7 +38,7 @@ step_low (Divulge r n ha) = omega arith
 step_low (Query r s y o) = omega arith
 step_low (Reply r w g z) = omega arith
 step_low (Case c) = omega arith
-step_low (KeyRequest r k role) = omega arith
+step_low (KeyReq r k role) = omega arith
 step_low (Key k) = omega arith
 step_low (Evidence ds) = omega arith
 step_low (Evict r ps) = omega arith
@@ -83,7 +83,7 @@ kind_is (Reply r w g z) p s part = let same : (r, Push, Responder) ≡ p = cc in
 kind_is (Case c) p s part = refl
 kind_is (Key k) p s part = refl
 kind_is (Divulge r n ha) p s part = cc
-kind_is (KeyRequest r k role) p s part = cc
+kind_is (KeyReq r k role) p s part = cc
 kind_is (Block u b) p s part = cc
 kind_is (Evidence ds) p s part = cc
 kind_is (Manifest r ds) p s part = cc
@@ -96,7 +96,7 @@ leaf_is (Divulge r n ha) p s part = ap (λ o. leaf_by o 0 s) part
 leaf_is (Query r d y o) p s part = ap (λ o. leaf_by o 0 s) part
 leaf_is (Reply r w g z) p s part = ap (λ o. leaf_by o 0 s) part
 leaf_is (Case c) p s part = ap (λ o. leaf_by o 1 s) part
-leaf_is (KeyRequest r k role) p s part = ap (λ o. leaf_by o 0 s) part
+leaf_is (KeyReq r k role) p s part = ap (λ o. leaf_by o 0 s) part
 leaf_is (Key k) p s part = ap (λ o. leaf_by o 2 s) part
 leaf_is (Block u b) p s part = cc
 leaf_is (Evidence ds) p s part = cc
@@ -132,7 +132,7 @@ caster_is (Divulge r n ha) s h part = cc
 caster_is (Query r d y o) s h part = cc
 caster_is (Reply r w g z) s h part = cc
 caster_is (Case c) s h part = cc
-caster_is (KeyRequest r k role) s h part = cc
+caster_is (KeyReq r k role) s h part = cc
 caster_is (Key k) s h part = cc
 
 pub caster_named : (b c : Body) (s t : ℕ) → is_signed b ≡ true → is_signed c ≡ true → part_of b ≡ None → part_of c ≡ None → 1 ≤ round_of b → 1 ≤ round_of c
@@ -158,5 +158,5 @@ leaves_few (Case c) s rounds h low high seat = omega (arith, slot_is c.kind c.ro
 leaves_few (Key k) s rounds h low high seat = omega (arith, slot_is k.kind k.role s, group_low k.kind k.role s seat)
 leaves_few (Block u b) s rounds h low high seat = cc
 leaves_few (Divulge r n ha) s rounds h low high seat = cc
-leaves_few (KeyRequest r k role) s rounds h low high seat = cc
+leaves_few (KeyReq r k role) s rounds h low high seat = cc
 leaves_few (Evidence ds) s rounds h low high seat = cc

@@ -5,7 +5,8 @@ use Rattle.bar_window.specs.declared.update.UpdateId.{UpdateId}
 use Rattle.bar_window.specs.declared.exchange.Role.{Role}
 use Rattle.bar_window.specs.declared.exchange.Role.TheVariants.{Initiator, Responder}
 use Rattle.bar_window.specs.Updates.{first_round, minus, both, is_inside, is_of_rounds}
-use Rattle.bar_window.specs.Terms.{Terms, Trade, Offer}
+use Rattle.bar_window.specs.Terms.{Terms}
+use Rattle.bar_window.specs.Terms as forms
 use Rattle.bar_terms.specs.declared.items.Item.{Item}
 use Rattle.bar_terms.specs.declared.items.Item.TheVariants.{Update, Junk}
 use Rattle.bar_terms.specs.Table.{Table, none_past_end}
@@ -22,15 +23,15 @@ abbrev pub given : ℕ → List UpdateId → List UpdateId → List UpdateId
 given count aged held = take count (both aged held)
 
 abbrev pub promised_updates : ℕ → Terms → Role → List UpdateId
-promised_updates cap (Trade nonce ha hb) Initiator = take (trade_count cap ha hb) (minus ha hb)
-promised_updates cap (Trade nonce ha hb) Responder = take (trade_count cap ha hb) (minus hb ha)
-promised_updates cap (Offer young aged want give junk) Initiator = want
-promised_updates cap (Offer young aged want give junk) Responder = give
+promised_updates cap (forms.Balanced nonce ha hb) Initiator = take (trade_count cap ha hb) (minus ha hb)
+promised_updates cap (forms.Balanced nonce ha hb) Responder = take (trade_count cap ha hb) (minus hb ha)
+promised_updates cap (forms.Push young aged want give junk) Initiator = want
+promised_updates cap (forms.Push young aged want give junk) Responder = give
 
 abbrev pub promised_junk : Terms → Role → ℕ
-promised_junk (Trade nonce ha hb) role = 0
-promised_junk (Offer young aged want give junk) Initiator = 0
-promised_junk (Offer young aged want give junk) Responder = junk
+promised_junk (forms.Balanced nonce ha hb) role = 0
+promised_junk (forms.Push young aged want give junk) Initiator = 0
+promised_junk (forms.Push young aged want give junk) Responder = junk
 
 -- what a side promises: its updates in order, then its junk
 abbrev pub promise : ℕ → Terms → Role → List Item
@@ -54,15 +55,15 @@ answer_ok cap young aged want give junk =
 
 -- whether terms are valid, in a round and under a table
 abbrev pub terms_ok : ℕ → ℕ → Table → ℕ → Terms → Bool
-terms_ok cap life table round (Trade nonce ha hb) = nat_le 1 (trade_count cap ha hb) && (none_past_end table ha && none_past_end table hb)
-terms_ok cap life table round (Offer young aged want give junk) = offer_ok cap life table round young aged && answer_ok cap young aged want give junk
+terms_ok cap life table round (forms.Balanced nonce ha hb) = nat_le 1 (trade_count cap ha hb) && (none_past_end table ha && none_past_end table hb)
+terms_ok cap life table round (forms.Push young aged want give junk) = offer_ok cap life table round young aged && answer_ok cap young aged want give junk
 
 -- whether they are valid under the empty table, the rounds of an offer aside: then each side promises something
 abbrev pub can_promise : ℕ → Terms → Bool
-can_promise cap (Trade nonce ha hb) = nat_le 1 (trade_count cap ha hb)
-can_promise cap (Offer young aged want give junk) = offer_sizes cap young aged && answer_ok cap young aged want give junk
+can_promise cap (forms.Balanced nonce ha hb) = nat_le 1 (trade_count cap ha hb)
+can_promise cap (forms.Push young aged want give junk) = offer_sizes cap young aged && answer_ok cap young aged want give junk
 
 -- the line on the rounds, alone
 abbrev pub rounds_ok : ℕ → ℕ → Terms → Bool
-rounds_ok life round (Trade nonce ha hb) = true
-rounds_ok life round (Offer young aged want give junk) = offer_rounds life round young aged
+rounds_ok life round (forms.Balanced nonce ha hb) = true
+rounds_ok life round (forms.Push young aged want give junk) = offer_rounds life round young aged

@@ -9,11 +9,12 @@ use Rattle.bar_bytes.specs.Bytes.{u16_bytes, u32_bytes}
 use Rattle.bar_bytes.proofs.Lengths.{length_u16, length_u32}
 use Rattle.bar_window.specs.declared.exchange.XKind.{XKind}
 use Rattle.bar_window.specs.Exchange.{kind_code, role_code}
-use Rattle.bar_window.specs.Terms.{Terms, Trade, Offer}
+use Rattle.bar_window.specs.Terms.{Terms}
+use Rattle.bar_window.specs.Terms as forms
 use Rattle.bar_wire.specs.declared.shape.Shape.{Shape}
 use Rattle.bar_wire.specs.declared.kind.Kind.{Kind}
 use Rattle.bar_wire.specs.declared.kind.Kind.TheVariants as kinds
-use Rattle.bar_wire.specs.Datagram.{Body, Manifest, Block, Request, Response, Divulge, Query, Reply, Case, KeyRequest, Key, Evidence, Evict, kind_of}
+use Rattle.bar_wire.specs.Datagram.{Body, Manifest, Block, Request, Response, Divulge, Query, Reply, Case, KeyReq, Key, Evidence, Evict, kind_of}
 use Rattle.bar_wire.specs.Grammar.{set_bytes, pieces, term_pieces, entry, HasForm, HasTermForm, signature_len}
 use Rattle.bar_wire.specs.Places.{widths, fields_len, entries_len, terms_len, window_len}
 use Rattle.bar_wire.proofs.WindowLaws.{length_set}
@@ -62,10 +63,10 @@ entries_back (d ∷ ds) after fit =
 
 -- terms have the length of their kind
 pub length_terms : (s : Shape) (r : ℕ) (k : XKind) (t : Terms) → HasTermForm s r k t → length (concat (term_pieces s r t)) ≡ terms_len s (kind_code k)
-length_terms s r k (Trade nonce ha hb) form =
+length_terms s r k (forms.Balanced nonce ha hb) form =
     let zero_is : terms_len s (kind_code k) ≡ 32 + 2 * window_len s = ap (λ (n : XKind). terms_len s (kind_code n)) form.0 in
     omega (arith, zero_is, form.1, length_set s r ha, length_set s r hb, length-append nonce (set_bytes s r ha ++ (set_bytes s r hb ++ [])), length-append (set_bytes s r ha) (set_bytes s r hb ++ []), length-append (set_bytes s r hb) [])
-length_terms s r k (Offer a b u v z) form =
+length_terms s r k (forms.Push a b u v z) form =
     let push_is : terms_len s (kind_code k) ≡ 4 * window_len s + 1 = ap (λ (n : XKind). terms_len s (kind_code n)) form.0 in
     omega (
       arith,
@@ -102,7 +103,7 @@ widths_are s (Case c) x form =
     let terms : terms_len s (slice_index (concat (pieces s (Case c)) ++ x) 4) ≡ length (concat (term_pieces s c.round c.terms)) = ap (terms_len s) (at 0) ∙ sym (length_terms s c.round c.kind c.terms form.1) in
     let items : 1024 * slice_index (concat (pieces s (Case c)) ++ x) 6 + 1280 * slice_index (concat (pieces s (Case c)) ++ x) 7 ≡ length c.cipher = omega (arith, at 2, at 3, form.2) in
     λ i. sym (length_u32 c.round) i ∷ 1 ∷ 1 ∷ 1 ∷ 1 ∷ terms i ∷ items i ∷ []
-widths_are s (KeyRequest r kind role) x form = λ i. sym (length_u32 r) i ∷ 1 ∷ 1 ∷ []
+widths_are s (KeyReq r kind role) x form = λ i. sym (length_u32 r) i ∷ 1 ∷ 1 ∷ []
 widths_are s (Key k) x form = λ i. sym (length_u32 k.round) i ∷ 1 ∷ 1 ∷ sym form.1 i ∷ []
 widths_are s (Evidence ds) x form =
     let all : entries_len (length ds) ((flat_map entry ds ++ []) ++ x) ≡ length (flat_map entry ds) = ap (entries_len (length ds)) (append_assoc (flat_map entry ds) [] x) ∙ entries_back ds x form in

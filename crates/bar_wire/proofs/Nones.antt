@@ -8,7 +8,7 @@ use Rattle.bar_window.specs.declared.exchange.Role.{Role}
 use Rattle.bar_window.specs.Exchange.{kind_code, role_code}
 use Rattle.bar_wire.specs.declared.shape.Shape.{Shape}
 use Rattle.bar_wire.specs.declared.kind.Kind.TheVariants as kinds
-use Rattle.bar_wire.specs.Datagram.{Response, Divulge, Query, Reply, Case, KeyRequest, Key}
+use Rattle.bar_wire.specs.Datagram.{Response, Divulge, Query, Reply, Case, KeyReq, Key}
 use Rattle.bar_wire.specs.Grammar.{set_bytes, term_pieces, IsWindowSet, IsRound, HasTermForm}
 use Rattle.bar_wire.specs.Places.{kind_from}
 use Rattle.bar_wire.specs.Reading.{SpellsNone}
@@ -76,8 +76,8 @@ pub no_case_codes : (s : Shape) (r k p : ℕ) (bytes rest : List ℕ) → BadCod
 no_case_codes s r k p bytes rest codes (Case c) kind spelled = codes.bad (codes_small c.kind c.role c.round r k p (c.updates ∷ c.junk ∷ (concat (term_pieces s c.round c.terms) ++ (c.cipher ++ []))) rest spelled.form.0 codes.fits (sym spelled.is ∙ codes.is))
 no_case_codes s r k p bytes rest codes b kind spelled = absurd cc
 
-pub no_key_request : (s : Shape) (r k p : ℕ) (bytes rest : List ℕ) → BadCodes r k p bytes rest → SpellsNone s kinds.KeyRequest bytes
-no_key_request s r k p bytes rest codes (KeyRequest r' x role) kind spelled = codes.bad (codes_small x role r' r k p [] rest spelled.form codes.fits (sym spelled.is ∙ codes.is))
+pub no_key_request : (s : Shape) (r k p : ℕ) (bytes rest : List ℕ) → BadCodes r k p bytes rest → SpellsNone s kinds.KeyReq bytes
+no_key_request s r k p bytes rest codes (KeyReq r' x role) kind spelled = codes.bad (codes_small x role r' r k p [] rest spelled.form codes.fits (sym spelled.is ∙ codes.is))
 no_key_request s r k p bytes rest codes b kind spelled = absurd cc
 
 pub no_key : (s : Shape) (r k p : ℕ) (bytes rest : List ℕ) → BadCodes r k p bytes rest → SpellsNone s kinds.Key bytes

@@ -5,9 +5,10 @@ use Rattle.bar_bytes.specs.Bytes.{u8_bytes, u16_bytes}
 use Rattle.bar_window.specs.declared.exchange.XKind.{XKind}
 use Rattle.bar_window.specs.declared.exchange.XKind.TheVariants as exchanges
 use Rattle.bar_window.specs.Exchange.{kind_code, role_code}
-use Rattle.bar_window.specs.Terms.{Terms, Trade, Offer}
+use Rattle.bar_window.specs.Terms.{Terms}
+use Rattle.bar_window.specs.Terms as forms
 use Rattle.bar_wire.specs.declared.shape.Shape.{Shape}
-use Rattle.bar_wire.specs.Datagram.{Body, Briefcase, KeyGiven, Manifest, Block, Request, Response, Divulge, Query, Reply, Case, KeyRequest, Key, Evidence, Evict, kind_of}
+use Rattle.bar_wire.specs.Datagram.{Body, Briefcase, KeyGiven, Manifest, Block, Request, Response, Divulge, Query, Reply, Case, KeyReq, Key, Evidence, Evict, kind_of}
 use Rattle.bar_wire.specs.Grammar.{set_bytes, pieces, term_pieces, entry, HasForm, HasTermForm, InRange}
 use Rattle.bar_wire.specs.Reading.{SpellsNone}
 use Rattle.bar_wire.proofs.Peel.{peel_piece, peel_u32, peel_u8, peel_set, peel_parts, peel_parties, peel_entries}
@@ -22,20 +23,20 @@ not_both_kinds e = cc
 
 -- the terms
 pub one_terms : (s : Shape) (r r' : ℕ) (k : XKind) (t t' : Terms) (x y : List ℕ) → r ≡ r' → HasTermForm s r k t → HasTermForm s r' k t' → concat (term_pieces s r t) ++ x ≡ concat (term_pieces s r' t') ++ y → (t ≡ t') × (x ≡ y)
-one_terms s r r' k (Trade n a b) (Trade n' a' b') x y same f g e =
+one_terms s r r' k (forms.Balanced n a b) (forms.Balanced n' a' b') x y same f g e =
     let p = peel_piece n n' (set_bytes s r a ∷ set_bytes s r b ∷ []) (set_bytes s r' a' ∷ set_bytes s r' b' ∷ []) x y (f.1 ∙ sym g.1) e in
     let q = peel_set s r r' a a' (set_bytes s r b ∷ []) (set_bytes s r' b' ∷ []) x y same f.2 g.2 p.rest in
     let t = peel_set s r r' b b' [] [] x y same f.3 g.3 q.1 in
-    (λ i. Trade (p.front i) (q.0 i) (t.0 i), t.1)
-one_terms s r r' k (Offer a b u v z) (Offer a' b' u' v' z') x y same f g e =
+    (λ i. forms.Balanced (p.front i) (q.0 i) (t.0 i), t.1)
+one_terms s r r' k (forms.Push a b u v z) (forms.Push a' b' u' v' z') x y same f g e =
     let p = peel_set s r r' a a' (set_bytes s r b ∷ set_bytes s r u ∷ set_bytes s r v ∷ u8_bytes z ∷ []) (set_bytes s r' b' ∷ set_bytes s r' u' ∷ set_bytes s r' v' ∷ u8_bytes z' ∷ []) x y same f.1 g.1 e in
     let q = peel_set s r r' b b' (set_bytes s r u ∷ set_bytes s r v ∷ u8_bytes z ∷ []) (set_bytes s r' u' ∷ set_bytes s r' v' ∷ u8_bytes z' ∷ []) x y same f.2 g.2 p.1 in
     let t = peel_set s r r' u u' (set_bytes s r v ∷ u8_bytes z ∷ []) (set_bytes s r' v' ∷ u8_bytes z' ∷ []) x y same f.3 g.3 q.1 in
     let w = peel_set s r r' v v' (u8_bytes z ∷ []) (u8_bytes z' ∷ []) x y same f.4 g.4 t.1 in
     let l = peel_u8 z z' [] [] x y w.1 in
-    (λ i. Offer (p.0 i) (q.0 i) (t.0 i) (w.0 i) (l.0 i), l.1)
-one_terms s r r' k (Trade n a b) (Offer a' b' u' v' z') x y same f g e = absurd (not_both_kinds (sym f.0 ∙ g.0))
-one_terms s r r' k (Offer a b u v z) (Trade n' a' b') x y same f g e = absurd (not_both_kinds (sym g.0 ∙ f.0))
+    (λ i. forms.Push (p.0 i) (q.0 i) (t.0 i) (w.0 i) (l.0 i), l.1)
+one_terms s r r' k (forms.Balanced n a b) (forms.Push a' b' u' v' z') x y same f g e = absurd (not_both_kinds (sym f.0 ∙ g.0))
+one_terms s r r' k (forms.Push a b u v z) (forms.Balanced n' a' b') x y same f g e = absurd (not_both_kinds (sym g.0 ∙ f.0))
 
 one_case : (s : Shape) (c c' : Briefcase) (x y : List ℕ) → HasForm s (Case c) → HasForm s (Case c') → concat (pieces s (Case c)) ++ x ≡ concat (pieces s (Case c')) ++ y → (c ≡ c') × (x ≡ y)
 one_case s c c' x y f g e =
@@ -112,13 +113,13 @@ one_reading s (Reply r want give junk) (Reply r' want' give' junk') x y k f g e 
     let d = peel_u8 junk junk' [] [] x y c.1 in
     record { body = λ i. Reply (a.0 i) (b.0 i) (c.0 i) (d.0 i); rest = d.1 }
 one_reading s (Case c) (Case c') x y k f g e = let a = one_case s c c' x y f g e in record { body = ap Case a.0; rest = a.1 }
-one_reading s (KeyRequest r kind role) (KeyRequest r' kind' role') x y k f g e =
+one_reading s (KeyReq r kind role) (KeyReq r' kind' role') x y k f g e =
     let a = peel_u32 r r' (u8_bytes (kind_code kind) ∷ u8_bytes (role_code role) ∷ []) (u8_bytes (kind_code kind') ∷ u8_bytes (role_code role') ∷ []) x y f g e in
     let b = peel_u8 (kind_code kind) (kind_code kind') (u8_bytes (role_code role) ∷ []) (u8_bytes (role_code role') ∷ []) x y a.1 in
     let c = peel_u8 (role_code role) (role_code role') [] [] x y b.1 in
     let kinds = same_kind_code kind kind' b.0 in
     let roles = same_role_code role role' c.0 in
-    record { body = λ i. KeyRequest (a.0 i) (kinds i) (roles i); rest = c.1 }
+    record { body = λ i. KeyReq (a.0 i) (kinds i) (roles i); rest = c.1 }
 one_reading s (Key given) (Key given') x y k f g e = let a = one_key s given given' x y f g e in record { body = ap Key a.0; rest = a.1 }
 one_reading s (Evidence ds) (Evidence ds') x y k f g e =
     let a = peel_u8 (length ds) (length ds') (flat_map entry ds ∷ []) (flat_map entry ds' ∷ []) x y e in

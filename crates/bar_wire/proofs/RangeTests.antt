@@ -7,13 +7,14 @@ use Rattle.bar_window.specs.declared.update.UpdateId.{UpdateId}
 use Rattle.bar_window.specs.declared.exchange.XKind.{XKind}
 use Rattle.bar_window.specs.declared.exchange.XKind.TheVariants as exchanges
 use Rattle.bar_window.specs.Exchange.{same_kind}
-use Rattle.bar_window.specs.Terms.{Terms, Trade, Offer}
+use Rattle.bar_window.specs.Terms.{Terms}
+use Rattle.bar_window.specs.Terms as forms
 use Rattle.bar_window.proofs.Spelling.{set_test, set_passes}
 use Rattle.bar_wire.specs.Limits.{everyone, largest_datagram}
 use Rattle.bar_wire.specs.declared.shape.Shape.{Shape}
 use Rattle.bar_wire.specs.declared.kind.Kind.{Kind}
 use Rattle.bar_wire.specs.declared.kind.Kind.TheVariants as kinds
-use Rattle.bar_wire.specs.Datagram.{Datagram, Body, Manifest, Block, Request, Response, Divulge, Query, Reply, Case, KeyRequest, Key, Evidence, Evict, kind_of}
+use Rattle.bar_wire.specs.Datagram.{Datagram, Body, Manifest, Block, Request, Response, Divulge, Query, Reply, Case, KeyReq, Key, Evidence, Evict, kind_of}
 use Rattle.bar_wire.specs.Grammar.{words_of, signature_len, IsWindowSet, HasTermForm, HasForm, IsRound, IsPeer, RisesTo, IsEntryInRange, AreDatagramsInRange, ArePartiesInRange, HasFewJunk, InRange, MaySend, IsDatagram}
 use Rattle.bar_wire.specs.Ranges.{is_u16, is_u32, is_window_set, has_term_form, has_form, is_round, is_peer, rises_to, is_entry_in_range, are_datagrams_in_range, are_parties_in_range, has_few_junk, is_in_range, may_send, is_datagram}
 
@@ -76,8 +77,8 @@ long_tells : (xs : List ℕ) (n : ℕ) → IsTrue (length xs == n) ↔ (length x
 long_tells xs n = eq_tells (length xs) n
 
 term_form_tells : (s : Shape) (r : ℕ) (k : XKind) (t : Terms) → IsTrue (has_term_form s r k t) ↔ HasTermForm s r k t
-term_form_tells s r k (Trade nonce ha hb) = four_tell (same_kind k exchanges.Balanced) (length nonce == 32) (is_window_set s r ha) (is_window_set s r hb) (balanced_tells k) (long_tells nonce 32) (set_tells s r ha) (set_tells s r hb)
-term_form_tells s r k (Offer young aged want give junk) = five_tell (same_kind k exchanges.Push) (is_window_set s r young) (is_window_set s r aged) (is_window_set s r want) (is_window_set s r give) (push_tells k) (set_tells s r young) (set_tells s r aged) (set_tells s r want) (set_tells s r give)
+term_form_tells s r k (forms.Balanced nonce ha hb) = four_tell (same_kind k exchanges.Balanced) (length nonce == 32) (is_window_set s r ha) (is_window_set s r hb) (balanced_tells k) (long_tells nonce 32) (set_tells s r ha) (set_tells s r hb)
+term_form_tells s r k (forms.Push young aged want give junk) = five_tell (same_kind k exchanges.Push) (is_window_set s r young) (is_window_set s r aged) (is_window_set s r want) (is_window_set s r give) (push_tells k) (set_tells s r young) (set_tells s r aged) (set_tells s r want) (set_tells s r give)
 
 form_tells : (s : Shape) (b : Body) → IsTrue (has_form s b) ↔ HasForm s b
 form_tells s (Manifest r ds) = and_tells (is_u32 r) (list_all (λ d. length d == 32) ds) (u32_tells r) (all_tell (λ d. length d == 32) (λ d. length d ≡ 32) (λ d. long_tells d 32) ds)
@@ -88,7 +89,7 @@ form_tells s (Divulge r nonce ha) = three_tell (is_u32 r) (length nonce == 32) (
 form_tells s (Query r seed young aged) = four_tell (is_u32 r) (length seed == 32) (is_window_set s r young) (is_window_set s r aged) (u32_tells r) (long_tells seed 32) (set_tells s r young) (set_tells s r aged)
 form_tells s (Reply r want give junk) = three_tell (is_u32 r) (is_window_set s r want) (is_window_set s r give) (u32_tells r) (set_tells s r want) (set_tells s r give)
 form_tells s (Case c) = three_tell (is_u32 c.round) (has_term_form s c.round c.kind c.terms) (length c.cipher == 1024 * c.updates + 1280 * c.junk) (u32_tells c.round) (term_form_tells s c.round c.kind c.terms) (long_tells c.cipher (1024 * c.updates + 1280 * c.junk))
-form_tells s (KeyRequest r kind role) = u32_tells r
+form_tells s (KeyReq r kind role) = u32_tells r
 form_tells s (Key k) = and_tells (is_u32 k.round) (length k.key == 32) (u32_tells k.round) (long_tells k.key 32)
 form_tells s (Evidence ds) = all_tell (λ d. is_u16 (length d)) (λ d. length d < 2 ^ 16) (λ d. u16_tells (length d)) ds
 form_tells s (Evict r ps) = and_tells (is_u32 r) (list_all is_u16 ps) (u32_tells r) (all_tell is_u16 (λ p. p < 2 ^ 16) u16_tells ps)
@@ -115,8 +116,8 @@ parties_tell : (peers : ℕ) (ps : List ℕ) → IsTrue (are_parties_in_range pe
 parties_tell peers ps = three_tell (nat_lt 0 (length ps)) (nat_le (length ps) peers) (rises_to peers 0 ps) (lt_tells 0 (length ps)) (le_tells (length ps) peers) (rises_tells peers 0 ps)
 
 junk_tells : (t : Terms) → IsTrue (has_few_junk t) ↔ HasFewJunk t
-junk_tells (Trade nonce ha hb) = (λ h. tt, λ h. refl)
-junk_tells (Offer young aged want give junk) = le_tells junk 16
+junk_tells (forms.Balanced nonce ha hb) = (λ h. tt, λ h. refl)
+junk_tells (forms.Push young aged want give junk) = le_tells junk 16
 
 range_tells : (s : Shape) (b : Body) → IsTrue (is_in_range s b) ↔ InRange s b
 range_tells s (Manifest r ds) = and_tells (is_round s r) (nat_le (length ds) s.per_round) (round_tells s r) (le_tells (length ds) s.per_round)
@@ -127,7 +128,7 @@ range_tells s (Divulge r nonce ha) = round_tells s r
 range_tells s (Query r seed young aged) = round_tells s r
 range_tells s (Reply r want give junk) = and_tells (is_round s r) (nat_le junk 16) (round_tells s r) (le_tells junk 16)
 range_tells s (Case c) = four_tell (is_round s c.round) (nat_lt 0 (c.updates + c.junk)) (nat_le (c.updates + c.junk) 16) (has_few_junk c.terms) (round_tells s c.round) (lt_tells 0 (c.updates + c.junk)) (le_tells (c.updates + c.junk) 16) (junk_tells c.terms)
-range_tells s (KeyRequest r kind role) = round_tells s r
+range_tells s (KeyReq r kind role) = round_tells s r
 range_tells s (Key k) = round_tells s k.round
 range_tells s (Evidence ds) = datagrams_tell ds
 range_tells s (Evict r ps) = and_tells (is_round s r) (are_parties_in_range s.peers ps) (round_tells s r) (parties_tell s.peers ps)

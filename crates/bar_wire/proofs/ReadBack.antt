@@ -9,9 +9,10 @@ use Rattle.bar_bytes.specs.Bytes.{u16_bytes, u32_bytes}
 use Rattle.bar_window.specs.declared.update.UpdateId.{UpdateId}
 use Rattle.bar_window.specs.declared.exchange.XKind.{XKind}
 use Rattle.bar_window.specs.Exchange.{kind_code}
-use Rattle.bar_window.specs.Terms.{Terms, Trade, Offer}
+use Rattle.bar_window.specs.Terms.{Terms}
+use Rattle.bar_window.specs.Terms as forms
 use Rattle.bar_wire.specs.declared.shape.Shape.{Shape}
-use Rattle.bar_wire.specs.Datagram.{Body, Briefcase, Manifest, Block, Request, Response, Divulge, Query, Reply, Case, KeyRequest, Key, Evidence, Evict, kind_of}
+use Rattle.bar_wire.specs.Datagram.{Body, Briefcase, Manifest, Block, Request, Response, Divulge, Query, Reply, Case, KeyReq, Key, Evidence, Evict, kind_of}
 use Rattle.bar_wire.specs.Grammar.{set_bytes, pieces, term_pieces, entry, HasForm, HasTermForm, IsWindowSet}
 use Rattle.std.specs.Simd.{first_chunks}
 use Rattle.bar_wire.specs.Places.{widths, fields_len, window_len, cut, entries, pairs, kind_from, set_at, part, number, terms_at, round_body, body_at}
@@ -59,20 +60,20 @@ set_at_back : (s : Shape) (n r : ℕ) (us : List UpdateId) → n ≡ r → IsWin
 set_at_back s n r us same set = ap (λ m. set_at s m (set_bytes s r us)) same ∙ set_back s r us set
 
 terms_back : (s : Shape) (n r : ℕ) (k k' : XKind) (t : Terms) → n ≡ r → k' ≡ k → HasTermForm s r k t → terms_at s n k' (concat (term_pieces s r t)) ≡ t
-terms_back s n r k k' (Trade nonce ha hb) same is form =
-    let ps = term_pieces s r (Trade nonce ha hb) in
+terms_back s n r k k' (forms.Balanced nonce ha hb) same is form =
+    let ps = term_pieces s r (forms.Balanced nonce ha hb) in
     let w : 32 ∷ window_len s ∷ window_len s ∷ [] ≡ map length ps = λ i. sym form.1 i ∷ sym (length_set s r ha) i ∷ sym (length_set s r hb) i ∷ [] in
     let parts : cut (32 ∷ window_len s ∷ window_len s ∷ []) (concat ps) ≡ ps = (λ i. cut (w i) (sym (append-nil (concat ps)) i)) ∙ cut_back ps [] in
     ap (λ (x : XKind). terms_at s n x (concat ps)) (is ∙ form.0)
-    ∙ ap (λ (x : List (List ℕ)). Trade (part x 0) (set_at s n (part x 1)) (set_at s n (part x 2))) parts
-    ∙ λ i. Trade nonce (set_at_back s n r ha same form.2 i) (set_at_back s n r hb same form.3 i)
-terms_back s n r k k' (Offer a b u v z) same is form =
-    let ps = term_pieces s r (Offer a b u v z) in
+    ∙ ap (λ (x : List (List ℕ)). forms.Balanced (part x 0) (set_at s n (part x 1)) (set_at s n (part x 2))) parts
+    ∙ λ i. forms.Balanced nonce (set_at_back s n r ha same form.2 i) (set_at_back s n r hb same form.3 i)
+terms_back s n r k k' (forms.Push a b u v z) same is form =
+    let ps = term_pieces s r (forms.Push a b u v z) in
     let w : window_len s ∷ window_len s ∷ window_len s ∷ window_len s ∷ 1 ∷ [] ≡ map length ps = λ i. sym (length_set s r a) i ∷ sym (length_set s r b) i ∷ sym (length_set s r u) i ∷ sym (length_set s r v) i ∷ 1 ∷ [] in
     let parts : cut (window_len s ∷ window_len s ∷ window_len s ∷ window_len s ∷ 1 ∷ []) (concat ps) ≡ ps = (λ i. cut (w i) (sym (append-nil (concat ps)) i)) ∙ cut_back ps [] in
     ap (λ (x : XKind). terms_at s n x (concat ps)) (is ∙ form.0)
-    ∙ ap (λ (x : List (List ℕ)). Offer (set_at s n (part x 0)) (set_at s n (part x 1)) (set_at s n (part x 2)) (set_at s n (part x 3)) (number (part x 4))) parts
-    ∙ λ i. Offer (set_at_back s n r a same form.1 i) (set_at_back s n r b same form.2 i) (set_at_back s n r u same form.3 i) (set_at_back s n r v same form.4 i) z
+    ∙ ap (λ (x : List (List ℕ)). forms.Push (set_at s n (part x 0)) (set_at s n (part x 1)) (set_at s n (part x 2)) (set_at s n (part x 3)) (number (part x 4))) parts
+    ∙ λ i. forms.Push (set_at_back s n r a same form.1 i) (set_at_back s n r b same form.2 i) (set_at_back s n r u same form.3 i) (set_at_back s n r v same form.4 i) z
 
 case_back : (s : Shape) (n : ℕ) (c : Briefcase) → n ≡ c.round → HasForm s (Case c) → round_body s (kind_of (Case c)) n (pieces s (Case c)) ≡ Case c
 case_back s n c same form = λ i. Case (record {
@@ -95,7 +96,7 @@ round_back s n (Divulge r nonce ha) form is = let e = is ∙ u32_back r form.0 i
 round_back s n (Query r seed young aged) form is = let e = is ∙ u32_back r form.0 in λ i. Query (e i) seed (set_at_back s n r young e form.2 i) (set_at_back s n r aged e form.3 i)
 round_back s n (Reply r want give junk) form is = let e = is ∙ u32_back r form.0 in λ i. Reply (e i) (set_at_back s n r want e form.1 i) (set_at_back s n r give e form.2 i) junk
 round_back s n (Case c) form is = case_back s n c (is ∙ u32_back c.round form.0) form
-round_back s n (KeyRequest r kind role) form is = λ i. KeyRequest ((is ∙ u32_back r form) i) (kind_back kind i) (role_back role i)
+round_back s n (KeyReq r kind role) form is = λ i. KeyReq ((is ∙ u32_back r form) i) (kind_back kind i) (role_back role i)
 round_back s n (Key k) form is = λ i. Key (record { round = (is ∙ u32_back k.round form.0) i; kind = kind_back k.kind i; role = role_back k.role i; key = k.key })
 round_back s n (Evidence ds) form is = ap Evidence (entries_back ds form)
 round_back s n (Evict r ps) form is = λ i. Evict ((is ∙ u32_back r form.0) i) (pairs_back ps form.1 i)

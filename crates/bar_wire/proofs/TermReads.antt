@@ -5,7 +5,7 @@ use Rattle.bar_window.specs.declared.window.Window.{Window}
 use Rattle.bar_window.specs.declared.exchange.XKind.TheVariants as exchanges
 use Rattle.bar_window.specs.declared.terms.Terms.TheVariants as raw
 use Rattle.bar_window.specs.Window.{members}
-use Rattle.bar_window.specs.Terms.{Trade, Offer}
+use Rattle.bar_window.specs.Terms as forms
 use Rattle.bar_wire.specs.declared.shape.Shape.{Shape}
 use Rattle.bar_wire.specs.Grammar.{set_bytes}
 use Rattle.bar_wire.specs.Windows.{AreWindowsAt, NoWindowsAt}
@@ -31,10 +31,10 @@ trade_at s r bytes nonce middle left w v long is two = record {
 }
 
 pub no_trade : (s : Shape) (r : ℕ) (bytes nonce middle : List ℕ) → length nonce ≡ 32 → bytes ≡ nonce ++ middle → NoWindowsAt s r middle → NoTermsAt s exchanges.Balanced r bytes
-no_trade s r bytes nonce middle long is none round (Trade n a b) after form spelled =
+no_trade s r bytes nonce middle long is none round (forms.Balanced n a b) after form spelled =
     let told = peel n nonce (set_bytes s r a ++ (set_bytes s r b ++ after)) middle (form.1 ∙ sym long) (three n (set_bytes s r a) (set_bytes s r b) after ∙ sym spelled ∙ is) in
     none round a b after form.2 form.3 (sym told.rest)
-no_trade s r bytes nonce middle long is none round (Offer a b u v z) after form spelled = not_both form.0
+no_trade s r bytes nonce middle long is none round (forms.Push a b u v z) after form spelled = not_both form.0
 
 pub offer_at : (s : Shape) (r : ℕ) (bytes middle rest left : List ℕ) (a b u v : Window) (z : ℕ) → AreWindowsAt s r bytes a b middle → AreWindowsAt s r middle u v rest → rest ≡ z ∷ left → AreTermsAt s exchanges.Push r bytes (raw.Push a b u v z) left
 offer_at s r bytes middle rest left a b u v z one two is =
@@ -47,13 +47,13 @@ offer_at s r bytes middle rest left a b u v z one two is =
     }
 
 pub no_offer : (s : Shape) (r : ℕ) (bytes : List ℕ) → NoWindowsAt s r bytes → NoTermsAt s exchanges.Push r bytes
-no_offer s r bytes none round (Trade n a b) after form spelled = not_both (sym form.0)
-no_offer s r bytes none round (Offer a b u v z) after form spelled =
+no_offer s r bytes none round (forms.Balanced n a b) after form spelled = not_both (sym form.0)
+no_offer s r bytes none round (forms.Push a b u v z) after form spelled =
     none round a b (set_bytes s r u ++ (set_bytes s r v ++ (z ∷ after))) form.1 form.2 (spelled ∙ sym (five (set_bytes s r a) (set_bytes s r b) (set_bytes s r u) (set_bytes s r v) (z ∷ []) after))
 
 pub no_answer : (s : Shape) (r : ℕ) (bytes middle : List ℕ) (w v : Window) → AreWindowsAt s r bytes w v middle → NoWindowsAt s r middle → NoTermsAt s exchanges.Push r bytes
-no_answer s r bytes middle w v one none round (Trade n a b) after form spelled = not_both (sym form.0)
-no_answer s r bytes middle w v one none round (Offer a b x y z) after form spelled =
+no_answer s r bytes middle w v one none round (forms.Balanced n a b) after form spelled = not_both (sym form.0)
+no_answer s r bytes middle w v one none round (forms.Push a b x y z) after form spelled =
     let rest = set_bytes s r x ++ (set_bytes s r y ++ (z ∷ after)) in
     let whole : set_bytes s r (members w) ++ (set_bytes s r (members v) ++ middle) ≡ set_bytes s r a ++ (set_bytes s r b ++ rest) = sym one.is ∙ spelled ∙ sym (five (set_bytes s r a) (set_bytes s r b) (set_bytes s r x) (set_bytes s r y) (z ∷ []) after) in
     let first = set_told s r (members w) a (set_bytes s r (members v) ++ middle) (set_bytes s r b ++ rest) one.first_set form.1 whole in

@@ -39,7 +39,7 @@ pub data Body : Type 0 where
   Query : (round : ℕ) → (seed : List ℕ) → (young aged : List UpdateId) → Body
   Reply : (round : ℕ) → (want give : List UpdateId) → (junk : ℕ) → Body
   Case : Briefcase → Body
-  KeyRequest : (round : ℕ) → (kind : XKind) → (role : Role) → Body
+  KeyReq : (round : ℕ) → (kind : XKind) → (role : Role) → Body
   Key : KeyGiven → Body
   Evidence : (datagrams : List (List ℕ)) → Body
   Evict : (round : ℕ) → (parties : List ℕ) → Body
@@ -65,7 +65,7 @@ kind_of (Divulge r n ha) = kinds.Divulge
 kind_of (Query r s y o) = kinds.Query
 kind_of (Reply r w g z) = kinds.Reply
 kind_of (Case c) = kinds.Case
-kind_of (KeyRequest r k role) = kinds.KeyRequest
+kind_of (KeyReq r k role) = kinds.KeyReq
 kind_of (Key k) = kinds.Key
 kind_of (Evidence ds) = kinds.Evidence
 kind_of (Evict r ps) = kinds.Evict
@@ -86,7 +86,7 @@ round_of (Divulge r n ha) = r
 round_of (Query r s y o) = r
 round_of (Reply r w g z) = r
 round_of (Case c) = c.round
-round_of (KeyRequest r k role) = r
+round_of (KeyReq r k role) = r
 round_of (Key k) = k.round
 round_of (Evidence ds) = 0
 round_of (Evict r ps) = r
@@ -104,7 +104,7 @@ part_of (Divulge r n ha) = Some (r, Balanced, Initiator)
 part_of (Query r s y o) = Some (r, Push, Initiator)
 part_of (Reply r w g z) = Some (r, Push, Responder)
 part_of (Case c) = Some (c.round, c.kind, c.role)
-part_of (KeyRequest r k role) = Some (r, k, role)
+part_of (KeyReq r k role) = Some (r, k, role)
 part_of (Key k) = Some (k.round, k.kind, k.role)
 part_of _ = None
 

@@ -7,14 +7,15 @@ use Rattle.bar_window.specs.declared.exchange.XKind.{XKind}
 use Rattle.bar_window.specs.declared.exchange.XKind.TheVariants.{Balanced, Push}
 use Rattle.bar_window.specs.Updates.{IsSetOf}
 use Rattle.bar_window.specs.Exchange.{kind_code, role_code}
-use Rattle.bar_window.specs.Terms.{Terms, Trade, Offer}
+use Rattle.bar_window.specs.Terms.{Terms}
+use Rattle.bar_window.specs.Terms as forms
 use Rattle.bar_window.specs.WindowBytes.{window_bytes}
 use Rattle.bar_wire.specs.declared.shape.Shape.{Shape}
 use Rattle.bar_wire.specs.declared.kind.Kind.{Kind}
 use Rattle.bar_wire.specs.declared.kind.Kind.TheVariants as kinds
 use Rattle.bar_wire.specs.Limits.{everyone, largest_datagram}
 use Rattle.bar_wire.specs.Kinds.{code_of, is_signed_kind}
-use Rattle.bar_wire.specs.Datagram.{Datagram, Message, Body, Manifest, Block, Request, Response, Divulge, Query, Reply, Case, KeyRequest, Key, Evidence, Evict, kind_of}
+use Rattle.bar_wire.specs.Datagram.{Datagram, Message, Body, Manifest, Block, Request, Response, Divulge, Query, Reply, Case, KeyReq, Key, Evidence, Evict, kind_of}
 
 -- how many words of 64 flags a window has for each round
 abbrev pub words_of : Shape → ℕ
@@ -27,8 +28,8 @@ abbrev pub set_bytes : Shape → ℕ → List UpdateId → List ℕ
 set_bytes s round us = window_bytes (words_of s) s.life round us
 
 abbrev pub term_pieces : Shape → ℕ → Terms → List (List ℕ)
-term_pieces s r (Trade nonce ha hb) = nonce ∷ set_bytes s r ha ∷ set_bytes s r hb ∷ []
-term_pieces s r (Offer young aged want give junk) = set_bytes s r young ∷ set_bytes s r aged ∷ set_bytes s r want ∷ set_bytes s r give ∷ u8_bytes junk ∷ []
+term_pieces s r (forms.Balanced nonce ha hb) = nonce ∷ set_bytes s r ha ∷ set_bytes s r hb ∷ []
+term_pieces s r (forms.Push young aged want give junk) = set_bytes s r young ∷ set_bytes s r aged ∷ set_bytes s r want ∷ set_bytes s r give ∷ u8_bytes junk ∷ []
 
 -- the length of a datagram, and the datagram
 abbrev pub entry : List ℕ → List ℕ
@@ -50,7 +51,7 @@ pieces s (Reply r want give junk) = u32_bytes r ∷ set_bytes s r want ∷ set_b
 pieces s (Case c) =
     u32_bytes c.round ∷ u8_bytes (kind_code c.kind) ∷ u8_bytes (role_code c.role) ∷ u8_bytes c.updates ∷ u8_bytes c.junk
     ∷ concat (term_pieces s c.round c.terms) ∷ c.cipher ∷ []
-pieces s (KeyRequest r kind role) = u32_bytes r ∷ u8_bytes (kind_code kind) ∷ u8_bytes (role_code role) ∷ []
+pieces s (KeyReq r kind role) = u32_bytes r ∷ u8_bytes (kind_code kind) ∷ u8_bytes (role_code role) ∷ []
 pieces s (Key k) = u32_bytes k.round ∷ u8_bytes (kind_code k.kind) ∷ u8_bytes (role_code k.role) ∷ k.key ∷ []
 pieces s (Evidence datagrams) = evidence_pieces datagrams
 pieces s (Evict r parties) = u32_bytes r ∷ u8_bytes (length parties) ∷ flat_map u16_bytes parties ∷ []
@@ -81,8 +82,8 @@ IsWindowSet s round us = IsSetOf (words_of s) s.life round us
 
 -- the terms are those of the kind of exchange
 abbrev pub HasTermForm : Shape → ℕ → XKind → Terms → Type 0
-HasTermForm s r kind (Trade nonce ha hb) = (kind ≡ Balanced) × (length nonce ≡ 32) × IsWindowSet s r ha × IsWindowSet s r hb
-HasTermForm s r kind (Offer young aged want give junk) = (kind ≡ Push) × IsWindowSet s r young × IsWindowSet s r aged × IsWindowSet s r want × IsWindowSet s r give
+HasTermForm s r kind (forms.Balanced nonce ha hb) = (kind ≡ Balanced) × (length nonce ≡ 32) × IsWindowSet s r ha × IsWindowSet s r hb
+HasTermForm s r kind (forms.Push young aged want give junk) = (kind ≡ Push) × IsWindowSet s r young × IsWindowSet s r aged × IsWindowSet s r want × IsWindowSet s r give
 
 -- each number has its width, each list its length, and each window is a set of its round
 abbrev pub HasForm : Shape → Body → Type 0
@@ -94,7 +95,7 @@ HasForm s (Divulge r nonce ha) = (r < 2 ^ 32) × (length nonce ≡ 32) × IsWind
 HasForm s (Query r seed young aged) = (r < 2 ^ 32) × (length seed ≡ 32) × IsWindowSet s r young × IsWindowSet s r aged
 HasForm s (Reply r want give junk) = (r < 2 ^ 32) × IsWindowSet s r want × IsWindowSet s r give
 HasForm s (Case c) = (c.round < 2 ^ 32) × HasTermForm s c.round c.kind c.terms × (length c.cipher ≡ 1024 * c.updates + 1280 * c.junk)
-HasForm s (KeyRequest r kind role) = r < 2 ^ 32
+HasForm s (KeyReq r kind role) = r < 2 ^ 32
 HasForm s (Key k) = (k.round < 2 ^ 32) × (length k.key ≡ 32)
 HasForm s (Evidence datagrams) = AllByRecursion (λ d. length d < 2 ^ 16) datagrams
 HasForm s (Evict r parties) = (r < 2 ^ 32) × AllByRecursion (λ p. p < 2 ^ 16) parties
@@ -124,8 +125,8 @@ ArePartiesInRange peers parties = (0 < length parties) × (length parties ≤ pe
 
 -- the junk of terms is in its range
 abbrev pub HasFewJunk : Terms → Type 0
-HasFewJunk (Trade nonce ha hb) = Unit {0}
-HasFewJunk (Offer young aged want give junk) = junk ≤ 16
+HasFewJunk (forms.Balanced nonce ha hb) = Unit {0}
+HasFewJunk (forms.Push young aged want give junk) = junk ≤ 16
 
 -- each field is in its range
 abbrev pub InRange : Shape → Body → Type 0
@@ -137,7 +138,7 @@ InRange s (Divulge r nonce ha) = IsRound s r
 InRange s (Query r seed young aged) = IsRound s r
 InRange s (Reply r want give junk) = IsRound s r × (junk ≤ 16)
 InRange s (Case c) = IsRound s c.round × (0 < c.updates + c.junk) × (c.updates + c.junk ≤ 16) × HasFewJunk c.terms
-InRange s (KeyRequest r kind role) = IsRound s r
+InRange s (KeyReq r kind role) = IsRound s r
 InRange s (Key k) = IsRound s k.round
 InRange s (Evidence datagrams) = AreDatagramsInRange datagrams
 InRange s (Evict r parties) = IsRound s r × ArePartiesInRange s.peers parties

@@ -5,9 +5,9 @@ use Rattle.bar_wire.specs.declared.input.Input.TheVariants as raw
 
 pub data Input : Type 0 where
   Tick : Input
-  Came : (bytes : List ℕ) → Input
+  Datagram : (bytes : List ℕ) → Input
 
 -- the value that an input stands for
 abbrev pub plain_input : RawInput → Input
 plain_input raw.Tick = Tick
-plain_input (raw.Datagram bytes) = Came bytes.now
+plain_input (raw.Datagram bytes) = Datagram bytes.now

@@ -1,7 +1,7 @@
 -- The kinds of datagrams and their codes.
 use Rattle.std.specs.Prelude.{ℕ, Bool, true, false, Option, Some, None, ◌==◌, if◌then◌else◌}
 use Rattle.bar_wire.specs.declared.kind.Kind.{Kind}
-use Rattle.bar_wire.specs.declared.kind.Kind.TheVariants.{Manifest, Block, Request, Response, Divulge, Query, Reply, Case, KeyRequest, Key, Evidence, Evict}
+use Rattle.bar_wire.specs.declared.kind.Kind.TheVariants.{Manifest, Block, Request, Response, Divulge, Query, Reply, Case, KeyReq, Key, Evidence, Evict}
 
 abbrev pub code_of : Kind → ℕ
 code_of Manifest = 1
@@ -12,7 +12,7 @@ code_of Divulge = 5
 code_of Query = 6
 code_of Reply = 7
 code_of Case = 8
-code_of KeyRequest = 9
+code_of KeyReq = 9
 code_of Key = 10
 code_of Evidence = 11
 code_of Evict = 12
@@ -27,7 +27,7 @@ kind_at code =
     else if code == 6 then Some Query
     else if code == 7 then Some Reply
     else if code == 8 then Some Case
-    else if code == 9 then Some KeyRequest
+    else if code == 9 then Some KeyReq
     else if code == 10 then Some Key
     else if code == 11 then Some Evidence
     else if code == 12 then Some Evict
@@ -43,7 +43,7 @@ is_signed_kind Divulge = false
 is_signed_kind Query = true
 is_signed_kind Reply = true
 is_signed_kind Case = true
-is_signed_kind KeyRequest = false
+is_signed_kind KeyReq = false
 is_signed_kind Key = true
 is_signed_kind Evidence = false
 is_signed_kind Evict = true

@@ -12,12 +12,13 @@ use Rattle.bar_window.specs.declared.exchange.Role.{Role}
 use Rattle.bar_window.specs.declared.exchange.Role.TheVariants.{Initiator, Responder}
 use Rattle.bar_window.specs.Places.{is_set}
 use Rattle.bar_window.specs.Updates.{first_round, window_of}
-use Rattle.bar_window.specs.Terms.{Terms, Trade, Offer}
+use Rattle.bar_window.specs.Terms.{Terms}
+use Rattle.bar_window.specs.Terms as forms
 use Rattle.bar_wire.specs.declared.shape.Shape.{Shape}
 use Rattle.bar_wire.specs.declared.kind.Kind.{Kind}
 use Rattle.bar_wire.specs.declared.kind.Kind.TheVariants as kinds
 use Rattle.bar_wire.specs.Kinds.{kind_at}
-use Rattle.bar_wire.specs.Datagram.{Datagram, Body, Manifest, Block, Request, Response, Divulge, Query, Reply, Case, KeyRequest, Key, Evidence, Evict}
+use Rattle.bar_wire.specs.Datagram.{Datagram, Body, Manifest, Block, Request, Response, Divulge, Query, Reply, Case, KeyReq, Key, Evidence, Evict}
 use Rattle.bar_wire.specs.Grammar.{words_of, spelling}
 use Rattle.bar_wire.specs.Ranges.{is_datagram}
 
@@ -46,7 +47,7 @@ widths s kinds.Divulge b = 4 ∷ 32 ∷ window_len s ∷ []
 widths s kinds.Query b = 4 ∷ 32 ∷ window_len s ∷ window_len s ∷ []
 widths s kinds.Reply b = 4 ∷ window_len s ∷ window_len s ∷ 1 ∷ []
 widths s kinds.Case b = 4 ∷ 1 ∷ 1 ∷ 1 ∷ 1 ∷ terms_len s (slice_index b 4) ∷ (1024 * slice_index b 6 + 1280 * slice_index b 7) ∷ []
-widths s kinds.KeyRequest b = 4 ∷ 1 ∷ 1 ∷ []
+widths s kinds.KeyReq b = 4 ∷ 1 ∷ 1 ∷ []
 widths s kinds.Key b = 4 ∷ 1 ∷ 1 ∷ 32 ∷ []
 widths s kinds.Evidence b = 1 ∷ entries_len (slice_index b 0) (drop 1 b) ∷ []
 widths s kinds.Evict b = 4 ∷ 1 ∷ 2 * slice_index b 4 ∷ []
@@ -97,10 +98,10 @@ number bytes = slice_index bytes 0
 abbrev pub terms_at : Shape → ℕ → XKind → List ℕ → Terms
 terms_at s r Balanced bytes =
     let ps = cut (32 ∷ window_len s ∷ window_len s ∷ []) bytes in
-    Trade (part ps 0) (set_at s r (part ps 1)) (set_at s r (part ps 2))
+    forms.Balanced (part ps 0) (set_at s r (part ps 1)) (set_at s r (part ps 2))
 terms_at s r Push bytes =
     let ps = cut (window_len s ∷ window_len s ∷ window_len s ∷ window_len s ∷ 1 ∷ []) bytes in
-    Offer (set_at s r (part ps 0)) (set_at s r (part ps 1)) (set_at s r (part ps 2)) (set_at s r (part ps 3)) (number (part ps 4))
+    forms.Push (set_at s r (part ps 0)) (set_at s r (part ps 1)) (set_at s r (part ps 2)) (set_at s r (part ps 3)) (number (part ps 4))
 
 -- the fields of a kind in their parts, after the round
 abbrev pub round_body : Shape → Kind → ℕ → List (List ℕ) → Body
@@ -122,7 +123,7 @@ round_body s kinds.Case r ps =
       terms = terms_at s r kind (part ps 5);
       cipher = part ps 6;
     })
-round_body s kinds.KeyRequest r ps = KeyRequest r (kind_from (number (part ps 1))) (role_from (number (part ps 2)))
+round_body s kinds.KeyReq r ps = KeyReq r (kind_from (number (part ps 1))) (role_from (number (part ps 2)))
 round_body s kinds.Key r ps = Key (record { round = r; kind = kind_from (number (part ps 1)); role = role_from (number (part ps 2)); key = part ps 3 })
 round_body s kinds.Evidence r ps = Evidence (entries (number (part ps 0)) (part ps 1))
 round_body s kinds.Evict r ps = Evict r (pairs (part ps 2))

@@ -6,12 +6,13 @@ use Rattle.bar_window.specs.declared.exchange.XKind.{XKind}
 use Rattle.bar_window.specs.declared.exchange.XKind.TheVariants.{Balanced, Push}
 use Rattle.bar_window.specs.Updates.{is_set_of}
 use Rattle.bar_window.specs.Exchange.{same_kind}
-use Rattle.bar_window.specs.Terms.{Terms, Trade, Offer}
+use Rattle.bar_window.specs.Terms.{Terms}
+use Rattle.bar_window.specs.Terms as forms
 use Rattle.bar_wire.specs.declared.shape.Shape.{Shape}
 use Rattle.bar_wire.specs.declared.kind.Kind.{Kind}
 use Rattle.bar_wire.specs.declared.kind.Kind.TheVariants as kinds
 use Rattle.bar_wire.specs.Limits.{everyone, largest_datagram}
-use Rattle.bar_wire.specs.Datagram.{Datagram, Body, Manifest, Block, Request, Response, Divulge, Query, Reply, Case, KeyRequest, Key, Evidence, Evict, kind_of}
+use Rattle.bar_wire.specs.Datagram.{Datagram, Body, Manifest, Block, Request, Response, Divulge, Query, Reply, Case, KeyReq, Key, Evidence, Evict, kind_of}
 use Rattle.bar_wire.specs.Grammar.{words_of, signature_len}
 
 -- ---- widths and lengths
@@ -26,8 +27,8 @@ abbrev pub is_window_set : Shape → ℕ → List UpdateId → Bool
 is_window_set s round us = is_set_of (words_of s) s.life round us
 
 abbrev pub has_term_form : Shape → ℕ → XKind → Terms → Bool
-has_term_form s r kind (Trade nonce ha hb) = same_kind kind Balanced && (length nonce == 32) && is_window_set s r ha && is_window_set s r hb
-has_term_form s r kind (Offer young aged want give junk) = same_kind kind Push && is_window_set s r young && is_window_set s r aged && is_window_set s r want && is_window_set s r give
+has_term_form s r kind (forms.Balanced nonce ha hb) = same_kind kind Balanced && (length nonce == 32) && is_window_set s r ha && is_window_set s r hb
+has_term_form s r kind (forms.Push young aged want give junk) = same_kind kind Push && is_window_set s r young && is_window_set s r aged && is_window_set s r want && is_window_set s r give
 
 abbrev pub has_form : Shape → Body → Bool
 has_form s (Manifest r digests) = is_u32 r && list_all (λ d. length d == 32) digests
@@ -38,7 +39,7 @@ has_form s (Divulge r nonce ha) = is_u32 r && (length nonce == 32) && is_window_
 has_form s (Query r seed young aged) = is_u32 r && (length seed == 32) && is_window_set s r young && is_window_set s r aged
 has_form s (Reply r want give junk) = is_u32 r && is_window_set s r want && is_window_set s r give
 has_form s (Case c) = is_u32 c.round && has_term_form s c.round c.kind c.terms && (length c.cipher == 1024 * c.updates + 1280 * c.junk)
-has_form s (KeyRequest r kind role) = is_u32 r
+has_form s (KeyReq r kind role) = is_u32 r
 has_form s (Key k) = is_u32 k.round && (length k.key == 32)
 has_form s (Evidence datagrams) = list_all (λ d. is_u16 (length d)) datagrams
 has_form s (Evict r parties) = is_u32 r && list_all is_u16 parties
@@ -65,8 +66,8 @@ abbrev pub are_parties_in_range : ℕ → List ℕ → Bool
 are_parties_in_range peers parties = nat_lt 0 (length parties) && nat_le (length parties) peers && rises_to peers 0 parties
 
 abbrev pub has_few_junk : Terms → Bool
-has_few_junk (Trade nonce ha hb) = true
-has_few_junk (Offer young aged want give junk) = nat_le junk 16
+has_few_junk (forms.Balanced nonce ha hb) = true
+has_few_junk (forms.Push young aged want give junk) = nat_le junk 16
 
 abbrev pub is_in_range : Shape → Body → Bool
 is_in_range s (Manifest r digests) = is_round s r && nat_le (length digests) s.per_round
@@ -77,7 +78,7 @@ is_in_range s (Divulge r nonce ha) = is_round s r
 is_in_range s (Query r seed young aged) = is_round s r
 is_in_range s (Reply r want give junk) = is_round s r && nat_le junk 16
 is_in_range s (Case c) = is_round s c.round && nat_lt 0 (c.updates + c.junk) && nat_le (c.updates + c.junk) 16 && has_few_junk c.terms
-is_in_range s (KeyRequest r kind role) = is_round s r
+is_in_range s (KeyReq r kind role) = is_round s r
 is_in_range s (Key k) = is_round s k.round
 is_in_range s (Evidence datagrams) = are_datagrams_in_range datagrams
 is_in_range s (Evict r parties) = is_round s r && are_parties_in_range s.peers parties

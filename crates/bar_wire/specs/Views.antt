@@ -9,7 +9,7 @@ use Rattle.bar_wire.specs.declared.shape.Shape.{Shape}
 use Rattle.bar_wire.specs.declared.view.View.{View}
 use Rattle.bar_wire.specs.declared.view.Body.{Body as RawBody}
 use Rattle.bar_wire.specs.declared.view.Body.TheVariants as raw
-use Rattle.bar_wire.specs.Datagram.{Datagram, Body, Manifest, Block, Request, Response, Divulge, Query, Reply, Case, KeyRequest, Key, Evidence, Evict, is_signed}
+use Rattle.bar_wire.specs.Datagram.{Datagram, Body, Manifest, Block, Request, Response, Divulge, Query, Reply, Case, KeyReq, Key, Evidence, Evict, is_signed}
 use Rattle.bar_wire.specs.Grammar.{SpellsDatagram, message_bytes}
 use Rattle.std.specs.Simd.{first_chunks}
 use Rattle.bar_wire.specs.Places.{entries, entries_len, pairs, kind_from, role_from}
@@ -25,7 +25,7 @@ plain (raw.Query round seed young aged) = Query round seed.now (members young) (
 plain (raw.Reply round want give junk) = Reply round (members want) (members give) junk
 plain (raw.Case round xkind role updates junk t cipher) =
     Case (record { round = round; kind = kind_from xkind; role = role_from role; updates = updates; junk = junk; terms = plain_terms t; cipher = cipher.now })
-plain (raw.KeyReq round xkind role) = KeyRequest round (kind_from xkind) (role_from role)
+plain (raw.KeyReq round xkind role) = KeyReq round (kind_from xkind) (role_from role)
 plain (raw.Key round xkind role key) = Key (record { round = round; kind = kind_from xkind; role = role_from role; key = key.now })
 plain (raw.Evidence count datagrams) = Evidence (entries count datagrams.now)
 plain (raw.Evict round count parties) = Evict round (pairs parties.now)

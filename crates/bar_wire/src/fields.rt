@@ -140,8 +140,8 @@ fn case<'a>(bytes: &'a [u8], shape: &Shape) -> Option<Body<'a>>
 }
 
 fn key_request<'a>(bytes: &'a [u8], shape: &Shape) -> Option<Body<'a>>
-    requires { length bytes.now ≡ fields_len shape.now kinds.KeyRequest bytes.now }
-    ensures { ReadsForm shape.now kinds.KeyRequest bytes.now result }
+    requires { length bytes.now ≡ fields_len shape.now kinds.KeyReq bytes.now }
+    ensures { ReadsForm shape.now kinds.KeyReq bytes.now result }
 {
     let (round, rest) = split_u32(bytes);
     let (xkind, rest) = split_u8(rest);
@@ -207,7 +207,7 @@ fn raw_body<'a>(kind: Kind, bytes: &'a [u8], shape: &Shape) -> Option<Body<'a>>
         Kind::Query => query(bytes, shape),
         Kind::Reply => reply(bytes, shape),
         Kind::Case => case(bytes, shape),
-        Kind::KeyRequest => key_request(bytes, shape),
+        Kind::KeyReq => key_request(bytes, shape),
         Kind::Key => key(bytes, shape),
         Kind::Evidence => Some(evidence(bytes, shape)),
         Kind::Evict => Some(evict(bytes, shape)),

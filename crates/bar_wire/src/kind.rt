@@ -12,7 +12,7 @@ pub enum Kind {
     Query,
     Reply,
     Case,
-    KeyRequest,
+    KeyReq,
     Key,
     Evidence,
     Evict,
@@ -32,7 +32,7 @@ impl Kind {
             | Kind::Case
             | Kind::Key
             | Kind::Evict => true,
-            Kind::Block | Kind::Divulge | Kind::KeyRequest | Kind::Evidence => false,
+            Kind::Block | Kind::Divulge | Kind::KeyReq | Kind::Evidence => false,
         }
     }
 
@@ -49,7 +49,7 @@ impl Kind {
             Kind::Query => 6,
             Kind::Reply => 7,
             Kind::Case => 8,
-            Kind::KeyRequest => 9,
+            Kind::KeyReq => 9,
             Kind::Key => 10,
             Kind::Evidence => 11,
             Kind::Evict => 12,
@@ -70,7 +70,7 @@ impl Kind {
             6 => Some(Kind::Query),
             7 => Some(Kind::Reply),
             8 => Some(Kind::Case),
-            9 => Some(Kind::KeyRequest),
+            9 => Some(Kind::KeyReq),
             10 => Some(Kind::Key),
             11 => Some(Kind::Evidence),
             12 => Some(Kind::Evict),

@@ -55,7 +55,7 @@ pub(crate) fn has_length(kind: Kind, bytes: &[u8], shape: &Shape) -> bool
             }
             _ => false,
         },
-        Kind::KeyRequest => bytes.len() == 6,
+        Kind::KeyReq => bytes.len() == 6,
         Kind::Key => bytes.len() == 38,
         Kind::Evidence => match bytes {
             [count, rest @ ..] => has_entries(*count, rest),

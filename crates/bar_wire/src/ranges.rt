@@ -75,7 +75,7 @@ pub(crate) fn may_send(kind: Kind, from: u16, to: u16, shape: &Shape) -> bool
         | Kind::Query
         | Kind::Reply
         | Kind::Case
-        | Kind::KeyRequest
+        | Kind::KeyReq
         | Kind::Key => is_peer(from, shape) && is_peer(to, shape) && from != to,
     }
 }

@@ -210,7 +210,7 @@ fn kind_of(body: &Body<'_>) -> Kind
         Body::Query { .. } => Kind::Query,
         Body::Reply { .. } => Kind::Reply,
         Body::Case { .. } => Kind::Case,
-        Body::KeyReq { .. } => Kind::KeyRequest,
+        Body::KeyReq { .. } => Kind::KeyReq,
         Body::Key { .. } => Kind::Key,
         Body::Evidence { .. } => Kind::Evidence,
         Body::Evict { .. } => Kind::Evict,

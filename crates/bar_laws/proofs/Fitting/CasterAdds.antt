@@ -10,7 +10,8 @@ use Rattle.bar_rules.specs.Values.{datagram_of, is_signed_by, unsigned}
 use Rattle.bar_rules.specs.Judge.Verdict.{Verdict, Shown, NotShown, Fault, verdict}
 use Rattle.bar_window.specs.declared.update.UpdateId.{UpdateId}
 use Rattle.bar_wire.specs.Datagram.{kind_of, Datagram, Body, Manifest, Block, Evidence, Evict}
-use Rattle.bar_wire.specs.Inputs.{Input, Tick, Came}
+use Rattle.bar_wire.specs.Inputs.{Input}
+use Rattle.bar_wire.specs.Inputs as event
 use Rattle.std.proofs.Common.{◌≡◌, ℕ, Bool, true, false, List, [], ◌∷◌, ◌+◌, ◌-◌, ◌*◌, ◌^◌, ◌<◌, ◌≤◌, not, length, arith, refl, sym, ap, subst, inl, inr}
 use Rattle.std.specs.Prelude.{Option, Some, None, is_some, cond, nat_le, nat_lt, filter}
 use Rattle.bar_laws.proofs.Logs.{first_said-was, SaidIn, said-in, all-of, all-kept, all-map, all-snoc}
@@ -228,5 +229,5 @@ caster-casts me stream log i is own fair = go (nat_le (last_tick me.session) (ti
 
     go : (b : Bool) (i : Input) → Casts me stream log (came me i) (cond b (begun log) (caster_take me stream log i))
     go true i = casts-begun me stream log (came me i) own fair
-    go false Tick = casts-tick me stream log None (begun (Ticked ∷ log)) is (ticked-low log) (record { adds = record { new = Ticked ∷ []; split = refl; added = (tt, tt); sent = tt }; own = ticked; fair = fair; fits = tt })
-    go false (Came bytes) = datagram (datagram_of me.session bytes)
+    go false event.Tick = casts-tick me stream log None (begun (Ticked ∷ log)) is (ticked-low log) (record { adds = record { new = Ticked ∷ []; split = refl; added = (tt, tt); sent = tt }; own = ticked; fair = fair; fits = tt })
+    go false (event.Datagram bytes) = datagram (datagram_of me.session bytes)

@@ -8,7 +8,8 @@ use Rattle.bar_lms.specs.declared.params.Ots.TheVariants.{W1, W2, W4, W8}
 use Rattle.bar_lms.specs.declared.params.Params.{Params}
 use Rattle.bar_roster.specs.Sessions.{IsSession}
 use Rattle.bar_rules.specs.Member.{Session}
-use Rattle.bar_window.specs.Terms.{Terms, Trade, Offer}
+use Rattle.bar_window.specs.Terms.{Terms}
+use Rattle.bar_window.specs.Terms as forms
 use Rattle.bar_window.specs.declared.exchange.XKind.{XKind}
 use Rattle.bar_window.specs.declared.update.UpdateId.{UpdateId}
 use Rattle.bar_wire.specs.Datagram.{Datagram, Message, Body, Request, Response, Query, Reply, Case, Key, kind_of}
@@ -53,11 +54,11 @@ set-short s round us =
     omega (arith, few, length_window_bytes (words_of s) s.life round us)
 
 terms-short : (s : Shape) (round : ℕ) (kind : XKind) (t : Terms) → HasTermForm s round kind t → length (concat (term_pieces s round t)) ≤ 513
-terms-short s round kind (Trade nonce ha hb) form =
+terms-short s round kind (forms.Balanced nonce ha hb) form =
     let a = set-short s round ha in
     let b = set-short s round hb in
     simp length-append (omega (arith, a, b, form.1))
-terms-short s round kind (Offer young aged want give junk) form =
+terms-short s round kind (forms.Push young aged want give junk) form =
     let a = set-short s round young in
     let b = set-short s round aged in
     let c = set-short s round want in

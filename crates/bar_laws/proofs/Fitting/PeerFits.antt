@@ -25,9 +25,10 @@ use Rattle.bar_window.specs.declared.exchange.XKind.TheVariants.{Balanced, Push}
 use Rattle.bar_window.specs.declared.update.UpdateId.{UpdateId}
 use Rattle.bar_wire.specs.declared.kind.Kind.TheVariants as kinds
 use Rattle.bar_wire.specs.declared.kind.Kind.{Kind}
-use Rattle.bar_wire.specs.Datagram.{Place, place_by, Datagram, Body, Request, Response, Divulge, Query, Reply, Case, KeyRequest, Key, Evidence, kind_of, part_of, exchange_by, is_of}
+use Rattle.bar_wire.specs.Datagram.{Place, place_by, Datagram, Body, Request, Response, Divulge, Query, Reply, Case, KeyReq, Key, Evidence, kind_of, part_of, exchange_by, is_of}
 use Rattle.bar_wire.specs.Grammar.{IsDatagram, IsPeer, MaySend}
-use Rattle.bar_wire.specs.Inputs.{Input, Tick, Came}
+use Rattle.bar_wire.specs.Inputs.{Input}
+use Rattle.bar_wire.specs.Inputs as event
 use Rattle.bar_wire.specs.Kinds.{is_signed_kind}
 use Rattle.std.proofs.Common.{◌≡◌, ◌≢◌, ℕ, ◌+◌, ◌<◌, ◌≤◌, ◌^◌, Bool, true, false, List, [], ◌∷◌, ◌++◌, length, refl, sym, ap, ◌∙◌, subst, inl, eqb, cond, not, arith}
 use Rattle.std.specs.Prelude.{Option, Some, None, option_map, map, nat_le}
@@ -91,7 +92,7 @@ partner-is me x b = (party-peer me.session.shape x (other_role (role_of me x)) b
     go true e same = b.other (eqb-true _ _ e ∙ same)
     go false e same = absurd (both_ways _ e (eq-eqb _ _ (sym same)))
 
-key_request-fits : (me : Member) (x : Exchange) → IsMember me → IsBetween me.session.shape x → IsDatagram me.session.shape (unsigned (record { from = me.party; to = partner_in me x; body = KeyRequest x.round x.kind (role_of me x) }))
+key_request-fits : (me : Member) (x : Exchange) → IsMember me → IsBetween me.session.shape x → IsDatagram me.session.shape (unsigned (record { from = me.party; to = partner_in me x; body = KeyReq x.round x.kind (role_of me x) }))
 key_request-fits me x is b =
     let partner = partner-is me x b in
     record {
@@ -184,7 +185,7 @@ perform-fits me out (GiveCase x) is h p a = say-fits me out kinds.Case x _ is h 
 perform-fits me out (GiveKey x) is h p a = say-fits me out kinds.Key x _ is h a
 perform-fits me out (Resend kind x) is h p a = say-fits me out kind x None is h a
 perform-fits me out (Reveal x) is h p a = reveal-fits me out x is (perform-before me out (Reveal x) h) a
-perform-fits me out (AskKey x) is h p a = all-snoc (Fits me) out.sends (partner_in me x, unsigned (record { from = me.party; to = partner_in me x; body = KeyRequest x.round x.kind (role_of me x) })) a (key_request-fits me x is p)
+perform-fits me out (AskKey x) is h p a = all-snoc (Fits me) out.sends (partner_in me x, unsigned (record { from = me.party; to = partner_in me x; body = KeyReq x.round x.kind (role_of me x) })) a (key_request-fits me x is p)
 perform-fits me out (Report q) is h p a = report-fits me out q is (perform-before me out (Report q) h) a
 
 perform_all-fits : (me : Member) (os : List Order) (out : Out) → IsMember me → IsObedient me (perform_all me out os).state → AllByRecursion (IsProperOrder me) os → AllByRecursion (Fits me) out.sends → AllByRecursion (Fits me) (perform_all me out os).sends
@@ -210,7 +211,7 @@ reply-proper me log is_new d fits = go d.message.body refl
     go (Query r seed young aged) e = when-all (IsProperOrder me) _ (Answer (exchange_by r Push Initiator d.message.from d.message.to) ∷ GiveCase (exchange_by r Push Initiator d.message.from d.message.to) ∷ []) (λ _. (tt, (tt, tt)))
     go (Reply r want give junk) e = when-all (IsProperOrder me) _ (GiveCase (exchange_by r Push Responder d.message.from d.message.to) ∷ []) (λ _. (tt, tt))
     go (Case c) e = when-all (IsProperOrder me) _ (AskKey (exchange_by c.round c.kind c.role d.message.from d.message.to) ∷ []) (λ _. (between (Case c) (c.round, c.kind, c.role) e refl, tt))
-    go (KeyRequest r k role) e = when-all (IsProperOrder me) _ (GiveKey (exchange_by r k role d.message.from d.message.to) ∷ []) (λ _. (tt, tt))
+    go (KeyReq r k role) e = when-all (IsProperOrder me) _ (GiveKey (exchange_by r k role d.message.from d.message.to) ∷ []) (λ _. (tt, tt))
     go _ e = tt
 
 -- ---- the orders of a tick
@@ -298,8 +299,8 @@ datagram-fits me log (Some d) is h = go (new_evidence me (known me log) d) h
         report-fits me out d.message.from is before (answered-fits me (Kept d.message.from e ∷ log) d is before)
 
 input-fits : (me : Member) (log : Log) (i : Input) → IsMember me → IsObedient me log → IsObedient me (take_input me log i).state → AllByRecursion (Fits me) (take_input me log i).sends
-input-fits me log Tick is h after = perform_all-fits me (orders_at_tick me (known me (Ticked ∷ log))) (begun (Ticked ∷ log)) is after (tick-proper me (Ticked ∷ log) is (tt, h)) tt
-input-fits me log (Came bytes) is h after = datagram-fits me log (datagram_of me.session bytes) is after
+input-fits me log event.Tick is h after = perform_all-fits me (orders_at_tick me (known me (Ticked ∷ log))) (begun (Ticked ∷ log)) is after (tick-proper me (Ticked ∷ log) is (tt, h)) tt
+input-fits me log (event.Datagram bytes) is h after = datagram-fits me log (datagram_of me.session bytes) is after
 
 -- each datagram that a step sends
 pub step-fits : (me : Member) (log : Log) (i : Input) → IsMember me → IsObedient me log → AllByRecursion (λ (s : ℕ × Datagram). IsDatagram me.session.shape s.1) (step me log i).sends

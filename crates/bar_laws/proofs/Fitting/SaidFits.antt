@@ -15,7 +15,8 @@ use Rattle.bar_rules.specs.Values.{counts_ok}
 use Rattle.bar_terms.specs.Table.{no_lists}
 use Rattle.bar_terms.specs.Terms.{promise, promised_updates, promised_junk, can_promise}
 use Rattle.bar_window.specs.Exchange.{other_role}
-use Rattle.bar_window.specs.Terms.{Terms, Trade, Offer}
+use Rattle.bar_window.specs.Terms.{Terms}
+use Rattle.bar_window.specs.Terms as forms
 use Rattle.bar_window.specs.declared.exchange.Exchange.{Exchange}
 use Rattle.bar_window.specs.declared.exchange.Role.{Role}
 use Rattle.bar_window.specs.declared.exchange.Role.TheVariants.{Initiator, Responder}
@@ -75,18 +76,18 @@ partner-peer me r k role to b =
 -- ---- complete terms
 
 kind_of_terms : Terms → XKind
-kind_of_terms (Trade nonce ha hb) = Balanced
-kind_of_terms (Offer young aged want give junk) = Push
+kind_of_terms (forms.Balanced nonce ha hb) = Balanced
+kind_of_terms (forms.Push young aged want give junk) = Push
 
 trade-kind : (a : Option (List ℕ × List UpdateId)) (b : Option (List UpdateId)) (t : Terms) → trade_terms a b ≡ Some t → Balanced ≡ kind_of_terms t
 unfolding kind_of_terms
-trade-kind (Some a) (Some b) t e = let same : Trade a.0 a.1 b ≡ t = cc in ap kind_of_terms same
+trade-kind (Some a) (Some b) t e = let same : forms.Balanced a.0 a.1 b ≡ t = cc in ap kind_of_terms same
 trade-kind (Some a) None t e = cc
 trade-kind None b t e = cc
 
 offer-kind : (a : Option (List UpdateId × List UpdateId)) (b : Option (List UpdateId × List UpdateId × ℕ)) (t : Terms) → offer_terms a b ≡ Some t → Push ≡ kind_of_terms t
 unfolding kind_of_terms
-offer-kind (Some a) (Some b) t e = let same : Offer a.0 a.1 b.0 b.1 b.2 ≡ t = cc in ap kind_of_terms same
+offer-kind (Some a) (Some b) t e = let same : forms.Push a.0 a.1 b.0 b.1 b.2 ≡ t = cc in ap kind_of_terms same
 offer-kind (Some a) None t e = cc
 offer-kind None b t e = cc
 
@@ -105,18 +106,18 @@ record AreFormed (me : Member) (x : Exchange) (t : Terms) : Type 0 where
 
 terms-formed : (me : Member) (log : Log) (x : Exchange) (t : Terms) → AllFormed me log → terms_of me (known me log) x ≡ Some t → AreFormed me x t
 unfolding kind_of_terms
-terms-formed me log x (Trade nonce ha hb) all e =
+terms-formed me log x (forms.Balanced nonce ha hb) all e =
     let parts = trade-of me log x nonce ha hb e in
     let a = revealed-formed me log x (nonce, ha) all parts.0 in
     let w = told me log kinds.Response x Responder history_in hb all parts.1 in
-    record { form = (terms-kind me log x (Trade nonce ha hb) e, a.nonce, a.set, told-answer me log x hb w); few = tt; between = w.between }
-terms-formed me log x (Offer young aged want give junk) all e =
+    record { form = (terms-kind me log x (forms.Balanced nonce ha hb) e, a.nonce, a.set, told-answer me log x hb w); few = tt; between = w.between }
+terms-formed me log x (forms.Push young aged want give junk) all e =
     let parts = offer-of me log x young aged want give junk e in
     let w = told me log kinds.Query x Initiator offer_in (young, aged) all parts.0 in
     let v = told me log kinds.Reply x Responder reply_in (want, give, junk) all parts.1 in
     let a = told-offer me log x (young, aged) w in
     let b = told-reply me log x (want, give, junk) v in
-    record { form = (terms-kind me log x (Offer young aged want give junk) e, a.0, a.1, b.0, b.1); few = b.2; between = w.between }
+    record { form = (terms-kind me log x (forms.Push young aged want give junk) e, a.0, a.1, b.0, b.1); few = b.2; between = w.between }
 
 -- ---- a CASE
 

@@ -20,7 +20,8 @@ use Rattle.bar_terms.specs.Terms.{promise, promised_updates, promised_junk, trad
 use Rattle.bar_terms.specs.declared.items.Item.{Item}
 use Rattle.bar_terms.specs.declared.items.Item.TheVariants.{Update, Junk}
 use Rattle.bar_window.specs.Exchange.{other_role, same_exchange, same_role}
-use Rattle.bar_window.specs.Terms.{Terms, Trade, Offer}
+use Rattle.bar_window.specs.Terms.{Terms}
+use Rattle.bar_window.specs.Terms as forms
 use Rattle.bar_window.specs.Updates.{has_update, minus}
 use Rattle.bar_window.specs.declared.exchange.Exchange.{Exchange}
 use Rattle.bar_window.specs.declared.exchange.Role.{Role}
@@ -78,18 +79,18 @@ within-same old new (u ∷ us) h e = let p = and_parts _ _ e in (known (digest_o
 
 promised-within : (me : Member) (log : Log) (t : Table) (x : Exchange) (terms : Terms) (role : Role) → terms_ok me.session t x terms ≡ true → windows_within me (known me log) terms ≡ true
     → is_within (table log) (promised_updates me.session.cap terms role) ≡ true
-promised-within me log t x (Trade nonce ha hb) Initiator ok within =
+promised-within me log t x (forms.Balanced nonce ha hb) Initiator ok within =
     let known : UpdateId → Bool = λ u. is_known (digest_of (table log) u) in
     all-take known (trade_count me.session.cap ha hb) (minus ha hb) (all-filtered {X = UpdateId} known (λ u. not (has_update hb u)) ha (and_parts _ _ within).0)
-promised-within me log t x (Trade nonce ha hb) Responder ok within =
+promised-within me log t x (forms.Balanced nonce ha hb) Responder ok within =
     let known : UpdateId → Bool = λ u. is_known (digest_of (table log) u) in
     all-take known (trade_count me.session.cap ha hb) (minus hb ha) (all-filtered {X = UpdateId} known (λ u. not (has_update ha u)) hb (and_parts _ _ within).1)
-promised-within me log t x (Offer young aged want give junk) role ok within = go role
+promised-within me log t x (forms.Push young aged want give junk) role ok within = go role
   where
     known : UpdateId → Bool
     known u = is_known (digest_of (table log) u)
 
-    go : (r : Role) → is_within (table log) (promised_updates me.session.cap (Offer young aged want give junk) r) ≡ true
+    go : (r : Role) → is_within (table log) (promised_updates me.session.cap (forms.Push young aged want give junk) r) ≡ true
     go Initiator = inside-all (λ u. is_known (digest_of (table log) u)) want young (and_parts _ _ (and_parts _ _ (and_parts _ _ (and_parts _ _ ok).1).0).0).0 (and_parts _ _ within).0
     go Responder = inside-all (λ u. is_known (digest_of (table log) u)) give aged (and_parts _ _ (and_parts _ _ (and_parts _ _ (and_parts _ _ ok).1).0).0).1 (and_parts _ _ within).1
 

@@ -3,7 +3,8 @@ use Rattle.bar_rules.specs.Peer.Log.{Log}
 use Rattle.bar_rules.specs.Member.{Session, Member}
 use Rattle.bar_rules.specs.Peer.Run.{step, log_after}
 use Rattle.bar_wire.specs.Datagram.{Datagram}
-use Rattle.bar_wire.specs.Inputs.{Input, Tick, Came}
+use Rattle.bar_wire.specs.Inputs.{Input}
+use Rattle.bar_wire.specs.Inputs as event
 use Rattle.std.proofs.Common.{◌≡◌, suc, List, [], ◌∷◌, ◌++◌, inl, inr, refl, subst, arith}
 use Rattle.std.specs.Prelude.{Option, Some, ◌⊎◌}
 use Rattle.std.specs.List.{AllByRecursion}
@@ -24,8 +25,8 @@ spelled-more : (s : Session) (i : Input) (is : List Input) (d : Datagram) → Is
 spelled-more s i is d c = record { bytes = c.bytes; came = (suc c.came.0, omega (arith, c.came.1), c.came.2); spells = c.spells }
 
 spelled-here : (me : Member) (i : Input) (is : List Input) (d : Datagram) → came me i ≡ Some d → IsSpelledIn me.session (i ∷ is) d
-spelled-here me Tick is d e = cc
-spelled-here me (Came b) is d e = record { bytes = b; came = (0, omega arith, refl); spells = e }
+spelled-here me event.Tick is d e = cc
+spelled-here me (event.Datagram b) is d e = record { bytes = b; came = (0, omega arith, refl); spells = e }
 
 run-heard : (me : Member) (log : Log) (inputs : List Input) (d : Datagram) → HeardIn (log_after me log inputs) d → IsSpelledIn me.session inputs d ⊎ HeardIn log d
 run-heard me log [] d h = inr h

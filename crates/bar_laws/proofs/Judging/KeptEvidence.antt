@@ -17,7 +17,8 @@ use Rattle.bar_rules.specs.Peer.Machine as machine
 use Rattle.bar_terms.specs.Table.{Table, Extends}
 use Rattle.bar_window.specs.declared.exchange.Exchange.{Exchange}
 use Rattle.bar_wire.specs.Datagram.{Datagram, Body}
-use Rattle.bar_wire.specs.Inputs.{Input, Tick, Came}
+use Rattle.bar_wire.specs.Inputs.{Input}
+use Rattle.bar_wire.specs.Inputs as event
 use Rattle.std.proofs.Common.{◌≡◌, ℕ, Bool, true, false, List, [], ◌∷◌, ◌++◌, refl, ap, subst, cond, eqb}
 use Rattle.std.specs.Prelude.{Option, Some, None, is_some, nat_le}
 use Rattle.std.specs.Bool.{then_some}
@@ -113,8 +114,8 @@ datagram-watchful me log (Some d) h =
     (answered-watchful me (with_evidence me log d.message.from (new_evidence me (known me log) d)) d p.0 p.1)
 
 input-watchful : (me : Member) (log : Log) (input : Input) → IsWatchful me log → IsWatchful me (take_input me log input).state
-input-watchful me log Tick h = perform_all-watchful me (begun (Ticked ∷ log)) (orders_at_tick me (known me (Ticked ∷ log))) h
-input-watchful me log (Came bytes) h = datagram-watchful me log (datagram_of me.session bytes) h
+input-watchful me log event.Tick h = perform_all-watchful me (begun (Ticked ∷ log)) (orders_at_tick me (known me (Ticked ∷ log))) h
+input-watchful me log (event.Datagram bytes) h = datagram-watchful me log (datagram_of me.session bytes) h
 
 step-watchful : (me : Member) (log : Log) (input : Input) → IsWatchful me log → IsWatchful me (step me log input).state
 unfolding machine.step

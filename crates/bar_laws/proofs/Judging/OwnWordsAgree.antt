@@ -14,7 +14,8 @@ use Rattle.bar_rules.specs.Peer.Terms.{body_on, terms_of, terms_by, trade_terms,
 use Rattle.bar_rules.specs.Values.{window_bytes}
 use Rattle.bar_rules.specs.Judge.Verdict.{answer_differs, offer_differs, reply_differs, differs, broken_commit, breaks_commit, other_window, same_place, fault_by_case, fault_by_words, BrokenCommit, OtherHistory}
 use Rattle.bar_window.specs.Exchange.{same_exchange, same_role, party_on}
-use Rattle.bar_window.specs.Terms.{Terms, Trade, Offer}
+use Rattle.bar_window.specs.Terms.{Terms}
+use Rattle.bar_window.specs.Terms as forms
 use Rattle.bar_window.specs.declared.exchange.Exchange.{Exchange}
 use Rattle.bar_window.specs.declared.exchange.Role.{Role}
 use Rattle.bar_window.specs.declared.exchange.Role.TheVariants.{Initiator, Responder}
@@ -35,26 +36,26 @@ use Rattle.bar_laws.proofs.Judging.SaidOnce.{said-same, told-said, SaidBriefcase
 
 -- ---- the parts of the terms that a log tells
 
-trade-parts : (a : Option (List ℕ × List UpdateId)) (b : Option (List UpdateId)) (nonce : List ℕ) (ha hb : List UpdateId) → trade_terms a b ≡ Some (Trade nonce ha hb) → (a ≡ Some (nonce, ha)) × (b ≡ Some hb)
+trade-parts : (a : Option (List ℕ × List UpdateId)) (b : Option (List UpdateId)) (nonce : List ℕ) (ha hb : List UpdateId) → trade_terms a b ≡ Some (forms.Balanced nonce ha hb) → (a ≡ Some (nonce, ha)) × (b ≡ Some hb)
 trade-parts (Some a) (Some b) nonce ha hb e = let p : a.0 ≡ nonce = cc in let q : a.1 ≡ ha = cc in let r : b ≡ hb = cc in (λ i. Some (p i, q i), ap Some r)
 trade-parts (Some a) None nonce ha hb e = cc
 trade-parts None b nonce ha hb e = cc
 
-offer-no_trade : (a : Option (List UpdateId × List UpdateId)) (b : Option (List UpdateId × List UpdateId × ℕ)) (nonce : List ℕ) (ha hb : List UpdateId) → offer_terms a b ≡ Some (Trade nonce ha hb) → ⊥
+offer-no_trade : (a : Option (List UpdateId × List UpdateId)) (b : Option (List UpdateId × List UpdateId × ℕ)) (nonce : List ℕ) (ha hb : List UpdateId) → offer_terms a b ≡ Some (forms.Balanced nonce ha hb) → ⊥
 offer-no_trade (Some a) (Some b) nonce ha hb e = cc
 offer-no_trade (Some a) None nonce ha hb e = cc
 offer-no_trade None b nonce ha hb e = cc
 
 -- balanced terms: what was revealed, and what was answered
-pub trade-of : (me : Member) (log : Log) (x : Exchange) (nonce : List ℕ) (ha hb : List UpdateId) → terms_of me (known me log) x ≡ Some (Trade nonce ha hb)
+pub trade-of : (me : Member) (log : Log) (x : Exchange) (nonce : List ℕ) (ha hb : List UpdateId) → terms_of me (known me log) x ≡ Some (forms.Balanced nonce ha hb)
     → (revealed me log x ≡ Some (nonce, ha)) × (option_and_then history_in (body_on me (known me log) kinds.Response x Responder) ≡ Some hb)
 trade-of me log x nonce ha hb e = go x.kind e
   where
-    go : (k : XKind) → terms_by k me (known me log) x ≡ Some (Trade nonce ha hb) → (revealed me log x ≡ Some (nonce, ha)) × (option_and_then history_in (body_on me (known me log) kinds.Response x Responder) ≡ Some hb)
+    go : (k : XKind) → terms_by k me (known me log) x ≡ Some (forms.Balanced nonce ha hb) → (revealed me log x ≡ Some (nonce, ha)) × (option_and_then history_in (body_on me (known me log) kinds.Response x Responder) ≡ Some hb)
     go Balanced e = trade-parts _ _ nonce ha hb e
     go Push e = absurd (offer-no_trade _ _ nonce ha hb e)
 
-offer-parts : (a : Option (List UpdateId × List UpdateId)) (b : Option (List UpdateId × List UpdateId × ℕ)) (young aged want give : List UpdateId) (junk : ℕ) → offer_terms a b ≡ Some (Offer young aged want give junk)
+offer-parts : (a : Option (List UpdateId × List UpdateId)) (b : Option (List UpdateId × List UpdateId × ℕ)) (young aged want give : List UpdateId) (junk : ℕ) → offer_terms a b ≡ Some (forms.Push young aged want give junk)
     → (a ≡ Some (young, aged)) × (b ≡ Some (want, give, junk))
 offer-parts (Some a) (Some b) young aged want give junk e =
     let p : a.0 ≡ young = cc in let q : a.1 ≡ aged = cc in let r : b.0 ≡ want = cc in let s : b.1 ≡ give = cc in let t : b.2 ≡ junk = cc in
@@ -62,17 +63,17 @@ offer-parts (Some a) (Some b) young aged want give junk e =
 offer-parts (Some a) None young aged want give junk e = cc
 offer-parts None b young aged want give junk e = cc
 
-trade-no_offer : (a : Option (List ℕ × List UpdateId)) (b : Option (List UpdateId)) (young aged want give : List UpdateId) (junk : ℕ) → trade_terms a b ≡ Some (Offer young aged want give junk) → ⊥
+trade-no_offer : (a : Option (List ℕ × List UpdateId)) (b : Option (List UpdateId)) (young aged want give : List UpdateId) (junk : ℕ) → trade_terms a b ≡ Some (forms.Push young aged want give junk) → ⊥
 trade-no_offer (Some a) (Some b) young aged want give junk e = cc
 trade-no_offer (Some a) None young aged want give junk e = cc
 trade-no_offer None b young aged want give junk e = cc
 
 -- push terms: what was offered, and what was taken
-pub offer-of : (me : Member) (log : Log) (x : Exchange) (young aged want give : List UpdateId) (junk : ℕ) → terms_of me (known me log) x ≡ Some (Offer young aged want give junk)
+pub offer-of : (me : Member) (log : Log) (x : Exchange) (young aged want give : List UpdateId) (junk : ℕ) → terms_of me (known me log) x ≡ Some (forms.Push young aged want give junk)
     → (option_and_then offer_in (body_on me (known me log) kinds.Query x Initiator) ≡ Some (young, aged)) × (option_and_then reply_in (body_on me (known me log) kinds.Reply x Responder) ≡ Some (want, give, junk))
 offer-of me log x young aged want give junk e = go x.kind e
   where
-    go : (k : XKind) → terms_by k me (known me log) x ≡ Some (Offer young aged want give junk) → (option_and_then offer_in (body_on me (known me log) kinds.Query x Initiator) ≡ Some (young, aged)) × (option_and_then reply_in (body_on me (known me log) kinds.Reply x Responder) ≡ Some (want, give, junk))
+    go : (k : XKind) → terms_by k me (known me log) x ≡ Some (forms.Push young aged want give junk) → (option_and_then offer_in (body_on me (known me log) kinds.Query x Initiator) ≡ Some (young, aged)) × (option_and_then reply_in (body_on me (known me log) kinds.Reply x Responder) ≡ Some (want, give, junk))
     go Balanced e = absurd (trade-no_offer _ _ young aged want give junk e)
     go Push e = offer-parts _ _ young aged want give junk e
 
@@ -104,8 +105,8 @@ pub record IsOwnWord (me : Member) (log : Log) (m : Datagram) (x : Exchange) (ro
 
 answer-same : (me : Member) (log : Log) (m : Datagram) (x : Exchange) (r : ℕ) (us : List UpdateId) (terms : Terms) → IsObedient me log → IsOwnWord me log m x Responder → m.message.body ≡ Response r us
     → terms_of me (known me log) x ≡ Some terms → answer_differs me.session r us terms ≡ false
-answer-same me log m x r us (Offer young aged want give junk) h w e t = refl
-answer-same me log m x r us (Trade nonce ha hb) h w e t =
+answer-same me log m x r us (forms.Push young aged want give junk) h w e t = refl
+answer-same me log m x r us (forms.Balanced nonce ha hb) h w e t =
     let i : is_of kinds.Response x Responder m.message ≡ true = own-exchange m.message x r Balanced Responder kinds.Response w.at (ap kind_number e) (ap part_of e) in
     let f : history_in m.message.body ≡ Some hb = told-said me log x Responder kinds.Response history_in m hb h w.said i w.side (trade-of me log x nonce ha hb t).1 in
     let g : history_in (Response r us) ≡ Some hb = subst (λ z. history_in z ≡ Some hb) e f in
@@ -114,8 +115,8 @@ answer-same me log m x r us (Trade nonce ha hb) h w e t =
 
 offer-same : (me : Member) (log : Log) (m : Datagram) (x : Exchange) (r : ℕ) (seed : List ℕ) (us vs : List UpdateId) (terms : Terms) → IsObedient me log → IsOwnWord me log m x Initiator → m.message.body ≡ Query r seed us vs
     → terms_of me (known me log) x ≡ Some terms → offer_differs me.session r us vs terms ≡ false
-offer-same me log m x r seed us vs (Trade nonce ha hb) h w e t = refl
-offer-same me log m x r seed us vs (Offer young aged want give junk) h w e t =
+offer-same me log m x r seed us vs (forms.Balanced nonce ha hb) h w e t = refl
+offer-same me log m x r seed us vs (forms.Push young aged want give junk) h w e t =
     let i : is_of kinds.Query x Initiator m.message ≡ true = own-exchange m.message x r Push Initiator kinds.Query w.at (ap kind_number e) (ap part_of e) in
     let f : offer_in m.message.body ≡ Some (young, aged) = told-said me log x Initiator kinds.Query offer_in m (young, aged) h w.said i w.side (offer-of me log x young aged want give junk t).0 in
     let g : offer_in (Query r seed us vs) ≡ Some (young, aged) = subst (λ z. offer_in z ≡ Some (young, aged)) e f in
@@ -126,8 +127,8 @@ offer-same me log m x r seed us vs (Offer young aged want give junk) h w e t =
 
 reply-same : (me : Member) (log : Log) (m : Datagram) (x : Exchange) (r : ℕ) (us vs : List UpdateId) (z : ℕ) (terms : Terms) → IsObedient me log → IsOwnWord me log m x Responder → m.message.body ≡ Reply r us vs z
     → terms_of me (known me log) x ≡ Some terms → reply_differs me.session r us vs z terms ≡ false
-reply-same me log m x r us vs z (Trade nonce ha hb) h w e t = refl
-reply-same me log m x r us vs z (Offer young aged want give junk) h w e t =
+reply-same me log m x r us vs z (forms.Balanced nonce ha hb) h w e t = refl
+reply-same me log m x r us vs z (forms.Push young aged want give junk) h w e t =
     let i : is_of kinds.Reply x Responder m.message ≡ true = own-exchange m.message x r Push Responder kinds.Reply w.at (ap kind_number e) (ap part_of e) in
     let f : reply_in m.message.body ≡ Some (want, give, junk) = told-said me log x Responder kinds.Reply reply_in m (want, give, junk) h w.said i w.side (offer-of me log x young aged want give junk t).1 in
     let g : reply_in (Reply r us vs z) ≡ Some (want, give, junk) = subst (λ y. reply_in y ≡ Some (want, give, junk)) e f in
@@ -195,8 +196,8 @@ commits-revealed me log m x r seed c a h w e t = (let f = find-of (λ before e. 
 
 commit-same : (me : Member) (log : Log) (m : Datagram) (x : Exchange) (r : ℕ) (seed c : List ℕ) (terms : Terms) → IsObedient me log → IsOwnWord me log m x Initiator → m.message.body ≡ Request r seed c
     → terms_of me (known me log) x ≡ Some terms → breaks_commit me.session x c terms ≡ false
-commit-same me log m x r seed c (Offer young aged want give junk) h w e t = refl
-commit-same me log m x r seed c (Trade nonce ha hb) h w e t =
+commit-same me log m x r seed c (forms.Push young aged want give junk) h w e t = refl
+commit-same me log m x r seed c (forms.Balanced nonce ha hb) h w e t =
     let same : c ≡ commitment_of me.session x nonce ha = commits-revealed me log m x r seed c (nonce, ha) h w e (trade-of me log x nonce ha hb t).0 in
     rw same (ap not (same_bytes_refl (commitment_of me.session x nonce ha)))
 

@@ -13,7 +13,8 @@ use Rattle.bar_rules.specs.Peer.Terms.{body_on, terms_of}
 use Rattle.bar_rules.specs.Values.{window_of}
 use Rattle.bar_terms.specs.Terms.{promised_updates, trade_count}
 use Rattle.bar_window.specs.Exchange.{party_on}
-use Rattle.bar_window.specs.Terms.{Terms, Trade, Offer}
+use Rattle.bar_window.specs.Terms.{Terms}
+use Rattle.bar_window.specs.Terms as forms
 use Rattle.bar_window.specs.Updates.{has_update, is_inside, minus}
 use Rattle.bar_window.specs.declared.exchange.Exchange.{Exchange}
 use Rattle.bar_window.specs.declared.exchange.Role.{Role}
@@ -96,19 +97,19 @@ own-history-held me log x a h own e = at (find-of (λ before e. revealed_in me b
 -- what this member promises by the terms of its log, it holds
 pub promise-held : (me : Member) (log : Log) (x : Exchange) (role : Role) (terms : Terms) → IsObedient me log → party_on x role ≡ me.party → role_of me x ≡ role → terms_of me (known me log) x ≡ Some terms
     → AllHeld me.session log (promised_updates me.session.cap terms role)
-promise-held me log x Initiator (Trade nonce ha hb) h own side t =
+promise-held me log x Initiator (forms.Balanced nonce ha hb) h own side t =
     all-take (is_held me.session log) (trade_count me.session.cap ha hb) (minus ha hb)
     (all-filtered {X = UpdateId} (is_held me.session log) (λ u. not (has_update hb u)) ha (own-history-held me log x (nonce, ha) h own (trade-of me log x nonce ha hb t).0))
-promise-held me log x Responder (Trade nonce ha hb) h own side t =
+promise-held me log x Responder (forms.Balanced nonce ha hb) h own side t =
     all-take (is_held me.session log) (trade_count me.session.cap ha hb) (minus hb ha)
     (all-filtered {X = UpdateId} (is_held me.session log) (λ u. not (has_update ha u)) hb
     (told-held me log x Responder kinds.Response history_in hb hb h side (λ before to b. answer-held me before to b hb) (trade-of me log x nonce ha hb t).1))
-promise-held me log x Initiator (Offer young aged want give junk) h own side t =
+promise-held me log x Initiator (forms.Push young aged want give junk) h own side t =
     let o = offer-of me log x young aged want give junk t in
     let g : IsGoodAnswer me log x (want, give, junk) = spoken-reply me log x (want, give, junk) h o.1 in
     let same : g.query ≡ (young, aged) = (let s = g.stands in let r = o.0 in cc) in
     let inside : is_inside want g.query.0 ≡ true = (and_parts _ _ (and_parts _ _ (and_parts _ _ g.fits).0).0).0 in
     let held : AllHeld me.session log young = told-held me log x Initiator kinds.Query offer_in (young, aged) young h side (λ before to b. young-held me before to b (young, aged)) o.0 in
     inside-all (is_held me.session log) want g.query.0 inside (subst (λ z. AllHeld me.session log z.0) (sym same) held)
-promise-held me log x Responder (Offer young aged want give junk) h own side t =
+promise-held me log x Responder (forms.Push young aged want give junk) h own side t =
     told-held me log x Responder kinds.Reply reply_in (want, give, junk) give h side (λ before to b. given-held me before to b (want, give, junk)) (offer-of me log x young aged want give junk t).1

@@ -14,7 +14,7 @@ use Rattle.bar_window.specs.declared.exchange.XKind.{XKind}
 use Rattle.bar_window.specs.declared.exchange.XKind.TheVariants.{Balanced, Push}
 use Rattle.bar_wire.specs.declared.kind.Kind.{Kind}
 use Rattle.bar_wire.specs.Kinds.{code_of}
-use Rattle.bar_wire.specs.Datagram.{Message, Datagram, Body, Request, Response, Divulge, Query, Reply, Case, KeyRequest, Key, Briefcase, is_of, kind_number, part_of, identity_of, named, exchange_by}
+use Rattle.bar_wire.specs.Datagram.{Message, Datagram, Body, Request, Response, Divulge, Query, Reply, Case, KeyReq, Key, Briefcase, is_of, kind_number, part_of, identity_of, named, exchange_by}
 use Rattle.std.proofs.Common.{◌≡◌, ℕ, true, List, [], ◌∷◌, refl, sym, ap, ◌∙◌, subst, ◌||◌, eqb}
 use Rattle.std.specs.Prelude.{Option, Some, None, option_map, option_and_then, if◌then◌else◌}
 use Rattle.bar_laws.proofs.Logs.{allowed-at, WasSaid, later-entry, said-rule, first_said-was, terms_of-later, first_on-own, SaidIn, was-said, said-in, unique, is_of-is, sender-on, receiver-on, party-on, role-own, sign-elsewhere, is_of-part}
@@ -36,7 +36,7 @@ named-by (Divulge r n ha) p from to e = refl
 named-by (Query r s y o) p from to e = let same : ◌≡◌ {A = ℕ × XKind × Role} (r, Push, Initiator) p = cc in ap (λ (z : ℕ × XKind × Role). name_by 6 z from to) same
 named-by (Reply r w g z) p from to e = let same : ◌≡◌ {A = ℕ × XKind × Role} (r, Push, Responder) p = cc in ap (λ (y : ℕ × XKind × Role). name_by 7 y from to) same
 named-by (Case c) p from to e = let same : ◌≡◌ {A = ℕ × XKind × Role} (c.round, c.kind, c.role) p = cc in ap (λ (z : ℕ × XKind × Role). name_by 8 z from to) same
-named-by (KeyRequest r k role) p from to e = refl
+named-by (KeyReq r k role) p from to e = refl
 named-by (Key k) p from to e = let same : ◌≡◌ {A = ℕ × XKind × Role} (k.round, k.kind, k.role) p = cc in ap (λ (z : ℕ × XKind × Role). name_by 10 z from to) same
 named-by _ p from to e = cc
 

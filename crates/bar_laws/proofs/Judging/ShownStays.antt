@@ -6,7 +6,8 @@ use Rattle.bar_rules.specs.Values.{terms_ok, counts_ok, is_signed_by}
 use Rattle.bar_rules.specs.Judge.Verdict.{Fault, BadOpening, BadTerms, Shown, NotShown, bad_terms, fault_of_one, fault_of_two, bad_opening, fault_of, judged, verdict_on, verdict, fault_by_words, wrong_partner, WrongPartner, all_read, are_of_one_peer, Malformed, NotSigned}
 use Rattle.bar_terms.specs.Table.{Table, Extends, digest_of, NoManifest, none_past_end, is_past_end}
 use Rattle.bar_terms.specs.Terms.{offer_ok}
-use Rattle.bar_window.specs.Terms.{Terms, Trade, Offer}
+use Rattle.bar_window.specs.Terms.{Terms}
+use Rattle.bar_window.specs.Terms as forms
 use Rattle.bar_window.specs.declared.exchange.Exchange.{Exchange}
 use Rattle.bar_window.specs.declared.exchange.Role.{Role}
 use Rattle.bar_window.specs.declared.update.UpdateId.{UpdateId}
@@ -51,8 +52,8 @@ offer_ok-extends cap life old new round young aged h e = let p = and_parts _ _ e
 
 -- terms that a longer table allows, a shorter one allows
 pub terms_ok-extends : (s : Session) (old new : Table) (x : Exchange) (terms : Terms) → Extends old new → terms_ok s new x terms ≡ true → terms_ok s old x terms ≡ true
-terms_ok-extends s old new x (Trade nonce ha hb) h e = let p = and_parts _ _ e in and_from _ _ p.0 (both_past_end-extend old new ha hb h p.1)
-terms_ok-extends s old new x (Offer young aged want give junk) h e =
+terms_ok-extends s old new x (forms.Balanced nonce ha hb) h e = let p = and_parts _ _ e in and_from _ _ p.0 (both_past_end-extend old new ha hb h p.1)
+terms_ok-extends s old new x (forms.Push young aged want give junk) h e =
     and_first _ _ _ (offer_ok-extends s.cap s.shape.life old new x.round young aged h) e
 
 pub bad_terms-extends : (s : Session) (old new : Table) (m : Message) (c : Briefcase) → Extends old new → bad_terms s old m c ≡ true → bad_terms s new m c ≡ true

@@ -1,7 +1,8 @@
 -- A test of equality that passes gives an equation.
 use Rattle.bar_rules.specs.Peer.Admission.{same_terms}
 use Rattle.bar_window.specs.Exchange.{same_kind, same_role, same_exchange}
-use Rattle.bar_window.specs.Terms.{Terms, Trade, Offer}
+use Rattle.bar_window.specs.Terms.{Terms}
+use Rattle.bar_window.specs.Terms as forms
 use Rattle.bar_window.specs.Updates.{same_update, same_updates}
 use Rattle.bar_window.specs.declared.exchange.Exchange.{Exchange}
 use Rattle.bar_window.specs.declared.exchange.Role.{Role}
@@ -62,13 +63,13 @@ same_updates-is [] (y ∷ ys) e = cc
 same_updates-is (x ∷ xs) [] e = cc
 
 pub same_terms-is : (x y : Terms) → same_terms x y ≡ true → x ≡ y
-same_terms-is (Trade nonce ha hb) (Trade nonce' ha' hb') e =
+same_terms-is (forms.Balanced nonce ha hb) (forms.Balanced nonce' ha' hb') e =
     let p = and_parts _ _ e in
     let q = and_parts _ _ p.0 in
     let a = same_bytes-is nonce nonce' q.0 in
     let b = same_updates-is ha ha' q.1 in
     let c = same_updates-is hb hb' p.1 in cc
-same_terms-is (Offer young aged want give junk) (Offer young' aged' want' give' junk') e =
+same_terms-is (forms.Push young aged want give junk) (forms.Push young' aged' want' give' junk') e =
     let p = and_parts _ _ e in
     let q = and_parts _ _ p.0 in
     let r = and_parts _ _ q.0 in
@@ -78,5 +79,5 @@ same_terms-is (Offer young aged want give junk) (Offer young' aged' want' give' 
     let c = same_updates-is want want' r.1 in
     let d = same_updates-is give give' q.1 in
     let f = eqb-true junk junk' p.1 in cc
-same_terms-is (Trade nonce ha hb) (Offer young aged want give junk) e = cc
-same_terms-is (Offer young aged want give junk) (Trade nonce ha hb) e = cc
+same_terms-is (forms.Balanced nonce ha hb) (forms.Push young aged want give junk) e = cc
+same_terms-is (forms.Push young aged want give junk) (forms.Balanced nonce ha hb) e = cc

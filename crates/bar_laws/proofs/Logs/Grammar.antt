@@ -8,7 +8,7 @@ use Rattle.bar_rules.specs.Values.{datagram_of, datagram_bytes}
 use Rattle.bar_window.specs.declared.exchange.Role.{Role}
 use Rattle.bar_window.specs.declared.exchange.XKind.{XKind}
 use Rattle.bar_wire.specs.declared.shape.Shape.{Shape}
-use Rattle.bar_wire.specs.Datagram.{Message, Datagram, Body, Request, Response, Divulge, Query, Reply, Case, KeyRequest, Key, kind_of, part_of}
+use Rattle.bar_wire.specs.Datagram.{Message, Datagram, Body, Request, Response, Divulge, Query, Reply, Case, KeyReq, Key, kind_of, part_of}
 use Rattle.bar_wire.specs.Grammar.{IsDatagram, InRange, IsRound, IsPeer, MaySend}
 use Rattle.std.proofs.Common.{◌≡◌, ◌≢◌, ℕ, ◌≤◌, true, false, Bool, List, refl, sym, ◌∙◌, subst, eqb, cond, arith}
 use Rattle.std.specs.Prelude.{Some}
@@ -49,7 +49,7 @@ part-in-range s (Divulge r n ha) p e range = let same : r ≡ p.0 = cc in subst 
 part-in-range s (Query r seed y o) p e range = let same : r ≡ p.0 = cc in subst (λ z. IsRound s z) same range
 part-in-range s (Reply r w g z) p e range = let same : r ≡ p.0 = cc in subst (λ z. IsRound s z) same range.0
 part-in-range s (Case c) p e range = let same : c.round ≡ p.0 = cc in subst (λ z. IsRound s z) same range.0
-part-in-range s (KeyRequest r k role) p e range = let same : r ≡ p.0 = cc in subst (λ z. IsRound s z) same range
+part-in-range s (KeyReq r k role) p e range = let same : r ≡ p.0 = cc in subst (λ z. IsRound s z) same range
 part-in-range s (Key k) p e range = let same : k.round ≡ p.0 = cc in subst (λ z. IsRound s z) same range
 part-in-range s _ p e range = cc
 
@@ -60,7 +60,7 @@ part-of-peers s (Divulge r n ha) p from to e may = may
 part-of-peers s (Query r seed y o) p from to e may = may
 part-of-peers s (Reply r w g z) p from to e may = may
 part-of-peers s (Case c) p from to e may = may
-part-of-peers s (KeyRequest r k role) p from to e may = may
+part-of-peers s (KeyReq r k role) p from to e may = may
 part-of-peers s (Key k) p from to e may = may
 part-of-peers s _ p from to e may = cc
 
@@ -71,7 +71,7 @@ part-to-one (Divulge r n ha) p e = refl
 part-to-one (Query r seed y o) p e = refl
 part-to-one (Reply r w g z) p e = refl
 part-to-one (Case c) p e = refl
-part-to-one (KeyRequest r k role) p e = refl
+part-to-one (KeyReq r k role) p e = refl
 part-to-one (Key k) p e = refl
 part-to-one _ p e = cc
 

@@ -8,7 +8,7 @@ use Rattle.bar_window.specs.declared.exchange.Role.{Role}
 use Rattle.bar_window.specs.declared.exchange.Role.TheVariants.{Initiator, Responder}
 use Rattle.bar_window.specs.declared.exchange.XKind.{XKind}
 use Rattle.bar_window.specs.declared.exchange.XKind.TheVariants.{Balanced, Push}
-use Rattle.bar_wire.specs.Datagram.{Request, Divulge, Query, KeyRequest, round_of, Message, Datagram, Body, Response, Reply, Case, Key, is_of, kind_number, part_of, named}
+use Rattle.bar_wire.specs.Datagram.{Request, Divulge, Query, KeyReq, round_of, Message, Datagram, Body, Response, Reply, Case, Key, is_of, kind_number, part_of, named}
 use Rattle.std.specs.Option.{option_or}
 use Rattle.std.specs.Str.{bytes_eq}
 use Rattle.std.proofs.Common.{◌≡◌, ℕ, Bool, true, false, [], ◌∷◌, ◌++◌, refl, sym, ap, subst, eqb}
@@ -132,6 +132,6 @@ part-round (Divulge q n ha) r k role e = (parts-of (q, Balanced, Initiator) (r, 
 part-round (Query q s y o) r k role e = (parts-of (q, Push, Initiator) (r, k, role) e).0
 part-round (Reply q w g z) r k role e = (parts-of (q, Push, Responder) (r, k, role) e).0
 part-round (Case c) r k role e = (parts-of (c.round, c.kind, c.role) (r, k, role) e).0
-part-round (KeyRequest q l a) r k role e = (parts-of (q, l, a) (r, k, role) e).0
+part-round (KeyReq q l a) r k role e = (parts-of (q, l, a) (r, k, role) e).0
 part-round (Key c) r k role e = (parts-of (c.round, c.kind, c.role) (r, k, role) e).0
 part-round _ r k role e = cc

@@ -7,7 +7,8 @@ use Rattle.bar_rules.specs.Peer.Signing.{MaySay, MayGiveCase, has_same_identity,
 use Rattle.bar_rules.specs.Values.{terms_ok, message_bytes}
 use Rattle.bar_rules.specs.Judge.Verdict.{is_twice, bad_terms}
 use Rattle.bar_terms.specs.Table.{Table, Agrees, digest_of, digest_in, is_known, is_past_end, is_within, none_past_end, Extends}
-use Rattle.bar_window.specs.Terms.{Terms, Trade, Offer}
+use Rattle.bar_window.specs.Terms.{Terms}
+use Rattle.bar_window.specs.Terms as forms
 use Rattle.bar_window.specs.declared.exchange.Exchange.{Exchange}
 use Rattle.bar_window.specs.declared.update.UpdateId.{UpdateId}
 use Rattle.bar_wire.specs.Datagram.{Message, Datagram, Case, Briefcase, identity_of, exchange_by}
@@ -85,11 +86,11 @@ agrees-none_past one two (u ∷ us) h e = let p = and_parts _ _ e in and_from _ 
 
 agrees-valid : (me : Member) (log : Log) (two : Table) (x : Exchange) (terms : Terms) → Agrees (table log) two → terms_ok me.session (table log) x terms ≡ true → windows_within me (known me log) terms ≡ true
     → terms_ok me.session two x terms ≡ true
-agrees-valid me log two x (Trade nonce ha hb) h ok w =
+agrees-valid me log two x (forms.Balanced nonce ha hb) h ok w =
     let p = and_parts _ _ ok in
     let q = and_parts _ _ w in
     and_from _ _ p.0 (and_from _ _ (agrees-none_past _ two ha h q.0) (agrees-none_past _ two hb h q.1))
-agrees-valid me log two x (Offer young aged want give junk) h ok w =
+agrees-valid me log two x (forms.Push young aged want give junk) h ok w =
     let p = and_parts _ _ ok in
     let o = and_parts _ _ p.0 in
     let q = and_parts _ _ w in

@@ -17,7 +17,8 @@ use Rattle.bar_rules.specs.Peer.Terms.{terms_of, terms_by, trade_terms, offer_te
 use Rattle.bar_rules.specs.Values.{first_round, updates_of, updates_from, terms_ok}
 use Rattle.bar_terms.specs.Table.{Table, is_within, none_past_end, digest_of, Digest, Known, PastEnd, NoManifest, is_known, is_past_end}
 use Rattle.bar_terms.specs.Terms.{offer_ok, answer_ok, trade_count}
-use Rattle.bar_window.specs.Terms.{Terms, Trade, Offer}
+use Rattle.bar_window.specs.Terms.{Terms}
+use Rattle.bar_window.specs.Terms as forms
 use Rattle.bar_window.specs.Updates.{has_update, same_update, is_inside, is_of_rounds}
 use Rattle.bar_window.specs.declared.exchange.Exchange.{Exchange}
 use Rattle.bar_window.specs.declared.exchange.Role.{Role}
@@ -180,7 +181,7 @@ trade-valid me log x t (Some a) None h p q e w = cc
 trade-valid me log x t (Some a) (Some hb) h p q e w =
     let ha : is_within (table log) a.1 ≡ true = revealed-within me log x a h p in
     let hb' : is_within (table log) hb ≡ true = spoken-answer me log x hb h q in
-    let same : Trade a.0 a.1 hb ≡ t = cc in
+    let same : forms.Balanced a.0 a.1 hb ≡ t = cc in
     let worth : nat_le 1 (trade_count me.session.cap a.1 hb) ≡ true = rw (← same) at w in
     subst (λ z. IsValid me log x z) same
     (record { ok = and_from _ _ worth (and_from _ _ (within-none_past (table log) a.1 ha) (within-none_past (table log) hb hb')); within = rw (ha, hb') refl })
@@ -378,7 +379,7 @@ offer-valid me log x t (Some a) (Some b) h p q e =
     let offer : IsGoodOffer me log x.round a.0 a.1 = spoken-offer me log x a h p in
     let answer : IsGoodAnswer me log x b = spoken-reply me log x b h q in
     let query : answer.query ≡ a = (let s = answer.stands in cc) in
-    let same : Offer a.0 a.1 b.0 b.1 b.2 ≡ t = cc in
+    let same : forms.Push a.0 a.1 b.0 b.1 b.2 ≡ t = cc in
     subst (λ z. IsValid me log x z) same
     (record {
       ok = and_from _ _ (offer-ok me log x.round a.0 a.1 offer) (subst (λ z. answer_ok me.session.cap z.0 z.1 b.0 b.1 b.2 ≡ true) query answer.fits);

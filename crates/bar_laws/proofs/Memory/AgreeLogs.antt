@@ -6,7 +6,7 @@ use Rattle.bar_window.specs.declared.exchange.Role.{Role}
 use Rattle.bar_window.specs.declared.exchange.Role.TheVariants.{Initiator}
 use Rattle.bar_wire.specs.declared.kind.Kind.TheVariants as kinds
 use Rattle.bar_wire.specs.declared.kind.Kind.{Kind}
-use Rattle.bar_wire.specs.Datagram.{Message, Datagram, Body, Request, Response, Divulge, Query, Reply, Case, KeyRequest, Key, is_of, kind_number, exchange_by, exchange_of, round_of}
+use Rattle.bar_wire.specs.Datagram.{Message, Datagram, Body, Request, Response, Divulge, Query, Reply, Case, KeyReq, Key, is_of, kind_number, exchange_by, exchange_of, round_of}
 use Rattle.bar_rules.specs.Peer.Agreement.{promised_by, told_for, AgreesWith, IsRecent}
 use Rattle.bar_rules.specs.Peer.Exchanges.{request_kind, committed, with_exchange, recent_of}
 use Rattle.bar_rules.specs.Peer.Holdings.{block_by, block_opened, history, case_in}
@@ -41,7 +41,7 @@ IsInTime life now (Divulge r nonce ha) = now ≤ r + 2
 IsInTime life now (Query r seed young aged) = now ≤ r + 1
 IsInTime life now (Reply r want give junk) = now ≤ r + 2
 IsInTime life now (Case c) = now ≤ c.round + 2
-IsInTime life now (KeyRequest r kind role) = now ≤ r + life
+IsInTime life now (KeyReq r kind role) = now ≤ r + life
 IsInTime life now (Key k) = now ≤ k.round + life
 IsInTime life now _ = Unit {0}
 

@@ -15,7 +15,7 @@ use Rattle.bar_window.specs.declared.exchange.XKind.TheVariants.{Balanced, Push}
 use Rattle.bar_window.specs.declared.update.UpdateId.{UpdateId}
 use Rattle.bar_wire.specs.declared.kind.Kind.TheVariants as kinds
 use Rattle.bar_wire.specs.declared.kind.Kind.{Kind}
-use Rattle.bar_wire.specs.Datagram.{Message, Datagram, Body, Request, Response, Divulge, Query, Reply, Case, KeyRequest, Evidence, is_of, kind_number, part_of, exchange_by, round_of, place_by}
+use Rattle.bar_wire.specs.Datagram.{Message, Datagram, Body, Request, Response, Divulge, Query, Reply, Case, KeyReq, Evidence, is_of, kind_number, part_of, exchange_by, round_of, place_by}
 use Rattle.bar_rules.specs.Runs.{Outcome, sending}
 use Rattle.bar_rules.specs.Peer.Agreement.{told_for, AgreesWith, IsRecent}
 use Rattle.bar_rules.specs.Peer.Choices.{young_of, aged_of, wanted_of, given_of}
@@ -280,7 +280,7 @@ perform-alike me at a b (Resend kind x) life w h = say-alike me at a b kind x No
 perform-alike me at a b (Reveal x) life w h =
     send_if-alike me at a b (partner_in me x) _ _ w
     (ap (λ o. option_map (λ (r : List ℕ × List UpdateId). Divulge x.round r.0 r.1) o) (w.agree.commits x (subst (λ n. n ≤ x.round + me.session.shape.life) (sym w.moment) h)))
-perform-alike me at a b (AskKey x) life w h = send_if-alike me at a b (partner_in me x) (Some (KeyRequest x.round x.kind (role_of me x))) (Some (KeyRequest x.round x.kind (role_of me x))) w refl
+perform-alike me at a b (AskKey x) life w h = send_if-alike me at a b (partner_in me x) (Some (KeyReq x.round x.kind (role_of me x))) (Some (KeyReq x.round x.kind (role_of me x))) w refl
 perform-alike me at a b (Report q) life w h = send_if-alike me at a b 0 _ _ w (ap (λ o. option_map Evidence o) (w.agree.evidence q))
 
 pub perform_all-alike : (me : Member) (at : ℕ) (os : List Order) (a : Outcome Log) (b : Outcome Knowledge) → 2 ≤ me.session.shape.life → IsAlike me at a b → AllByRecursion (IsTimely me.session.shape.life at) os → IsAlike me at (machine.perform_all (logs me) me a os) (machine.perform_all (minds me) me b os)

@@ -7,7 +7,7 @@ use Rattle.bar_window.specs.declared.exchange.Role.TheVariants.{Initiator, Respo
 use Rattle.bar_window.specs.declared.exchange.XKind.{XKind}
 use Rattle.bar_window.specs.declared.exchange.XKind.TheVariants.{Balanced, Push}
 use Rattle.bar_wire.specs.declared.kind.Kind.TheVariants as kinds
-use Rattle.bar_wire.specs.Datagram.{Place, Datagram, Body, Manifest, Block, Request, Response, Divulge, Query, Reply, Case, KeyRequest, Key, Evidence, Evict, is_of, kind_of, part_of, exchange_by, round_of, place_of, place_by}
+use Rattle.bar_wire.specs.Datagram.{Place, Datagram, Body, Manifest, Block, Request, Response, Divulge, Query, Reply, Case, KeyReq, Key, Evidence, Evict, is_of, kind_of, part_of, exchange_by, round_of, place_of, place_by}
 use Rattle.bar_rules.specs.Runs.{Outcome, begun}
 use Rattle.bar_rules.specs.Peer.Agreement.{AgreesWith, IsRecent}
 use Rattle.bar_rules.specs.Peer.Admission.{is_admitted}
@@ -69,7 +69,7 @@ orders-timely me k at is_new from to (Reply r want give junk) life e f =
     when-timely me.session.shape.life at _ (GiveCase (exchange_by r Push Responder from to) ∷ []) (λ h. (f h, tt))
 orders-timely me k at is_new from to (Case c) life e f =
     when-timely me.session.shape.life at _ (AskKey (exchange_by c.round c.kind c.role from to) ∷ []) (λ h. (tt, tt))
-orders-timely me k at is_new from to (KeyRequest r kind role) life e f =
+orders-timely me k at is_new from to (KeyReq r kind role) life e f =
     when-timely me.session.shape.life at _ (GiveKey (exchange_by r kind role from to) ∷ [])
     (λ h. (at-round me.session.shape.life at r kind role from to me.session.shape.life (in-bound (this_round k) at (r + me.session.shape.life) is_new e f h), tt))
 orders-timely me k at is_new from to (Manifest r ds) life e f = tt
@@ -93,7 +93,7 @@ stale-orders me k from to (Query r seed young aged) p life e h =
     ap (λ z. orders_when z (Answer x ∷ GiveCase x ∷ [])) (lt-leb (this_round k) (r + 1) (omega (arith, same, h, life)))
 stale-orders me k from to (Reply r want give junk) p life e h = refl
 stale-orders me k from to (Case c) p life e h = refl
-stale-orders me k from to (KeyRequest r kind role) p life e h =
+stale-orders me k from to (KeyReq r kind role) p life e h =
     let same : r ≡ p.0 = (parts-of (r, kind, role) p e).0 in ap (λ z. orders_when z (GiveKey (exchange_by r kind role from to) ∷ [])) (lt-leb (this_round k) (r + me.session.shape.life) (omega (arith, same, h)))
 stale-orders me k from to (Key g) p life e h = refl
 stale-orders me k from to _ p life e h = cc
@@ -116,7 +116,7 @@ module _ (me : Member) (one two : Knowledge) (same : AgreesWith me one two) (lif
   orders-same is_new from to (Query r seed young aged) f = ap (λ n. orders_when (is_new || nat_le n (r + 1)) (Answer (exchange_by r Push Initiator from to) ∷ GiveCase (exchange_by r Push Initiator from to) ∷ [])) (now me one two same)
   orders-same is_new from to (Reply r want give junk) f = refl
   orders-same is_new from to (Case c) f = refl
-  orders-same is_new from to (KeyRequest r kind role) f = ap (λ n. orders_when (is_new || nat_le n (r + me.session.shape.life)) (GiveKey (exchange_by r kind role from to) ∷ [])) (now me one two same)
+  orders-same is_new from to (KeyReq r kind role) f = ap (λ n. orders_when (is_new || nat_le n (r + me.session.shape.life)) (GiveKey (exchange_by r kind role from to) ∷ [])) (now me one two same)
   orders-same is_new from to _ f = refl
 
   -- ---- evidence

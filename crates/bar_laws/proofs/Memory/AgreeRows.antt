@@ -11,7 +11,7 @@ use Rattle.bar_window.specs.declared.exchange.XKind.TheVariants.{Balanced, Push}
 use Rattle.bar_window.specs.declared.update.UpdateId.{UpdateId}
 use Rattle.bar_wire.specs.declared.kind.Kind.TheVariants as kinds
 use Rattle.bar_wire.specs.declared.kind.Kind.{Kind}
-use Rattle.bar_wire.specs.Datagram.{Message, Datagram, Body, Manifest, Block, Request, Response, Divulge, Query, Reply, Case, KeyRequest, Key, Evidence, Evict, is_signed, kind_of, part_of, exchange_by, place_of, place_by}
+use Rattle.bar_wire.specs.Datagram.{Message, Datagram, Body, Manifest, Block, Request, Response, Divulge, Query, Reply, Case, KeyReq, Key, Evidence, Evict, is_signed, kind_of, part_of, exchange_by, place_of, place_by}
 use Rattle.bar_rules.specs.Peer.Log.{lists_of}
 use Rattle.bar_rules.specs.Peer.Admission.{is_admitted, is_row_met, is_for, is_heard_again, is_named_again, may_ask, has_digest, meets_commitment, body_said, are_terms, terms_with, has_valid_signature}
 use Rattle.bar_rules.specs.Peer.Agreement.{promised_by, IsRepeatable, AgreesWith, IsRecent}
@@ -64,7 +64,7 @@ row-in-time me k from to (Divulge r nonce ha) h = leb-true (this_round k) (r + 2
 row-in-time me k from to (Query r seed young aged) h = asked-in-time me k Push from r seed (and_parts _ _ h).1
 row-in-time me k from to (Reply r want give junk) h = leb-true (this_round k) (r + 2) (and_parts _ _ h).1
 row-in-time me k from to (Case c) h = leb-true (this_round k) (c.round + 2) (and_parts _ _ h).1
-row-in-time me k from to (KeyRequest r kind role) h = leb-true (this_round k) (r + me.session.shape.life) (and_parts _ _ h).1
+row-in-time me k from to (KeyReq r kind role) h = leb-true (this_round k) (r + me.session.shape.life) (and_parts _ _ h).1
 row-in-time me k from to (Key g) h = leb-true (this_round k) (g.round + me.session.shape.life) (and_parts _ _ h).1
 row-in-time me k from to _ h = tt
 
@@ -76,7 +76,7 @@ in-time-recent life at (Divulge r nonce ha) p two h e = let same : r ≡ p.0 = (
 in-time-recent life at (Query r seed young aged) p two h e = let same : r ≡ p.0 = (parts-of (r, Push, Initiator) p e).0 in omega arith
 in-time-recent life at (Reply r want give junk) p two h e = let same : r ≡ p.0 = (parts-of (r, Push, Responder) p e).0 in omega arith
 in-time-recent life at (Case c) p two h e = let same : c.round ≡ p.0 = (parts-of (c.round, c.kind, c.role) p e).0 in omega arith
-in-time-recent life at (KeyRequest r kind role) p two h e = let same : r ≡ p.0 = (parts-of (r, kind, role) p e).0 in omega arith
+in-time-recent life at (KeyReq r kind role) p two h e = let same : r ≡ p.0 = (parts-of (r, kind, role) p e).0 in omega arith
 in-time-recent life at (Key k) p two h e = let same : k.round ≡ p.0 = (parts-of (k.round, k.kind, k.role) p e).0 in omega arith
 in-time-recent life at _ p two h e = cc
 
@@ -189,12 +189,12 @@ module _ (me : Member) (one two : Knowledge) (same : AgreesWith me one two) wher
         (λ b.
         let r : IsRecent me one x.round = recent-by c.round c.kind c.role from to (soon-recent c.round b) in
         (λ i. (said-same kinds.Case x (other_role c.role) r i && are_terms c.terms (terms-same x r i)) && counts_ok me.session c))
-    row-same from to (KeyRequest r kind role) =
+    row-same from to (KeyReq r kind role) =
         let x : Exchange = exchange_by r kind role from to in
-        bounded ((has_said_of one kinds.Case x (other_role role) && has_heard_of one kinds.Case x role) && not (has_heard_of one kinds.KeyRequest x role)) ((has_said_of two kinds.Case x (other_role role) && has_heard_of two kinds.Case x role) && not (has_heard_of two kinds.KeyRequest x role)) (r + me.session.shape.life)
+        bounded ((has_said_of one kinds.Case x (other_role role) && has_heard_of one kinds.Case x role) && not (has_heard_of one kinds.KeyReq x role)) ((has_said_of two kinds.Case x (other_role role) && has_heard_of two kinds.Case x role) && not (has_heard_of two kinds.KeyReq x role)) (r + me.session.shape.life)
         (λ b.
         let f : IsRecent me one x.round = recent-by r kind role from to b in
-        (λ i. (said-same kinds.Case x (other_role role) f i && heard-same kinds.Case x role f i) && not (heard-same kinds.KeyRequest x role f i)))
+        (λ i. (said-same kinds.Case x (other_role role) f i && heard-same kinds.Case x role f i) && not (heard-same kinds.KeyReq x role f i)))
     row-same from to (Key k) =
         let x : Exchange = exchange_by k.round k.kind k.role from to in
         bounded (has_said_of one kinds.Case x (other_role k.role) && has_heard_of one kinds.Case x k.role) (has_said_of two kinds.Case x (other_role k.role) && has_heard_of two kinds.Case x k.role) (k.round + me.session.shape.life)

@@ -8,7 +8,8 @@ use Rattle.bar_window.specs.declared.exchange.XKind.TheVariants.{Balanced, Push}
 use Rattle.bar_wire.specs.declared.kind.Kind.TheVariants as kinds
 use Rattle.bar_wire.specs.Datagram.{Datagram}
 use Rattle.bar_wire.specs.Grammar.{words_of}
-use Rattle.bar_wire.specs.Inputs.{Input, Tick, Came}
+use Rattle.bar_wire.specs.Inputs.{Input}
+use Rattle.bar_wire.specs.Inputs as event
 use Rattle.bar_rules.specs.Runs.{begun}
 use Rattle.bar_rules.specs.Peer.Agreement.{AgreesWith, IsRecent}
 use Rattle.bar_rules.specs.Peer.Exchanges.{request_kind, role_of, partner_in, answer_kind, exchanges_said}
@@ -165,7 +166,7 @@ module _ (me : Member) (one two : Knowledge) (same : AgreesWith me one two) (lif
 
 -- an input is taken alike
 taken : (me : Member) (one : Log) (two : Knowledge) (input : Input) → AgreesWith me (known me one) two → 2 ≤ me.session.shape.life → LogInLife me.session.shape.life one → (at : ℕ) × IsAlike me at (machine.take_input (logs me) me one input) (machine.take_input (minds me) me two input)
-taken me one two Tick same life lives =
+taken me one two event.Tick same life lives =
     let agree : AgreesWith me (known me (Ticked ∷ one)) (with_tick me two) = ticked-agree me one two same in
     let at : ℕ = round_now (Ticked ∷ one) in
     let recent = open-recent me (Ticked ∷ one) in
@@ -174,7 +175,7 @@ taken me one two Tick same life lives =
     (perform_all-alike me at (orders_at_tick me (known me (Ticked ∷ one))) (begun (Ticked ∷ one)) (begun (with_tick me two)) life (begun-alike me (Ticked ∷ one) (with_tick me two) agree life (tt, lives)) (tick-timely me (Ticked ∷ one)))
     in
     (at, record { agree = done.agree; moment = done.moment; sends = done.sends; contents = contents-same me (known me (Ticked ∷ one)) (with_tick me two) agree life recent; lives = done.lives })
-taken me one two (Came bytes) same life lives = (round_now one, go (datagram_of me.session bytes) refl)
+taken me one two (event.Datagram bytes) same life lives = (round_now one, go (datagram_of me.session bytes) refl)
   where
     go : (o : Option Datagram) → datagram_of me.session bytes ≡ o → IsAlike me (round_now one) (machine.take_datagram (logs me) me one o) (machine.take_datagram (minds me) me two o)
     go None e = begun-alike me one two same life lives

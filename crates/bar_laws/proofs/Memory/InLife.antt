@@ -3,7 +3,8 @@ use Rattle.bar_wire.specs.Bodies.{divulge_in, history_in, offer_in, reply_in}
 use Rattle.bar_terms.specs.Table.{is_known, digest_of}
 use Rattle.bar_terms.specs.Terms.{promised_updates, trade_count}
 use Rattle.bar_window.specs.Updates.{is_of_rounds, minus}
-use Rattle.bar_window.specs.Terms.{Terms, Trade, Offer}
+use Rattle.bar_window.specs.Terms.{Terms}
+use Rattle.bar_window.specs.Terms as forms
 use Rattle.bar_window.specs.declared.update.UpdateId.{UpdateId}
 use Rattle.bar_window.specs.declared.exchange.Exchange.{Exchange}
 use Rattle.bar_window.specs.declared.exchange.Role.{Role}
@@ -116,14 +117,14 @@ form-in-life s _ h = tt
 
 -- what the sides may promise
 abbrev pub TermsInLife : ℕ → ℕ → Terms → Type 0
-TermsInLife life round (Trade nonce ha hb) = InLife life round ha × InLife life round hb
-TermsInLife life round (Offer young aged want give junk) = InLife life round want × InLife life round give
+TermsInLife life round (forms.Balanced nonce ha hb) = InLife life round ha × InLife life round hb
+TermsInLife life round (forms.Push young aged want give junk) = InLife life round want × InLife life round give
 
 pub promised-in-life : (life round cap : ℕ) (t : Terms) (role : Role) → TermsInLife life round t → InLife life round (promised_updates cap t role)
-promised-in-life life round cap (Trade nonce ha hb) Initiator h = all-take _ (trade_count cap ha hb) (minus ha hb) (all-filtered _ _ ha h.0)
-promised-in-life life round cap (Trade nonce ha hb) Responder h = all-take _ (trade_count cap ha hb) (minus hb ha) (all-filtered _ _ hb h.1)
-promised-in-life life round cap (Offer young aged want give junk) Initiator h = h.0
-promised-in-life life round cap (Offer young aged want give junk) Responder h = h.1
+promised-in-life life round cap (forms.Balanced nonce ha hb) Initiator h = all-take _ (trade_count cap ha hb) (minus ha hb) (all-filtered _ _ ha h.0)
+promised-in-life life round cap (forms.Balanced nonce ha hb) Responder h = all-take _ (trade_count cap ha hb) (minus hb ha) (all-filtered _ _ hb h.1)
+promised-in-life life round cap (forms.Push young aged want give junk) Initiator h = h.0
+promised-in-life life round cap (forms.Push young aged want give junk) Responder h = h.1
 
 -- ---- logs
 
@@ -253,12 +254,12 @@ terms-in-life me log x t h e = go x.kind e
     life = me.session.shape.life
 
     trade : (a : Option (List ℕ × List UpdateId)) (b : Option (List UpdateId)) → ((c : List ℕ × List UpdateId) → a ≡ Some c → InLife life x.round c.1) → ((c : List UpdateId) → b ≡ Some c → InLife life x.round c) → trade_terms a b ≡ Some t → TermsInLife life x.round t
-    trade (Some a) (Some b) f g e = let same : Trade a.0 a.1 b ≡ t = cc in subst (λ z. TermsInLife life x.round z) same (f a refl, g b refl)
+    trade (Some a) (Some b) f g e = let same : forms.Balanced a.0 a.1 b ≡ t = cc in subst (λ z. TermsInLife life x.round z) same (f a refl, g b refl)
     trade (Some a) None f g e = cc
     trade None b f g e = cc
 
     offer : (a : Option (List UpdateId × List UpdateId)) (b : Option (List UpdateId × List UpdateId × ℕ)) → ((c : List UpdateId × List UpdateId × ℕ) → b ≡ Some c → InLife life x.round c.0 × InLife life x.round c.1) → offer_terms a b ≡ Some t → TermsInLife life x.round t
-    offer (Some a) (Some b) g e = let same : Offer a.0 a.1 b.0 b.1 b.2 ≡ t = cc in subst (λ z. TermsInLife life x.round z) same (g b refl)
+    offer (Some a) (Some b) g e = let same : forms.Push a.0 a.1 b.0 b.1 b.2 ≡ t = cc in subst (λ z. TermsInLife life x.round z) same (g b refl)
     offer (Some a) None g e = cc
     offer None b g e = cc
 

@@ -9,7 +9,7 @@ use Rattle.bar_window.specs.declared.exchange.XKind.{XKind}
 use Rattle.bar_window.specs.declared.exchange.XKind.TheVariants.{Balanced, Push}
 use Rattle.bar_wire.specs.declared.kind.Kind.{Kind}
 use Rattle.bar_wire.specs.Kinds.{code_of}
-use Rattle.bar_wire.specs.Datagram.{is_place, place_by, Datagram, Body, Manifest, Block, Request, Response, Divulge, Query, Reply, Case, KeyRequest, Key, Evidence, Evict, is_of, exchange_of, part_of, kind_number, round_of}
+use Rattle.bar_wire.specs.Datagram.{is_place, place_by, Datagram, Body, Manifest, Block, Request, Response, Divulge, Query, Reply, Case, KeyReq, Key, Evidence, Evict, is_of, exchange_of, part_of, kind_number, round_of}
 use Rattle.bar_rules.specs.Peer.Exchanges.{request_kind, inserted, with_exchange, recent_of, seat, revealed, exchanges_said}
 use Rattle.bar_rules.specs.Peer.Holdings.{block_of, block_by}
 use Rattle.bar_rules.specs.Peer.Knowledge.{Knowledge, table_of, known, this_round, case_heard_of, first_with, with_request, with_tick, with_heard, with_said, with_kept}
@@ -255,17 +255,17 @@ module _ (me : Member) (d : Datagram) (k : Knowledge) where
         seat = λ x. unseated (Case c) refl refl x i;
         asked = λ sort round. unasked (Case c) refl refl sort round i;
       }
-  by-kind (KeyRequest r kind role) =
+  by-kind (KeyReq r kind role) =
       λ i.
       record k {
         has_evict = λ round. or-false (k.has_evict round) i;
         is_announced = λ party. or-false (k.is_announced party) i;
         manifest = λ round. or-none (k.manifest round) i;
         block = λ u. or-none (k.block u) i;
-        heard = first_with (with_body d (KeyRequest r kind role)) k.heard;
+        heard = first_with (with_body d (KeyReq r kind role)) k.heard;
         revealed = λ x. or-none (k.revealed x) i;
-        seat = λ x. unseated (KeyRequest r kind role) refl refl x i;
-        asked = λ sort round. unasked (KeyRequest r kind role) refl refl sort round i;
+        seat = λ x. unseated (KeyReq r kind role) refl refl x i;
+        asked = λ sort round. unasked (KeyReq r kind role) refl refl sort round i;
       }
 
 -- ---- one more entry

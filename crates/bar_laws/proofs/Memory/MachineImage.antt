@@ -2,7 +2,8 @@
 use Rattle.bar_rules.specs.Peer.Evidence.{new_evidence}
 use Rattle.bar_window.specs.declared.exchange.Exchange.{Exchange}
 use Rattle.bar_wire.specs.Datagram.{Datagram, Body}
-use Rattle.bar_wire.specs.Inputs.{Input, Tick, Came}
+use Rattle.bar_wire.specs.Inputs.{Input}
+use Rattle.bar_wire.specs.Inputs as event
 use Rattle.bar_rules.specs.Runs.{Outcome, begun, contents_from, sends_from, state_after}
 use Rattle.bar_rules.specs.Peer.Admission.{is_admitted}
 use Rattle.bar_rules.specs.Peer.Exchanges.{partner_in}
@@ -85,10 +86,10 @@ module _ (me : Member) where
           ∙ ap (λ a. machine.perform (minds me) me a (Report d.message.from)) (answered-image (Kept d.message.from f ∷ log) d ∙ ap (λ k. machine.answered_to (minds me) me k d) (known-kept me log d.message.from f))
 
   input-image : (log : Log) (input : Input) → image (machine.take_input (logs me) me log input) ≡ machine.take_input (minds me) me (known me log) input
-  input-image log Tick =
+  input-image log event.Tick =
       ap (λ (a : Outcome Knowledge). record a { contents = contents_at_tick me (known me (Ticked ∷ log)) }) (all-image (orders_at_tick me (known me (Ticked ∷ log))) (begun (Ticked ∷ log)))
       ∙ ap (λ k. machine.take_tick (minds me) me k) (known-ticked me log)
-  input-image log (Came bytes) = taken-image log (datagram_of me.session bytes)
+  input-image log (event.Datagram bytes) = taken-image log (datagram_of me.session bytes)
 
   step-image : (log : Log) (input : Input) → image (machine.step (logs me) me log input) ≡ step_known me (known me log) input
   unfolding machine.step

@@ -210,7 +210,7 @@ again-by me log kinds.Key x d h s f i = key-again me log x d d.message.body s re
 again-by me log kinds.Manifest x d h s f i = absurd (unsaid me log x d kinds.Manifest s refl i)
 again-by me log kinds.Block x d h s f i = absurd (unsaid me log x d kinds.Block s refl i)
 again-by me log kinds.Divulge x d h s f i = absurd (unsaid me log x d kinds.Divulge s refl i)
-again-by me log kinds.KeyRequest x d h s f i = absurd (unsaid me log x d kinds.KeyRequest s refl i)
+again-by me log kinds.KeyReq x d h s f i = absurd (unsaid me log x d kinds.KeyReq s refl i)
 again-by me log kinds.Evidence x d h s f i = absurd (unsaid me log x d kinds.Evidence s refl i)
 again-by me log kinds.Evict x d h s f i = absurd (unsaid me log x d kinds.Evict s refl i)
 

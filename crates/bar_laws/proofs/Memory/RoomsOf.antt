@@ -16,7 +16,7 @@ use Rattle.bar_window.specs.declared.exchange.Role.TheVariants.{Initiator, Respo
 use Rattle.bar_window.specs.declared.exchange.XKind.{XKind}
 use Rattle.bar_window.specs.declared.exchange.XKind.TheVariants.{Balanced, Push}
 use Rattle.bar_window.specs.declared.update.UpdateId.{UpdateId}
-use Rattle.bar_wire.specs.Datagram.{Datagram, Body, Request, Response, Divulge, Query, Reply, Case, KeyRequest, Key, is_of, kind_number, part_of, exchange_by, is_place, place_of}
+use Rattle.bar_wire.specs.Datagram.{Datagram, Body, Request, Response, Divulge, Query, Reply, Case, KeyReq, Key, is_of, kind_number, part_of, exchange_by, is_place, place_of}
 use Rattle.bar_wire.specs.declared.kind.Kind.TheVariants as kinds
 use Rattle.bar_wire.specs.declared.kind.Kind.{Kind}
 use Rattle.bar_wire.specs.Kinds.{code_of}
@@ -135,7 +135,7 @@ row-placed me before from to (Reply r want give junk) p h own other e row =
 row-placed me before from to (Case c) p h own other e row =
     placed-by me before 8 (c.round, c.kind, c.role) p from to e
     (said-placed me before kinds.Case (exchange_by c.round c.kind c.role from to) (other_role c.role) h (and_parts _ _ (and_parts _ _ (and_parts _ _ row).0).0).0)
-row-placed me before from to (KeyRequest r k role) p h own other e row =
+row-placed me before from to (KeyReq r k role) p h own other e row =
     placed-by me before 9 (r, k, role) p from to e
     (said-placed me before kinds.Case (exchange_by r k role from to) (other_role role) h (and_parts _ _ (and_parts _ _ (and_parts _ _ row).0).0).0)
 row-placed me before from to (Key g) p h own other e row =

@@ -19,7 +19,8 @@ use Rattle.bar_rules.specs.Peer.Terms.{terms_of, terms_by, offer_terms, body_on}
 use Rattle.bar_rules.specs.Values.{updates_from, counts_ok}
 use Rattle.bar_terms.specs.Terms.{promised_updates, promised_junk}
 use Rattle.bar_window.specs.Exchange.{same_exchange, other_role, party_on}
-use Rattle.bar_window.specs.Terms.{Terms, Offer}
+use Rattle.bar_window.specs.Terms.{Terms}
+use Rattle.bar_window.specs.Terms as forms
 use Rattle.bar_window.specs.declared.exchange.Exchange.{Exchange}
 use Rattle.bar_window.specs.declared.exchange.Role.{Role}
 use Rattle.bar_window.specs.declared.exchange.Role.TheVariants.{Initiator, Responder}
@@ -28,7 +29,7 @@ use Rattle.bar_window.specs.declared.exchange.XKind.TheVariants.{Balanced, Push}
 use Rattle.bar_window.specs.declared.update.UpdateId.{UpdateId}
 use Rattle.bar_wire.specs.declared.kind.Kind.TheVariants as kinds
 use Rattle.bar_wire.specs.declared.kind.Kind.{Kind}
-use Rattle.bar_wire.specs.Datagram.{is_place, place_by, round_of, Message, Datagram, Body, Request, Response, Divulge, Query, Reply, Case, KeyRequest, Briefcase, is_of, kind_number, part_of, exchange_by, identity_of, named}
+use Rattle.bar_wire.specs.Datagram.{is_place, place_by, round_of, Message, Datagram, Body, Request, Response, Divulge, Query, Reply, Case, KeyReq, Briefcase, is_of, kind_number, part_of, exchange_by, identity_of, named}
 use Rattle.std.specs.Option.{option_or}
 use Rattle.std.specs.Str.{bytes_eq}
 use Rattle.std.proofs.Common.{◌≡◌, ℕ, ◌<◌, ◌≤◌, Bool, true, false, List, [], ◌∷◌, ◌++◌, refl, sym, ap, ◌∙◌, subst, inl, inr, ◌&&◌, eqb, length, ◌-◌}
@@ -106,7 +107,7 @@ say-obedient me out kind x o h f = go (first_said (is_of kind x (role_of me x)) 
 -- ---- the rule of each order's new message
 
 offer-worth : (s : Session) (a : Option (List UpdateId × List UpdateId)) (b : Option (List UpdateId × List UpdateId × ℕ)) (t : Terms) → offer_terms a b ≡ Some t → is_trade_worth s (Some t) ≡ true
-offer-worth s (Some a) (Some b) t e = let same : Offer a.0 a.1 b.0 b.1 b.2 ≡ t = cc in rw (← same) refl
+offer-worth s (Some a) (Some b) t e = let same : forms.Push a.0 a.1 b.0 b.1 b.2 ≡ t = cc in rw (← same) refl
 offer-worth s (Some a) None t e = cc
 offer-worth s None b t e = cc
 
@@ -487,7 +488,7 @@ said-more p log before later e = let f = some-is _ e in ap is_some (said-later p
 pub heard-more : (p : Message → Bool) (log before : Log) → IsLater log before → has_heard p before ≡ true → has_heard p log ≡ true
 heard-more p log before later e = let f = some-is _ e in ap is_some (find-later (λ before e. if_passes p (heard_in e)) log before f.0 later f.1)
 
-key_request-row : (me : Member) (before : Log) (from to r : ℕ) (k : XKind) (role : Role) → is_row_met me (known me before) from to (KeyRequest r k role) ≡ true
+key_request-row : (me : Member) (before : Log) (from to r : ℕ) (k : XKind) (role : Role) → is_row_met me (known me before) from to (KeyReq r k role) ≡ true
     → (has_said (is_of kinds.Case (exchange_by r k role from to) (other_role role)) before ≡ true) × (has_heard (is_of kinds.Case (exchange_by r k role from to) role) before ≡ true)
 key_request-row me before from to r k role row = let p = and_parts _ _ (and_parts _ _ (and_parts _ _ row).0).0 in p
 
@@ -544,13 +545,13 @@ orders-stand me log is_new d h w = go d.message.body refl
         let o : IsOwn me d = own (Reply r want give junk) (r, Push, Responder) e refl in
         when-stands me log _ (GiveCase (exchange_by r Push Responder d.message.from d.message.to) ∷ []) (λ z. ((partner-party me r Push Responder d.message.from d.message.to o.to o.other (bounds (Reply r want give junk) (r, Push, Responder) e refl), inl refl), tt))
     go (Case c) e = when-stands me log _ (AskKey (exchange_by c.round c.kind c.role d.message.from d.message.to) ∷ []) (λ z. (tt, tt))
-    go (KeyRequest r k role) e =
-        let o : IsOwn me d = own (KeyRequest r k role) (r, k, role) e refl in
+    go (KeyReq r k role) e =
+        let o : IsOwn me d = own (KeyReq r k role) (r, k, role) e refl in
         let row = key_request-row me w.before d.message.from d.message.to r k role (subst (λ b. is_row_met me (known me w.before) d.message.from d.message.to b ≡ true) e (admitted-row me w.before d admitted)) in
         let side : role_of me (exchange_by r k role d.message.from d.message.to) ≡ other_role role = partner-role me r k role d.message.from d.message.to o.to o.other in
         when-stands me log _ (GiveKey (exchange_by r k role d.message.from d.message.to) ∷ []) (λ z. (
           (
-            partner-party me r k role d.message.from d.message.to o.to o.other (bounds (KeyRequest r k role) (r, k, role) e refl),
+            partner-party me r k role d.message.from d.message.to o.to o.other (bounds (KeyReq r k role) (r, k, role) e refl),
             rw side (said-more _ log w.before later row.0),
             rw (side, other_other) (heard-more _ log w.before later row.1),
           ),

@@ -22,8 +22,9 @@ use Rattle.bar_window.specs.declared.exchange.Exchange.{Exchange}
 use Rattle.bar_window.specs.declared.exchange.Role.{Role}
 use Rattle.bar_wire.specs.declared.kind.Kind.TheVariants as kinds
 use Rattle.bar_wire.specs.declared.kind.Kind.{Kind}
-use Rattle.bar_wire.specs.Datagram.{Message, Datagram, Body, KeyRequest, is_signed, is_of}
-use Rattle.bar_wire.specs.Inputs.{Input, Tick, Came}
+use Rattle.bar_wire.specs.Datagram.{Message, Datagram, Body, KeyReq, is_signed, is_of}
+use Rattle.bar_wire.specs.Inputs.{Input}
+use Rattle.bar_wire.specs.Inputs as event
 use Rattle.std.proofs.Common.{◌≡◌, ℕ, suc, ◌+◌, Bool, true, false, List, [], ◌∷◌, ◌++◌, refl, sym, ap, ◌∙◌, subst, inl, inr, arith}
 use Rattle.std.specs.Prelude.{Option, Some, None, ◌⊎◌, map, cond, nat_le, Contains}
 use Rattle.std.specs.List.{AllByRecursion, list_any}
@@ -96,7 +97,7 @@ perform-addressed me out (GiveCase x) a = say-addressed me out kinds.Case x _ a
 perform-addressed me out (GiveKey x) a = say-addressed me out kinds.Key x _ a
 perform-addressed me out (Resend kind x) a = say-addressed me out kind x None a
 perform-addressed me out (Reveal x) a = if-addressed me out _ _ a
-perform-addressed me out (AskKey x) a = if-addressed me out (partner_in me x) (Some (KeyRequest x.round x.kind (role_of me x))) a
+perform-addressed me out (AskKey x) a = if-addressed me out (partner_in me x) (Some (KeyReq x.round x.kind (role_of me x))) a
 perform-addressed me out (Report q) a = if-addressed me out 0 _ a
 
 perform_all-addressed : (me : Member) (out : Out) (os : List Order) → AllByRecursion IsAddressed out.sends → AllByRecursion IsAddressed (perform_all me out os).sends
@@ -128,8 +129,8 @@ step-addressed me log i = go (nat_le (last_tick me.session) (ticks log)) i
   where
     go : (b : Bool) (i : Input) → AllByRecursion IsAddressed (cond b (begun log) (take_input me log i)).sends
     go true i = tt
-    go false Tick = perform_all-addressed me (begun (Ticked ∷ log)) (orders_at_tick me (known me (Ticked ∷ log))) tt
-    go false (Came bytes) = datagram-addressed me log (datagram_of me.session bytes)
+    go false event.Tick = perform_all-addressed me (begun (Ticked ∷ log)) (orders_at_tick me (known me (Ticked ∷ log))) tt
+    go false (event.Datagram bytes) = datagram-addressed me log (datagram_of me.session bytes)
 
 all-sent : (me : Member) (log : Log) (sends : List (ℕ × Datagram)) → AllByRecursion (SentBy me log) sends → AllByRecursion IsAddressed sends → AllByRecursion (IsSent log) sends
 all-sent me log [] a b = tt

@@ -24,7 +24,8 @@ use Rattle.bar_window.specs.declared.exchange.XKind.{XKind}
 use Rattle.bar_window.specs.declared.exchange.XKind.TheVariants.{Balanced, Push}
 use Rattle.bar_wire.specs.declared.kind.Kind.TheVariants as kinds
 use Rattle.bar_wire.specs.Datagram.{kind_of, Datagram, is_of, Place, place_of, Body}
-use Rattle.bar_wire.specs.Inputs.{Input, Tick, Came}
+use Rattle.bar_wire.specs.Inputs.{Input}
+use Rattle.bar_wire.specs.Inputs as event
 use Rattle.std.specs.Option.{option_or}
 use Rattle.std.proofs.Common.{◌≡◌, ℕ, ◌<◌, Bool, true, false, List, [], ◌∷◌, ◌++◌, refl, sym, subst, inl, inr, length, not}
 use Rattle.std.proofs.Common.{arith, ◌≤◌}
@@ -182,8 +183,8 @@ datagram-obedient me log bytes (Some d) r h =
     (answered-obedient me (with_evidence me log d.message.from (new_evidence me (known me log) d)) d (reads-back me.session bytes d r) (evidence-obedient me log d _ refl h))
 
 input-obedient : (me : Member) (log : Log) (i : Input) → IsObedient me log → IsObedient me (take_input me log i).state
-input-obedient me log Tick h = perform_all-obedient me (orders_at_tick me (known me (Ticked ∷ log))) (begun (Ticked ∷ log)) (tt, h) (tick-stands me (Ticked ∷ log) (ticked-low log))
-input-obedient me log (Came bytes) h = datagram-obedient me log bytes (datagram_of me.session bytes) refl h
+input-obedient me log event.Tick h = perform_all-obedient me (orders_at_tick me (known me (Ticked ∷ log))) (begun (Ticked ∷ log)) (tt, h) (tick-stands me (Ticked ∷ log) (ticked-low log))
+input-obedient me log (event.Datagram bytes) h = datagram-obedient me log bytes (datagram_of me.session bytes) refl h
 
 pub step-obedient : (me : Member) (log : Log) (i : Input) → IsObedient me log → IsObedient me (step me log i).state
 unfolding machine.step

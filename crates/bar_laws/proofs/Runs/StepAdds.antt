@@ -24,8 +24,9 @@ use Rattle.bar_window.specs.declared.exchange.XKind.{XKind}
 use Rattle.bar_window.specs.declared.update.UpdateId.{UpdateId}
 use Rattle.bar_wire.specs.declared.kind.Kind.TheVariants as kinds
 use Rattle.bar_wire.specs.declared.kind.Kind.{Kind}
-use Rattle.bar_wire.specs.Datagram.{is_place, place_by, Message, Datagram, part_of, exchange_by, Body, Divulge, KeyRequest, Evidence, is_of, is_signed, Place, place_of}
-use Rattle.bar_wire.specs.Inputs.{Input, Tick, Came}
+use Rattle.bar_wire.specs.Datagram.{is_place, place_by, Message, Datagram, part_of, exchange_by, Body, Divulge, KeyReq, Evidence, is_of, is_signed, Place, place_of}
+use Rattle.bar_wire.specs.Inputs.{Input}
+use Rattle.bar_wire.specs.Inputs as event
 use Rattle.std.specs.Option.{option_or, option_map_or}
 use Rattle.std.proofs.lemmas.Bool.{and_parts}
 use Rattle.bar_laws.proofs.Logs.{same_exchange-is, same_role-is, option_or-some, option_or-cases, WasHeard, first_heard-was, first_said-was, SaidIn, said-in, all-snoc, all-map}
@@ -124,7 +125,7 @@ adds-perform me log o out (GiveCase x) a = adds-say me log o out kinds.Case x _ 
 adds-perform me log o out (GiveKey x) a = adds-say me log o out kinds.Key x _ a
 adds-perform me log o out (Resend kind x) a = adds-say me log o out kind x None a
 adds-perform me log o out (Reveal x) a = adds-if me log o out _ _ a (λ c e. reveal-plain out.state x.round c _ e)
-adds-perform me log o out (AskKey x) a = adds-if me log o out (partner_in me x) (Some (KeyRequest x.round x.kind (role_of me x))) a (λ c e. let same : KeyRequest x.round x.kind (role_of me x) ≡ c = cc in subst (λ z. IsPlain out.state z) same (record { unsigned_kind = refl; evidence = inl refl }))
+adds-perform me log o out (AskKey x) a = adds-if me log o out (partner_in me x) (Some (KeyReq x.round x.kind (role_of me x))) a (λ c e. let same : KeyReq x.round x.kind (role_of me x) ≡ c = cc in subst (λ z. IsPlain out.state z) same (record { unsigned_kind = refl; evidence = inl refl }))
 adds-perform me log o out (Report q) a = adds-if me log o out 0 _ a (λ c e. report-plain out.state q c _ refl e)
 
 adds-all : (me : Member) (log : Log) (o : Option Datagram) (orders : List Order) (out : Out) → Adds me log o out → Adds me log o (perform_all me out orders)
@@ -194,8 +195,8 @@ completed-source me log d f h = go (is_tried me (known me log) d) h
 
 -- the datagram that an input is
 abbrev pub came : Member → Input → Option Datagram
-came me Tick = None
-came me (Came bytes) = datagram_of me.session bytes
+came me event.Tick = None
+came me (event.Datagram bytes) = datagram_of me.session bytes
 
 start-adds : (me : Member) (log new : Log) (o : Option Datagram) → AllByRecursion (AddedBy me log o) new → Adds me log o (begun (new ++ log))
 start-adds me log new o a = record { new = new; split = refl; added = a; sent = tt }
@@ -229,7 +230,7 @@ step-adds me log i = go (nat_le (last_tick me.session) (ticks log)) i
   where
     go : (b : Bool) (i : Input) → Adds me log (came me i) (cond b (begun log) (take_input me log i))
     go true i = start-adds me log [] (came me i) tt
-    go false Tick =
+    go false event.Tick =
         let a = adds-all me log None (orders_at_tick me (known me (Ticked ∷ log))) (begun (Ticked ∷ log)) (start-adds me log (Ticked ∷ []) None (tt, tt)) in
         record { new = a.new; split = a.split; added = a.added; sent = a.sent }
-    go false (Came bytes) = datagram-adds me log (datagram_of me.session bytes)
+    go false (event.Datagram bytes) = datagram-adds me log (datagram_of me.session bytes)

@@ -6,7 +6,8 @@ use Rattle.bar_rules.specs.Runs.{state_after, played_from, sends_from}
 use Rattle.bar_rules.specs.Values.{datagram_bytes}
 use Rattle.bar_rules.specs.World.World.{World, Move, TickOf, Deliver, Hostile, member, step_of, spelled, takes, takes_by, delivered, run, Setup, IsSetup, initial}
 use Rattle.bar_wire.specs.Datagram.{Datagram}
-use Rattle.bar_wire.specs.Inputs.{Input, Tick, Came}
+use Rattle.bar_wire.specs.Inputs.{Input}
+use Rattle.bar_wire.specs.Inputs as event
 use Rattle.bar_laws.specs.OwnRuns.{given_to, brought_to, inputs_from, is_from, packets_of, IsOwnRun, PeersRun, BroadcasterRuns}
 use Rattle.bar_laws.specs.Parties.{IsSentBy}
 use Rattle.std.proofs.Common.{◌≡◌, ℕ, zero, suc, ◌+◌, ◌<◌, ◌≤◌, Bool, true, false, List, [], ◌∷◌, ◌++◌, refl, sym, ap, ◌∙◌, subst, map, eqb, length, append_assoc, append-nil, arith}
@@ -131,18 +132,18 @@ run-reaches setup p w [] laws sound = λ log played sent number at. record {
   sent_is = at.sent_is ∙ sym (append-nil sent);
 }
 run-reaches setup p w (TickOf q ∷ ms) laws sound =
-    reaches-next setup p q w _ Tick _ laws sound (run-reaches setup p (takes setup w q Tick) ms laws (takes-sound setup nobody w q Tick laws sound tt))
+    reaches-next setup p q w _ event.Tick _ laws sound (run-reaches setup p (takes setup w q event.Tick) ms laws (takes-sound setup nobody w q event.Tick laws sound tt))
 run-reaches setup p w (Hostile q bytes ∷ ms) laws sound =
-    reaches-next setup p q w _ (Came bytes) _ laws sound (run-reaches setup p (takes setup w q (Came bytes)) ms laws (takes-sound setup nobody w q (Came bytes) laws sound (nobody-came setup w (Came bytes))))
+    reaches-next setup p q w _ (event.Datagram bytes) _ laws sound (run-reaches setup p (takes setup w q (event.Datagram bytes)) ms laws (takes-sound setup nobody w q (event.Datagram bytes) laws sound (nobody-came setup w (event.Datagram bytes))))
 run-reaches setup p w (Deliver k ∷ ms) laws sound = go (slice_get w.packets k) (λ v good. run-reaches setup p v ms laws good)
   where
     go : (o : Option (ℕ × List ℕ)) → ((v : World) → IsSound setup nobody v → Reaches setup p v (run setup v ms) (inputs_from setup v p ms))
         → Reaches setup p w (run setup (delivered setup w o) ms) (brought_to p o ++ inputs_from setup (delivered setup w o) p ms)
     go None more = more w sound
     go (Some packet) more =
-        let next : World = takes setup w packet.0 (Came packet.1) in
-        let good : IsSound setup nobody next = takes-sound setup nobody w packet.0 (Came packet.1) laws sound (nobody-came setup w (Came packet.1)) in
-        reaches-next setup p packet.0 w _ (Came packet.1) _ laws sound (more next good)
+        let next : World = takes setup w packet.0 (event.Datagram packet.1) in
+        let good : IsSound setup nobody next = takes-sound setup nobody w packet.0 (event.Datagram packet.1) laws sound (nobody-came setup w (event.Datagram packet.1)) in
+        reaches-next setup p packet.0 w _ (event.Datagram packet.1) _ laws sound (more next good)
 
 -- from the first move on
 own-run : (setup : Setup) (moves : List Move) (p : ℕ) → IsSetup setup → p ≤ setup.session.shape.peers → IsOwnRun setup moves p (step_of setup p)

@@ -2,7 +2,8 @@
 use Rattle.bar_rules.specs.Peer.Log.{Log}
 use Rattle.bar_rules.specs.World.World.{World, Move, TickOf, Deliver, Hostile, member, step_of, spelled, takes, takes_by, delivered, happens, run, Setup, IsSetup, initial}
 use Rattle.bar_wire.specs.Datagram.{Datagram}
-use Rattle.bar_wire.specs.Inputs.{Input, Tick, Came}
+use Rattle.bar_wire.specs.Inputs.{Input}
+use Rattle.bar_wire.specs.Inputs as event
 use Rattle.bar_wire.specs.Grammar.{IsDatagram}
 use Rattle.bar_laws.specs.Parties.{IsSentBy, IsOfParty, SentIsAccepted, StepIsAccepted}
 use Rattle.std.proofs.Common.{◌≡◌, ℕ, ◌≤◌, List, [], ◌∷◌, inl, inr, refl}
@@ -39,8 +40,8 @@ all-packets setup p [] low a = tt
 all-packets setup p (s ∷ sends) low a = (record { party = p; present = low; datagram = s.1; accepted = a.0 }, all-packets setup p sends low a.1)
 
 pub nobody-came : (setup : Setup) (w : World) (i : Input) → CameUnforged setup nobody w i
-nobody-came setup w Tick = tt
-nobody-came setup w (Came bytes) = (nobody-genuine setup w bytes, λ d reads. all-nobody setup w _)
+nobody-came setup w event.Tick = tt
+nobody-came setup w (event.Datagram bytes) = (nobody-genuine setup w bytes, λ d reads. all-nobody setup w _)
 
 -- a world that is sound, and whose packets are accepted
 pub record IsHeld (setup : Setup) (w : World) : Type 0 where
@@ -60,13 +61,13 @@ deliver-held setup w k laws h = go (slice_get w.packets k)
   where
     go : (o : Option (ℕ × List ℕ)) → IsHeld setup (delivered setup w o)
     go None = h
-    go (Some d) = takes-held setup w d.0 (Came d.1) laws h
+    go (Some d) = takes-held setup w d.0 (event.Datagram d.1) laws h
 
 run-held : (setup : Setup) (w : World) (moves : List Move) → StepsKeep setup → IsHeld setup w → IsHeld setup (run setup w moves)
 run-held setup w [] laws h = h
-run-held setup w (TickOf p ∷ ms) laws h = run-held setup (happens setup w (TickOf p)) ms laws (takes-held setup w p Tick laws h)
+run-held setup w (TickOf p ∷ ms) laws h = run-held setup (happens setup w (TickOf p)) ms laws (takes-held setup w p event.Tick laws h)
 run-held setup w (Deliver k ∷ ms) laws h = run-held setup (happens setup w (Deliver k)) ms laws (deliver-held setup w k laws h)
-run-held setup w (Hostile to b ∷ ms) laws h = run-held setup (happens setup w (Hostile to b)) ms laws (takes-held setup w to (Came b) laws h)
+run-held setup w (Hostile to b ∷ ms) laws h = run-held setup (happens setup w (Hostile to b)) ms laws (takes-held setup w to (event.Datagram b) laws h)
 
 run-is-held : (setup : Setup) (moves : List Move) → IsSetup setup → IsHeld setup (run setup (initial setup) moves)
 run-is-held setup moves is = run-held setup (initial setup) moves (steps-keep setup is) (record { sound = opened-sound setup nobody is.parties; packets = tt })

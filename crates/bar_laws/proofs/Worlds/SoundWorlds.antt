@@ -10,7 +10,8 @@ use Rattle.bar_rules.specs.Peer.Signing.{MaySay}
 use Rattle.bar_rules.specs.Values.{datagram_bytes, datagram_of}
 use Rattle.bar_rules.specs.World.World.{World, Move, TickOf, Deliver, Hostile, member, step_of, spelled, takes, takes_by, delivered, happens, run, IsGenuine, AllGenuine, IsUnforged, AreUnforged, Setup, IsSetup, initial}
 use Rattle.bar_wire.specs.Datagram.{Message, Datagram, Body, Evidence, Manifest, is_signed}
-use Rattle.bar_wire.specs.Inputs.{Input, Tick, Came}
+use Rattle.bar_wire.specs.Inputs.{Input}
+use Rattle.bar_wire.specs.Inputs as event
 use Rattle.std.proofs.Common.{◌≡◌, ℕ, zero, suc, Bool, true, false, List, [], ◌∷◌, ◌++◌, refl, sym, ap, ◌∙◌, subst, inl, inr, map, eqb, arith, ◌<◌, ◌≤◌, ◌+◌, length}
 use Rattle.std.specs.Prelude.{Option, Some, None, ◌⊎◌, slice_get, slice_set, unwrap_or}
 use Rattle.std.specs.List.{AllByRecursion, concat}
@@ -140,8 +141,8 @@ kept-in (x ∷ log) q e h = go (option_or-cases (kept log q) (kept_in q x) e h) 
 
 -- what came is unforged
 abbrev pub CameUnforged : Setup → (ℕ → Bool) → World → Input → Type 0
-CameUnforged setup trusted w Tick = Unit {0}
-CameUnforged setup trusted w (Came bytes) = IsUnforged setup trusted w bytes
+CameUnforged setup trusted w event.Tick = Unit {0}
+CameUnforged setup trusted w (event.Datagram bytes) = IsUnforged setup trusted w bytes
 
 -- a step's facts, as the invariant takes them
 pub record IsStep (setup : Setup) (p : ℕ) (log : Log) (i : Input) (out : Out) : Type 0 where
@@ -173,8 +174,8 @@ module _ (setup : Setup) (trusted : ℕ → Bool) (w : World) (p : ℕ) (log : L
   came-genuine d e = go i fresh e
     where
       go : (j : Input) → CameUnforged setup trusted w j → came (member setup p) j ≡ Some d → IsGenuine setup trusted w (datagram_bytes setup.session d) × AllGenuine setup trusted w (evidence_in d.message.body)
-      go Tick f e = cc
-      go (Came bytes) f e = (subst (λ b. IsGenuine setup trusted w b) (sym (spells setup.session bytes d e)) f.0, f.1 d e)
+      go event.Tick f e = cc
+      go (event.Datagram bytes) f e = (subst (λ b. IsGenuine setup trusted w b) (sym (spells setup.session bytes d e)) f.0, f.1 d e)
 
   heard-new : (new : Log) (d : Datagram) → AllByRecursion (AddedBy (member setup p) log (came (member setup p) i)) new → HeardIn (new ++ log) d → IsGenuine setup trusted w (datagram_bytes setup.session d)
   heard-new [] d a h = sound.heard p log d at h
@@ -310,14 +311,14 @@ deliver-sound setup trusted w k laws sound = go (slice_get w.packets k) refl
   where
     go : (o : Option (ℕ × List ℕ)) → slice_get w.packets k ≡ o → IsSound setup trusted (delivered setup w o)
     go None e = sound
-    go (Some d) e = takes-sound setup trusted w d.0 (Came d.1) laws sound (packets-at setup trusted w w.packets k d sound.packets e)
+    go (Some d) e = takes-sound setup trusted w d.0 (event.Datagram d.1) laws sound (packets-at setup trusted w w.packets k d sound.packets e)
 
 -- whatever the moves are, if nothing is forged the world is sound
 pub run-sound : (setup : Setup) (trusted : ℕ → Bool) (w : World) (moves : List Move) → StepsKeep setup → IsSound setup trusted w → AreUnforged setup trusted w moves → IsSound setup trusted (run setup w moves)
 run-sound setup trusted w [] laws sound u = sound
-run-sound setup trusted w (TickOf p ∷ ms) laws sound u = run-sound setup trusted (happens setup w (TickOf p)) ms laws (takes-sound setup trusted w p Tick laws sound tt) u
+run-sound setup trusted w (TickOf p ∷ ms) laws sound u = run-sound setup trusted (happens setup w (TickOf p)) ms laws (takes-sound setup trusted w p event.Tick laws sound tt) u
 run-sound setup trusted w (Deliver k ∷ ms) laws sound u = run-sound setup trusted (happens setup w (Deliver k)) ms laws (deliver-sound setup trusted w k laws sound) u
-run-sound setup trusted w (Hostile to b ∷ ms) laws sound u = run-sound setup trusted (happens setup w (Hostile to b)) ms laws (takes-sound setup trusted w to (Came b) laws sound u.0) u.1
+run-sound setup trusted w (Hostile to b ∷ ms) laws sound u = run-sound setup trusted (happens setup w (Hostile to b)) ms laws (takes-sound setup trusted w to (event.Datagram b) laws sound u.0) u.1
 
 -- a peer's step is such a step
 peer-keeps : (setup : Setup) (p : ℕ) (log : Log) (i : Input) → eqb p 0 ≡ false → IsMember (member setup p) → IsObedient (member setup p) log → IsStep setup p log i (step (member setup p) log i)

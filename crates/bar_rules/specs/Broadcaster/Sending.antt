@@ -3,7 +3,8 @@ use Rattle.std.specs.Prelude.{ℕ, ◌+◌, ◌-◌, ◌*◌, ◌==◌, ◌||◌
 use Rattle.bar_wire.specs.Limits.{everyone}
 use Rattle.bar_window.specs.declared.update.UpdateId.{UpdateId}
 use Rattle.bar_wire.specs.Datagram.{Message, Datagram, Body, Manifest, Block, Evidence, Evict, kind_of}
-use Rattle.bar_wire.specs.Inputs.{Input, Tick, Came}
+use Rattle.bar_wire.specs.Inputs.{Input}
+use Rattle.bar_wire.specs.Inputs as event
 use Rattle.bar_rules.specs.Member.{Session, Member, slot_after, last_tick}
 use Rattle.bar_rules.specs.Values.{unsigned, datagram_of, message_bytes}
 use Rattle.bar_rules.specs.Secrets.{signature_of}
@@ -86,8 +87,8 @@ judge_datagram me stream log None = log
 judge_datagram me stream log (Some d) = judge_body me stream log d.message.body
 
 abbrev pub caster_take : Member → List ℕ → Log → Input → Outcome Log
-caster_take me stream log Tick = caster_tick me stream (begun (Ticked ∷ log))
-caster_take me stream log (Came bytes) = begun (judge_datagram me stream log (datagram_of me.session bytes))
+caster_take me stream log event.Tick = caster_tick me stream (begun (Ticked ∷ log))
+caster_take me stream log (event.Datagram bytes) = begun (judge_datagram me stream log (datagram_of me.session bytes))
 
 unfoldable pub caster_step : Member → List ℕ → Log → Input → Outcome Log
 caster_step me stream log input =

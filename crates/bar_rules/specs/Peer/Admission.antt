@@ -13,10 +13,11 @@ use Rattle.bar_window.specs.declared.exchange.XKind.{XKind}
 use Rattle.bar_window.specs.declared.exchange.XKind.TheVariants.{Balanced, Push}
 use Rattle.bar_window.specs.Exchange.{other_role}
 use Rattle.bar_window.specs.Updates.{same_updates}
-use Rattle.bar_window.specs.Terms.{Terms, Trade, Offer}
+use Rattle.bar_window.specs.Terms.{Terms}
+use Rattle.bar_window.specs.Terms as forms
 use Rattle.bar_terms.specs.Table.{Digest, Known, PastEnd, NoManifest, digest_of, is_within}
 use Rattle.bar_terms.specs.Terms.{offer_ok}
-use Rattle.bar_wire.specs.Datagram.{Message, Datagram, Body, Manifest, Block, Request, Response, Divulge, Query, Reply, Case, KeyRequest, Key, Evidence, Evict, is_signed, kind_of, Place, place_of, exchange_by}
+use Rattle.bar_wire.specs.Datagram.{Message, Datagram, Body, Manifest, Block, Request, Response, Divulge, Query, Reply, Case, KeyReq, Key, Evidence, Evict, is_signed, kind_of, Place, place_of, exchange_by}
 use Rattle.bar_wire.specs.declared.kind.Kind.TheVariants as kinds
 use Rattle.bar_wire.specs.declared.kind.Kind.{Kind}
 use Rattle.bar_rules.specs.Member.{Session, Member, is_alive}
@@ -73,10 +74,10 @@ abbrev pub body_heard : Knowledge → Kind → Exchange → Role → Option Body
 body_heard k kind x role = option_map (λ d. d.message.body) (k.heard kind x role)
 
 abbrev pub same_terms : Terms → Terms → Bool
-same_terms (Trade n a b) (Trade m c d) = bytes_eq n m && same_updates a c && same_updates b d
-same_terms (Offer y o w g z) (Offer v p x h k) = same_updates y v && same_updates o p && same_updates w x && same_updates g h && (z == k)
-same_terms (Trade n a b) (Offer y o w g z) = false
-same_terms (Offer y o w g z) (Trade n a b) = false
+same_terms (forms.Balanced n a b) (forms.Balanced m c d) = bytes_eq n m && same_updates a c && same_updates b d
+same_terms (forms.Push y o w g z) (forms.Push v p x h k) = same_updates y v && same_updates o p && same_updates w x && same_updates g h && (z == k)
+same_terms (forms.Balanced n a b) (forms.Push y o w g z) = false
+same_terms (forms.Push y o w g z) (forms.Balanced n a b) = false
 
 abbrev pub are_terms : Terms → Option Terms → Bool
 are_terms terms o = option_map_or (λ t. same_terms t terms) o false
@@ -90,7 +91,7 @@ meets_commitment me k x nonce ha =
 -- the terms that an answer makes with the offer that was said
 abbrev pub terms_with : Option (List UpdateId × List UpdateId) → List UpdateId → List UpdateId → ℕ → Option Terms
 terms_with None want give junk = None
-terms_with (Some q) want give junk = Some (Offer q.0 q.1 want give junk)
+terms_with (Some q) want give junk = Some (forms.Push q.0 q.1 want give junk)
 
 -- the row of each kind, for a message of this body from one party to another; the bound on the round stands last
 abbrev pub is_row_met : Member → Knowledge → ℕ → ℕ → Body → Bool
@@ -125,12 +126,12 @@ is_row_met me k from to (Case c) =
     && are_terms c.terms (terms_of me k x)
     && counts_ok me.session c
     && is_in_time me.session k kinds.Case c.round
-is_row_met me k from to (KeyRequest round kind role) =
+is_row_met me k from to (KeyReq round kind role) =
     let x : Exchange = exchange_by round kind role from to in
     has_said_of k kinds.Case x (other_role role)
     && has_heard_of k kinds.Case x role
-    && not (has_heard_of k kinds.KeyRequest x role)
-    && is_in_time me.session k kinds.KeyRequest round
+    && not (has_heard_of k kinds.KeyReq x role)
+    && is_in_time me.session k kinds.KeyReq round
 is_row_met me k from to (Key g) =
     let x : Exchange = exchange_by g.round g.kind g.role from to in
     has_said_of k kinds.Case x (other_role g.role)

@@ -110,7 +110,7 @@ deadline s kinds.Response = 2
 deadline s kinds.Divulge = 2
 deadline s kinds.Reply = 2
 deadline s kinds.Case = 2
-deadline s kinds.KeyRequest = s.shape.life
+deadline s kinds.KeyReq = s.shape.life
 deadline s kinds.Key = s.shape.life
 deadline s _ = 0
 

@@ -1,7 +1,8 @@
 -- A peer that only listens: it admits manifests and blocks by the same rows, plays the same contents and sends nothing.
 use Rattle.std.specs.Prelude.{ℕ, ◌&&◌, Bool, true, false, List, [], Option, Some, None, nat_le, if◌then◌else◌}
 use Rattle.bar_wire.specs.Datagram.{Datagram, Body, Manifest, Block}
-use Rattle.bar_wire.specs.Inputs.{Input, Tick, Came}
+use Rattle.bar_wire.specs.Inputs.{Input}
+use Rattle.bar_wire.specs.Inputs as event
 use Rattle.bar_rules.specs.Member.{Member, last_tick}
 use Rattle.bar_rules.specs.Values.{datagram_of}
 use Rattle.bar_rules.specs.Runs.{Outcome, begun, sends_from, played_from}
@@ -24,8 +25,8 @@ heard me k None = k
 heard me k (Some d) = if hears me k d then with_heard me d k else k
 
 abbrev pub listen : Member → Knowledge → Input → Outcome Knowledge
-listen me k Tick = record { state = with_tick me k; sends = []; contents = contents_at_tick me (with_tick me k) }
-listen me k (Came bytes) = record { state = heard me k (datagram_of me.session bytes); sends = []; contents = [] }
+listen me k event.Tick = record { state = with_tick me k; sends = []; contents = contents_at_tick me (with_tick me k) }
+listen me k (event.Datagram bytes) = record { state = heard me k (datagram_of me.session bytes); sends = []; contents = [] }
 
 -- one input; after its last tick a listener ignores every input
 unfoldable pub listened : Member → Knowledge → Input → Outcome Knowledge

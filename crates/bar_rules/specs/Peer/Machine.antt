@@ -2,8 +2,9 @@
 use Rattle.std.specs.Prelude.{ℕ, true, false, List, [], ◌∷◌, Option, Some, None, nat_le, option_map, if◌then◌else◌}
 use Rattle.bar_rules.specs.Peer.Evidence.{new_evidence}
 use Rattle.bar_window.specs.declared.exchange.Exchange.{Exchange}
-use Rattle.bar_wire.specs.Datagram.{Message, Datagram, Body, Divulge, KeyRequest, Evidence}
-use Rattle.bar_wire.specs.Inputs.{Input, Tick, Came}
+use Rattle.bar_wire.specs.Datagram.{Message, Datagram, Body, Divulge, KeyReq, Evidence}
+use Rattle.bar_wire.specs.Inputs.{Input}
+use Rattle.bar_wire.specs.Inputs as event
 use Rattle.bar_wire.specs.declared.kind.Kind.TheVariants as kinds
 use Rattle.bar_wire.specs.declared.kind.Kind.{Kind}
 use Rattle.bar_rules.specs.Member.{Member, last_tick}
@@ -64,7 +65,7 @@ perform w me out (GiveCase x) =
 perform w me out (GiveKey x) = say w me out kinds.Key x (Some (key_body me x))
 perform w me out (Resend kind x) = say w me out kind x None
 perform w me out (Reveal x) = send_if me out (partner_in me x) (option_map (λ a. Divulge x.round a.0 a.1) ((w.reads out.state).revealed x))
-perform w me out (AskKey x) = send_if me out (partner_in me x) (Some (KeyRequest x.round x.kind (role_of me x)))
+perform w me out (AskKey x) = send_if me out (partner_in me x) (Some (KeyReq x.round x.kind (role_of me x)))
 perform w me out (Report q) = send_if me out 0 (option_map Evidence ((w.reads out.state).evidence q))
 
 abbrev pub perform_all : {S : Type 0} → Keeping S → Member → Outcome S → List Order → Outcome S
@@ -108,8 +109,8 @@ abbrev pub take_tick : {S : Type 0} → Keeping S → Member → S → Outcome S
 take_tick w me s = record (perform_all w me (begun s) (orders_at_tick me (w.reads s))) { contents = contents_at_tick me (w.reads s) }
 
 abbrev pub take_input : {S : Type 0} → Keeping S → Member → S → Input → Outcome S
-take_input w me s Tick = take_tick w me (w.adds Ticked s)
-take_input w me s (Came bytes) = take_datagram w me s (datagram_of me.session bytes)
+take_input w me s event.Tick = take_tick w me (w.adds Ticked s)
+take_input w me s (event.Datagram bytes) = take_datagram w me s (datagram_of me.session bytes)
 
 -- what one input leaves; after its last tick a peer ignores every input
 unfoldable pub step : {S : Type 0} → Keeping S → Member → S → Input → Outcome S

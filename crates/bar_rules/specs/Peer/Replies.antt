@@ -5,9 +5,10 @@ use Rattle.std.specs.Str.{bytes_eq}
 use Rattle.bar_window.specs.declared.exchange.Exchange.{Exchange}
 use Rattle.bar_window.specs.declared.exchange.Role.TheVariants.{Initiator, Responder}
 use Rattle.bar_window.specs.declared.exchange.XKind.TheVariants.{Balanced, Push}
-use Rattle.bar_window.specs.Terms.{Terms, Trade, Offer}
+use Rattle.bar_window.specs.Terms.{Terms}
+use Rattle.bar_window.specs.Terms as forms
 use Rattle.bar_terms.specs.Terms.{trade_count}
-use Rattle.bar_wire.specs.Datagram.{Datagram, Body, Request, Response, Divulge, Query, Reply, Case, KeyRequest, kind_of, Place, place_of, exchange_by}
+use Rattle.bar_wire.specs.Datagram.{Datagram, Body, Request, Response, Divulge, Query, Reply, Case, KeyReq, kind_of, Place, place_of, exchange_by}
 use Rattle.bar_wire.specs.declared.kind.Kind.TheVariants as kinds
 use Rattle.bar_rules.specs.Member.{Session, Member}
 use Rattle.bar_rules.specs.Values.{datagram_bytes}
@@ -18,8 +19,8 @@ use Rattle.bar_rules.specs.Peer.Orders.{Order, Answer, Reveal, GiveCase, AskKey,
 -- a balanced exchange goes on where each side lacks something of the other's
 abbrev pub is_trade_worth : Session → Option Terms → Bool
 is_trade_worth s None = false
-is_trade_worth s (Some (Trade nonce ha hb)) = nat_le 1 (trade_count s.cap ha hb)
-is_trade_worth s (Some (Offer young aged want give junk)) = true
+is_trade_worth s (Some (forms.Balanced nonce ha hb)) = nat_le 1 (trade_count s.cap ha hb)
+is_trade_worth s (Some (forms.Push young aged want give junk)) = true
 
 abbrev pub orders_when : Bool → List Order → List Order
 orders_when b os = if b then os else []
@@ -40,8 +41,8 @@ orders_for me k is_new from to (Query r seed young aged) =
 orders_for me k is_new from to (Reply r want give junk) =
     orders_when is_new (GiveCase (exchange_by r Push Responder from to) ∷ [])
 orders_for me k is_new from to (Case c) = orders_when is_new (AskKey (exchange_by c.round c.kind c.role from to) ∷ [])
-orders_for me k is_new from to (KeyRequest r kind role) =
-    orders_when (is_new || is_in_time me.session k kinds.KeyRequest r) (GiveKey (exchange_by r kind role from to) ∷ [])
+orders_for me k is_new from to (KeyReq r kind role) =
+    orders_when (is_new || is_in_time me.session k kinds.KeyReq r) (GiveKey (exchange_by r kind role from to) ∷ [])
 orders_for me k is_new from to _ = []
 
 abbrev pub reply_orders : Member → Knowledge → Bool → Datagram → List Order

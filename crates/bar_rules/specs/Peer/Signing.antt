@@ -8,7 +8,8 @@ use Rattle.bar_window.specs.declared.exchange.Role.TheVariants.{Initiator, Respo
 use Rattle.bar_window.specs.declared.exchange.XKind.{XKind}
 use Rattle.bar_window.specs.declared.exchange.XKind.TheVariants.{Balanced, Push}
 use Rattle.bar_window.specs.Exchange.{other_role}
-use Rattle.bar_window.specs.Terms.{Terms, Trade, Offer}
+use Rattle.bar_window.specs.Terms.{Terms}
+use Rattle.bar_window.specs.Terms as forms
 use Rattle.bar_terms.specs.Table.{is_within}
 use Rattle.bar_wire.specs.Datagram.{Message, Datagram, Body, Request, Response, Query, Reply, Case, Key, Briefcase, KeyGiven, identity_of, exchange_by, Place, place_of, round_of}
 use Rattle.bar_seal.specs.Leaves as leaves
@@ -28,8 +29,8 @@ asking me round kind to = record { round = round; kind = kind; initiator = me.pa
 
 -- the histories, or the offer, are within the table
 abbrev pub windows_within : Member → Knowledge → Terms → Bool
-windows_within me k (Trade nonce ha hb) = is_within (table_of k) ha && is_within (table_of k) hb
-windows_within me k (Offer young aged want give junk) = is_within (table_of k) young && is_within (table_of k) aged
+windows_within me k (forms.Balanced nonce ha hb) = is_within (table_of k) ha && is_within (table_of k) hb
+windows_within me k (forms.Push young aged want give junk) = is_within (table_of k) young && is_within (table_of k) aged
 
 -- a REQUEST: in its round, with the round's seed, to the partner that it chooses, committing to the history of this moment
 pub record MayRequest (me : Member) (k : Knowledge) (to round : ℕ) (seed commitment : List ℕ) : Type 0 where

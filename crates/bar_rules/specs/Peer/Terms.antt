@@ -8,7 +8,8 @@ use Rattle.bar_window.specs.declared.exchange.Role.TheVariants.{Initiator, Respo
 use Rattle.bar_window.specs.declared.exchange.XKind.{XKind}
 use Rattle.bar_window.specs.declared.exchange.XKind.TheVariants.{Balanced, Push}
 use Rattle.bar_window.specs.Exchange.{other_role, same_role}
-use Rattle.bar_window.specs.Terms.{Terms, Trade, Offer}
+use Rattle.bar_window.specs.Terms.{Terms}
+use Rattle.bar_window.specs.Terms as forms
 use Rattle.bar_terms.specs.Terms.{promise}
 use Rattle.bar_wire.specs.Datagram.{Datagram, Body, Briefcase}
 use Rattle.bar_wire.specs.declared.kind.Kind.TheVariants as kinds
@@ -27,12 +28,12 @@ abbrev pub body_on : Member → Knowledge → Kind → Exchange → Role → Opt
 body_on me k kind x role = option_map (λ d. d.message.body) (first_on me k kind x role)
 
 abbrev pub trade_terms : Option (List ℕ × List UpdateId) → Option (List UpdateId) → Option Terms
-trade_terms (Some a) (Some hb) = Some (Trade a.0 a.1 hb)
+trade_terms (Some a) (Some hb) = Some (forms.Balanced a.0 a.1 hb)
 trade_terms (Some a) None = None
 trade_terms None hb = None
 
 abbrev pub offer_terms : Option (List UpdateId × List UpdateId) → Option (List UpdateId × List UpdateId × ℕ) → Option Terms
-offer_terms (Some a) (Some b) = Some (Offer a.0 a.1 b.0 b.1 b.2)
+offer_terms (Some a) (Some b) = Some (forms.Push a.0 a.1 b.0 b.1 b.2)
 offer_terms (Some a) None = None
 offer_terms None b = None
 

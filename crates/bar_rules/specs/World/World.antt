@@ -4,7 +4,8 @@ use Rattle.std.specs.List.{concat}
 use Rattle.bar_rules.specs.Broadcaster.Sending.{caster_step}
 use Rattle.bar_wire.specs.Bodies.{evidence_in}
 use Rattle.bar_wire.specs.Datagram.{Datagram, is_signed}
-use Rattle.bar_wire.specs.Inputs.{Input, Tick, Came}
+use Rattle.bar_wire.specs.Inputs.{Input}
+use Rattle.bar_wire.specs.Inputs as event
 use Rattle.bar_roster.specs.Sessions.{IsSession}
 use Rattle.bar_roster.specs.KeyFile.{Fits}
 use Rattle.bar_rules.specs.Member.{Session, Member}
@@ -61,12 +62,12 @@ takes setup w p input = takes_by setup w p input (slice_get w.logs p)
 
 abbrev pub delivered : Setup → World → Option (ℕ × List ℕ) → World
 delivered setup w None = w
-delivered setup w (Some d) = takes setup w d.0 (Came d.1)
+delivered setup w (Some d) = takes setup w d.0 (event.Datagram d.1)
 
 abbrev pub happens : Setup → World → Move → World
-happens setup w (TickOf party) = takes setup w party Tick
+happens setup w (TickOf party) = takes setup w party event.Tick
 happens setup w (Deliver number) = delivered setup w (slice_get w.packets number)
-happens setup w (Hostile to bytes) = takes setup w to (Came bytes)
+happens setup w (Hostile to bytes) = takes setup w to (event.Datagram bytes)
 
 abbrev pub run : Setup → World → List Move → World
 run setup w [] = w
