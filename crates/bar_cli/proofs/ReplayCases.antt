@@ -10,7 +10,7 @@ use Rattle.bar_roster.specs.declared.fault.SessionFault.{SessionFault}
 use Rattle.bar_roster.specs.declared.key_fault.KeyFileFault.{KeyFileFault}
 use Rattle.bar_roster.specs.SessionText.{SessionData}
 use Rattle.bar_cli.specs.Refusals.{session_refused, key_refused, input_refused}
-use Rattle.bar_cli.specs.Replay.{session_of, key_of, recording_of}
+use Rattle.bar_cli.specs.Replay.{session_of, recording_of, secrets_of_key}
 use Rattle.bar_cli.specs.ReplayPlan.{ReplayFiles, SessionAccepted, KeyAccepted, Accepted, replay_plan, key_plan, recording_plan, run_plan}
 
 -- what comes behind each read
@@ -18,7 +18,7 @@ abbrev session_then : ReplayFiles → List ℕ → Content → Plan
 session_then names text = accepting (session_of text) (key_plan names) (λ fault. ending 4 (session_refused fault))
 
 abbrev key_then : ReplayFiles → SessionData → List ℕ → Content → Plan
-key_then names session bytes = accepting (key_of session bytes) (recording_plan names session) (λ fault. ending 5 (key_refused fault))
+key_then names session bytes = accepting (secrets_of_key session bytes) (recording_plan names session) (λ fault. ending 5 (key_refused fault))
 
 abbrev recording_then : ReplayFiles → SessionData → Secrets → List ℕ → Content → Plan
 recording_then names session secrets bytes = accepting (ok_or (recording_of session secrets.party bytes) (tt {0})) (run_plan names session secrets) (λ _. ending 8 input_refused)
@@ -56,7 +56,7 @@ pub data Case (names : ReplayFiles) (content : Content) : Type 0 where
       replay_plan names content ≡ refused_session_plan names fault content → Case names content
   no_key : (session : SessionData) → SessionAccepted names content session → readable content names.key ≡ None → replay_plan names content ≡ no_key_plan names → Case names content
   refused_key : (session : SessionData) (bytes : List ℕ) (fault : KeyFileFault) → SessionAccepted names content session → readable content names.key ≡ Some bytes →
-      key_of session bytes ≡ Err fault → replay_plan names content ≡ refused_key_plan names fault content → Case names content
+      secrets_of_key session bytes ≡ Err fault → replay_plan names content ≡ refused_key_plan names fault content → Case names content
   no_recording : (session : SessionData) (secrets : Secrets) → KeyAccepted names content session secrets → readable content names.recording ≡ None →
       replay_plan names content ≡ no_recording_plan names → Case names content
   refused_recording : (session : SessionData) (secrets : Secrets) (bytes : List ℕ) → KeyAccepted names content session secrets → readable content names.recording ≡ Some bytes →
@@ -76,7 +76,7 @@ module _ (names : ReplayFiles) (content : Content) where
   at-key session o a e = at-text a.text (Ok session) a.read a.is ∙ ap (λ x. before (read names.session) (read_then names.key (key_then names session) content x)) e
 
   pub at-key_bytes : (session : SessionData) (bytes : List ℕ) (r : Result Secrets KeyFileFault) → SessionAccepted names content session → readable content names.key ≡ Some bytes →
-      key_of session bytes ≡ r → replay_plan names content
+      secrets_of_key session bytes ≡ r → replay_plan names content
       ≡ before (read names.session) (before (read names.key) (accepting r (recording_plan names session) (λ fault. ending 5 (key_refused fault)) content))
   at-key_bytes session bytes r a e f =
       at-key session (Some bytes) a e
@@ -109,14 +109,14 @@ module _ (names : ReplayFiles) (content : Content) where
   case-recording session secrets (Some bytes) a e = case-bytes session secrets bytes (recording_of session secrets.party bytes) a e refl
 
   case-key_bytes : (session : SessionData) (bytes : List ℕ) (r : Result Secrets KeyFileFault) → SessionAccepted names content session → readable content names.key ≡ Some bytes →
-      key_of session bytes ≡ r → Case names content
+      secrets_of_key session bytes ≡ r → Case names content
   case-key_bytes session bytes (Err fault) a e f = refused_key session bytes fault a e f (at-key_bytes session bytes (Err fault) a e f)
   case-key_bytes session bytes (Ok secrets) a e f =
       case-recording session secrets (readable content names.recording) (record { in_session = a; bytes = bytes; read = e; is = f }) refl
 
   case-key : (session : SessionData) (o : Option (List ℕ)) → SessionAccepted names content session → readable content names.key ≡ o → Case names content
   case-key session None a e = no_key session a e (at-key session None a e)
-  case-key session (Some bytes) a e = case-key_bytes session bytes (key_of session bytes) a e refl
+  case-key session (Some bytes) a e = case-key_bytes session bytes (secrets_of_key session bytes) a e refl
 
   case-text : (text : List ℕ) (r : Result SessionData SessionFault) → readable content names.session ≡ Some text → session_of text ≡ r → Case names content
   case-text text (Err fault) e f = refused_session text fault e f (at-text text (Err fault) e f)

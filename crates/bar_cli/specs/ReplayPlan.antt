@@ -13,7 +13,7 @@ use Rattle.bar_roster.specs.KeyFile.{Fits}
 use Rattle.bar_rules.specs.Member.{Member}
 use Rattle.bar_rules.specs.Peer.Listening.{played_by_listener, sends_of_listener}
 use Rattle.bar_cli.specs.Refusals.{session_refused, key_refused, input_refused}
-use Rattle.bar_cli.specs.Replay.{session_of, key_of, recording_of, member_of, contents_of}
+use Rattle.bar_cli.specs.Replay.{session_of, recording_of, member_of, contents_of, secrets_of_key}
 
 -- the files of a replay
 pub record ReplayFiles : Type 0 where
@@ -55,7 +55,7 @@ recording_plan names session secrets =
 -- the key file is read, and accepted or refused
 abbrev pub key_plan : ReplayFiles → SessionData → Content → Plan
 key_plan names session =
-    reading names.key (λ bytes. accepting (key_of session bytes) (recording_plan names session) (λ fault. ending 5 (key_refused fault)))
+    reading names.key (λ bytes. accepting (secrets_of_key session bytes) (recording_plan names session) (λ fault. ending 5 (key_refused fault)))
 
 -- the session is read, and accepted or refused
 abbrev pub replay_plan : ReplayFiles → Content → Plan
@@ -73,7 +73,7 @@ pub record KeyAccepted (names : ReplayFiles) (content : Content) (session : Sess
   pub in_session : SessionAccepted names content session
   pub bytes : List ℕ
   pub read : readable content names.key ≡ Some bytes
-  pub is : key_of session bytes ≡ Ok secrets
+  pub is : secrets_of_key session bytes ≡ Ok secrets
 
 -- and so is the recording, which holds these inputs
 pub record Accepted (names : ReplayFiles) (content : Content) : Type 0 where

@@ -11,7 +11,7 @@ ghost use Rattle.bar_roster.specs.declared.key_fault.KeyFileFault.{KeyFileFault}
 ghost use Rattle.bar_roster.specs.SessionText.{SessionData};
 ghost use Rattle.bar_cli.specs.Line.{usage};
 ghost use Rattle.bar_cli.specs.Refusals.{session_refused, key_refused, input_refused};
-ghost use Rattle.bar_cli.specs.Replay.{session_of, key_of, recording_of};
+ghost use Rattle.bar_cli.specs.Replay.{session_of, recording_of, secrets_of_key};
 ghost use Rattle.bar_cli.specs.ReplayPlan.{ReplayFiles, SessionAccepted, KeyAccepted, Accepted, Replayed, PlayedFront, PlayedUpTo, IsReplayCall, replay_plan};
 
 use bar_roster::laws::accepted_secrets_are_held;
@@ -72,12 +72,12 @@ pub fn session_refused_exactly()
 pub fn key_refused_exactly()
     ensures only { (names : ReplayFiles) (old new : Outside) → Ends (replay_plan names) old new 5 → IsTrue old.files.told →
         (session : SessionData) × (bytes : List ℕ) × (fault : KeyFileFault) × SessionAccepted names old.files.content session
-        × (readable old.files.content names.key ≡ Some bytes) × (key_of session bytes ≡ Err fault) }
+        × (readable old.files.content names.key ≡ Some bytes) × (secrets_of_key session bytes ≡ Err fault) }
     ensures then { (names : ReplayFiles) (old new : Outside) (status : ℕ) (session : SessionData) (bytes : List ℕ) (fault : KeyFileFault) →
         Ends (replay_plan names) old new status → IsTrue old.files.told → SessionAccepted names old.files.content session →
-        readable old.files.content names.key ≡ Some bytes → key_of session bytes ≡ Err fault → (status ≡ 5) ⊎ (is_stop status ≡ true) }
+        readable old.files.content names.key ≡ Some bytes → secrets_of_key session bytes ≡ Err fault → (status ≡ 5) ⊎ (is_stop status ≡ true) }
     ensures line { (names : ReplayFiles) (content : Content) (session : SessionData) (bytes : List ℕ) (fault : KeyFileFault) →
-        SessionAccepted names content session → readable content names.key ≡ Some bytes → key_of session bytes ≡ Err fault →
+        SessionAccepted names content session → readable content names.key ≡ Some bytes → secrets_of_key session bytes ≡ Err fault →
         line_at (replay_plan names content) 5 ≡ key_refused fault }
 {}
 

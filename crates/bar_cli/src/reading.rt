@@ -3,7 +3,7 @@ ghost use Rattle.std.specs.Prelude.{◌≡◌, ◌≤◌, ◌<◌, ◌⊎◌, �
 ghost use Rattle.bar_record.specs.Inputs.{inputs_left};
 ghost use Rattle.bar_roster.specs.KeyFile.{IsKeyFileOf};
 ghost use Rattle.bar_rules.specs.Member.{last_tick};
-ghost use Rattle.bar_cli.specs.Replay.{key_of, recording_of, runs_fit, session_of};
+ghost use Rattle.bar_cli.specs.Replay.{recording_of, runs_fit, session_of, secrets_of_key};
 
 use bar_record::{Items, read};
 use bar_roster::{KeyFile, KeyFileFault, Session, SessionFault};
@@ -23,10 +23,10 @@ pub fn read_session(alloc: Global, text: &[u8]) -> Result<Session, SessionFault>
 }
 
 /// The key file of a peer of the session, spent or not.
-#[tactic(auto, unfolding(crate::specs::Replay::key_of))]
+#[tactic(auto, unfolding(crate::specs::Replay::secrets_of_key))]
 pub fn read_key(alloc: Global, bytes: &[u8], session: &Session) -> Result<KeyFile, KeyFileFault>
-    ensures ok { IfOk result (λ key. key_of session.now bytes.now ≡ Ok key.secrets) }
-    ensures err { IfErr result (λ fault. (fault ≡ KeyFileFault.NoMemory) ⊎ (key_of session.now bytes.now ≡ Err fault)) }
+    ensures ok { IfOk result (λ key. secrets_of_key session.now bytes.now ≡ Ok key.secrets) }
+    ensures err { IfErr result (λ fault. (fault ≡ KeyFileFault.NoMemory) ⊎ (secrets_of_key session.now bytes.now ≡ Err fault)) }
     ensures fits { IfOk result (IsKeyFileOf session.now false) }
 {
     KeyFile::read(alloc, bytes, session, false, false)

@@ -27,14 +27,14 @@ key_of_party s party = unwrap_or (slice_get s.keys party) []
 abbrev pub anchor_of_peer : Session → ℕ → List ℕ
 anchor_of_peer s peer = unwrap_or (slice_get s.anchors (peer - 1)) []
 
--- Ticks are counted from 1. Each round has eight of them, in slots 0 to 7; before the first tick the round is 0.
+-- Ticks are counted from 1. Each round has eight of them, in slots 0 to 7; before the first tick the round is 0. Divisions round down.
 abbrev pub round_after : ℕ → ℕ
 round_after ticks = (ticks + 7) / 8
 
 abbrev pub slot_after : ℕ → ℕ
 slot_after ticks = (ticks + 7) % 8
 
--- the last tick that a core takes: the end of the round in which the last updates have been played
+-- The last tick that a core takes, the last one of a round. The last updates are played in the round before, at its first slot.
 abbrev pub last_tick : Session → ℕ
 last_tick s = 8 * (s.shape.rounds + s.shape.life + 1)
 

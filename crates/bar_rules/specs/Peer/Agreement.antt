@@ -16,7 +16,8 @@ use Rattle.bar_rules.specs.Peer.Knowledge.{Knowledge, this_round, deadline}
 abbrev pub IsRecent : Member → Knowledge → ℕ → Type 0
 IsRecent me k round = this_round k ≤ round + me.session.shape.life
 
--- an update of this round may still be asked about: it stands in a window of an exchange that may, or is to be played
+-- an update of this round may still be asked about: it stands in a window of an exchange for which a briefcase may still be sealed, two
+-- rounds back at most, or is to be played
 abbrev pub IsFresh : Member → Knowledge → ℕ → Type 0
 IsFresh me k round = this_round k ≤ round + me.session.shape.life + 1
 
