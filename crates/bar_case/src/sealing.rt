@@ -40,7 +40,8 @@ fn seal_item<B: Blocks>(
     requires room { at + item_len item.now ≤ length out.old }
     ensures end { result ≡ at + item_len item.now }
     ensures long { length (item_bytes junk.now (B.block_of blocks.now) item.now) ≡ item_len item.now }
-    ensures value { take result out.new ≡ take at out.old ++ xor_bytes (item_bytes junk.now (B.block_of blocks.now) item.now) (drop at (keystream key.now result)) }
+    ensures value { take result out.new ≡ take at out.old ++
+        xor_bytes (item_bytes junk.now (B.block_of blocks.now) item.now) (drop at (keystream key.now result)) }
     ensures rest { drop result out.new ≡ drop result out.old }
 {
     match item {

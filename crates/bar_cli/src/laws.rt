@@ -75,7 +75,8 @@ pub fn key_refused_exactly()
         × (readable old.files.content names.key ≡ Some bytes) × (secrets_of_key session bytes ≡ Err fault) }
     ensures then { (names : ReplayFiles) (old new : Outside) (status : ℕ) (session : SessionData) (bytes : List ℕ) (fault : KeyFileFault) →
         Ends (replay_plan names) old new status → IsTrue old.files.told → SessionAccepted names old.files.content session →
-        readable old.files.content names.key ≡ Some bytes → secrets_of_key session bytes ≡ Err fault → (status ≡ 5) ⊎ (is_stop status ≡ true) }
+        readable old.files.content names.key ≡ Some bytes → secrets_of_key session bytes ≡ Err fault →
+        (status ≡ 5) ⊎ (is_stop status ≡ true) }
     ensures line { (names : ReplayFiles) (content : Content) (session : SessionData) (bytes : List ℕ) (fault : KeyFileFault) →
         SessionAccepted names content session → readable content names.key ≡ Some bytes → secrets_of_key session bytes ≡ Err fault →
         line_at (replay_plan names content) 5 ≡ key_refused fault }

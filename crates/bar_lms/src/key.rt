@@ -39,7 +39,8 @@ impl PublicKey {
     pub fn read(bytes: &[u8]) -> Result<PublicKey, KeyFault>
         ensures short { (result ≡ Err KeyFault.Short) ↔ (length bytes.now < 56) }
         ensures long { (result ≡ Err KeyFault.Long) ↔ (56 < length bytes.now) }
-        ensures bad_type { (result ≡ Err KeyFault.BadType) ↔ ((length bytes.now ≡ 56) × NameNoTypes (number_at bytes.now 0) (number_at bytes.now 4)) }
+        ensures bad_type { (result ≡ Err KeyFault.BadType) ↔
+            ((length bytes.now ≡ 56) × NameNoTypes (number_at bytes.now 0) (number_at bytes.now 4)) }
 
         // What is read is spelled by the bytes, and what they spell is read.
         ensures found { IfOk result (λ k. bytes.now ≡ key_bytes k) }

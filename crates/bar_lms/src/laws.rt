@@ -19,13 +19,17 @@ pub fn keys_are_tested()
 
 /// The test of acceptance under a key's bytes is true exactly where they spell a key of these types that accepts.
 pub fn acceptance_under_types_is_tested()
-    ensures { (p : Params) (bytes message sig : List ℕ) → IsTrue (is_accepted_under p bytes message sig) ↔ AcceptsUnder p bytes message sig }
+    ensures { (p : Params) (bytes message sig : List ℕ) →
+        IsTrue (is_accepted_under p bytes message sig) ↔ AcceptsUnder p bytes message sig }
 {}
 
 /// What a secret signs is accepted under its public key, and is the signature of the leaf asked for.
 pub fn signed_is_accepted()
     ensures key { (s : Secret) → IsTrue (is_key_of s.params (public_key s)) }
-    ensures accepted { (s : Secret) (leaf : ℕ) (message : List ℕ) → leaf < 2 ^ levels s.params.height → IsTrue (is_accepted_under s.params (public_key s) message (signed s leaf message)) }
-    ensures length { (s : Secret) (leaf : ℕ) (message : List ℕ) → leaf < 2 ^ levels s.params.height → length (signed s leaf message) ≡ signature_len s.params }
-    ensures leaf { (s : Secret) (leaf : ℕ) (message : List ℕ) → leaf < 2 ^ levels s.params.height → number_at (signed s leaf message) 0 ≡ leaf }
+    ensures accepted { (s : Secret) (leaf : ℕ) (message : List ℕ) → leaf < 2 ^ levels s.params.height →
+        IsTrue (is_accepted_under s.params (public_key s) message (signed s leaf message)) }
+    ensures length { (s : Secret) (leaf : ℕ) (message : List ℕ) → leaf < 2 ^ levels s.params.height →
+        length (signed s leaf message) ≡ signature_len s.params }
+    ensures leaf { (s : Secret) (leaf : ℕ) (message : List ℕ) → leaf < 2 ^ levels s.params.height →
+        number_at (signed s leaf message) 0 ≡ leaf }
 {}

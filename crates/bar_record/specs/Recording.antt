@@ -35,7 +35,9 @@ pub data First : Type 0 where
 -- so many bytes, and what follows them, where they are all there and not too many
 abbrev pub datagram_first : ℕ → List ℕ → First
 datagram_first len rest =
-    if nat_le len largest_datagram then (if nat_le len (length rest) then Entry (event.Datagram (take len rest)) (drop len rest) else NoEntry) else NoEntry
+    if nat_le len largest_datagram
+    then (if nat_le len (length rest) then Entry (event.Datagram (take len rest)) (drop len rest) else NoEntry)
+    else NoEntry
 
 -- what stands behind the mark of a datagram: its length in two bytes, and its bytes
 abbrev pub sized_first : List ℕ → First
@@ -72,7 +74,8 @@ unfoldable pub inputs_from : ℕ → ℕ → ℕ → ℕ → List ℕ → Result
 inputs_from zero last ticks at bytes = Err NoEnd
 inputs_from (suc most) last ticks at bytes = inputs_by (inputs_from most last) last ticks at (first_of bytes)
 
--- The inputs of a recording, or its first fault from the left. Each entry has a byte at least, so no more entries are read than there are bytes.
+-- The inputs of a recording, or its first fault from the left. Each entry has a byte at least, so no more entries are read than there are
+-- bytes.
 abbrev pub recording_of : List ℕ → ℕ → ℕ → List ℕ → Result (List Input) RecordFault
 recording_of id party last bytes =
     if bytes_eq (take 15 bytes) (head_bytes id party)

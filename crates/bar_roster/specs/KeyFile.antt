@@ -41,7 +41,8 @@ fits s party secret =
 -- whether the numbers are the session's, and the party is the broadcaster or a peer, as asked for
 abbrev pub is_of_session : SessionData → Bool → KeyData → Bool
 is_of_session s caster k =
-    (bytes_eq k.id s.shape.id && ((k.rounds == s.shape.rounds) && ((k.lms == lms_type s.params.height) && (k.ots == ots_type s.params.ots))))
+    (bytes_eq k.id s.shape.id &&
+        ((k.rounds == s.shape.rounds) && ((k.lms == lms_type s.params.height) && (k.ots == ots_type s.params.ots))))
     && ((if caster then k.party == 0 else nat_le 1 k.party) && nat_le k.party s.shape.peers)
 
 -- ---- the first fault, or whose secret it is
@@ -61,7 +62,8 @@ checked_table s caster fresh (Some ms) = checked_key s caster fresh (key_fields 
 abbrev pub key_file_of : SessionData → Bool → Bool → List ℕ → Result Secrets KeyFileFault
 key_file_of s caster fresh bytes = checked_table s caster fresh (document bytes)
 
--- The secret is of the broadcaster or of a peer of the session, as asked for, and the session holds the public key and the anchor that come from it.
+-- The secret is of the broadcaster or of a peer of the session, as asked for, and the session holds the public key and the anchor that come
+-- from it.
 pub record IsHeldBy (s : SessionData) (caster : Bool) (k : Secrets) : Type 0 where
   pub id : k.id ≡ s.shape.id
   pub party : k.party ≤ s.shape.peers

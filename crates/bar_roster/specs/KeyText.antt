@@ -9,7 +9,8 @@ use Rattle.bar_roster.specs.Fields.{document, number_in, bytes_of}
 
 -- what a key text says: whose key it is, in which session, the types of its signatures, the party's secret, and whether it was used
 abbrev pub key_data : ℕ → List ℕ → ℕ → ℕ → ℕ → List ℕ → Bool → KeyData
-key_data party id rounds lms ots secret spent = record { party = party; id = id; rounds = rounds; lms = lms; ots = ots; secret = secret; spent = spent }
+key_data party id rounds lms ots secret spent =
+    record { party = party; id = id; rounds = rounds; lms = lms; ots = ots; secret = secret; spent = spent }
 
 -- the numbers are in the ranges of a key text
 pub record IsInRange (k : KeyData) : Type 0 where

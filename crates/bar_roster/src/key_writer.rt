@@ -42,7 +42,8 @@ pub fn key_text(
     spent: bool,
 ) -> Result<Vec<u8>, AllocError>
     ensures text { let k = key_data party id.now rounds lms ots secret.now spent in IfOk result (λ text. text.items ≡ key_text_of k) }
-    ensures reads_back { let k = key_data party id.now rounds lms ots secret.now spent in IsInRange k → IfOk result (λ text. key_of_text text.items ≡ Some k) }
+    ensures reads_back { let k = key_data party id.now rounds lms ots secret.now spent in IsInRange k →
+        IfOk result (λ text. key_of_text text.items ≡ Some k) }
 {
     let id = hex::encode(alloc, id.as_slice())?;
     let secret = hex::encode(alloc, secret.as_slice())?;

@@ -12,5 +12,6 @@ pub fn secrets_are_tested()
 
 /// A key text is accepted only where the session holds the public key, and for a peer the anchor, that come from its secret.
 pub fn accepted_secrets_are_held()
-    ensures { (s : SessionData) (caster fresh : Bool) (bytes : List ℕ) (k : Secrets) → key_file_of s caster fresh bytes ≡ Ok k → IsHeldBy s caster k }
+    ensures { (s : SessionData) (caster fresh : Bool) (bytes : List ℕ) (k : Secrets) → key_file_of s caster fresh bytes ≡ Ok k →
+        IsHeldBy s caster k }
 {}

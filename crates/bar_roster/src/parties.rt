@@ -85,7 +85,8 @@ fn has_tables_alone(values: &[Value]) -> bool
 #[tactic(auto, using(crate::proofs::FieldLemmas::views))]
 fn peer_entries(value: &Value) -> Option<&Array>
     ensures value { option_map (λ v. array_view v.now) result ≡ peers_of (view value.now) }
-    ensures count { IfSome result (λ v. (count_of (array_view v.now) ≡ length v.now.items) × (2 ≤ length v.now.items) × (length v.now.items ≤ 200)) }
+    ensures count { IfSome result (λ v. (count_of (array_view v.now) ≡ length v.now.items) × (2 ≤ length v.now.items) ×
+        (length v.now.items ≤ 200)) }
 {
     let entries = value.as_array()?;
     let count = entries.len();
@@ -100,7 +101,8 @@ fn peer_entries(value: &Value) -> Option<&Array>
 pub(crate) fn entries_at(table: &Table) -> Result<&Array, SessionFault>
     ensures ok { IfOk result (λ v. field peers_of Key.Peers (codes "peer") (table_view table.now) ≡ Ok (array_view v.now)) }
     ensures err { IfErr result (λ e. field peers_of Key.Peers (codes "peer") (table_view table.now) ≡ Err e) }
-    ensures count { IfOk result (λ v. (count_of (array_view v.now) ≡ length v.now.items) × (2 ≤ length v.now.items) × (length v.now.items ≤ 200)) }
+    ensures count { IfOk result (λ v. (count_of (array_view v.now) ≡ length v.now.items) × (2 ≤ length v.now.items) ×
+        (length v.now.items ≤ 200)) }
 {
     peer_entries(needed(table, Key::Peers, "peer")?).ok_or(SessionFault::BadValue(Key::Peers))
 }

@@ -9,5 +9,6 @@ pub lms_signed_is_accepted : (s : Secret) (leaf : ℕ) (message : List ℕ) → 
     → is_accepted_under s.params (public_key s) message (signed s leaf message) ≡ true
 lms_signed_is_accepted s leaf message below = made_accepted s leaf message below
 
-pub lms_signed_has_its_length : (s : Secret) (leaf : ℕ) (message : List ℕ) → leaf < 2 ^ levels s.params.height → length (signed s leaf message) ≡ signature_len s.params
+pub lms_signed_has_its_length : (s : Secret) (leaf : ℕ) (message : List ℕ) → leaf < 2 ^ levels s.params.height →
+    length (signed s leaf message) ≡ signature_len s.params
 lms_signed_has_its_length s leaf message below = made_length s leaf message below

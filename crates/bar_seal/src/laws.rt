@@ -11,17 +11,22 @@ ghost use Rattle.bar_seal.specs.Leaves.{leaf_of};
 
 /// Two signed messages have the same identity exactly where the kind and what it is named by are the same.
 pub fn identities_name_messages()
-    ensures { (m n : Message) → is_signed m.body ≡ true → is_signed n.body ≡ true → (identity m ≡ identity n) ↔ (identity_of m ≡ identity_of n) }
+    ensures { (m n : Message) → is_signed m.body ≡ true → is_signed n.body ≡ true →
+        (identity m ≡ identity n) ↔ (identity_of m ≡ identity_of n) }
 {}
 
 /// A leaf of a peer names the kind of its message, the round, kind and side of the exchange, and the seat of a responder. So different
 /// messages of one round have different leaves.
 pub fn leaves_name_messages()
-    ensures peers { (b c : Body) (p q : ℕ × XKind × Role) (s t : ℕ) → is_signed b ≡ true → is_signed c ≡ true → part_of b ≡ Some p → part_of c ≡ Some q → 1 ≤ p.0 → 1 ≤ q.0 → s < 2 → t < 2 → leaf_of b s ≡ leaf_of c t → (kind_number b ≡ kind_number c) × (p ≡ q) × (p.2 ≡ Responder → s ≡ t) }
-    ensures broadcaster { (b c : Body) (s t : ℕ) → is_signed b ≡ true → is_signed c ≡ true → part_of b ≡ None → part_of c ≡ None → 1 ≤ round_of b → 1 ≤ round_of c → leaf_of b s ≡ leaf_of c t → (kind_number b ≡ kind_number c) × (round_of b ≡ round_of c) }
+    ensures peers { (b c : Body) (p q : ℕ × XKind × Role) (s t : ℕ) → is_signed b ≡ true → is_signed c ≡ true → part_of b ≡ Some p →
+        part_of c ≡ Some q → 1 ≤ p.0 → 1 ≤ q.0 → s < 2 → t < 2 → leaf_of b s ≡ leaf_of c t →
+        (kind_number b ≡ kind_number c) × (p ≡ q) × (p.2 ≡ Responder → s ≡ t) }
+    ensures broadcaster { (b c : Body) (s t : ℕ) → is_signed b ≡ true → is_signed c ≡ true → part_of b ≡ None → part_of c ≡ None →
+        1 ≤ round_of b → 1 ≤ round_of c → leaf_of b s ≡ leaf_of c t → (kind_number b ≡ kind_number c) × (round_of b ≡ round_of c) }
 {}
 
 /// The leaves of so many rounds are fewer than those that each round has.
 pub fn leaves_are_few()
-    ensures { (b : Body) (s rounds : ℕ) → is_signed b ≡ true → 1 ≤ round_of b → round_of b ≤ rounds → s < 2 → leaf_of b s < leaves_a_round * rounds }
+    ensures { (b : Body) (s rounds : ℕ) → is_signed b ≡ true → 1 ≤ round_of b → round_of b ≤ rounds → s < 2 →
+        leaf_of b s < leaves_a_round * rounds }
 {}

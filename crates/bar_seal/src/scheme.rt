@@ -60,8 +60,10 @@ pub trait Scheme: Verifier {
         ensures rest { drop result out.new ≡ drop result out.old };
 
     /// What is signed is accepted under the signer's key.
-    ghost signed_is_accepted: { (s : Self) (leaf : ℕ) (message : List ℕ) → leaf < leaf_count s → Self.is_accepted s (key_of s) message (signed s leaf message) ≡ true };
+    ghost signed_is_accepted: { (s : Self) (leaf : ℕ) (message : List ℕ) → leaf < leaf_count s →
+        Self.is_accepted s (key_of s) message (signed s leaf message) ≡ true };
 
     /// A signature has its length.
-    ghost signed_has_its_length: { (s : Self) (leaf : ℕ) (message : List ℕ) → leaf < leaf_count s → length (signed s leaf message) ≡ Self.signature_len s };
+    ghost signed_has_its_length: { (s : Self) (leaf : ℕ) (message : List ℕ) → leaf < leaf_count s →
+        length (signed s leaf message) ≡ Self.signature_len s };
 }

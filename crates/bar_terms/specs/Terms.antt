@@ -39,7 +39,8 @@ promise cap terms role = map Update (promised_updates cap terms role) ++ map Jun
 
 -- the lines on an offer: the rounds of its young and of its aged updates, their numbers, and the ends of known lists
 abbrev pub offer_rounds : ℕ → ℕ → List UpdateId → List UpdateId → Bool
-offer_rounds life round young aged = is_of_rounds (max 1 (round - 1)) round young && is_of_rounds (first_round life round) (round - life / 2) aged
+offer_rounds life round young aged =
+    is_of_rounds (max 1 (round - 1)) round young && is_of_rounds (first_round life round) (round - life / 2) aged
 
 abbrev pub offer_sizes : ℕ → List UpdateId → List UpdateId → Bool
 offer_sizes cap young aged = nat_le (length young) cap && nat_le (length aged) cap
@@ -51,12 +52,15 @@ offer_ok cap life table round young aged =
 -- the lines on the answer to an offer: what is wanted, given and padded
 abbrev pub answer_ok : ℕ → List UpdateId → List UpdateId → List UpdateId → List UpdateId → ℕ → Bool
 answer_ok cap young aged want give junk =
-    (is_inside want young && is_inside give aged) && (nat_le 1 (length want) && nat_le (length want) cap) && (length want == length give + junk)
+    (is_inside want young && is_inside give aged) && (nat_le 1 (length want) && nat_le (length want) cap) &&
+        (length want == length give + junk)
 
 -- whether terms are valid, in a round and under a table
 abbrev pub terms_ok : ℕ → ℕ → Table → ℕ → Terms → Bool
-terms_ok cap life table round (forms.Balanced nonce ha hb) = nat_le 1 (trade_count cap ha hb) && (none_past_end table ha && none_past_end table hb)
-terms_ok cap life table round (forms.Push young aged want give junk) = offer_ok cap life table round young aged && answer_ok cap young aged want give junk
+terms_ok cap life table round (forms.Balanced nonce ha hb) =
+    nat_le 1 (trade_count cap ha hb) && (none_past_end table ha && none_past_end table hb)
+terms_ok cap life table round (forms.Push young aged want give junk) =
+    offer_ok cap life table round young aged && answer_ok cap young aged want give junk
 
 -- whether they are valid under the empty table, the rounds of an offer aside: then each side promises something
 abbrev pub can_promise : ℕ → Terms → Bool

@@ -12,4 +12,5 @@ AreAligned (Push young aged want give junk) = IsAligned aged young × IsAligned 
 -- they are windows of a round, where updates live for so many rounds
 abbrev pub AreWindowsOf : ℕ → ℕ → Terms → Type 0
 AreWindowsOf life round (Balanced nonce ha hb) = IsWindowOf life round ha × IsWindowOf life round hb
-AreWindowsOf life round (Push young aged want give junk) = IsWindowOf life round young × IsWindowOf life round aged × IsWindowOf life round want × IsWindowOf life round give
+AreWindowsOf life round (Push young aged want give junk) =
+    IsWindowOf life round young × IsWindowOf life round aged × IsWindowOf life round want × IsWindowOf life round give

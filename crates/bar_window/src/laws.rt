@@ -9,7 +9,8 @@ ghost use Rattle.bar_window.specs.WindowBytes.{window_words, words_bytes, window
 
 /// Two sets that have the same updates are one list.
 pub fn sets_are_told_by_their_updates()
-    ensures { (us vs : List UpdateId) → is_rising us ≡ true → is_rising vs ≡ true → ((u : UpdateId) → has_update us u ≡ has_update vs u) → us ≡ vs }
+    ensures { (us vs : List UpdateId) → is_rising us ≡ true → is_rising vs ≡ true → ((u : UpdateId) → has_update us u ≡ has_update vs u) →
+        us ≡ vs }
 {}
 
 /// The test for a set of a window's updates is exact.
@@ -20,7 +21,8 @@ pub fn sets_pass_their_test()
 /// The members of a window of a round are a set of the updates that this window may name.
 pub fn members_are_a_set()
     ensures set { (w : Window) (life round : ℕ) → IsWindowOf life round w → IsSetOf (round_words w) life round (members w) }
-    ensures kept { (w : Window) (life round : ℕ) → IsWindowOf life round w → members w ≡ filter (has_update (members w)) (window_of (round_words w) life round) }
+    ensures kept { (w : Window) (life round : ℕ) → IsWindowOf life round w →
+        members w ≡ filter (has_update (members w)) (window_of (round_words w) life round) }
 {}
 
 /// Two windows of the same rounds that have the same members have the same words.
@@ -30,11 +32,13 @@ pub fn members_tell_the_words()
 
 /// The bytes of the members of a window of a round are those of its words, of as many rounds as updates live.
 pub fn bytes_are_those_of_the_words()
-    ensures bytes { (w : Window) (life round : ℕ) → IsWindowOf life round w → life ≤ 16 → window_bytes (round_words w) life round (members w) ≡ words_bytes (take (round_words w * life) w.words) }
+    ensures bytes { (w : Window) (life round : ℕ) → IsWindowOf life round w → life ≤ 16 →
+        window_bytes (round_words w) life round (members w) ≡ words_bytes (take (round_words w * life) w.words) }
     ensures length { (words life round : ℕ) (us : List UpdateId) → length (window_bytes words life round us) ≡ 8 * (words * life) }
 {}
 
 /// Two sets of one window have the same bytes only if they are the same, whatever follows the bytes.
 pub fn bytes_tell_the_set()
-    ensures { (words life round : ℕ) (us vs : List UpdateId) (x y : List ℕ) → 0 < words → IsSetOf words life round us → IsSetOf words life round vs → window_bytes words life round us ++ x ≡ window_bytes words life round vs ++ y → (us ≡ vs) × (x ≡ y) }
+    ensures { (words life round : ℕ) (us vs : List UpdateId) (x y : List ℕ) → 0 < words → IsSetOf words life round us →
+        IsSetOf words life round vs → window_bytes words life round us ++ x ≡ window_bytes words life round vs ++ y → (us ≡ vs) × (x ≡ y) }
 {}

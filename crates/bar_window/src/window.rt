@@ -206,7 +206,8 @@ impl Window {
     /// All words, one after another, eight bytes each, the highest byte first. Of the window of a round, where updates live for
     /// `life` rounds, the first `8 * life` bytes are its spelling.
     pub fn bytes(&self) -> [u8; 128]
-        ensures { (life round : ℕ) → IsWindowOf life round self.now → life ≤ 16 → take (8 * (round_words self.now * life)) result ≡ window_bytes (round_words self.now) life round (members self.now) }
+        ensures { (life round : ℕ) → IsWindowOf life round self.now → life ≤ 16 →
+            take (8 * (round_words self.now * life)) result ≡ window_bytes (round_words self.now) life round (members self.now) }
     {
         let mut bytes = [0; 128];
         for j in 0..WORDS {

@@ -145,6 +145,7 @@ named (Case c) from to = from ∷ to ∷ c.round ∷ kind_code c.kind ∷ role_c
 named (Key k) from to = from ∷ to ∷ k.round ∷ kind_code k.kind ∷ role_code k.role ∷ []
 named _ from to = []
 
--- What may not be said twice: the kind and, each as far as the kind has it in its name, the sender, receiver, round, exchange kind and role.
+-- What may not be said twice: the kind and, each as far as the kind has it in its name, the sender, receiver, round, exchange kind and
+-- role.
 abbrev pub identity_of : Message → List ℕ
 identity_of m = kind_number m.body ∷ named m.body m.from m.to

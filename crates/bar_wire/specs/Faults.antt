@@ -31,6 +31,8 @@ IsFirstFault s bytes Short = length bytes < 16
 IsFirstFault s bytes BadMagic = (16 ≤ length bytes) × (take 2 bytes ≢ magic)
 IsFirstFault s bytes BadVersion = (16 ≤ length bytes) × (take 2 bytes ≡ magic) × (slice_index bytes 2 ≢ s.version)
 IsFirstFault s bytes BadKind = IsOurs s bytes × (kind_at (slice_index bytes 3) ≡ None)
-IsFirstFault s bytes BadSession = IsOurs s bytes × ((kind : Kind) × (kind_at (slice_index bytes 3) ≡ Some kind)) × (take 8 (drop 4 bytes) ≢ s.id)
+IsFirstFault s bytes BadSession =
+    IsOurs s bytes × ((kind : Kind) × (kind_at (slice_index bytes 3) ≡ Some kind)) × (take 8 (drop 4 bytes) ≢ s.id)
 IsFirstFault s bytes BadLength = (kind : Kind) × HasHeader s kind bytes × (length bytes ≢ datagram_len s kind bytes)
-IsFirstFault s bytes BadField = ((kind : Kind) × HasHeader s kind bytes × (length bytes ≡ datagram_len s kind bytes)) × ((d : Datagram) → SpellsDatagram s d bytes → ⊥)
+IsFirstFault s bytes BadField =
+    ((kind : Kind) × HasHeader s kind bytes × (length bytes ≡ datagram_len s kind bytes)) × ((d : Datagram) → SpellsDatagram s d bytes → ⊥)

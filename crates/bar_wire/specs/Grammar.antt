@@ -29,7 +29,8 @@ set_bytes s round us = window_bytes (words_of s) s.life round us
 
 abbrev pub term_pieces : Shape → ℕ → Terms → List (List ℕ)
 term_pieces s r (forms.Balanced nonce ha hb) = nonce ∷ set_bytes s r ha ∷ set_bytes s r hb ∷ []
-term_pieces s r (forms.Push young aged want give junk) = set_bytes s r young ∷ set_bytes s r aged ∷ set_bytes s r want ∷ set_bytes s r give ∷ u8_bytes junk ∷ []
+term_pieces s r (forms.Push young aged want give junk) =
+    set_bytes s r young ∷ set_bytes s r aged ∷ set_bytes s r want ∷ set_bytes s r give ∷ u8_bytes junk ∷ []
 
 -- the length of a datagram, and the datagram
 abbrev pub entry : List ℕ → List ℕ
@@ -83,7 +84,8 @@ IsWindowSet s round us = IsSetOf (words_of s) s.life round us
 -- the terms are those of the kind of exchange
 abbrev pub HasTermForm : Shape → ℕ → XKind → Terms → Type 0
 HasTermForm s r kind (forms.Balanced nonce ha hb) = (kind ≡ Balanced) × (length nonce ≡ 32) × IsWindowSet s r ha × IsWindowSet s r hb
-HasTermForm s r kind (forms.Push young aged want give junk) = (kind ≡ Push) × IsWindowSet s r young × IsWindowSet s r aged × IsWindowSet s r want × IsWindowSet s r give
+HasTermForm s r kind (forms.Push young aged want give junk) =
+    (kind ≡ Push) × IsWindowSet s r young × IsWindowSet s r aged × IsWindowSet s r want × IsWindowSet s r give
 
 -- each number has its width, each list its length, and each window is a set of its round
 abbrev pub HasForm : Shape → Body → Type 0

@@ -124,7 +124,8 @@ round_body s kinds.Case r ps =
       cipher = part ps 6;
     })
 round_body s kinds.KeyReq r ps = KeyReq r (kind_from (number (part ps 1))) (role_from (number (part ps 2)))
-round_body s kinds.Key r ps = Key (record { round = r; kind = kind_from (number (part ps 1)); role = role_from (number (part ps 2)); key = part ps 3 })
+round_body s kinds.Key r ps =
+    Key (record { round = r; kind = kind_from (number (part ps 1)); role = role_from (number (part ps 2)); key = part ps 3 })
 round_body s kinds.Evidence r ps = Evidence (entries (number (part ps 0)) (part ps 1))
 round_body s kinds.Evict r ps = Evict r (pairs (part ps 2))
 

@@ -27,8 +27,10 @@ abbrev pub is_window_set : Shape → ℕ → List UpdateId → Bool
 is_window_set s round us = is_set_of (words_of s) s.life round us
 
 abbrev pub has_term_form : Shape → ℕ → XKind → Terms → Bool
-has_term_form s r kind (forms.Balanced nonce ha hb) = same_kind kind Balanced && (length nonce == 32) && is_window_set s r ha && is_window_set s r hb
-has_term_form s r kind (forms.Push young aged want give junk) = same_kind kind Push && is_window_set s r young && is_window_set s r aged && is_window_set s r want && is_window_set s r give
+has_term_form s r kind (forms.Balanced nonce ha hb) =
+    same_kind kind Balanced && (length nonce == 32) && is_window_set s r ha && is_window_set s r hb
+has_term_form s r kind (forms.Push young aged want give junk) =
+    same_kind kind Push && is_window_set s r young && is_window_set s r aged && is_window_set s r want && is_window_set s r give
 
 abbrev pub has_form : Shape → Body → Bool
 has_form s (Manifest r digests) = is_u32 r && list_all (λ d. length d == 32) digests

@@ -24,7 +24,9 @@ plain (raw.Divulge round nonce ha) = Divulge round nonce.now (members ha)
 plain (raw.Query round seed young aged) = Query round seed.now (members young) (members aged)
 plain (raw.Reply round want give junk) = Reply round (members want) (members give) junk
 plain (raw.Case round xkind role updates junk t cipher) =
-    Case (record { round = round; kind = kind_from xkind; role = role_from role; updates = updates; junk = junk; terms = plain_terms t; cipher = cipher.now })
+    Case (record {
+        round = round; kind = kind_from xkind; role = role_from role;
+        updates = updates; junk = junk; terms = plain_terms t; cipher = cipher.now })
 plain (raw.KeyReq round xkind role) = KeyReq round (kind_from xkind) (role_from role)
 plain (raw.Key round xkind role key) = Key (record { round = round; kind = kind_from xkind; role = role_from role; key = key.now })
 plain (raw.Evidence count datagrams) = Evidence (entries count datagrams.now)
@@ -34,7 +36,8 @@ plain (raw.Evict round count parties) = Evict round (pairs parties.now)
 
 abbrev pub AreTermWindows : Shape → ℕ → RawTerms → Type 0
 AreTermWindows s round (terms.Balanced nonce ha hb) = IsWindowOf s.life round ha × IsWindowOf s.life round hb
-AreTermWindows s round (terms.Push young aged want give junk) = IsWindowOf s.life round young × IsWindowOf s.life round aged × IsWindowOf s.life round want × IsWindowOf s.life round give
+AreTermWindows s round (terms.Push young aged want give junk) =
+    IsWindowOf s.life round young × IsWindowOf s.life round aged × IsWindowOf s.life round want × IsWindowOf s.life round give
 
 -- each window of a body is that of its round
 abbrev pub AreWindows : Shape → RawBody → Type 0

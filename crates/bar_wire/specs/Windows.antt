@@ -28,7 +28,8 @@ pub record IsWindowAt (s : Shape) (round : ℕ) (bytes : List ℕ) (w : Window) 
 
 -- no set of a round of the session begins the bytes
 abbrev pub NoWindowAt : Shape → ℕ → List ℕ → Type 0
-NoWindowAt s round bytes = IsRound s round → (us : List UpdateId) (after : List ℕ) → IsWindowSet s round us → bytes ≡ set_bytes s round us ++ after → ⊥
+NoWindowAt s round bytes =
+    IsRound s round → (us : List UpdateId) (after : List ℕ) → IsWindowSet s round us → bytes ≡ set_bytes s round us ++ after → ⊥
 
 abbrev pub ReadsWindow : Shape → ℕ → List ℕ → Option (Window × Bor (List ℕ)) → Type 0
 ReadsWindow s round bytes (Some found) = IsWindowAt s round bytes found.0 found.1.now

@@ -19,7 +19,8 @@ pub fn a_datagram_has_one_spelling()
 
 /// No spelling begins another.
 pub fn no_spelling_begins_another()
-    ensures { (s : Shape) (d e : Datagram) (a b after : List ℕ) → SpellsDatagram s d a → SpellsDatagram s e b → a ++ after ≡ b → after ≡ [] }
+    ensures { (s : Shape) (d e : Datagram) (a b after : List ℕ) → SpellsDatagram s d a → SpellsDatagram s e b → a ++ after ≡ b →
+        after ≡ [] }
 {}
 
 /// The test of what has a spelling tells it.

@@ -19,7 +19,8 @@ use bar_window::{Terms, Window};
 /// Writes a window: one word for each round that an update lives.
 fn put_window(out: &mut [u8], at: usize, window: &Window, shape: &Shape) -> usize
     requires { at + window_len shape.now ≤ length out.old }
-    ensures writes { (round : ℕ) → IsWindowOf shape.now.life round window.now → Appends out.old at (set_bytes shape.now round (members window.now)) out.new result }
+    ensures writes { (round : ℕ) → IsWindowOf shape.now.life round window.now →
+        Appends out.old at (set_bytes shape.now round (members window.now)) out.new result }
     ensures end { result ≡ at + window_len shape.now }
 {
     put(out, at, &window.bytes()[..8 * usize::from(shape.life)])
@@ -27,7 +28,8 @@ fn put_window(out: &mut [u8], at: usize, window: &Window, shape: &Shape) -> usiz
 
 fn put_terms(out: &mut [u8], at: usize, terms: &Terms, shape: &Shape) -> usize
     requires { at + terms_written shape.now terms.now ≤ length out.old }
-    ensures writes { (round : ℕ) → AreTermWindows shape.now round terms.now → Appends out.old at (concat (term_pieces shape.now round (plain_terms terms.now))) out.new result }
+    ensures writes { (round : ℕ) → AreTermWindows shape.now round terms.now →
+        Appends out.old at (concat (term_pieces shape.now round (plain_terms terms.now))) out.new result }
     ensures end { result ≡ at + terms_written shape.now terms.now }
 {
     match terms {

@@ -75,7 +75,8 @@ body_heard k kind x role = option_map (λ d. d.message.body) (k.heard kind x rol
 
 abbrev pub same_terms : Terms → Terms → Bool
 same_terms (forms.Balanced n a b) (forms.Balanced m c d) = bytes_eq n m && same_updates a c && same_updates b d
-same_terms (forms.Push y o w g z) (forms.Push v p x h k) = same_updates y v && same_updates o p && same_updates w x && same_updates g h && (z == k)
+same_terms (forms.Push y o w g z) (forms.Push v p x h k) =
+    same_updates y v && same_updates o p && same_updates w x && same_updates g h && (z == k)
 same_terms (forms.Balanced n a b) (forms.Push y o w g z) = false
 same_terms (forms.Push y o w g z) (forms.Balanced n a b) = false
 

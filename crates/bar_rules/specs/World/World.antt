@@ -92,9 +92,11 @@ AllGenuine setup trusted w (b ∷ bs) = IsGenuine setup trusted w b × AllGenuin
 -- so for the bytes and for each datagram that stands in them as evidence
 abbrev pub IsUnforged : Setup → (ℕ → Bool) → World → List ℕ → Type 0
 IsUnforged setup trusted w bytes =
-    IsGenuine setup trusted w bytes × ((d : Datagram) → datagram_of setup.session bytes ≡ Some d → AllGenuine setup trusted w (evidence_in d.message.body))
+    IsGenuine setup trusted w bytes × ((d : Datagram) → datagram_of setup.session bytes ≡ Some d →
+        AllGenuine setup trusted w (evidence_in d.message.body))
 
 abbrev pub AreUnforged : Setup → (ℕ → Bool) → World → List Move → Type 0
 AreUnforged setup trusted w [] = Unit {0}
-AreUnforged setup trusted w (Hostile to bytes ∷ ms) = IsUnforged setup trusted w bytes × AreUnforged setup trusted (happens setup w (Hostile to bytes)) ms
+AreUnforged setup trusted w (Hostile to bytes ∷ ms) =
+    IsUnforged setup trusted w bytes × AreUnforged setup trusted (happens setup w (Hostile to bytes)) ms
 AreUnforged setup trusted w (m ∷ ms) = AreUnforged setup trusted (happens setup w m) ms
