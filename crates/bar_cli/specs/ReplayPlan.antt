@@ -56,7 +56,7 @@ recording_plan names session secrets =
 abbrev pub key_plan : ReplayFiles → SessionData → Content → Plan
 key_plan names session =
     reading names.key (λ bytes. accepting (secrets_of_key session bytes) (recording_plan names session)
-        (λ fault. ending 5 (key_refused fault)))
+    (λ fault. ending 5 (key_refused fault)))
 
 -- the session is read, and accepted or refused
 abbrev pub replay_plan : ReplayFiles → Content → Plan
