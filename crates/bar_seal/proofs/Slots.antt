@@ -6,6 +6,7 @@ use Rattle.bar_window.specs.declared.exchange.XKind.TheVariants.{Balanced, Push}
 use Rattle.bar_window.specs.declared.exchange.Role.{Role}
 use Rattle.bar_window.specs.declared.exchange.Role.TheVariants.{Initiator, Responder}
 use Rattle.bar_wire.specs.Datagram.{Body, Manifest, Block, Request, Response, Divulge, Query, Reply, Case, KeyReq, Key, Evidence, Evict, is_signed, round_of, part_of, kind_number}
+use Rattle.bar_wire.specs.Limits.{leaves_a_round}
 use Rattle.bar_seal.specs.Leaves.{first_slot, step_of, leaf_at, leaf_by, leaf_of}
 
 -- the six groups of three slots
@@ -62,7 +63,7 @@ group_names Balanced Push Responder Initiator m n h i e = absurd (omega arith)
 group_names Push Balanced Responder Initiator m n h i e = absurd (omega arith)
 group_names Push Push Responder Initiator m n h i e = absurd (omega arith)
 
-numbers : (r s g h i j : ℕ) → g < 6 → h < 6 → i < 3 → j < 3 → 18 * r + (3 * g + i) ≡ 18 * s + (3 * h + j) → (r ≡ s) × (g ≡ h) × (i ≡ j)
+numbers : (r s g h i j : ℕ) → g < 6 → h < 6 → i < 3 → j < 3 → leaves_a_round * r + (3 * g + i) ≡ leaves_a_round * s + (3 * h + j) → (r ≡ s) × (g ≡ h) × (i ≡ j)
 numbers r s g h i j a b c d e = (omega arith, omega arith, omega arith)
 
 -- the kind that takes a step of a side
@@ -147,7 +148,7 @@ caster_named b c s t sb sc pb pc lb lc same = go (caster_is b s sb pb) (caster_i
 
 -- ---- how many
 
-pub leaves_few : (b : Body) (s rounds : ℕ) → is_signed b ≡ true → 1 ≤ round_of b → round_of b ≤ rounds → s < 2 → leaf_of b s < 18 * rounds
+pub leaves_few : (b : Body) (s rounds : ℕ) → is_signed b ≡ true → 1 ≤ round_of b → round_of b ≤ rounds → s < 2 → leaf_of b s < leaves_a_round * rounds
 leaves_few (Manifest r ds) s rounds h low high seat = omega arith
 leaves_few (Evict r ps) s rounds h low high seat = omega arith
 leaves_few (Request r d c) s rounds h low high seat = omega arith

@@ -1,6 +1,7 @@
 -- What one input adds to the broadcaster's log, and what it sends.
 use Rattle.bar_rules.specs.Broadcaster.Sending.{evicted, served, caster_message, caster_signed, send_all, announce_by, announce, announce_manifest, announce_evictions, send_block, send_blocks, caster_tick, evict_by, judge_body, judge_datagram, caster_take, caster_step}
 use Rattle.bar_rules.specs.Broadcaster.Stream.{round_blocks, manifest_list, caster_table, is_in_fanout}
+use Rattle.bar_wire.specs.Limits.{leaves_a_round}
 use Rattle.bar_wire.specs.Bodies.{evidence_in}
 use Rattle.bar_rules.specs.Runs.{begun, sending}
 use Rattle.bar_rules.specs.Peer.Log.{kept, Entry, Heard, Log, Ticked, Said, Kept, first_said, has_kind_and_round, ticks, round_now}
@@ -162,10 +163,10 @@ casts-tick me stream log o out is low a = go (not (nat_le m me.session.shape.rou
     m = round_now out.state
 
     below : m ≤ me.session.shape.rounds → 2 * (m - 1) < 2 ^ levels me.session.params.height
-    below high = let few : 18 * me.session.shape.rounds ≤ 2 ^ levels me.session.params.height = is.session.leaves in omega (arith, few, low, high)
+    below high = let few : leaves_a_round * me.session.shape.rounds ≤ 2 ^ levels me.session.params.height = is.session.leaves in omega (arith, few, low, high)
 
     above : m ≤ me.session.shape.rounds → 2 * (m - 1) + 1 < 2 ^ levels me.session.params.height
-    above high = let few : 18 * me.session.shape.rounds ≤ 2 ^ levels me.session.params.height = is.session.leaves in omega (arith, few, low, high)
+    above high = let few : leaves_a_round * me.session.shape.rounds ≤ 2 ^ levels me.session.params.height = is.session.leaves in omega (arith, few, low, high)
 
     manifest : m ≤ me.session.shape.rounds → Casts me stream log o (announce_manifest me stream m out)
     manifest high = casts-announce me stream log o out (2 * (m - 1)) m (Manifest m (manifest_list me.session stream m)) refl (omega arith) (manifest-fits me stream m is.session low high) (caster-accepted me (2 * (m - 1)) (Manifest m (manifest_list me.session stream m)) is (below high)) a

@@ -9,6 +9,7 @@ use Rattle.bar_rules.specs.Member.{Session, Member}
 use Rattle.bar_rules.specs.Secrets.{signature_of}
 use Rattle.bar_rules.specs.Values.{message_bytes, unsigned}
 use Rattle.bar_window.specs.declared.update.UpdateId.{UpdateId}
+use Rattle.bar_wire.specs.Limits.{leaves_a_round}
 use Rattle.bar_wire.specs.Datagram.{Manifest, Block, Evict}
 use Rattle.bar_wire.specs.Grammar.{IsDatagram, RisesTo}
 use Rattle.sha2.specs.Sha256.{sha256}
@@ -59,9 +60,9 @@ kept-rise p high low a (suc n) from to = go (p a) (λ l h. kept-rise p high l (a
 
 -- ---- the signature
 
-leaf-length : (me : Member) (leaf : ℕ) (message : List ℕ) → IsSession me.session → leaf < 18 * me.session.shape.rounds → length (signature_of me leaf message) ≡ me.session.shape.sig_len
+leaf-length : (me : Member) (leaf : ℕ) (message : List ℕ) → IsSession me.session → leaf < leaves_a_round * me.session.shape.rounds → length (signature_of me leaf message) ≡ me.session.shape.sig_len
 leaf-length me leaf message s low =
-    let leaves : 18 * me.session.shape.rounds ≤ 2 ^ levels me.session.params.height = s.leaves in
+    let leaves : leaves_a_round * me.session.shape.rounds ≤ 2 ^ levels me.session.params.height = s.leaves in
     lms_signed_has_its_length (signing_secret me.session me.secret) leaf message (omega (arith, low, leaves)) ∙ sym s.signatures
 
 -- ---- blocks

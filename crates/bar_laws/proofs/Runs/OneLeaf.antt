@@ -1,4 +1,5 @@
 -- No leaf signs two messages, and each leaf is below the number of leaves.
+use Rattle.bar_wire.specs.Limits.{leaves_a_round}
 use Rattle.bar_wire.specs.declared.kind.Kind.TheVariants as kinds
 use Rattle.bar_wire.specs.Kinds.{code_of}
 use Rattle.bar_lms.specs.Params.{levels}
@@ -315,6 +316,6 @@ pub leaf-below : (me : Member) (log : Log) (d : Datagram) → IsSession me.sessi
 leaf-below me log d s h w =
     let al = allowed-at me log w.before (Said d) w.place h in
     let x = placed me w.before d.message al.1 al.0.rule in
-    let few : leaf_for (known me log) d.message < 18 * me.session.shape.rounds = leaves_few d.message.body (seat_by (known me log) (place_of d.message)) me.session.shape.rounds x.signed al.0.rule.low al.0.rule.high (seat_by-below me log (place_of d.message) h) in
-    let all : 18 * me.session.shape.rounds ≤ 2 ^ levels me.session.params.height = s.leaves in
+    let few : leaf_for (known me log) d.message < leaves_a_round * me.session.shape.rounds = leaves_few d.message.body (seat_by (known me log) (place_of d.message)) me.session.shape.rounds x.signed al.0.rule.low al.0.rule.high (seat_by-below me log (place_of d.message) h) in
+    let all : leaves_a_round * me.session.shape.rounds ≤ 2 ^ levels me.session.params.height = s.leaves in
     omega (arith, few, all)
