@@ -1,7 +1,7 @@
 -- Identities and what messages are named by.
 use Rattle.std.proofs.Common.{◌≡◌, ℕ, true, List, [], ◌∷◌, refl, sym, ap, ◌∙◌}
 use Rattle.std.specs.Prelude.{Option, Some, None, ◌↔◌, ◌==◌, ◌||◌, if◌then◌else◌}
-use Rattle.bar_wire.specs.Datagram.{Body, Message, Manifest, Block, Request, Response, Divulge, Query, Reply, Case, KeyReq, Key, Evidence, Evict, is_signed, kind_number, named, identity_of}
+use Rattle.bar_wire.specs.Datagram.{Body, Message, Manifest, Request, Response, Query, Reply, Case, Key, Evict, is_signed, kind_number, named, identity_of}
 use Rattle.bar_seal.specs.declared.identities.Identity.{Identity}
 use Rattle.bar_seal.specs.Identities.{identity_by, identity}
 
@@ -23,10 +23,7 @@ is_told (Response r hb) f t s = refl
 is_told (Reply r w g z) f t s = refl
 is_told (Case c) f t s = refl
 is_told (Key k) f t s = refl
-is_told (Block u b) f t s = cc
-is_told (Divulge r n ha) f t s = cc
-is_told (KeyReq r k role) f t s = cc
-is_told (Evidence ds) f t s = cc
+is_told b f t s = cc
 
 -- the kind and the numbers that an identity is named by
 names : Identity → List ℕ
@@ -50,10 +47,7 @@ is_named (Response r hb) f t s = refl
 is_named (Reply r w g z) f t s = refl
 is_named (Case c) f t s = refl
 is_named (Key k) f t s = refl
-is_named (Block u b) f t s = cc
-is_named (Divulge r n ha) f t s = cc
-is_named (KeyReq r k role) f t s = cc
-is_named (Evidence ds) f t s = cc
+is_named b f t s = cc
 
 pub same_names : (m n : Message) → is_signed m.body ≡ true → is_signed n.body ≡ true → (identity m ≡ identity n) ↔ (identity_of m ≡ identity_of n)
 same_names m n s r = (

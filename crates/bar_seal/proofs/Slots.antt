@@ -5,7 +5,7 @@ use Rattle.bar_window.specs.declared.exchange.XKind.{XKind}
 use Rattle.bar_window.specs.declared.exchange.XKind.TheVariants.{Balanced, Push}
 use Rattle.bar_window.specs.declared.exchange.Role.{Role}
 use Rattle.bar_window.specs.declared.exchange.Role.TheVariants.{Initiator, Responder}
-use Rattle.bar_wire.specs.Datagram.{Body, Manifest, Block, Request, Response, Divulge, Query, Reply, Case, KeyReq, Key, Evidence, Evict, is_signed, round_of, part_of, kind_number}
+use Rattle.bar_wire.specs.Datagram.{Body, Manifest, Request, Response, Divulge, Query, Reply, Case, KeyReq, Key, Evict, is_signed, round_of, part_of, kind_number}
 use Rattle.bar_wire.specs.Limits.{leaves_a_round}
 use Rattle.bar_seal.specs.Leaves.{first_slot, step_of, leaf_at, leaf_by, leaf_of}
 
@@ -31,18 +31,9 @@ group_low Balanced Responder s h = omega arith
 group_low Push Responder s h = omega arith
 
 step_low : (b : Body) → step_of b < 3
-step_low (Manifest r ds) = omega arith
-step_low (Block u b) = omega arith
-step_low (Request r s c) = omega arith
-step_low (Response r hb) = omega arith
-step_low (Divulge r n ha) = omega arith
-step_low (Query r s y o) = omega arith
-step_low (Reply r w g z) = omega arith
 step_low (Case c) = omega arith
-step_low (KeyReq r k role) = omega arith
 step_low (Key k) = omega arith
-step_low (Evidence ds) = omega arith
-step_low (Evict r ps) = omega arith
+step_low b = omega arith
 
 group_names : (k l : XKind) (a b : Role) (m n : ℕ) → m < 2 → n < 2 → group k a m ≡ group l b n → (k ≡ l) × (a ≡ b) × (a ≡ Responder → m ≡ n)
 unfolding group
@@ -83,12 +74,7 @@ kind_is (Query r d y o) p s part = let same : (r, Push, Initiator) ≡ p = cc in
 kind_is (Reply r w g z) p s part = let same : (r, Push, Responder) ≡ p = cc in ap (λ (z : ℕ × XKind × Role). kind_by 0 z.1 z.2) same
 kind_is (Case c) p s part = refl
 kind_is (Key k) p s part = refl
-kind_is (Divulge r n ha) p s part = cc
-kind_is (KeyReq r k role) p s part = cc
-kind_is (Block u b) p s part = cc
-kind_is (Evidence ds) p s part = cc
-kind_is (Manifest r ds) p s part = cc
-kind_is (Evict r ps) p s part = cc
+kind_is b p s part = cc
 
 leaf_is : (b : Body) (p : ℕ × XKind × Role) (s : ℕ) → part_of b ≡ Some p → leaf_of b s ≡ leaf_at p.0 p.1 p.2 (step_of b) s
 leaf_is (Request r d c) p s part = ap (λ o. leaf_by o 0 s) part
@@ -99,10 +85,7 @@ leaf_is (Reply r w g z) p s part = ap (λ o. leaf_by o 0 s) part
 leaf_is (Case c) p s part = ap (λ o. leaf_by o 1 s) part
 leaf_is (KeyReq r k role) p s part = ap (λ o. leaf_by o 0 s) part
 leaf_is (Key k) p s part = ap (λ o. leaf_by o 2 s) part
-leaf_is (Block u b) p s part = cc
-leaf_is (Evidence ds) p s part = cc
-leaf_is (Manifest r ds) p s part = cc
-leaf_is (Evict r ps) p s part = cc
+leaf_is b p s part = cc
 
 pub peers_named : (b c : Body) (p q : ℕ × XKind × Role) (s t : ℕ) → is_signed b ≡ true → is_signed c ≡ true → part_of b ≡ Some p → part_of c ≡ Some q → 1 ≤ p.0 → 1 ≤ q.0 → s < 2 → t < 2
     → leaf_of b s ≡ leaf_of c t → (kind_number b ≡ kind_number c) × (p ≡ q) × (p.2 ≡ Responder → s ≡ t)
@@ -125,16 +108,7 @@ IsNotice b s = (kind_number b ≡ 12) × (leaf_of b s ≡ 2 * (round_of b - 1) +
 caster_is : (b : Body) (s : ℕ) → is_signed b ≡ true → part_of b ≡ None → IsManifest b s ⊎ IsNotice b s
 caster_is (Manifest r ds) s h part = inl (refl, refl)
 caster_is (Evict r ps) s h part = inr (refl, refl)
-caster_is (Block u b) s h part = cc
-caster_is (Evidence ds) s h part = cc
-caster_is (Request r d c) s h part = cc
-caster_is (Response r hb) s h part = cc
-caster_is (Divulge r n ha) s h part = cc
-caster_is (Query r d y o) s h part = cc
-caster_is (Reply r w g z) s h part = cc
-caster_is (Case c) s h part = cc
-caster_is (KeyReq r k role) s h part = cc
-caster_is (Key k) s h part = cc
+caster_is b s h part = cc
 
 pub caster_named : (b c : Body) (s t : ℕ) → is_signed b ≡ true → is_signed c ≡ true → part_of b ≡ None → part_of c ≡ None → 1 ≤ round_of b → 1 ≤ round_of c
     → leaf_of b s ≡ leaf_of c t → (kind_number b ≡ kind_number c) × (round_of b ≡ round_of c)
@@ -157,7 +131,4 @@ leaves_few (Query r d y o) s rounds h low high seat = omega arith
 leaves_few (Reply r w g z) s rounds h low high seat = omega arith
 leaves_few (Case c) s rounds h low high seat = omega (arith, slot_is c.kind c.role s, group_low c.kind c.role s seat)
 leaves_few (Key k) s rounds h low high seat = omega (arith, slot_is k.kind k.role s, group_low k.kind k.role s seat)
-leaves_few (Block u b) s rounds h low high seat = cc
-leaves_few (Divulge r n ha) s rounds h low high seat = cc
-leaves_few (KeyReq r k role) s rounds h low high seat = cc
-leaves_few (Evidence ds) s rounds h low high seat = cc
+leaves_few b s rounds h low high seat = cc

@@ -72,11 +72,7 @@ orders-timely me k at is_new from to (Case c) life e f =
 orders-timely me k at is_new from to (KeyReq r kind role) life e f =
     when-timely me.session.shape.life at _ (GiveKey (exchange_by r kind role from to) ∷ [])
     (λ h. (at-round me.session.shape.life at r kind role from to me.session.shape.life (in-bound (this_round k) at (r + me.session.shape.life) is_new e f h), tt))
-orders-timely me k at is_new from to (Manifest r ds) life e f = tt
-orders-timely me k at is_new from to (Block u b) life e f = tt
-orders-timely me k at is_new from to (Key g) life e f = tt
-orders-timely me k at is_new from to (Evidence ds) life e f = tt
-orders-timely me k at is_new from to (Evict r ps) life e f = tt
+orders-timely me k at is_new from to _ life e f = tt
 
 -- a repeated message of a round that isn't recent is not answered
 stale-orders : (me : Member) (k : Knowledge) (from to : ℕ) (b : Body) (p : ℕ × XKind × Role) → 2 ≤ me.session.shape.life → part_of b ≡ Some p → p.0 + me.session.shape.life < this_round k → orders_for me k false from to b ≡ []

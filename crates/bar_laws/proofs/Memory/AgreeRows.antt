@@ -201,7 +201,7 @@ module _ (me : Member) (one two : Knowledge) (same : AgreesWith me one two) wher
         (λ b.
         let f : IsRecent me one x.round = recent-by k.round k.kind k.role from to b in
         (λ i. said-same kinds.Case x (other_role k.role) f i && heard-same kinds.Case x k.role f i))
-    row-same from to (Evidence ds) = refl
+    row-same from to _ = refl
 
     -- ---- names and admission
 

@@ -219,53 +219,17 @@ module _ (me : Member) (d : Datagram) (k : Knowledge) where
         seat = λ x. unseated (Key g) refl refl x i;
         asked = λ kind round. unasked (Key g) refl refl kind round i;
       }
-  by-kind (Response r hb) =
+  by-kind b =
       λ i.
       record k {
         has_evict = λ round. or-false (k.has_evict round) i;
         is_announced = λ party. or-false (k.is_announced party) i;
         manifest = λ round. or-none (k.manifest round) i;
         block = λ u. or-none (k.block u) i;
-        heard = first_with (with_body d (Response r hb)) k.heard;
+        heard = first_with (with_body d b) k.heard;
         revealed = λ x. or-none (k.revealed x) i;
-        seat = λ x. unseated (Response r hb) refl refl x i;
-        asked = λ sort round. unasked (Response r hb) refl refl sort round i;
-      }
-  by-kind (Reply r want give junk) =
-      λ i.
-      record k {
-        has_evict = λ round. or-false (k.has_evict round) i;
-        is_announced = λ party. or-false (k.is_announced party) i;
-        manifest = λ round. or-none (k.manifest round) i;
-        block = λ u. or-none (k.block u) i;
-        heard = first_with (with_body d (Reply r want give junk)) k.heard;
-        revealed = λ x. or-none (k.revealed x) i;
-        seat = λ x. unseated (Reply r want give junk) refl refl x i;
-        asked = λ sort round. unasked (Reply r want give junk) refl refl sort round i;
-      }
-  by-kind (Case c) =
-      λ i.
-      record k {
-        has_evict = λ round. or-false (k.has_evict round) i;
-        is_announced = λ party. or-false (k.is_announced party) i;
-        manifest = λ round. or-none (k.manifest round) i;
-        block = λ u. or-none (k.block u) i;
-        heard = first_with (with_body d (Case c)) k.heard;
-        revealed = λ x. or-none (k.revealed x) i;
-        seat = λ x. unseated (Case c) refl refl x i;
-        asked = λ sort round. unasked (Case c) refl refl sort round i;
-      }
-  by-kind (KeyReq r kind role) =
-      λ i.
-      record k {
-        has_evict = λ round. or-false (k.has_evict round) i;
-        is_announced = λ party. or-false (k.is_announced party) i;
-        manifest = λ round. or-none (k.manifest round) i;
-        block = λ u. or-none (k.block u) i;
-        heard = first_with (with_body d (KeyReq r kind role)) k.heard;
-        revealed = λ x. or-none (k.revealed x) i;
-        seat = λ x. unseated (KeyReq r kind role) refl refl x i;
-        asked = λ sort round. unasked (KeyReq r kind role) refl refl sort round i;
+        seat = λ x. unseated b refl refl x i;
+        asked = λ sort round. unasked b refl refl sort round i;
       }
 
 -- ---- one more entry

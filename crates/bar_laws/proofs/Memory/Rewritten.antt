@@ -207,12 +207,7 @@ again-by me log kinds.Response x d h s f i = response-again me log x d d.message
 again-by me log kinds.Reply x d h s f i = reply-again me log x d d.message.body s f refl (and_parts _ _ i).0
 again-by me log kinds.Case x d h s f i = case-again me log x d d.message.body s refl (and_parts _ _ i).0
 again-by me log kinds.Key x d h s f i = key-again me log x d d.message.body s refl (and_parts _ _ i).0
-again-by me log kinds.Manifest x d h s f i = absurd (unsaid me log x d kinds.Manifest s refl i)
-again-by me log kinds.Block x d h s f i = absurd (unsaid me log x d kinds.Block s refl i)
-again-by me log kinds.Divulge x d h s f i = absurd (unsaid me log x d kinds.Divulge s refl i)
-again-by me log kinds.KeyReq x d h s f i = absurd (unsaid me log x d kinds.KeyReq s refl i)
-again-by me log kinds.Evidence x d h s f i = absurd (unsaid me log x d kinds.Evidence s refl i)
-again-by me log kinds.Evict x d h s f i = absurd (unsaid me log x d kinds.Evict s refl i)
+again-by me log kind x d h s f i = absurd (unsaid me log x d kind s refl i)
 
 pub rewritten : (me : Member) (log : Log) → IsObedient me log → IsRewritten me (known me log)
 rewritten me log h = record {
