@@ -1,4 +1,5 @@
 -- What agrees in what a peer keeps admits the same datagrams.
+use Rattle.bar_wire.specs.Limits.{seats_a_round}
 use Rattle.bar_wire.specs.Bodies.{history_in, offer_in, reply_in, commitment_in}
 use Rattle.bar_terms.specs.Table.{Table, digest_of, is_within}
 use Rattle.bar_terms.specs.Terms.{offer_ok, offer_rounds}
@@ -145,9 +146,9 @@ module _ (me : Member) (one two : Knowledge) (same : AgreesWith me one two) wher
     unfolding is_near
     ask-same kind from round seed =
         and_first _ _ (is_near kind round (this_round one))
-        (λ b. ap (λ n. (is_seed me.session from round seed && eqb (partner_of me.session seed kind from) me.party) && nat_lt n 2)
+        (λ b. ap (λ n. (is_seed me.session from round seed && eqb (partner_of me.session seed kind from) me.party) && nat_lt n seats_a_round)
         (same.requests kind round (soon-recent round (near-soon kind round b))))
-        ∙ ap (λ n. ((is_seed me.session from round seed && eqb (partner_of me.session seed kind from) me.party) && nat_lt (two.asked kind round) 2) && is_near kind round n) (now me one two same)
+        ∙ ap (λ n. ((is_seed me.session from round seed && eqb (partner_of me.session seed kind from) me.party) && nat_lt (two.asked kind round) seats_a_round) && is_near kind round n) (now me one two same)
 
     row-same : (from to : ℕ) (b : Body) → is_row_met me one from to b ≡ is_row_met me two from to b
     row-same from to (Manifest r digests) = ap (λ n. nat_le r (n + 1) && is_alive me.session r n) (now me one two same)
