@@ -4,7 +4,8 @@ use Rattle.std.specs.Option.{option_and_then}
 use Rattle.std.specs.Str.{bytes_eq}
 use Rattle.bar_outside.specs.Disk.{Content}
 use Rattle.bar_outside.specs.Plan.{Plan, ending}
-use Rattle.bar_cli.specs.Words.{values_of, most_rounds, number_in, id_of, types_of}
+use Rattle.bar_roster.specs.NumberRanges.{most_rounds}
+use Rattle.bar_cli.specs.Words.{values_of, number_in, id_of, types_of}
 use Rattle.bar_cli.specs.ReplayPlan.{ReplayFiles, replay_plan}
 use Rattle.bar_cli.specs.KeygenPlan.{Keygen, keygen_plan}
 

@@ -35,10 +35,6 @@ number_in low high word =
     then Some (digits_value 10 word)
     else None
 
--- the most rounds of a session
-abbrev pub most_rounds : ℕ
-most_rounds = 1820
-
 -- the eight bytes of sixteen hex digits
 abbrev pub id_of : List ℕ → Option (List ℕ)
 id_of word = result_ok (decode_sized word 8)

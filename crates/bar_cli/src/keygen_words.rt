@@ -1,6 +1,6 @@
 //! What `keygen` is asked for.
 ghost use Rattle.std.specs.Prelude.{◌≤◌};
-ghost use Rattle.bar_cli.specs.Words.{most_rounds};
+ghost use Rattle.bar_roster.specs.NumberRanges.{most_rounds};
 
 use bar_lms::Params;
 

@@ -5,7 +5,8 @@ ghost use Rattle.bar_cli.specs.Line.{keygen_line, line_of, replay_line};
 ghost use Rattle.bar_cli.specs.Views.{asked_view, command_view, replay_view};
 
 use crate::keygen_words::KeygenWords;
-use crate::words::{MOST_ROUNDS, id_of, number_in, option_value, types_of};
+use crate::words::{id_of, number_in, option_value, types_of};
+use bar_roster::MOST_ROUNDS;
 
 /// The files of a replay.
 #[derive(Clone, Copy, Debug)]

@@ -8,9 +8,6 @@ ghost use Rattle.bar_cli.specs.Words.{id_of, is_numeral, number_in, types_of, va
 use bar_lms::Params;
 use hex::FromHex;
 
-/// The most rounds of a session.
-pub const MOST_ROUNDS: u64 = 1820;
-
 /// The value behind the first option of this name, where the words go in pairs.
 pub fn option_value<'a>(words: &'a [String], name: &str) -> Option<&'a str>
     ensures { option_copied result ≡ value_of name.now (map string_bytes words.now) }

@@ -1,4 +1,4 @@
--- Few exchanges: of each round a peer keeps six at most, each in a room of its own.
+-- Few exchanges: of each round a peer keeps `exchanges_a_round` at most, each in a room of its own.
 use Rattle.std.specs.Prelude.{◌≡◌, ℕ, zero, suc, ◌+◌, ◌*◌, ◌==◌, ◌&&◌, ◌≤◌, nat_le, Bool, true, List, length, Option, Some, None, is_some, option_map, option_and_then}
 use Rattle.std.specs.Bool.{then_some}
 use Rattle.std.specs.List.{list_all, IsDistinct}
@@ -7,6 +7,7 @@ use Rattle.bar_window.specs.declared.exchange.Exchange.{Exchange}
 use Rattle.bar_window.specs.declared.exchange.Role.{Role}
 use Rattle.bar_window.specs.declared.exchange.Role.TheVariants.{Initiator, Responder}
 use Rattle.bar_window.specs.declared.exchange.XKind.{XKind}
+use Rattle.bar_wire.specs.Limits.{exchanges_a_round}
 use Rattle.bar_wire.specs.declared.kind.Kind.{Kind}
 use Rattle.bar_rules.specs.Peer.Exchanges.{role_of, request_kind}
 use Rattle.bar_rules.specs.Peer.Knowledge.{Knowledge, known, this_round, has_heard_of, has_said_of}
@@ -21,7 +22,7 @@ pub data Asking : Type 0 where
   First : Asking
   Second : Asking
 
--- one of the six rooms of a round
+-- one of the rooms of a round, of which there are `exchanges_a_round`
 pub record Room : Type 0 where
   pub kind : XKind
   pub asking : Asking
@@ -61,16 +62,16 @@ LogHasRooms = (me : Member) (log : Log) → IsObedient me log → HasRooms me (k
 abbrev pub is_kept : Member → Knowledge → Exchange → Bool
 is_kept me k x = is_some (room_of me k x)
 
--- Different exchanges of one round that are kept are six at most. Those that may still be asked about are of the rounds from a life before
--- this one to the next one: so they are at most six for each of these rounds, of which there are two more than in a life.
+-- Different exchanges of one round that are kept are `exchanges_a_round` at most. Those that may still be asked about are of the rounds from a life before
+-- this one to the next one: so they are at most as many for each of these rounds, of which there are two more than in a life.
 pub record KeepsFew (me : Member) (k : Knowledge) : Type 0 where
   pub in_round :
       (round : ℕ) (xs : List Exchange) → IsDistinct same_exchange xs → list_all (λ x. (x.round == round) && is_kept me k x) xs ≡ true
-      → length xs ≤ 6
+      → length xs ≤ exchanges_a_round
   pub recent :
       (xs : List Exchange) → IsDistinct same_exchange xs
       → list_all (λ x. nat_le (this_round k) (x.round + me.session.shape.life) && is_kept me k x) xs ≡ true
-      → length xs ≤ 6 * (me.session.shape.life + 2)
+      → length xs ≤ exchanges_a_round * (me.session.shape.life + 2)
 
 -- whatever comes
 abbrev pub RunKeepsFew : Type 0

@@ -6,15 +6,15 @@ use Rattle.bar_window.specs.declared.exchange.XKind.TheVariants.{Balanced, Push}
 use Rattle.bar_window.specs.declared.exchange.Role.{Role}
 use Rattle.bar_window.specs.declared.exchange.Role.TheVariants.{Initiator, Responder}
 use Rattle.bar_wire.specs.Datagram.{Body, Manifest, Request, Response, Divulge, Query, Reply, Case, KeyReq, Key, Evict, is_signed, round_of, part_of, kind_number}
-use Rattle.bar_wire.specs.Limits.{leaves_a_round}
+use Rattle.bar_wire.specs.Limits.{leaves_a_round, exchanges_a_round, seats_a_round}
 use Rattle.bar_seal.specs.Leaves.{first_slot, step_of, leaf_at, leaf_by, leaf_of}
 
--- the six groups of three slots
+-- the groups of three slots
 group : XKind → Role → ℕ → ℕ
 group Balanced Initiator seat = 0
 group Push Initiator seat = 1
 group Balanced Responder seat = 2 + seat
-group Push Responder seat = 4 + seat
+group Push Responder seat = 2 + (seats_a_round + seat)
 
 slot_is : (k : XKind) (r : Role) (s : ℕ) → first_slot k r s ≡ 3 * group k r s
 unfolding group
@@ -23,7 +23,7 @@ slot_is Push Initiator s = refl
 slot_is Balanced Responder s = omega arith
 slot_is Push Responder s = omega arith
 
-group_low : (k : XKind) (r : Role) (s : ℕ) → s < 2 → group k r s < 6
+group_low : (k : XKind) (r : Role) (s : ℕ) → s < seats_a_round → group k r s < exchanges_a_round
 unfolding group
 group_low Balanced Initiator s h = omega arith
 group_low Push Initiator s h = omega arith
@@ -35,7 +35,7 @@ step_low (Case c) = omega arith
 step_low (Key k) = omega arith
 step_low b = omega arith
 
-group_names : (k l : XKind) (a b : Role) (m n : ℕ) → m < 2 → n < 2 → group k a m ≡ group l b n → (k ≡ l) × (a ≡ b) × (a ≡ Responder → m ≡ n)
+group_names : (k l : XKind) (a b : Role) (m n : ℕ) → m < seats_a_round → n < seats_a_round → group k a m ≡ group l b n → (k ≡ l) × (a ≡ b) × (a ≡ Responder → m ≡ n)
 unfolding group
 group_names Balanced Balanced Initiator Initiator m n h i e = (refl, refl, λ z. cc)
 group_names Push Push Initiator Initiator m n h i e = (refl, refl, λ z. cc)
@@ -54,7 +54,7 @@ group_names Balanced Push Responder Initiator m n h i e = absurd (omega arith)
 group_names Push Balanced Responder Initiator m n h i e = absurd (omega arith)
 group_names Push Push Responder Initiator m n h i e = absurd (omega arith)
 
-numbers : (r s g h i j : ℕ) → g < 6 → h < 6 → i < 3 → j < 3 → leaves_a_round * r + (3 * g + i) ≡ leaves_a_round * s + (3 * h + j) → (r ≡ s) × (g ≡ h) × (i ≡ j)
+numbers : (r s g h i j : ℕ) → g < exchanges_a_round → h < exchanges_a_round → i < 3 → j < 3 → leaves_a_round * r + (3 * g + i) ≡ leaves_a_round * s + (3 * h + j) → (r ≡ s) × (g ≡ h) × (i ≡ j)
 numbers r s g h i j a b c d e = (omega arith, omega arith, omega arith)
 
 -- the kind that takes a step of a side
@@ -87,7 +87,7 @@ leaf_is (KeyReq r k role) p s part = ap (λ o. leaf_by o 0 s) part
 leaf_is (Key k) p s part = ap (λ o. leaf_by o 2 s) part
 leaf_is b p s part = cc
 
-pub peers_named : (b c : Body) (p q : ℕ × XKind × Role) (s t : ℕ) → is_signed b ≡ true → is_signed c ≡ true → part_of b ≡ Some p → part_of c ≡ Some q → 1 ≤ p.0 → 1 ≤ q.0 → s < 2 → t < 2
+pub peers_named : (b c : Body) (p q : ℕ × XKind × Role) (s t : ℕ) → is_signed b ≡ true → is_signed c ≡ true → part_of b ≡ Some p → part_of c ≡ Some q → 1 ≤ p.0 → 1 ≤ q.0 → s < seats_a_round → t < seats_a_round
     → leaf_of b s ≡ leaf_of c t → (kind_number b ≡ kind_number c) × (p ≡ q) × (p.2 ≡ Responder → s ≡ t)
 peers_named b c p q s t sb sc pb pc lp lq ls lt same =
     let n = numbers (p.0 - 1) (q.0 - 1) (group p.1 p.2 s) (group q.1 q.2 t) (step_of b) (step_of c) (group_low p.1 p.2 s ls) (group_low q.1 q.2 t lt) (step_low b) (step_low c)
@@ -122,7 +122,7 @@ caster_named b c s t sb sc pb pc lb lc same = go (caster_is b s sb pb) (caster_i
 
 -- ---- how many
 
-pub leaves_few : (b : Body) (s rounds : ℕ) → is_signed b ≡ true → 1 ≤ round_of b → round_of b ≤ rounds → s < 2 → leaf_of b s < leaves_a_round * rounds
+pub leaves_few : (b : Body) (s rounds : ℕ) → is_signed b ≡ true → 1 ≤ round_of b → round_of b ≤ rounds → s < seats_a_round → leaf_of b s < leaves_a_round * rounds
 leaves_few (Manifest r ds) s rounds h low high seat = omega arith
 leaves_few (Evict r ps) s rounds h low high seat = omega arith
 leaves_few (Request r d c) s rounds h low high seat = omega arith

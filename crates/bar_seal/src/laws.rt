@@ -5,7 +5,7 @@ ghost use Rattle.bar_window.specs.declared.exchange.XKind.{XKind};
 ghost use Rattle.bar_window.specs.declared.exchange.Role.{Role};
 ghost use Rattle.bar_window.specs.declared.exchange.Role.TheVariants.{Responder};
 ghost use Rattle.bar_wire.specs.Datagram.{Message, Body, is_signed, round_of, part_of, kind_number, identity_of};
-ghost use Rattle.bar_wire.specs.Limits.{leaves_a_round};
+ghost use Rattle.bar_wire.specs.Limits.{leaves_a_round, seats_a_round};
 ghost use Rattle.bar_seal.specs.Identities.{identity};
 ghost use Rattle.bar_seal.specs.Leaves.{leaf_of};
 
@@ -19,7 +19,7 @@ pub fn identities_name_messages()
 /// messages of one round have different leaves.
 pub fn leaves_name_messages()
     ensures peers { (b c : Body) (p q : ℕ × XKind × Role) (s t : ℕ) → is_signed b ≡ true → is_signed c ≡ true → part_of b ≡ Some p →
-        part_of c ≡ Some q → 1 ≤ p.0 → 1 ≤ q.0 → s < 2 → t < 2 → leaf_of b s ≡ leaf_of c t →
+        part_of c ≡ Some q → 1 ≤ p.0 → 1 ≤ q.0 → s < seats_a_round → t < seats_a_round → leaf_of b s ≡ leaf_of c t →
         (kind_number b ≡ kind_number c) × (p ≡ q) × (p.2 ≡ Responder → s ≡ t) }
     ensures broadcaster { (b c : Body) (s t : ℕ) → is_signed b ≡ true → is_signed c ≡ true → part_of b ≡ None → part_of c ≡ None →
         1 ≤ round_of b → 1 ≤ round_of c → leaf_of b s ≡ leaf_of c t → (kind_number b ≡ kind_number c) × (round_of b ≡ round_of c) }
@@ -27,6 +27,6 @@ pub fn leaves_name_messages()
 
 /// The leaves of so many rounds are fewer than those that each round has.
 pub fn leaves_are_few()
-    ensures { (b : Body) (s rounds : ℕ) → is_signed b ≡ true → 1 ≤ round_of b → round_of b ≤ rounds → s < 2 →
+    ensures { (b : Body) (s rounds : ℕ) → is_signed b ≡ true → 1 ≤ round_of b → round_of b ≤ rounds → s < seats_a_round →
         leaf_of b s < leaves_a_round * rounds }
 {}

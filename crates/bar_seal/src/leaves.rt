@@ -2,12 +2,12 @@
 
 ghost use Rattle.std.specs.Prelude.{◌≡◌, ℕ, ◌*◌, ◌≤◌, ◌<◌, ◌^◌, true};
 ghost use Rattle.bar_wire.specs.Datagram.{is_signed, round_of};
-ghost use Rattle.bar_wire.specs.Limits.{leaves_a_round};
+ghost use Rattle.bar_wire.specs.Limits.{leaves_a_round, seats_a_round};
 ghost use Rattle.bar_wire.specs.Views.{plain};
 ghost use Rattle.bar_seal.specs.Leaves.{leaf_of, first_slot, leaf_at};
 
 use bar_window::{Role, XKind};
-use bar_wire::{Body, LEAVES_A_ROUND, kind_from, role_from};
+use bar_wire::{Body, LEAVES_A_ROUND, SEATS_A_ROUND, kind_from, role_from};
 
 /// The steps of a side of an exchange: its first message, its briefcase and its key.
 const FIRST: u32 = 0;
@@ -24,7 +24,7 @@ fn first_slot(kind: XKind, role: Role, seat: u8) -> u32
         (XKind::Balanced, Role::Initiator) => 0,
         (XKind::Push, Role::Initiator) => 3,
         (XKind::Balanced, Role::Responder) => 6 + 3 * u32::from(seat),
-        (XKind::Push, Role::Responder) => 12 + 3 * u32::from(seat),
+        (XKind::Push, Role::Responder) => 6 + 3 * (SEATS_A_ROUND + u32::from(seat)),
     }
 }
 
@@ -32,14 +32,14 @@ fn first_slot(kind: XKind, role: Role, seat: u8) -> u32
 fn leaf_at(round: u32, kind: XKind, role: Role, step: u32, seat: u8) -> u32
     requires first { 1 ≤ round }
     requires fits { leaves_a_round * round < 2 ^ 32 }
-    requires seat { seat < 2 }
+    requires seat { seat < seats_a_round }
     requires step { step < 3 }
     ensures { result ≡ leaf_at round kind role step seat }
 {
     LEAVES_A_ROUND * (round - 1) + (first_slot(kind, role, seat) + step)
 }
 
-/// The leaf that signs a message of a signed kind, where its sender has the seat 0 or 1 if it is the responder.
+/// The leaf that signs a message of a signed kind, where its sender has a seat below `SEATS_A_ROUND` if it is the responder.
 ///
 /// A peer has `LEAVES_A_ROUND` leaves for each round, one for each message that it may sign there: request, briefcase and key as balanced initiator, then
 /// as push initiator, then response, briefcase and key in each seat as balanced responder, then in each seat as push responder. The
@@ -48,7 +48,7 @@ pub fn leaf_of(body: &Body<'_>, seat: u8) -> u32
     requires signed { is_signed (plain body.now) ≡ true }
     requires first { 1 ≤ round_of (plain body.now) }
     requires fits { leaves_a_round * round_of (plain body.now) < 2 ^ 32 }
-    requires seat { seat < 2 }
+    requires seat { seat < seats_a_round }
     ensures { result ≡ leaf_of (plain body.now) seat }
 {
     let (balanced, push) = (XKind::Balanced, XKind::Push);

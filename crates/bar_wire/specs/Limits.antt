@@ -1,5 +1,5 @@
 -- The limits of every datagram, and the numbers that a session says of its own.
-use Rattle.std.specs.Prelude.{◌≡◌, ℕ, ◌<◌, ◌≤◌, List, length}
+use Rattle.std.specs.Prelude.{◌≡◌, ℕ, ◌+◌, ◌*◌, ◌<◌, ◌≤◌, List, length}
 
 -- the most bytes of a datagram
 abbrev pub largest_datagram : ℕ
@@ -13,9 +13,17 @@ everyone = 65535
 abbrev pub largest_content : ℕ
 largest_content = 1022
 
--- how many messages a peer may sign in a round, each with a leaf of its own
+-- how many requests of each kind of exchange a peer admits in a round; each takes a seat
+abbrev pub seats_a_round : ℕ
+seats_a_round = 2
+
+-- how many exchanges a peer has in a round: of each of the two kinds its own and one for each seat
+abbrev pub exchanges_a_round : ℕ
+exchanges_a_round = 2 * (1 + seats_a_round)
+
+-- how many messages a peer may sign in a round, each with a leaf of its own: three in an exchange
 abbrev pub leaves_a_round : ℕ
-leaves_a_round = 18
+leaves_a_round = 3 * exchanges_a_round
 
 -- An id has eight bytes, and an update lives for 1 to 16 rounds.
 pub record IsShape (id : List ℕ) (life : ℕ) : Type 0 where

@@ -7,5 +7,11 @@ pub const EVERYONE: u16 = 65_535;
 /// The most bytes of content in a block, which stand behind their number in two bytes.
 pub const LARGEST_CONTENT: usize = 1_022;
 
-/// How many messages a peer may sign in a round, each with a leaf of its own.
-pub const LEAVES_A_ROUND: u32 = 18;
+/// How many requests of each kind of exchange a peer admits in a round; each takes a seat.
+pub const SEATS_A_ROUND: u32 = 2;
+
+/// How many exchanges a peer has in a round: of each of the two kinds its own and one for each seat.
+const EXCHANGES_A_ROUND: u32 = 2 * (1 + SEATS_A_ROUND);
+
+/// How many messages a peer may sign in a round, each with a leaf of its own: three in an exchange.
+pub const LEAVES_A_ROUND: u32 = 3 * EXCHANGES_A_ROUND;

@@ -10,7 +10,7 @@ use Rattle.bar_wire.specs.Datagram.{Message, Datagram, Body, Request, Response, 
 use Rattle.bar_rules.specs.Peer.Agreement.{promised_by, told_for, AgreesWith, IsRecent}
 use Rattle.bar_rules.specs.Peer.Exchanges.{request_kind, committed, with_exchange, recent_of}
 use Rattle.bar_rules.specs.Peer.Holdings.{block_by, block_opened, history, case_in}
-use Rattle.bar_rules.specs.Peer.Knowledge.{table_of, Knowledge, known, this_round, holds, case_heard_of, with_tick, with_heard, with_said, with_kept}
+use Rattle.bar_rules.specs.Peer.Knowledge.{table_of, Knowledge, known, this_round, holds, case_heard_of, with_tick, with_heard, with_said, with_kept, request_deadline, answer_deadline}
 use Rattle.bar_rules.specs.Peer.Log.{lists_of, Log, Ticked, Heard, Said, Kept, has_kind_and_round, names_party}
 use Rattle.bar_rules.specs.Member.{Member, round_after, is_alive}
 use Rattle.bar_rules.specs.Values.{window_of}
@@ -35,12 +35,12 @@ or-same o p q r e f = λ i. option_or (e i) (f i)
 
 -- the round of this moment is within the bound that admission sets for a message
 abbrev pub IsInTime : ℕ → ℕ → Body → Type 0
-IsInTime life now (Request r seed c) = now ≤ r + 1
-IsInTime life now (Response r hb) = now ≤ r + 2
-IsInTime life now (Divulge r nonce ha) = now ≤ r + 2
-IsInTime life now (Query r seed young aged) = now ≤ r + 1
-IsInTime life now (Reply r want give junk) = now ≤ r + 2
-IsInTime life now (Case c) = now ≤ c.round + 2
+IsInTime life now (Request r seed c) = now ≤ r + request_deadline
+IsInTime life now (Response r hb) = now ≤ r + answer_deadline
+IsInTime life now (Divulge r nonce ha) = now ≤ r + answer_deadline
+IsInTime life now (Query r seed young aged) = now ≤ r + request_deadline
+IsInTime life now (Reply r want give junk) = now ≤ r + answer_deadline
+IsInTime life now (Case c) = now ≤ c.round + answer_deadline
 IsInTime life now (KeyReq r kind role) = now ≤ r + life
 IsInTime life now (Key k) = now ≤ k.round + life
 IsInTime life now _ = Unit {0}
@@ -58,21 +58,21 @@ module _ (me : Member) (one two : Knowledge) (same : AgreesWith me one two) wher
 
   -- ---- holdings
 
-  pub blocks-on : (round : ℕ) (us : List UpdateId) → this_round one ≤ round + 2 → InLife me.session.shape.life round us → AllByRecursion (λ u. one.block u ≡ two.block u) us
+  pub blocks-on : (round : ℕ) (us : List UpdateId) → this_round one ≤ round + answer_deadline → InLife me.session.shape.life round us → AllByRecursion (λ u. one.block u ≡ two.block u) us
   blocks-on round [] h e = tt
   blocks-on round (u ∷ us) h e =
       let p = and_parts _ _ e in
       let low : round + 1 ≤ u.round + me.session.shape.life = leb-true (round + 1) (u.round + me.session.shape.life) p.0 in
       (same.blocks u (omega (arith, low, h)), blocks-on round us h p.1)
 
-  pub held-on : (round : ℕ) (us : List UpdateId) → this_round one ≤ round + 2 → InLife me.session.shape.life round us → AllByRecursion (λ u. holds one u ≡ holds two u) us
+  pub held-on : (round : ℕ) (us : List UpdateId) → this_round one ≤ round + answer_deadline → InLife me.session.shape.life round us → AllByRecursion (λ u. holds one u ≡ holds two u) us
   held-on round [] h e = tt
   held-on round (u ∷ us) h e =
       let p = and_parts _ _ e in
       let low : round + 1 ≤ u.round + me.session.shape.life = leb-true (round + 1) (u.round + me.session.shape.life) p.0 in
       (ap is_some (same.blocks u (omega (arith, low, h))), held-on round us h p.1)
 
-  pub history-same : (round : ℕ) → this_round one ≤ round + 2 → history me.session one.block round ≡ history me.session two.block round
+  pub history-same : (round : ℕ) → this_round one ≤ round + answer_deadline → history me.session one.block round ≡ history me.session two.block round
   history-same round h = filter-same (holds one) (holds two) (window_of me.session round) (held-on round (window_of me.session round) h (window-in-life me.session round))
 
   -- ---- one more entry
@@ -153,7 +153,7 @@ module _ (me : Member) (one two : Knowledge) (same : AgreesWith me one two) wher
       subst (λ k. AgreesWith me k (with_heard me d two)) (by-kind me d one d.message.body) (subst (λ k. AgreesWith me (grown me d one) k) (by-kind me d two d.message.body) (grow-agree d h))
 
   -- a REQUEST commits to the history of its moment
-  commit-same : (d : Datagram) (x : Exchange) → (kind_number d.message.body ≡ 3 → this_round one ≤ round_of d.message.body + 2)
+  commit-same : (d : Datagram) (x : Exchange) → (kind_number d.message.body ≡ 3 → this_round one ≤ round_of d.message.body + answer_deadline)
       → then_some (is_of kinds.Request x Initiator d.message) (committed me one.block x) ≡ then_some (is_of kinds.Request x Initiator d.message) (committed me two.block x)
   commit-same d x h = go (is_of kinds.Request x Initiator d.message) refl
     where
@@ -162,10 +162,10 @@ module _ (me : Member) (one two : Knowledge) (same : AgreesWith me one two) wher
       go true e =
           let w = is_of-is kinds.Request x Initiator d.message e in
           let round : round_of d.message.body ≡ x.round = part-round d.message.body w.round w.sort Initiator w.part ∙ of-round kinds.Request x Initiator d.message (w.round, w.sort, Initiator) e w.part in
-          let soon : this_round one ≤ x.round + 2 = subst (λ z. this_round one ≤ z + 2) round (h w.number) in
+          let soon : this_round one ≤ x.round + answer_deadline = subst (λ z. this_round one ≤ z + answer_deadline) round (h w.number) in
           ap (λ us. Some ((committed me one.block x).0, us)) (history-same x.round soon)
 
-  speak-agree : (d : Datagram) → (kind_number d.message.body ≡ 3 → this_round one ≤ round_of d.message.body + 2) → AgreesWith me (with_said me d one) (with_said me d two)
+  speak-agree : (d : Datagram) → (kind_number d.message.body ≡ 3 → this_round one ≤ round_of d.message.body + answer_deadline) → AgreesWith me (with_said me d one) (with_said me d two)
   speak-agree d h = record {
     time = same.time;
     manifests = same.manifests;
@@ -195,7 +195,7 @@ module _ (me : Member) (one : Log) (two : Knowledge) (same : AgreesWith me (know
   pub heard-agree : (d : Datagram) → IsInTime me.session.shape.life (this_round (known me one)) d.message.body → AgreesWith me (known me (Heard d ∷ one)) (with_heard me d two)
   heard-agree d h = subst (λ k. AgreesWith me k (with_heard me d two)) (sym (known-heard me one d)) (hear-agree me (known me one) two same d h)
 
-  pub said-agree : (d : Datagram) → (kind_number d.message.body ≡ 3 → this_round (known me one) ≤ round_of d.message.body + 2) → AgreesWith me (known me (Said d ∷ one)) (with_said me d two)
+  pub said-agree : (d : Datagram) → (kind_number d.message.body ≡ 3 → this_round (known me one) ≤ round_of d.message.body + answer_deadline) → AgreesWith me (known me (Said d ∷ one)) (with_said me d two)
   said-agree d h = subst (λ k. AgreesWith me k (with_said me d two)) (sym (known-said me one d)) (speak-agree me (known me one) two same d h)
 
 -- ---- one after another

@@ -21,7 +21,7 @@ use Rattle.bar_rules.specs.Peer.Agreement.{told_for, AgreesWith, IsRecent}
 use Rattle.bar_rules.specs.Peer.Choices.{young_of, aged_of, wanted_of, given_of}
 use Rattle.bar_rules.specs.Peer.Exchanges.{request_kind, role_of, partner_in, answer_kind}
 use Rattle.bar_rules.specs.Peer.Holdings.{block_of, history}
-use Rattle.bar_rules.specs.Peer.Knowledge.{table_of, Knowledge, known, this_round, holds, with_said}
+use Rattle.bar_rules.specs.Peer.Knowledge.{table_of, Knowledge, known, this_round, holds, with_said, request_deadline, answer_deadline}
 use Rattle.bar_rules.specs.Peer.Log.{lists_of, Log, Said, first_said, round_now}
 use Rattle.bar_rules.specs.Peer.Machine.{logs, minds, message_to, send_if}
 use Rattle.bar_rules.specs.Peer.Machine as machine
@@ -62,7 +62,7 @@ sealed-same id x cap t role key b c h =
 
 -- for how many rounds what was said of a kind is told whole, by the life of an update
 abbrev pub told_by : ℕ → Kind → ℕ
-told_by life kinds.Case = 2
+told_by life kinds.Case = answer_deadline
 told_by life _ = life
 
 told-is : (s : Session) (kind : Kind) → told_by s.shape.life kind ≡ told_for s kind
@@ -85,9 +85,9 @@ told-answer life Push = refl
 -- the round of this moment is within the bound of an order
 abbrev pub IsTimely : ℕ → ℕ → Order → Type 0
 IsTimely life at (Ask x) = at ≤ x.round + 1
-IsTimely life at (Answer x) = at ≤ x.round + 1
+IsTimely life at (Answer x) = at ≤ x.round + request_deadline
 IsTimely life at (Reveal x) = at ≤ x.round + life
-IsTimely life at (GiveCase x) = at ≤ x.round + 2
+IsTimely life at (GiveCase x) = at ≤ x.round + answer_deadline
 IsTimely life at (AskKey x) = Unit {0}
 IsTimely life at (GiveKey x) = at ≤ x.round + life
 IsTimely life at (Resend kind x) = at ≤ x.round + told_by life kind
@@ -96,7 +96,7 @@ IsTimely life at (Report q) = Unit {0}
 -- a message that may be said of an exchange: it is of its round, a REQUEST in time, and its windows are near to it
 record IsSayable (life at : ℕ) (x : Exchange) (b : Body) : Type 0 where
   part : (p : ℕ × XKind × Role) → part_of b ≡ Some p → p.0 ≡ x.round
-  soon : kind_number b ≡ 3 → at ≤ x.round + 2
+  soon : kind_number b ≡ 3 → at ≤ x.round + answer_deadline
   lives : BodyInLife life b
 
 -- The outcomes agree: the log and what is known agree and are of this round, and the same was sent.
@@ -110,12 +110,12 @@ pub record IsAlike (me : Member) (at : ℕ) (a : Outcome Log) (b : Outcome Knowl
 -- ---- the messages of orders
 
 module _ (me : Member) (one two : Knowledge) (same : AgreesWith me one two) where
-  pub young-same : (round : ℕ) → 2 ≤ me.session.shape.life → this_round one ≤ round + 2 → young_of me one round ≡ young_of me two round
+  pub young-same : (round : ℕ) → 2 ≤ me.session.shape.life → this_round one ≤ round + answer_deadline → young_of me one round ≡ young_of me two round
   young-same round life h =
       let us : List UpdateId = updates_from me.session (max 1 (round - 1)) round in
       ap (take me.session.cap) (filter-same (holds one) (holds two) us (held-on me one two same round us h (from-in-life me.session me.session.shape.life round (max 1 (round - 1)) round (omega arith))))
 
-  aged-same : (round : ℕ) → this_round one ≤ round + 2 → aged_of me one round ≡ aged_of me two round
+  aged-same : (round : ℕ) → this_round one ≤ round + answer_deadline → aged_of me one round ≡ aged_of me two round
   aged-same round h =
       let us : List UpdateId = updates_from me.session (first_round me.session round) (round - me.session.shape.life / 2) in
       let held = held-on me one two same round us h (from-in-life me.session me.session.shape.life round (first_round me.session round) (round - me.session.shape.life / 2) (omega arith)) in
@@ -124,15 +124,15 @@ module _ (me : Member) (one two : Knowledge) (same : AgreesWith me one two) wher
       (all-with (λ u b. not b && is_known (digest_of (table_of one) u)) (holds one) (holds two) us held)
       ∙ ap (λ t. filter (λ u. not (holds two u) && is_known (digest_of (lists_of t) u)) us) same.manifests)
 
-  given-same : (round : ℕ) (young aged : List UpdateId) → this_round one ≤ round + 2 → InLife me.session.shape.life round young → InLife me.session.shape.life round aged → given_of me one young aged ≡ given_of me two young aged
+  given-same : (round : ℕ) (young aged : List UpdateId) → this_round one ≤ round + answer_deadline → InLife me.session.shape.life round young → InLife me.session.shape.life round aged → given_of me one young aged ≡ given_of me two young aged
   given-same round young aged h y o =
       λ i. take (length (wanted-same me one two same round young h y i)) (filter-same (holds one) (holds two) aged (held-on me one two same round aged h o) i)
 
-  ask-same : (x : Exchange) (k : XKind) → 2 ≤ me.session.shape.life → this_round one ≤ x.round + 2 → ask_body me one x k ≡ ask_body me two x k
+  ask-same : (x : Exchange) (k : XKind) → 2 ≤ me.session.shape.life → this_round one ≤ x.round + answer_deadline → ask_body me one x k ≡ ask_body me two x k
   ask-same x Balanced life h = ap (λ us. Request x.round (seed_of me x.round) (commitment_of me.session x (nonce_of me x) us)) (history-same me one two same x.round h)
   ask-same x Push life h = λ i. Query x.round (seed_of me x.round) (young-same x.round life h i) (aged-same x.round h i)
 
-  reply-same : (round : ℕ) (q : List UpdateId × List UpdateId) → this_round one ≤ round + 2 → InLife me.session.shape.life round q.0 → InLife me.session.shape.life round q.1 → reply_to me one round q ≡ reply_to me two round q
+  reply-same : (round : ℕ) (q : List UpdateId × List UpdateId) → this_round one ≤ round + answer_deadline → InLife me.session.shape.life round q.0 → InLife me.session.shape.life round q.1 → reply_to me one round q ≡ reply_to me two round q
   reply-same round q h y o =
       let w : wanted_of me one q.0 ≡ wanted_of me two q.0 = wanted-same me one two same round q.0 h y in
       let g : given_of me one q.0 q.1 ≡ given_of me two q.0 q.1 = given-same round q.0 q.1 h y o in
@@ -149,7 +149,7 @@ module _ (me : Member) (one two : Knowledge) (same : AgreesWith me one two) wher
           ap (λ o. unwrap_or o 0) (same.seats x (subst (λ z. this_round one ≤ z + me.session.shape.life) (sym (by-round p.0 p.1 p.2 m.from m.to)) (r p e)))
 
 module _ (me : Member) (one : Log) (two : Knowledge) (same : AgreesWith me (known me one) two) where
-  answer-same : (x : Exchange) (k : XKind) → LogInLife me.session.shape.life one → IsRecent me (known me one) x.round → this_round (known me one) ≤ x.round + 2 → answer_body me (known me one) x k ≡ answer_body me two x k
+  answer-same : (x : Exchange) (k : XKind) → LogInLife me.session.shape.life one → IsRecent me (known me one) x.round → this_round (known me one) ≤ x.round + answer_deadline → answer_body me (known me one) x k ≡ answer_body me two x k
   answer-same x Balanced l r h = ap (λ us. Some (Response x.round us)) (history-same me (known me one) two same x.round h)
   answer-same x Push l r h = go (option_and_then offer_in (body_on me (known me one) kinds.Query x Initiator)) refl ∙ ap (λ o. option_and_then (reply_to me two x.round) (option_and_then offer_in o)) (body-same me (known me one) two same kinds.Query x Initiator r r)
     where
@@ -159,7 +159,7 @@ module _ (me : Member) (one : Log) (two : Knowledge) (same : AgreesWith me (know
           let w = offered-in-life me me.session.shape.life one kinds.Query x Initiator q l e in
           reply-same me (known me one) two same x.round q h w.0 w.1 ∙ ap (λ o. option_and_then (reply_to me two x.round) o) (sym e)
 
-  pub case-same : (x : Exchange) (t : Terms) → LogInLife me.session.shape.life one → terms_of me (known me one) x ≡ Some t → this_round (known me one) ≤ x.round + 2 → case_body me (known me one) x t ≡ case_body me two x t
+  pub case-same : (x : Exchange) (t : Terms) → LogInLife me.session.shape.life one → terms_of me (known me one) x ≡ Some t → this_round (known me one) ≤ x.round + answer_deadline → case_body me (known me one) x t ≡ case_body me two x t
   case-same x t l e h =
       let role : Role = role_of me x in
       let cap : ℕ = me.session.cap in
@@ -168,7 +168,7 @@ module _ (me : Member) (one : Log) (two : Knowledge) (same : AgreesWith me (know
       (sealed-same me.session.shape.id x cap t role (briefcase_key me x role) (known me one).block two.block blocks)
 
   -- the message of GiveCase
-  cases-same : (x : Exchange) → LogInLife me.session.shape.life one → IsRecent me (known me one) x.round → this_round (known me one) ≤ x.round + 2 → option_map (case_body me (known me one) x) (terms_of me (known me one) x) ≡ option_map (case_body me two x) (terms_of me two x)
+  cases-same : (x : Exchange) → LogInLife me.session.shape.life one → IsRecent me (known me one) x.round → this_round (known me one) ≤ x.round + answer_deadline → option_map (case_body me (known me one) x) (terms_of me (known me one) x) ≡ option_map (case_body me two x) (terms_of me two x)
   cases-same x l r h = go (terms_of me (known me one) x) refl ∙ ap (λ o. option_map (case_body me two x) o) (terms-same me (known me one) two same x r)
     where
       go : (o : Option Terms) → terms_of me (known me one) x ≡ o → option_map (case_body me (known me one) x) o ≡ option_map (case_body me two x) (terms_of me (known me one) x)
@@ -208,7 +208,7 @@ new-alike me at a b x (Some body) life w recent f =
     }
   where
     request-soon : (me : Member) (at : ℕ) (a : Outcome Log) (x : Exchange) (body : Body) → round_now a.state ≡ at → IsSayable me.session.shape.life at x body → kind_number body ≡ 3 → round_now a.state ≤ round_of body + 2
-    request-soon me at a x (Request r seed c) now may k = (let here : r ≡ x.round = may.part (r, Balanced, Initiator) refl in let h : at ≤ x.round + 2 = may.soon refl in let n : round_now a.state ≡ at = now in omega (arith, here, h, n))
+    request-soon me at a x (Request r seed c) now may k = (let here : r ≡ x.round = may.part (r, Balanced, Initiator) refl in let h : at ≤ x.round + answer_deadline = may.soon refl in let n : round_now a.state ≡ at = now in omega (arith, here, h, n))
     request-soon me at a x _ now may k = cc
 
 say-alike : (me : Member) (at : ℕ) (a : Outcome Log) (b : Outcome Knowledge) (kind : Kind) (x : Exchange) (o p : Option Body) → 2 ≤ me.session.shape.life → IsAlike me at a b → at ≤ x.round + told_by me.session.shape.life kind → o ≡ p

@@ -13,7 +13,7 @@ use Rattle.bar_rules.specs.Peer.Agreement.{AgreesWith, IsRecent}
 use Rattle.bar_rules.specs.Peer.Admission.{is_admitted}
 use Rattle.bar_rules.specs.Peer.Evidence.{is_tried, pair_with, pairs_by, if_accuses, new_evidence}
 use Rattle.bar_rules.specs.Peer.Exchanges.{opening_kind}
-use Rattle.bar_rules.specs.Peer.Knowledge.{table_of, Knowledge, known, this_round, with_heard, with_kept}
+use Rattle.bar_rules.specs.Peer.Knowledge.{table_of, Knowledge, known, this_round, with_heard, with_kept, request_deadline, answer_deadline}
 use Rattle.bar_rules.specs.Peer.Log.{lists_of, Log, Heard, Kept, round_now}
 use Rattle.bar_rules.specs.Peer.Machine.{Keeping, logs, minds}
 use Rattle.bar_rules.specs.Peer.Machine as machine
@@ -55,16 +55,16 @@ at-round life at r k role from to more h = subst (λ z. at ≤ z + more) (sym (b
 orders-timely : (me : Member) (k : Knowledge) (at : ℕ) (is_new : Bool) (from to : ℕ) (b : Body) → 2 ≤ me.session.shape.life → this_round k ≡ at → IsNewInTime me.session.shape.life at is_new b
     → AllByRecursion (IsTimely me.session.shape.life at) (orders_for me k is_new from to b)
 orders-timely me k at is_new from to (Request r seed c) life e f =
-    when-timely me.session.shape.life at _ (Answer (exchange_by r Balanced Initiator from to) ∷ []) (λ h. (in-bound (this_round k) at (r + 1) is_new e f h, tt))
+    when-timely me.session.shape.life at _ (Answer (exchange_by r Balanced Initiator from to) ∷ []) (λ h. (in-bound (this_round k) at (r + request_deadline) is_new e f h, tt))
 orders-timely me k at is_new from to (Response r hb) life e f =
     let x : Exchange = exchange_by r Balanced Responder from to in
-    when-timely me.session.shape.life at _ (Reveal x ∷ GiveCase x ∷ []) (λ h. let soon : at ≤ r + 2 = f (and_parts _ _ h).0 in (omega (arith, soon), (soon, tt)))
+    when-timely me.session.shape.life at _ (Reveal x ∷ GiveCase x ∷ []) (λ h. let soon : at ≤ r + answer_deadline = f (and_parts _ _ h).0 in (omega (arith, soon), (soon, tt)))
 orders-timely me k at is_new from to (Divulge r nonce ha) life e f =
     let x : Exchange = exchange_by r Balanced Initiator from to in
-    when-timely me.session.shape.life at _ (GiveCase x ∷ []) (λ h. (in-bound (this_round k) at (r + 2) is_new e f (and_parts _ _ h).0, tt))
+    when-timely me.session.shape.life at _ (GiveCase x ∷ []) (λ h. (in-bound (this_round k) at (r + answer_deadline) is_new e f (and_parts _ _ h).0, tt))
 orders-timely me k at is_new from to (Query r seed young aged) life e f =
     let x : Exchange = exchange_by r Push Initiator from to in
-    when-timely me.session.shape.life at _ (Answer x ∷ GiveCase x ∷ []) (λ h. let soon : at ≤ r + 1 = in-bound (this_round k) at (r + 1) is_new e f h in (soon, (omega (arith, soon), tt)))
+    when-timely me.session.shape.life at _ (Answer x ∷ GiveCase x ∷ []) (λ h. let soon : at ≤ r + request_deadline = in-bound (this_round k) at (r + request_deadline) is_new e f h in (soon, (omega (arith, soon), tt)))
 orders-timely me k at is_new from to (Reply r want give junk) life e f =
     when-timely me.session.shape.life at _ (GiveCase (exchange_by r Push Responder from to) ∷ []) (λ h. (f h, tt))
 orders-timely me k at is_new from to (Case c) life e f =
@@ -77,16 +77,16 @@ orders-timely me k at is_new from to _ life e f = tt
 -- a repeated message of a round that isn't recent is not answered
 stale-orders : (me : Member) (k : Knowledge) (from to : ℕ) (b : Body) (p : ℕ × XKind × Role) → 2 ≤ me.session.shape.life → part_of b ≡ Some p → p.0 + me.session.shape.life < this_round k → orders_for me k false from to b ≡ []
 stale-orders me k from to (Request r seed c) p life e h =
-    let same : r ≡ p.0 = (parts-of (r, Balanced, Initiator) p e).0 in ap (λ z. orders_when z (Answer (exchange_by r Balanced Initiator from to) ∷ [])) (lt-leb (this_round k) (r + 1) (omega (arith, same, h, life)))
+    let same : r ≡ p.0 = (parts-of (r, Balanced, Initiator) p e).0 in ap (λ z. orders_when z (Answer (exchange_by r Balanced Initiator from to) ∷ [])) (lt-leb (this_round k) (r + request_deadline) (omega (arith, same, h, life)))
 stale-orders me k from to (Response r hb) p life e h = refl
 stale-orders me k from to (Divulge r nonce ha) p life e h =
     let same : r ≡ p.0 = (parts-of (r, Balanced, Initiator) p e).0 in
     let x : Exchange = exchange_by r Balanced Initiator from to in
-    ap (λ z. orders_when (z && is_trade_worth me.session (terms_of me k x)) (GiveCase x ∷ [])) (lt-leb (this_round k) (r + 2) (omega (arith, same, h, life)))
+    ap (λ z. orders_when (z && is_trade_worth me.session (terms_of me k x)) (GiveCase x ∷ [])) (lt-leb (this_round k) (r + answer_deadline) (omega (arith, same, h, life)))
 stale-orders me k from to (Query r seed young aged) p life e h =
     let same : r ≡ p.0 = (parts-of (r, Push, Initiator) p e).0 in
     let x : Exchange = exchange_by r Push Initiator from to in
-    ap (λ z. orders_when z (Answer x ∷ GiveCase x ∷ [])) (lt-leb (this_round k) (r + 1) (omega (arith, same, h, life)))
+    ap (λ z. orders_when z (Answer x ∷ GiveCase x ∷ [])) (lt-leb (this_round k) (r + request_deadline) (omega (arith, same, h, life)))
 stale-orders me k from to (Reply r want give junk) p life e h = refl
 stale-orders me k from to (Case c) p life e h = refl
 stale-orders me k from to (KeyReq r kind role) p life e h =
@@ -96,20 +96,20 @@ stale-orders me k from to _ p life e h = cc
 
 module _ (me : Member) (one two : Knowledge) (same : AgreesWith me one two) (life : 2 ≤ me.session.shape.life) where
   orders-same : (is_new : Bool) (from to : ℕ) (b : Body) → IsNewInTime me.session.shape.life (this_round one) is_new b → orders_for me one is_new from to b ≡ orders_for me two is_new from to b
-  orders-same is_new from to (Request r seed c) f = ap (λ n. orders_when (is_new || nat_le n (r + 1)) (Answer (exchange_by r Balanced Initiator from to) ∷ [])) (now me one two same)
+  orders-same is_new from to (Request r seed c) f = ap (λ n. orders_when (is_new || nat_le n (r + request_deadline)) (Answer (exchange_by r Balanced Initiator from to) ∷ [])) (now me one two same)
   orders-same true from to (Response r hb) f =
       let x : Exchange = exchange_by r Balanced Responder from to in
-      let soon : this_round one ≤ r + 2 = f refl in
+      let soon : this_round one ≤ r + answer_deadline = f refl in
       ap (λ o. orders_when (true && is_trade_worth me.session o) (Reveal x ∷ GiveCase x ∷ [])) (terms-same me one two same x (omega (arith, soon)))
   orders-same false from to (Response r hb) f = refl
   orders-same is_new from to (Divulge r nonce ha) f =
       let x : Exchange = exchange_by r Balanced Initiator from to in
       let orders : Bool → List Order = (λ z. orders_when z (GiveCase x ∷ [])) in
       ap orders
-      (and_last (is_new || nat_le (this_round one) (r + 2)) (is_trade_worth me.session (terms_of me one x)) (is_trade_worth me.session (terms_of me two x))
-      (λ h. let soon : this_round one ≤ r + 2 = in-bound (this_round one) (this_round one) (r + 2) is_new refl f h in ap (is_trade_worth me.session) (terms-same me one two same x (omega (arith, soon))))
-      ∙ ap (λ n. (is_new || nat_le n (r + 2)) && is_trade_worth me.session (terms_of me two x)) (now me one two same))
-  orders-same is_new from to (Query r seed young aged) f = ap (λ n. orders_when (is_new || nat_le n (r + 1)) (Answer (exchange_by r Push Initiator from to) ∷ GiveCase (exchange_by r Push Initiator from to) ∷ [])) (now me one two same)
+      (and_last (is_new || nat_le (this_round one) (r + answer_deadline)) (is_trade_worth me.session (terms_of me one x)) (is_trade_worth me.session (terms_of me two x))
+      (λ h. let soon : this_round one ≤ r + answer_deadline = in-bound (this_round one) (this_round one) (r + answer_deadline) is_new refl f h in ap (is_trade_worth me.session) (terms-same me one two same x (omega (arith, soon))))
+      ∙ ap (λ n. (is_new || nat_le n (r + answer_deadline)) && is_trade_worth me.session (terms_of me two x)) (now me one two same))
+  orders-same is_new from to (Query r seed young aged) f = ap (λ n. orders_when (is_new || nat_le n (r + request_deadline)) (Answer (exchange_by r Push Initiator from to) ∷ GiveCase (exchange_by r Push Initiator from to) ∷ [])) (now me one two same)
   orders-same is_new from to (Reply r want give junk) f = refl
   orders-same is_new from to (Case c) f = refl
   orders-same is_new from to (KeyReq r kind role) f = ap (λ n. orders_when (is_new || nat_le n (r + me.session.shape.life)) (GiveKey (exchange_by r kind role from to) ∷ [])) (now me one two same)

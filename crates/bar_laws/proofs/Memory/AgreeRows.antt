@@ -1,4 +1,5 @@
 -- What agrees in what a peer keeps admits the same datagrams.
+use Rattle.bar_wire.specs.Limits.{seats_a_round}
 use Rattle.bar_wire.specs.Bodies.{history_in, offer_in, reply_in, commitment_in}
 use Rattle.bar_terms.specs.Table.{Table, digest_of, is_within}
 use Rattle.bar_terms.specs.Terms.{offer_ok, offer_rounds}
@@ -18,7 +19,7 @@ use Rattle.bar_rules.specs.Peer.Agreement.{promised_by, IsRepeatable, AgreesWith
 use Rattle.bar_rules.specs.Peer.Choices.{wanted_of}
 use Rattle.bar_rules.specs.Peer.Exchanges.{role_of, request_kind}
 use Rattle.bar_rules.specs.Peer.Exchanges.{request_kind}
-use Rattle.bar_rules.specs.Peer.Knowledge.{deadline, table_of, Knowledge, this_round, holds, has_heard_of, has_said_of}
+use Rattle.bar_rules.specs.Peer.Knowledge.{deadline, table_of, Knowledge, this_round, holds, has_heard_of, has_said_of, request_deadline, answer_deadline}
 use Rattle.bar_rules.specs.Member.{Member, is_alive}
 use Rattle.bar_rules.specs.Secrets.{is_seed, partner_of, commitment_of}
 use Rattle.bar_rules.specs.Peer.Terms.{terms_of, terms_by, trade_terms, offer_terms, body_on}
@@ -53,17 +54,17 @@ and_last false b c f = refl
 
 -- ---- bodies in time
 
-asked-in-time : (me : Member) (k : Knowledge) (kind : XKind) (from r : ℕ) (seed : List ℕ) → may_ask me k kind from r seed ≡ true → this_round k ≤ r + 1
-asked-in-time me k Balanced from r seed h = leb-true (this_round k) (r + 1) (and_parts (nat_le r (this_round k + 1)) (nat_le (this_round k) (r + 1)) (and_parts _ _ h).1).1
-asked-in-time me k Push from r seed h = leb-true (this_round k) (r + 1) (and_parts (nat_le r (this_round k + 1)) (nat_le (this_round k) (r + 1)) (and_parts _ _ h).1).1
+asked-in-time : (me : Member) (k : Knowledge) (kind : XKind) (from r : ℕ) (seed : List ℕ) → may_ask me k kind from r seed ≡ true → this_round k ≤ r + request_deadline
+asked-in-time me k Balanced from r seed h = leb-true (this_round k) (r + request_deadline) (and_parts (nat_le r (this_round k + 1)) (nat_le (this_round k) (r + request_deadline)) (and_parts _ _ h).1).1
+asked-in-time me k Push from r seed h = leb-true (this_round k) (r + request_deadline) (and_parts (nat_le r (this_round k + 1)) (nat_le (this_round k) (r + request_deadline)) (and_parts _ _ h).1).1
 
 pub row-in-time : (me : Member) (k : Knowledge) (from to : ℕ) (b : Body) → is_row_met me k from to b ≡ true → IsInTime me.session.shape.life (this_round k) b
 row-in-time me k from to (Request r seed c) h = asked-in-time me k Balanced from r seed h
-row-in-time me k from to (Response r hb) h = leb-true (this_round k) (r + 2) (and_parts _ _ h).1
-row-in-time me k from to (Divulge r nonce ha) h = leb-true (this_round k) (r + 2) (and_parts _ _ h).1
+row-in-time me k from to (Response r hb) h = leb-true (this_round k) (r + answer_deadline) (and_parts _ _ h).1
+row-in-time me k from to (Divulge r nonce ha) h = leb-true (this_round k) (r + answer_deadline) (and_parts _ _ h).1
 row-in-time me k from to (Query r seed young aged) h = asked-in-time me k Push from r seed (and_parts _ _ h).1
-row-in-time me k from to (Reply r want give junk) h = leb-true (this_round k) (r + 2) (and_parts _ _ h).1
-row-in-time me k from to (Case c) h = leb-true (this_round k) (c.round + 2) (and_parts _ _ h).1
+row-in-time me k from to (Reply r want give junk) h = leb-true (this_round k) (r + answer_deadline) (and_parts _ _ h).1
+row-in-time me k from to (Case c) h = leb-true (this_round k) (c.round + answer_deadline) (and_parts _ _ h).1
 row-in-time me k from to (KeyReq r kind role) h = leb-true (this_round k) (r + me.session.shape.life) (and_parts _ _ h).1
 row-in-time me k from to (Key g) h = leb-true (this_round k) (g.round + me.session.shape.life) (and_parts _ _ h).1
 row-in-time me k from to _ h = tt
@@ -113,7 +114,7 @@ module _ (me : Member) (one two : Knowledge) (same : AgreesWith me one two) wher
       go Push = λ i. offer_terms (option_and_then offer_in (body-same kinds.Query x Initiator r r i)) (option_and_then reply_in (body-same kinds.Reply x Responder r r i))
 
   -- what is offered and lacked
-  pub wanted-same : (round : ℕ) (young : List UpdateId) → this_round one ≤ round + 2 → InLife me.session.shape.life round young → wanted_of me one young ≡ wanted_of me two young
+  pub wanted-same : (round : ℕ) (young : List UpdateId) → this_round one ≤ round + answer_deadline → InLife me.session.shape.life round young → wanted_of me one young ≡ wanted_of me two young
   wanted-same round young h e =
       let p : UpdateId → Bool = holds one in
       let q : UpdateId → Bool = holds two in
@@ -126,7 +127,7 @@ module _ (me : Member) (one two : Knowledge) (same : AgreesWith me one two) wher
     bounded : (a b : Bool) (bound : ℕ) → (this_round one ≤ bound → a ≡ b) → (a && nat_le (this_round one) bound) ≡ (b && nat_le (this_round two) bound)
     bounded a b bound f = and_first a b (nat_le (this_round one) bound) (λ h. f (leb-true (this_round one) bound h)) ∙ ap (λ n. b && nat_le n bound) (now me one two same)
 
-    soon-recent : (round : ℕ) → this_round one ≤ round + 2 → IsRecent me one round
+    soon-recent : (round : ℕ) → this_round one ≤ round + answer_deadline → IsRecent me one round
     soon-recent round h = omega arith
 
     recent-by : (r : ℕ) (k : XKind) (role : Role) (f t : ℕ) → this_round one ≤ r + me.session.shape.life → IsRecent me one (exchange_by r k role f t).round
@@ -136,18 +137,18 @@ module _ (me : Member) (one two : Knowledge) (same : AgreesWith me one two) wher
     is_near : XKind → ℕ → ℕ → Bool
     is_near kind round n = nat_le round (n + 1) && nat_le n (round + deadline me.session (request_kind kind))
 
-    near-soon : (kind : XKind) (round : ℕ) → is_near kind round (this_round one) ≡ true → this_round one ≤ round + 2
+    near-soon : (kind : XKind) (round : ℕ) → is_near kind round (this_round one) ≡ true → this_round one ≤ round + answer_deadline
     unfolding is_near
-    near-soon Balanced round h = let near : this_round one ≤ round + 1 = leb-true (this_round one) (round + 1) (and_parts (nat_le round (this_round one + 1)) (nat_le (this_round one) (round + 1)) h).1 in omega (arith, near)
-    near-soon Push round h = let near : this_round one ≤ round + 1 = leb-true (this_round one) (round + 1) (and_parts (nat_le round (this_round one + 1)) (nat_le (this_round one) (round + 1)) h).1 in omega (arith, near)
+    near-soon Balanced round h = let near : this_round one ≤ round + request_deadline = leb-true (this_round one) (round + request_deadline) (and_parts (nat_le round (this_round one + 1)) (nat_le (this_round one) (round + request_deadline)) h).1 in omega (arith, near)
+    near-soon Push round h = let near : this_round one ≤ round + request_deadline = leb-true (this_round one) (round + request_deadline) (and_parts (nat_le round (this_round one + 1)) (nat_le (this_round one) (round + request_deadline)) h).1 in omega (arith, near)
 
     ask-same : (kind : XKind) (from round : ℕ) (seed : List ℕ) → may_ask me one kind from round seed ≡ may_ask me two kind from round seed
     unfolding is_near
     ask-same kind from round seed =
         and_first _ _ (is_near kind round (this_round one))
-        (λ b. ap (λ n. (is_seed me.session from round seed && eqb (partner_of me.session seed kind from) me.party) && nat_lt n 2)
+        (λ b. ap (λ n. (is_seed me.session from round seed && eqb (partner_of me.session seed kind from) me.party) && nat_lt n seats_a_round)
         (same.requests kind round (soon-recent round (near-soon kind round b))))
-        ∙ ap (λ n. ((is_seed me.session from round seed && eqb (partner_of me.session seed kind from) me.party) && nat_lt (two.asked kind round) 2) && is_near kind round n) (now me one two same)
+        ∙ ap (λ n. ((is_seed me.session from round seed && eqb (partner_of me.session seed kind from) me.party) && nat_lt (two.asked kind round) seats_a_round) && is_near kind round n) (now me one two same)
 
     row-same : (from to : ℕ) (b : Body) → is_row_met me one from to b ≡ is_row_met me two from to b
     row-same from to (Manifest r digests) = ap (λ n. nat_le r (n + 1) && is_alive me.session r n) (now me one two same)
@@ -160,12 +161,12 @@ module _ (me : Member) (one two : Knowledge) (same : AgreesWith me one two) wher
     row-same from to (Request r seed c) = ask-same Balanced from r seed
     row-same from to (Response r hb) =
         let x : Exchange = exchange_by r Balanced Responder from to in
-        bounded (has_said_of one kinds.Request x Initiator && is_within (table_of one) hb) (has_said_of two kinds.Request x Initiator && is_within (table_of two) hb) (r + 2)
+        bounded (has_said_of one kinds.Request x Initiator && is_within (table_of one) hb) (has_said_of two kinds.Request x Initiator && is_within (table_of two) hb) (r + answer_deadline)
         (λ b i. said-same kinds.Request x Initiator (soon-recent r b) i && is_within (lists_of (same.manifests i)) hb)
     row-same from to (Divulge r nonce ha) =
         let x : Exchange = exchange_by r Balanced Initiator from to in
         bounded ((meets_commitment me one x nonce ha && not (has_heard_of one kinds.Divulge x Initiator)) && is_within (table_of one) ha)
-        ((meets_commitment me two x nonce ha && not (has_heard_of two kinds.Divulge x Initiator)) && is_within (table_of two) ha) (r + 2)
+        ((meets_commitment me two x nonce ha && not (has_heard_of two kinds.Divulge x Initiator)) && is_within (table_of two) ha) (r + answer_deadline)
         (λ b i.
         (option_map_or (λ c. bytes_eq c (commitment_of me.session x nonce ha)) (option_and_then commitment_in (option_map (λ d. d.message.body) (same.heard kinds.Request x Initiator (soon-recent r b) i))) false
         && not (heard-same kinds.Divulge x Initiator (soon-recent r b) i))
@@ -176,16 +177,16 @@ module _ (me : Member) (one two : Knowledge) (same : AgreesWith me one two) wher
         && may_ask me one Push from r seed)
         ∙ and_middle (offer_ok me.session.cap me.session.shape.life (table_of two) r young aged && (is_within (table_of two) young && is_within (table_of two) aged)) (nat_lt 0 (length (wanted_of me one young)))
         (nat_lt 0 (length (wanted_of me two young))) (may_ask me one Push from r seed)
-        (λ a b. ap (λ us. nat_lt 0 (length us)) (wanted-same r young (let n : this_round one ≤ r + 1 = asked-in-time me one Push from r seed b in omega (arith, n)) (young-rounds me.session.cap me.session.shape.life (table_of two) r young aged life (and_parts _ _ a).0)))
+        (λ a b. ap (λ us. nat_lt 0 (length us)) (wanted-same r young (let n : this_round one ≤ r + request_deadline = asked-in-time me one Push from r seed b in omega (arith, n)) (young-rounds me.session.cap me.session.shape.life (table_of two) r young aged life (and_parts _ _ a).0)))
         ∙ ap (λ z. ((offer_ok me.session.cap me.session.shape.life (table_of two) r young aged && (is_within (table_of two) young && is_within (table_of two) aged)) && nat_lt 0 (length (wanted_of me two young))) && z) (ask-same Push from r seed)
     row-same from to (Reply r want give junk) =
         let x : Exchange = exchange_by r Push Responder from to in
         bounded (option_map_or (terms_ok me.session (table_of one) x) (terms_with (option_and_then offer_in (body_said one kinds.Query x Initiator)) want give junk) false)
-        (option_map_or (terms_ok me.session (table_of two) x) (terms_with (option_and_then offer_in (body_said two kinds.Query x Initiator)) want give junk) false) (r + 2)
+        (option_map_or (terms_ok me.session (table_of two) x) (terms_with (option_and_then offer_in (body_said two kinds.Query x Initiator)) want give junk) false) (r + answer_deadline)
         (λ b i. option_map_or (terms_ok me.session (lists_of (same.manifests i)) x) (terms_with (option_and_then offer_in (option_map (λ d. d.message.body) (same.said kinds.Query x Initiator (soon-recent r b) i))) want give junk) false)
     row-same from to (Case c) =
         let x : Exchange = exchange_by c.round c.kind c.role from to in
-        bounded ((has_said_of one kinds.Case x (other_role c.role) && are_terms c.terms (terms_of me one x)) && counts_ok me.session c) ((has_said_of two kinds.Case x (other_role c.role) && are_terms c.terms (terms_of me two x)) && counts_ok me.session c) (c.round + 2)
+        bounded ((has_said_of one kinds.Case x (other_role c.role) && are_terms c.terms (terms_of me one x)) && counts_ok me.session c) ((has_said_of two kinds.Case x (other_role c.role) && are_terms c.terms (terms_of me two x)) && counts_ok me.session c) (c.round + answer_deadline)
         (λ b.
         let r : IsRecent me one x.round = recent-by c.round c.kind c.role from to (soon-recent c.round b) in
         (λ i. (said-same kinds.Case x (other_role c.role) r i && are_terms c.terms (terms-same x r i)) && counts_ok me.session c))

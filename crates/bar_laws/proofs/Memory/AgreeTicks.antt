@@ -13,7 +13,7 @@ use Rattle.bar_wire.specs.Inputs as event
 use Rattle.bar_rules.specs.Runs.{begun}
 use Rattle.bar_rules.specs.Peer.Agreement.{AgreesWith, IsRecent}
 use Rattle.bar_rules.specs.Peer.Exchanges.{request_kind, role_of, partner_in, answer_kind, exchanges_said}
-use Rattle.bar_rules.specs.Peer.Knowledge.{Knowledge, known, this_round, with_tick}
+use Rattle.bar_rules.specs.Peer.Knowledge.{Knowledge, known, this_round, with_tick, request_deadline, answer_deadline}
 use Rattle.bar_rules.specs.Peer.Log.{Log, Ticked, round_now, ticks}
 use Rattle.bar_rules.specs.Peer.Machine.{logs, minds}
 use Rattle.bar_rules.specs.Peer.Machine as machine
@@ -51,9 +51,9 @@ open-recent me log = all-that (λ x. IsRecent me (known me log) x.round) (λ x. 
 -- ---- orders in time
 
 again-timely : (me : Member) (k : Knowledge) (x : Exchange) → IsRecent me k x.round → AllByRecursion (IsTimely me.session.shape.life (this_round k)) (again me k x)
-again-timely me k x r = go (lacks_answer me k x) (lacks_case me k x) (lacks_key me k x) x.kind (role_of me x) (λ h. leb-true (this_round k) (x.round + 2) (and_parts _ _ h).1)
+again-timely me k x r = go (lacks_answer me k x) (lacks_case me k x) (lacks_key me k x) x.kind (role_of me x) (λ h. leb-true (this_round k) (x.round + answer_deadline) (and_parts _ _ h).1)
   where
-    shown : (sort : XKind) (role : Role) → this_round k ≤ x.round + 2 → AllByRecursion (IsTimely me.session.shape.life (this_round k)) (reveals sort role x ++ Resend kinds.Case x ∷ [])
+    shown : (sort : XKind) (role : Role) → this_round k ≤ x.round + answer_deadline → AllByRecursion (IsTimely me.session.shape.life (this_round k)) (reveals sort role x ++ Resend kinds.Case x ∷ [])
     shown Balanced Initiator h = (r, (h, tt))
     shown Balanced Responder h = (h, tt)
     shown Push Initiator h = (h, tt)
@@ -63,7 +63,7 @@ again-timely me k x r = go (lacks_answer me k x) (lacks_case me k x) (lacks_key 
     asked Balanced = r
     asked Push = r
 
-    go : (a b c : Bool) (sort : XKind) (role : Role) → (b ≡ true → this_round k ≤ x.round + 2)
+    go : (a b c : Bool) (sort : XKind) (role : Role) → (b ≡ true → this_round k ≤ x.round + answer_deadline)
         → AllByRecursion (IsTimely me.session.shape.life (this_round k)) (cond a (Resend (request_kind x.kind) x ∷ []) (cond b (reveals sort role x ++ Resend kinds.Case x ∷ []) (cond c (AskKey x ∷ []) [])))
     go true b c sort role h = (asked x.kind, tt)
     go false true c sort role h = shown sort role (h refl)
@@ -106,10 +106,10 @@ module _ (me : Member) (one two : Knowledge) (same : AgreesWith me one two) (lif
       let other : Role = other_role role in
       let now_is : this_round one ≡ this_round two = now me one two same in
       let answer : lacks_answer me one x ≡ lacks_answer me two x =
-      (λ i. is_initiator role && not (heard-same me one two same (answer_kind x.kind) x Responder r i) && nat_le (now_is i) (x.round + 1))
+      (λ i. is_initiator role && not (heard-same me one two same (answer_kind x.kind) x Responder r i) && nat_le (now_is i) (x.round + request_deadline))
       in
       let case : lacks_case me one x ≡ lacks_case me two x =
-      (λ i. said-same me one two same kinds.Case x role r i && not (heard-same me one two same kinds.Case x other r i) && nat_le (now_is i) (x.round + 2))
+      (λ i. said-same me one two same kinds.Case x role r i && not (heard-same me one two same kinds.Case x other r i) && nat_le (now_is i) (x.round + answer_deadline))
       in
       let key : lacks_key me one x ≡ lacks_key me two x =
       (λ i. said-same me one two same kinds.Case x role r i && heard-same me one two same kinds.Case x other r i && not (heard-same me one two same kinds.Key x other r i) && nat_le (now_is i) (x.round + me.session.shape.life))
@@ -128,7 +128,7 @@ module _ (me : Member) (one two : Knowledge) (same : AgreesWith me one two) (lif
       let to : ℕ = partner_of me.session (seed_of me round) kind me.party in
       ap (λ b. orders_when (not b) (Ask (record { round = round; kind = kind; initiator = me.party; responder = to }) ∷ [])) (same.announced to)
 
-  requests-same : (round : ℕ) → this_round one ≤ round + 2 → new_requests me one round ≡ new_requests me two round
+  requests-same : (round : ℕ) → this_round one ≤ round + answer_deadline → new_requests me one round ≡ new_requests me two round
   requests-same round h = λ i. asking-same round Balanced i ++ orders_when (nat_lt 0 (length (young-same me one two same round life h i))) (asking-same round Push i)
 
   new-same : new_requests me one (this_round one) ≡ new_requests me two (this_round two)

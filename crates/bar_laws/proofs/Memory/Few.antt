@@ -12,6 +12,7 @@ use Rattle.bar_window.specs.declared.exchange.Role.{Role}
 use Rattle.bar_window.specs.declared.exchange.Role.TheVariants.{Initiator, Responder}
 use Rattle.bar_window.specs.declared.exchange.XKind.{XKind}
 use Rattle.bar_window.specs.declared.exchange.XKind.TheVariants.{Balanced, Push}
+use Rattle.bar_wire.specs.Limits.{exchanges_a_round}
 use Rattle.bar_wire.specs.Datagram.{Message, Body, Request, Query, is_of, kind_number, round_of}
 use Rattle.bar_wire.specs.Kinds.{code_of}
 use Rattle.std.proofs.Common.{◌≡◌, ℕ, zero, suc, ◌+◌, ◌-◌, ◌*◌, ◌<◌, ◌≤◌, Bool, true, false, List, [], ◌∷◌, ◌++◌, length, map, refl, sym, ap, ◌∙◌, subst, inl, inr, ◌&&◌, eqb, arith}
@@ -79,7 +80,7 @@ room_at (suc (suc (suc zero))) = record { kind = Push; asking = Own }
 room_at (suc (suc (suc (suc zero)))) = record { kind = Push; asking = First }
 room_at (suc (suc (suc (suc (suc n))))) = record { kind = Push; asking = Second }
 
-number-below : (k : XKind) (a : Asking) → number_by k a < 6
+number-below : (k : XKind) (a : Asking) → number_by k a < exchanges_a_round
 unfolding number_by
 number-below Balanced Own = omega arith
 number-below Balanced First = omega arith
@@ -174,14 +175,14 @@ kept-one me log x y h a b r e =
     let same : p.at ≡ q.at = number-one p.at q.at (sym p.is ∙ e ∙ q.is) in
     (has-rooms me log h).one x y q.at r (p.room ∙ ap Some same) q.room
 
-kept-below : (me : Member) (log : Log) (x : Exchange) → IsObedient me log → is_kept me (known me log) x ≡ true → number me log x < 6
-kept-below me log x h a = let p : IsAt me log x = is-at me log x h a in subst (λ n. n < 6) (sym p.is) (number-below p.at.kind p.at.asking)
+kept-below : (me : Member) (log : Log) (x : Exchange) → IsObedient me log → is_kept me (known me log) x ≡ true → number me log x < exchanges_a_round
+kept-below me log x h a = let p : IsAt me log x = is-at me log x h a in subst (λ n. n < exchanges_a_round) (sym p.is) (number-below p.at.kind p.at.asking)
 
-split-six : (a b i j : ℕ) → i < 6 → j < 6 → 6 * a + i ≡ 6 * b + j → (a ≡ b) × (i ≡ j)
-split-six a b i j h k e = (omega arith, omega arith)
+split-number : (a b i j : ℕ) → i < exchanges_a_round → j < exchanges_a_round → exchanges_a_round * a + i ≡ exchanges_a_round * b + j → (a ≡ b) × (i ≡ j)
+split-number a b i j h k e = (omega arith, omega arith)
 
 -- the exchanges of a round
-round-numbers : (me : Member) (log : Log) (round : ℕ) → IsObedient me log → IsNumbering (λ x. eqb x.round round && is_kept me (known me log) x) (number me log) 6
+round-numbers : (me : Member) (log : Log) (round : ℕ) → IsObedient me log → IsNumbering (λ x. eqb x.round round && is_kept me (known me log) x) (number me log) exchanges_a_round
 round-numbers me log round h = record {
   one = λ x y a b e. (let p = and_parts _ _ a in let q = and_parts _ _ b in kept-one me log x y h p.1 q.1 (eqb-true _ _ p.0 ∙ sym (eqb-true _ _ q.0)) e);
   below = λ x a. kept-below me log x h (and_parts _ _ a).1;
@@ -189,26 +190,26 @@ round-numbers me log round h = record {
 
 -- those of the rounds that may still be asked about
 abbrev recent_number : Member → Log → Exchange → ℕ
-recent_number me log x = 6 * ((x.round + me.session.shape.life) - round_now log) + number me log x
+recent_number me log x = exchanges_a_round * ((x.round + me.session.shape.life) - round_now log) + number me log x
 
 recent-one : (me : Member) (log : Log) (x y : Exchange) → IsObedient me log → round_now log ≤ x.round + me.session.shape.life → round_now log ≤ y.round + me.session.shape.life
     → is_kept me (known me log) x ≡ true → is_kept me (known me log) y ≡ true → recent_number me log x ≡ recent_number me log y → x ≡ y
 recent-one me log x y h r s a b e =
-    let p = split-six ((x.round + me.session.shape.life) - round_now log) ((y.round + me.session.shape.life) - round_now log) (number me log x) (number me log y) (kept-below me log x h a) (kept-below me log y h b) e in
+    let p = split-number ((x.round + me.session.shape.life) - round_now log) ((y.round + me.session.shape.life) - round_now log) (number me log x) (number me log y) (kept-below me log x h a) (kept-below me log y h b) e in
     let rounds : x.round ≡ y.round = (let q = p.0 in omega (arith, q, r, s)) in
     kept-one me log x y h a b rounds p.1
 
-recent-below : (me : Member) (log : Log) (x : Exchange) → IsObedient me log → is_kept me (known me log) x ≡ true → recent_number me log x < 6 * (me.session.shape.life + 2)
+recent-below : (me : Member) (log : Log) (x : Exchange) → IsObedient me log → is_kept me (known me log) x ≡ true → recent_number me log x < exchanges_a_round * (me.session.shape.life + 2)
 recent-below me log x h a =
-    let n : number me log x < 6 = kept-below me log x h a in
+    let n : number me log x < exchanges_a_round = kept-below me log x h a in
     let r : x.round ≤ round_now log + 1 = (is-at me log x h a).round in
     below x.round me.session.shape.life (round_now log) (number me log x) n r
   where
-    below : (r life now i : ℕ) → i < 6 → r ≤ now + 1 → 6 * ((r + life) - now) + i < 6 * (life + 2)
+    below : (r life now i : ℕ) → i < exchanges_a_round → r ≤ now + 1 → exchanges_a_round * ((r + life) - now) + i < exchanges_a_round * (life + 2)
     below r life now i n h = omega arith
 
 recent-numbers : (me : Member) (log : Log) → IsObedient me log
-    → IsNumbering (λ x. nat_le (this_round (known me log)) (x.round + me.session.shape.life) && is_kept me (known me log) x) (recent_number me log) (6 * (me.session.shape.life + 2))
+    → IsNumbering (λ x. nat_le (this_round (known me log)) (x.round + me.session.shape.life) && is_kept me (known me log) x) (recent_number me log) (exchanges_a_round * (me.session.shape.life + 2))
 recent-numbers me log h = record {
   one = λ x y a b e. (let p = and_parts _ _ a in let q = and_parts _ _ b in recent-one me log x y h (leb-true _ _ p.0) (leb-true _ _ q.0) p.1 q.1 e);
   below = λ x a. recent-below me log x h (and_parts _ _ a).1;
@@ -216,8 +217,8 @@ recent-numbers me log h = record {
 
 pub keeps-few : (me : Member) (log : Log) → IsObedient me log → KeepsFew me (known me log)
 keeps-few me log h = record {
-  in_round = λ round xs d a. numbered-few (λ x. eqb x.round round && is_kept me (known me log) x) (number me log) 6 xs (round-numbers me log round h) d a;
+  in_round = λ round xs d a. numbered-few (λ x. eqb x.round round && is_kept me (known me log) x) (number me log) exchanges_a_round xs (round-numbers me log round h) d a;
   recent = λ xs d a.
-      numbered-few (λ x. nat_le (this_round (known me log)) (x.round + me.session.shape.life) && is_kept me (known me log) x) (recent_number me log) (6 * (me.session.shape.life + 2)) xs
+      numbered-few (λ x. nat_le (this_round (known me log)) (x.round + me.session.shape.life) && is_kept me (known me log) x) (recent_number me log) (exchanges_a_round * (me.session.shape.life + 2)) xs
       (recent-numbers me log h) d a;
 }

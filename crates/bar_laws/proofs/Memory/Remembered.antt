@@ -1,7 +1,7 @@
 -- A memory that writes again what was said has the very datagrams that were said.
 use Rattle.bar_rules.specs.Peer.Agreement.{AgreesWith, IsRecent, IsRepeatable, promised_by}
 use Rattle.bar_rules.specs.Peer.Exchanges.{role_of}
-use Rattle.bar_rules.specs.Peer.Knowledge.{Knowledge, known, this_round}
+use Rattle.bar_rules.specs.Peer.Knowledge.{Knowledge, known, this_round, answer_deadline}
 use Rattle.bar_rules.specs.Peer.Log.{Log, first_said}
 use Rattle.bar_rules.specs.Peer.Machine.{message_to}
 use Rattle.bar_rules.specs.Member.{Member, IsMember}
@@ -98,7 +98,7 @@ module _ (me : Member) (log : Log) (two : Knowledge) (h : IsObedient me log) (li
       go Balanced = λ i. trade_terms (same.commits x r i) (same.answers x r i)
       go Push = λ i. offer_terms (same.offers x r i) (same.replies x r i)
 
-  cases-alike : (x : Exchange) → this_round (known me log) ≤ x.round + 2 → option_map (case_body me (known me log) x) (terms_of me (known me log) x) ≡ option_map (case_body me two x) (terms_of me two x)
+  cases-alike : (x : Exchange) → this_round (known me log) ≤ x.round + answer_deadline → option_map (case_body me (known me log) x) (terms_of me (known me log) x) ≡ option_map (case_body me two x) (terms_of me two x)
   cases-alike x r = go (terms_of me (known me log) x) refl ∙ ap (option_map (case_body me two x)) (terms-alike x (omega (arith, r, life)))
     where
       go : (o : Option Terms) → terms_of me (known me log) x ≡ o → option_map (case_body me (known me log) x) (terms_of me (known me log) x) ≡ option_map (case_body me two x) (terms_of me (known me log) x)

@@ -1,4 +1,5 @@
 -- Each exchange of which anything was admitted or said has a place in its round, and no two of a round have the same.
+use Rattle.bar_wire.specs.Limits.{seats_a_round}
 use Rattle.bar_wire.specs.Bodies.{offer_in, commitment_in}
 use Rattle.bar_rules.specs.Peer.Admission.{is_row_met, terms_with}
 use Rattle.bar_rules.specs.Peer.Exchanges.{role_of, request_kind, seat, seat_in}
@@ -28,7 +29,7 @@ use Rattle.std.specs.Str.{bytes_eq}
 use Rattle.std.proofs.lemmas.Bool.{and_parts, eqb-true}
 use Rattle.bar_laws.specs.Rooms.{Asking, Own, Room, asking_at, asking_of, room_of, HasRooms}
 use Rattle.bar_laws.proofs.Logs.{allowed-at, is_of-is, IsOwn, heard-own, WasHeard, IsLater, later-entry, find-later, map-later, then-later, first_said-was, first_heard-was, some-is, parts-of, IsSaying, names-exchange, saying, is_of-part, receiver-role, admitted-row}
-use Rattle.bar_laws.proofs.Runs.{said-more, heard-more, Placed, placed, seat-of, seat-below_two, begun-in, one-request, seat-unique}
+use Rattle.bar_laws.proofs.Runs.{said-more, heard-more, Placed, placed, seat-of, seat-few, begun-in, one-request, seat-unique}
 
 -- ---- an exchange whose request was said or admitted has a place
 
@@ -38,7 +39,7 @@ HasRoom me log x = is_some (room_of me (known me log) x) ≡ true
 place-said : (me : Member) (log : Log) (x : Exchange) → role_of me x ≡ Initiator → has_said (is_of (request_kind x.kind) x Initiator) log ≡ true → HasRoom me log x
 place-said me log x side e = rw (side, e) refl
 
-two-seats : (n : ℕ) → n < 2 → is_some (asking_at n) ≡ true
+two-seats : (n : ℕ) → n < seats_a_round → is_some (asking_at n) ≡ true
 two-seats zero h = refl
 two-seats (suc zero) h = refl
 two-seats (suc (suc n)) h = absurd (omega arith)
@@ -50,7 +51,7 @@ some-mapped f None e = cc
 place-heard : (me : Member) (log : Log) (x : Exchange) → IsObedient me log → role_of me x ≡ Responder → has_heard (is_of (request_kind x.kind) x Initiator) log ≡ true → HasRoom me log x
 place-heard me log x h side e =
     let n = some-is (seat log x) (seat-of log x e) in
-    rw (side, n.1) (some-mapped _ (asking_at n.0) (two-seats n.0 (seat-below_two me log x n.0 h n.1)))
+    rw (side, n.1) (some-mapped _ (asking_at n.0) (two-seats n.0 (seat-few me log x n.0 h n.1)))
 
 -- a place stays
 asking-later : (me : Member) (log before : Log) (x : Exchange) (role : Role) (a : Asking) → IsLater log before → asking_of (known me before) x role ≡ Some a → asking_of (known me log) x role ≡ Some a

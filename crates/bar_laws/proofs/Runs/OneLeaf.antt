@@ -1,5 +1,5 @@
 -- No leaf signs two messages, and each leaf is below the number of leaves.
-use Rattle.bar_wire.specs.Limits.{leaves_a_round}
+use Rattle.bar_wire.specs.Limits.{leaves_a_round, seats_a_round}
 use Rattle.bar_wire.specs.declared.kind.Kind.TheVariants as kinds
 use Rattle.bar_wire.specs.Kinds.{code_of}
 use Rattle.bar_lms.specs.Params.{levels}
@@ -29,7 +29,7 @@ use Rattle.bar_laws.proofs.Logs.{option_or-cases, allowed-at, admitted-row, part
 use Rattle.bar_laws.proofs.Runs.Obeys.{said-more, heard-more}
 use Rattle.bar_laws.proofs.Runs.Seats.{new-seat, seat-unique}
 
--- ---- a request that was heard has a seat below two
+-- ---- a request that was heard has a seat of its round
 
 pub seat-of : (log : Log) (x : Exchange) → has_heard (is_of (request_kind x.kind) x Initiator) log ≡ true → is_some (seat log x) ≡ true
 seat-of [] x h = cc
@@ -47,40 +47,40 @@ seat-of (e ∷ log) x h = go (first_heard p log) (seat log x) (if_passes p (hear
 
 seat-row : (me : Member) (before : Log) (x : Exchange) (from to : ℕ) (b : Body) (k : XKind)
     → (eqb (kind_number b) (code_of (request_kind k)) && option_map_or (is_place x Initiator) (option_map (place_by from to) (part_of b)) false) ≡ true
-    → is_row_met me (known me before) from to b ≡ true → count_heard (has_kind_and_round (request_kind k) x.round) before < 2
+    → is_row_met me (known me before) from to b ≡ true → count_heard (has_kind_and_round (request_kind k) x.round) before < seats_a_round
 seat-row me before x from to (Request r s c) Balanced e row =
     let same : exchange_by r Balanced Initiator from to ≡ x = same_exchange-is (exchange_by r Balanced Initiator from to) x (and_parts _ _ e).0 in
     let round : r ≡ x.round = ap (λ (z : Exchange). z.round) same in
-    subst (λ z. count_heard (has_kind_and_round kinds.Request z) before < 2) round (ltb-true _ _ (and_parts _ _ (and_parts _ _ row).0).1)
+    subst (λ z. count_heard (has_kind_and_round kinds.Request z) before < seats_a_round) round (ltb-true _ _ (and_parts _ _ (and_parts _ _ row).0).1)
 seat-row me before x from to (Query r s y o) Push e row =
     let same : exchange_by r Push Initiator from to ≡ x = same_exchange-is (exchange_by r Push Initiator from to) x (and_parts _ _ e).0 in
     let round : r ≡ x.round = ap (λ (z : Exchange). z.round) same in
-    subst (λ z. count_heard (has_kind_and_round kinds.Query z) before < 2) round (ltb-true _ _ (and_parts _ _ (and_parts _ _ (and_parts _ _ row).1).0).1)
+    subst (λ z. count_heard (has_kind_and_round kinds.Query z) before < seats_a_round) round (ltb-true _ _ (and_parts _ _ (and_parts _ _ (and_parts _ _ row).1).0).1)
 seat-row me before x from to _ Balanced e row = cc
 seat-row me before x from to _ Push e row = cc
 
 -- the seat is that of the request's admission
-pub seat-below_two : (me : Member) (log : Log) (x : Exchange) (n : ℕ) → IsObedient me log → seat log x ≡ Some n → n < 2
-seat-below_two me [] x n h e = cc
-seat-below_two me (e ∷ log) x n h s = go (option_or-cases (seat log x) _ n s) (seat-below_two me log x n h.1)
+pub seat-few : (me : Member) (log : Log) (x : Exchange) (n : ℕ) → IsObedient me log → seat log x ≡ Some n → n < seats_a_round
+seat-few me [] x n h e = cc
+seat-few me (e ∷ log) x n h s = go (option_or-cases (seat log x) _ n s) (seat-few me log x n h.1)
   where
-    heard : (d : Datagram) → heard_in e ≡ Some d → is_of (request_kind x.kind) x Initiator d.message ≡ true → n ≡ count_heard (has_kind_and_round (request_kind x.kind) x.round) log → n < 2
+    heard : (d : Datagram) → heard_in e ≡ Some d → is_of (request_kind x.kind) x Initiator d.message ≡ true → n ≡ count_heard (has_kind_and_round (request_kind x.kind) x.round) log → n < seats_a_round
     heard d f k c =
         let al : Allows me log (Heard d) = subst (λ y. Allows me log y) (heard_in-is e d f) h.0 in
         rw c (seat-row me log x d.message.from d.message.to d.message.body x.kind k (admitted-row me log d al.0))
 
-    go : (seat log x ≡ Some n) ⊎ ((seat log x ≡ None) × (seat_in log x e ≡ Some n)) → (seat log x ≡ Some n → n < 2) → n < 2
+    go : (seat log x ≡ Some n) ⊎ ((seat log x ≡ None) × (seat_in log x e ≡ Some n)) → (seat log x ≡ Some n → n < seats_a_round) → n < seats_a_round
     go (inl p) f = f p
     go (inr p) f = let w = new-seat log x e n p.1 in heard w.1.0 w.1.1 w.1.2 w.0
 
--- the seat of a message's exchange, below two
-seat_by-below : (me : Member) (log : Log) (o : Option Place) → IsObedient me log → seat_by (known me log) o < 2
+-- the seat of a message's exchange, one of its round
+seat_by-below : (me : Member) (log : Log) (o : Option Place) → IsObedient me log → seat_by (known me log) o < seats_a_round
 seat_by-below me log None h = omega arith
 seat_by-below me log (Some p) h = go (seat log p.exchange) refl
   where
-    go : (o : Option ℕ) → seat log p.exchange ≡ o → unwrap_or o 0 < 2
+    go : (o : Option ℕ) → seat log p.exchange ≡ o → unwrap_or o 0 < seats_a_round
     go None e = omega arith
-    go (Some n) e = seat-below_two me log p.exchange n h e
+    go (Some n) e = seat-few me log p.exchange n h e
 
 -- ---- what stands before a message
 

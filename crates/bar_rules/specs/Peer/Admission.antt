@@ -3,7 +3,7 @@ use Rattle.std.specs.Prelude.{ℕ, ◌+◌, ◌==◌, ◌&&◌, not, Bool, true,
 use Rattle.std.specs.Option.{option_map_or}
 use Rattle.std.specs.Str.{bytes_eq}
 use Rattle.sha2.specs.Sha256.{sha256}
-use Rattle.bar_wire.specs.Limits.{everyone}
+use Rattle.bar_wire.specs.Limits.{everyone, seats_a_round}
 use Rattle.bar_wire.specs.Bodies.{offer_in, commitment_in}
 use Rattle.bar_window.specs.declared.update.UpdateId.{UpdateId}
 use Rattle.bar_window.specs.declared.exchange.Exchange.{Exchange}
@@ -58,13 +58,13 @@ has_digest (Known d) block = bytes_eq (sha256 block) d
 has_digest PastEnd block = false
 has_digest NoManifest block = false
 
--- the sender may ask this member for an exchange of this kind: it has the seed of the round, which chooses this member, and fewer than two
--- requests of the round and kind were admitted, a round early at most
+-- the sender may ask this member for an exchange of this kind: it has the seed of the round, which chooses this member, and fewer requests
+-- of the round and kind were admitted than there are seats, a round early at most
 abbrev pub may_ask : Member → Knowledge → XKind → ℕ → ℕ → List ℕ → Bool
 may_ask me k kind from round seed =
     is_seed me.session from round seed
     && (partner_of me.session seed kind from == me.party)
-    && nat_lt (k.asked kind round) 2
+    && nat_lt (k.asked kind round) seats_a_round
     && (nat_le round (this_round k + 1) && is_in_time me.session k (request_kind kind) round)
 
 abbrev pub body_said : Knowledge → Kind → Exchange → Role → Option Body

@@ -102,14 +102,21 @@ case_said_of k x role = case_in (k.said kinds.Case x role)
 
 -- ---- time
 
+-- how many rounds after its own a request may be admitted, asked and answered, and what comes after it up to the CASEs
+abbrev pub request_deadline : ℕ
+request_deadline = 1
+
+abbrev pub answer_deadline : ℕ
+answer_deadline = 2
+
 -- how many rounds after its own a datagram of an exchange may be admitted, asked for and answered
 abbrev pub deadline : Session → Kind → ℕ
-deadline s kinds.Request = 1
-deadline s kinds.Query = 1
-deadline s kinds.Response = 2
-deadline s kinds.Divulge = 2
-deadline s kinds.Reply = 2
-deadline s kinds.Case = 2
+deadline s kinds.Request = request_deadline
+deadline s kinds.Query = request_deadline
+deadline s kinds.Response = answer_deadline
+deadline s kinds.Divulge = answer_deadline
+deadline s kinds.Reply = answer_deadline
+deadline s kinds.Case = answer_deadline
 deadline s kinds.KeyReq = s.shape.life
 deadline s kinds.Key = s.shape.life
 deadline s _ = 0
