@@ -62,8 +62,9 @@ LogHasRooms = (me : Member) (log : Log) → IsObedient me log → HasRooms me (k
 abbrev pub is_kept : Member → Knowledge → Exchange → Bool
 is_kept me k x = is_some (room_of me k x)
 
--- Different exchanges of one round that are kept are `exchanges_a_round` at most. Those that may still be asked about are of the rounds from a life before
--- this one to the next one: so they are at most as many for each of these rounds, of which there are two more than in a life.
+-- Different exchanges of one round that are kept are `exchanges_a_round` at most. Those that may still be asked about are of
+-- the rounds from a life before this one to the next one: so they are at most as many for each of these rounds, of which there are two more
+-- than in a life.
 pub record KeepsFew (me : Member) (k : Knowledge) : Type 0 where
   pub in_round :
       (round : ℕ) (xs : List Exchange) → IsDistinct same_exchange xs → list_all (λ x. (x.round == round) && is_kept me k x) xs ≡ true
