@@ -12,7 +12,7 @@ use Rattle.bar_window.specs.declared.exchange.XKind.TheVariants.{Balanced, Push}
 use Rattle.bar_window.specs.declared.update.UpdateId.{UpdateId}
 use Rattle.bar_wire.specs.declared.kind.Kind.TheVariants as kinds
 use Rattle.bar_wire.specs.declared.kind.Kind.{Kind}
-use Rattle.bar_wire.specs.Datagram.{Message, Datagram, Body, Manifest, Block, Request, Response, Divulge, Query, Reply, Case, KeyReq, Key, Evidence, Evict, is_signed, kind_of, part_of, exchange_by, place_of, place_by}
+use Rattle.bar_wire.specs.Datagram.{Message, Datagram, Body, Manifest, Block, Request, Response, Divulge, Query, Reply, Case, KeyReq, Key, Evict, is_signed, kind_of, part_of, exchange_by, place_of, place_by}
 use Rattle.bar_rules.specs.Peer.Log.{lists_of}
 use Rattle.bar_rules.specs.Peer.Admission.{is_admitted, is_row_met, is_for, is_heard_again, is_named_again, may_ask, has_digest, meets_commitment, body_said, are_terms, terms_with, has_valid_signature}
 use Rattle.bar_rules.specs.Peer.Agreement.{promised_by, IsRepeatable, AgreesWith, IsRecent}
