@@ -6,7 +6,6 @@ mod SaidFits
 mod EvidenceFits
 mod PeerFits
 mod SignedAccepted
-
 -- the lemmas that other groups may cite
 pub use Rattle.bar_laws.proofs.Fitting.CasterAdds.{IsOwnMessage, IsBegun, IsOwnBody, IsFair, AreOwn, AllFit, IsCaster, own-inside, caster-casts}
 pub use Rattle.bar_laws.proofs.Fitting.PeerFits.{said-fits, step-fits}

@@ -11,7 +11,6 @@ mod Unframed
 mod GoodOpenings
 mod ToldOpenings
 mod HeardCame
-
 -- the lemmas that other groups may cite
 pub use Rattle.bar_laws.proofs.Judging.ShownStays.{verdict-stays}
 pub use Rattle.bar_laws.proofs.Judging.Accuses.{or-second}

@@ -19,7 +19,6 @@ mod WindowSets
 mod Formed
 mod SubsetFacts
 mod OwnSide
-
 -- the lemmas that other groups may cite
 pub use Rattle.bar_laws.proofs.Logs.FirstFinds.{option_or-cases, option_or-some, IsEntry, IsFind, find-of, allowed-at, obedient-before}
 pub use Rattle.bar_laws.proofs.Logs.Lists.{all-both, all-flat, all-snoc, all-map, all-of, all-kept, all-flat-map, all-that, all-mapped}

@@ -14,7 +14,6 @@ mod Rewritten
 mod RoomsOf
 mod Remembered
 mod Few
-
 -- the lemmas that other groups may cite
 pub use Rattle.bar_laws.proofs.Memory.OpenList.{all-inserted}
 pub use Rattle.bar_laws.proofs.Memory.MachineImage.{runs-as-known, learned}

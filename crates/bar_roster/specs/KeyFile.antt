@@ -42,7 +42,7 @@ fits s party secret =
 abbrev pub is_of_session : SessionData → Bool → KeyData → Bool
 is_of_session s caster k =
     (bytes_eq k.id s.shape.id &&
-        ((k.rounds == s.shape.rounds) && ((k.lms == lms_type s.params.height) && (k.ots == ots_type s.params.ots))))
+    ((k.rounds == s.shape.rounds) && ((k.lms == lms_type s.params.height) && (k.ots == ots_type s.params.ots))))
     && ((if caster then k.party == 0 else nat_le 1 k.party) && nat_le k.party s.shape.peers)
 
 -- ---- the first fault, or whose secret it is

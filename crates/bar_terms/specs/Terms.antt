@@ -53,7 +53,7 @@ offer_ok cap life table round young aged =
 abbrev pub answer_ok : ℕ → List UpdateId → List UpdateId → List UpdateId → List UpdateId → ℕ → Bool
 answer_ok cap young aged want give junk =
     (is_inside want young && is_inside give aged) && (nat_le 1 (length want) && nat_le (length want) cap) &&
-        (length want == length give + junk)
+    (length want == length give + junk)
 
 -- whether terms are valid, in a round and under a table
 abbrev pub terms_ok : ℕ → ℕ → Table → ℕ → Terms → Bool

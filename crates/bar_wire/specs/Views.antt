@@ -25,8 +25,14 @@ plain (raw.Query round seed young aged) = Query round seed.now (members young) (
 plain (raw.Reply round want give junk) = Reply round (members want) (members give) junk
 plain (raw.Case round xkind role updates junk t cipher) =
     Case (record {
-        round = round; kind = kind_from xkind; role = role_from role;
-        updates = updates; junk = junk; terms = plain_terms t; cipher = cipher.now })
+      round = round;
+      kind = kind_from xkind;
+      role = role_from role;
+      updates = updates;
+      junk = junk;
+      terms = plain_terms t;
+      cipher = cipher.now;
+    })
 plain (raw.KeyReq round xkind role) = KeyReq round (kind_from xkind) (role_from role)
 plain (raw.Key round xkind role key) = Key (record { round = round; kind = kind_from xkind; role = role_from role; key = key.now })
 plain (raw.Evidence count datagrams) = Evidence (entries count datagrams.now)

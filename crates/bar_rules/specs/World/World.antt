@@ -93,7 +93,7 @@ AllGenuine setup trusted w (b ∷ bs) = IsGenuine setup trusted w b × AllGenuin
 abbrev pub IsUnforged : Setup → (ℕ → Bool) → World → List ℕ → Type 0
 IsUnforged setup trusted w bytes =
     IsGenuine setup trusted w bytes × ((d : Datagram) → datagram_of setup.session bytes ≡ Some d →
-        AllGenuine setup trusted w (evidence_in d.message.body))
+    AllGenuine setup trusted w (evidence_in d.message.body))
 
 abbrev pub AreUnforged : Setup → (ℕ → Bool) → World → List Move → Type 0
 AreUnforged setup trusted w [] = Unit {0}
