@@ -71,8 +71,7 @@ pub fn leaf_of(body: &Body<'_>, seat: u8) -> u32
             role,
             ..
         } => leaf_at(*round, kind_from(*xkind), role_from(*role), KEY, seat),
-        Body::Block { .. } | Body::Divulge { .. } | Body::KeyReq { .. } | Body::Evidence { .. } => {
-            0
-        }
+        // The other kinds are never signed.
+        _ => 0,
     }
 }

@@ -60,8 +60,7 @@ pub fn identity(view: &View<'_>) -> Option<Identity>
             role: role_from(role).code(),
             ..Identity::of_round(Kind::Key, round)
         }),
-        Body::Block { .. } | Body::Divulge { .. } | Body::KeyReq { .. } | Body::Evidence { .. } => {
-            None
-        }
+        // The other kinds are never signed.
+        _ => None,
     }
 }

@@ -96,7 +96,8 @@ impl SeedChain {
         requires first { 1 ≤ round }
         requires last { round ≤ self.now.rounds }
         ensures value { result ≡ seed_of self.now.secrets self.now.rounds round }
-        ensures meets_anchor { is_seed self.now.secrets.id (anchor_of self.now.secrets self.now.rounds) self.now.secrets.party round result ≡ true }
+        ensures meets_anchor { is_seed self.now.secrets.id (anchor_of self.now.secrets self.now.rounds)
+            self.now.secrets.party round result ≡ true }
     {
         self.values[(self.rounds - round) as usize]
     }

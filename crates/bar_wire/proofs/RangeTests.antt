@@ -14,7 +14,7 @@ use Rattle.bar_wire.specs.Limits.{everyone, largest_datagram}
 use Rattle.bar_wire.specs.declared.shape.Shape.{Shape}
 use Rattle.bar_wire.specs.declared.kind.Kind.{Kind}
 use Rattle.bar_wire.specs.declared.kind.Kind.TheVariants as kinds
-use Rattle.bar_wire.specs.Datagram.{Datagram, Body, Manifest, Block, Request, Response, Divulge, Query, Reply, Case, KeyReq, Key, Evidence, Evict, kind_of}
+use Rattle.bar_wire.specs.Datagram.{Datagram, Body, Manifest, Block, Request, Response, Divulge, Query, Reply, Case, KeyReq, Key, Evidence, Evict, kind_of, round_of}
 use Rattle.bar_wire.specs.Grammar.{words_of, signature_len, IsWindowSet, HasTermForm, HasForm, IsRound, IsPeer, RisesTo, IsEntryInRange, AreDatagramsInRange, ArePartiesInRange, HasFewJunk, InRange, MaySend, IsDatagram}
 use Rattle.bar_wire.specs.Ranges.{is_u16, is_u32, is_window_set, has_term_form, has_form, is_round, is_peer, rises_to, is_entry_in_range, are_datagrams_in_range, are_parties_in_range, has_few_junk, is_in_range, may_send, is_datagram}
 
@@ -122,16 +122,11 @@ junk_tells (forms.Push young aged want give junk) = le_tells junk 16
 range_tells : (s : Shape) (b : Body) → IsTrue (is_in_range s b) ↔ InRange s b
 range_tells s (Manifest r ds) = and_tells (is_round s r) (nat_le (length ds) s.per_round) (round_tells s r) (le_tells (length ds) s.per_round)
 range_tells s (Block u block) = and_tells (is_round s u.round) (nat_lt u.index s.per_round) (round_tells s u.round) (lt_tells u.index s.per_round)
-range_tells s (Request r seed commitment) = round_tells s r
-range_tells s (Response r hb) = round_tells s r
-range_tells s (Divulge r nonce ha) = round_tells s r
-range_tells s (Query r seed young aged) = round_tells s r
 range_tells s (Reply r want give junk) = and_tells (is_round s r) (nat_le junk 16) (round_tells s r) (le_tells junk 16)
 range_tells s (Case c) = four_tell (is_round s c.round) (nat_lt 0 (c.updates + c.junk)) (nat_le (c.updates + c.junk) 16) (has_few_junk c.terms) (round_tells s c.round) (lt_tells 0 (c.updates + c.junk)) (le_tells (c.updates + c.junk) 16) (junk_tells c.terms)
-range_tells s (KeyReq r kind role) = round_tells s r
-range_tells s (Key k) = round_tells s k.round
 range_tells s (Evidence ds) = datagrams_tell ds
 range_tells s (Evict r ps) = and_tells (is_round s r) (are_parties_in_range s.peers ps) (round_tells s r) (parties_tell s.peers ps)
+range_tells s b = round_tells s (round_of b)
 
 to_all : (s : Shape) (from to : ℕ) → IsTrue ((from == 0) && (to == everyone)) ↔ ((from ≡ 0) × (to ≡ everyone))
 to_all s from to = and_tells (from == 0) (to == everyone) (eq_tells from 0) (eq_tells to everyone)

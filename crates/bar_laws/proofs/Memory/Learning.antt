@@ -9,7 +9,7 @@ use Rattle.bar_window.specs.declared.exchange.XKind.{XKind}
 use Rattle.bar_window.specs.declared.exchange.XKind.TheVariants.{Balanced, Push}
 use Rattle.bar_wire.specs.declared.kind.Kind.{Kind}
 use Rattle.bar_wire.specs.Kinds.{code_of}
-use Rattle.bar_wire.specs.Datagram.{is_place, place_by, Datagram, Body, Manifest, Block, Request, Divulge, Query, Key, Evidence, Evict, is_of, exchange_of, part_of, kind_number, round_of}
+use Rattle.bar_wire.specs.Datagram.{is_place, place_by, Datagram, Body, Manifest, Block, Request, Divulge, Query, Key, Evict, is_of, exchange_of, part_of, kind_number, round_of}
 use Rattle.bar_rules.specs.Peer.Exchanges.{request_kind, inserted, with_exchange, recent_of, seat, revealed, exchanges_said}
 use Rattle.bar_rules.specs.Peer.Holdings.{block_of, block_by}
 use Rattle.bar_rules.specs.Peer.Knowledge.{Knowledge, table_of, known, this_round, case_heard_of, first_with, with_request, with_tick, with_heard, with_said, with_kept}
@@ -164,18 +164,6 @@ module _ (me : Member) (d : Datagram) (k : Knowledge) where
         revealed = λ x. (ap (λ t. option_or (k.revealed x) (cond t None None)) (apart (Evict r parties) refl kinds.Divulge x Initiator) ∙ or-none (k.revealed x)) i;
         seat = λ x. unseated (Evict r parties) refl refl x i;
         asked = λ kind round. unasked (Evict r parties) refl refl kind round i;
-      }
-  by-kind (Evidence ds) =
-      λ i.
-      record k {
-        has_evict = λ round. or-false (k.has_evict round) i;
-        is_announced = λ party. or-false (k.is_announced party) i;
-        manifest = λ round. or-none (k.manifest round) i;
-        block = λ u. or-none (k.block u) i;
-        heard = λ kind x role. unheard (Evidence ds) refl kind x role i;
-        revealed = λ x. (ap (λ t. option_or (k.revealed x) (cond t None None)) (apart (Evidence ds) refl kinds.Divulge x Initiator) ∙ or-none (k.revealed x)) i;
-        seat = λ x. unseated (Evidence ds) refl refl x i;
-        asked = λ kind round. unasked (Evidence ds) refl refl kind round i;
       }
   by-kind (Request r seed c) =
       λ i.

@@ -17,7 +17,7 @@ use Rattle.bar_window.specs.Terms.{Terms}
 use Rattle.bar_window.specs.Terms as forms
 use Rattle.bar_terms.specs.Table.{Digest, Known, PastEnd, NoManifest, digest_of, is_within}
 use Rattle.bar_terms.specs.Terms.{offer_ok}
-use Rattle.bar_wire.specs.Datagram.{Message, Datagram, Body, Manifest, Block, Request, Response, Divulge, Query, Reply, Case, KeyReq, Key, Evidence, Evict, is_signed, kind_of, Place, place_of, exchange_by}
+use Rattle.bar_wire.specs.Datagram.{Message, Datagram, Body, Manifest, Block, Request, Response, Divulge, Query, Reply, Case, KeyReq, Key, Evict, is_signed, kind_of, Place, place_of, exchange_by}
 use Rattle.bar_wire.specs.declared.kind.Kind.TheVariants as kinds
 use Rattle.bar_wire.specs.declared.kind.Kind.{Kind}
 use Rattle.bar_rules.specs.Member.{Session, Member, is_alive}
@@ -138,7 +138,7 @@ is_row_met me k from to (Key g) =
     has_said_of k kinds.Case x (other_role g.role)
     && has_heard_of k kinds.Case x g.role
     && is_in_time me.session k kinds.Key g.round
-is_row_met me k from to (Evidence datagrams) = false
+is_row_met me k from to _ = false
 
 unfoldable pub is_admitted : Member → Knowledge → Datagram → Bool
 is_admitted me k d =

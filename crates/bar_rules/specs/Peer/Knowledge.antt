@@ -10,7 +10,7 @@ use Rattle.bar_window.specs.declared.exchange.Role.{Role}
 use Rattle.bar_window.specs.declared.exchange.Role.TheVariants.{Initiator}
 use Rattle.bar_window.specs.declared.exchange.XKind.{XKind}
 use Rattle.bar_terms.specs.Table.{Table}
-use Rattle.bar_wire.specs.Datagram.{Datagram, Body, Manifest, Block, Request, Divulge, Query, Key, Evidence, Evict, Briefcase, is_of, exchange_of}
+use Rattle.bar_wire.specs.Datagram.{Datagram, Body, Manifest, Block, Request, Divulge, Query, Key, Evict, Briefcase, is_of, exchange_of}
 use Rattle.bar_wire.specs.declared.kind.Kind.TheVariants as kinds
 use Rattle.bar_wire.specs.declared.kind.Kind.{Kind}
 use Rattle.bar_rules.specs.Member.{Session, Member, round_after}
@@ -159,7 +159,6 @@ learned me d k (Key g) = record k {
   heard = first_with d k.heard;
   block = λ u. option_or (k.block u) (block_by me.session (this_round k) (table_of k) (case_heard_of k) u d.message (Key g));
 }
-learned me d k (Evidence datagrams) = k
 learned me d k _ = record k { heard = first_with d k.heard }
 
 abbrev pub with_heard : Member → Datagram → Knowledge → Knowledge
