@@ -14,7 +14,7 @@ use Rattle.bar_rules.specs.Peer.Knowledge.{table_of, Knowledge, known, this_roun
 use Rattle.bar_rules.specs.Peer.Log.{lists_of, Log, Ticked, Heard, Said, Kept, has_kind_and_round, names_party}
 use Rattle.bar_rules.specs.Member.{Member, round_after, is_alive}
 use Rattle.bar_rules.specs.Values.{window_of}
-use Rattle.std.proofs.Common.{◌≡◌, ℕ, ◌≤◌, ◌+◌, Bool, true, false, List, [], ◌∷◌, refl, sym, ap, ◌∙◌, subst, arith, cond, ◌||◌, eqb}
+use Rattle.std.proofs.Common.{◌≡◌, ℕ, ◌≤◌, ◌+◌, ◌-◌, Bool, true, false, List, [], ◌∷◌, refl, sym, ap, ◌∙◌, subst, arith, cond, ◌||◌, eqb}
 use Rattle.std.specs.Prelude.{option_map, Option, Some, None, is_some, filter}
 use Rattle.std.specs.Option.{option_or}
 use Rattle.std.specs.Bool.{then_some}
@@ -209,7 +209,7 @@ agree-trans me a b c f g =
       evictions = λ round. f.evictions round ∙ g.evictions round;
       announced = λ party. f.announced party ∙ g.announced party;
       evidence = λ party. f.evidence party ∙ g.evidence party;
-      blocks = λ u r. f.blocks u r ∙ g.blocks u (later (u.round + me.session.shape.life + 1) r);
+      blocks = λ u r. f.blocks u r ∙ g.blocks u (later (u.round + me.session.shape.life + (answer_deadline - 1)) r);
       heard = λ kind x role r. f.heard kind x role r ∙ g.heard kind x role (later (x.round + me.session.shape.life) r);
       said = λ kind x role r. f.said kind x role r ∙ g.said kind x role (later (x.round + told_for me.session kind) r);
       promises = λ x role r. f.promises x role r ∙ g.promises x role (later (x.round + me.session.shape.life) r);

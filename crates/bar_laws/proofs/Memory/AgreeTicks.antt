@@ -146,7 +146,7 @@ module _ (me : Member) (one two : Knowledge) (same : AgreesWith me one two) (lif
 
   -- ---- played contents
 
-  round-same : (round : ℕ) → this_round one ≤ round + me.session.shape.life + 1 → contents_of_round me one round ≡ contents_of_round me two round
+  round-same : (round : ℕ) → this_round one ≤ round + me.session.shape.life + (answer_deadline - 1) → contents_of_round me one round ≡ contents_of_round me two round
   unfolding contents_of_round
   round-same round h =
       flat-same (content_at me one) (content_at me two) (updates_of me.session round)

@@ -1,5 +1,5 @@
 -- What a peer must still know: whatever agrees with it in this much gets the same replies.
-use Rattle.std.specs.Prelude.{◌≡◌, ℕ, ◌+◌, ◌≤◌, true, Option, Some, option_map}
+use Rattle.std.specs.Prelude.{◌≡◌, ℕ, ◌+◌, ◌-◌, ◌≤◌, true, Option, Some, option_map}
 use Rattle.bar_window.specs.declared.update.UpdateId.{UpdateId}
 use Rattle.bar_window.specs.declared.exchange.Exchange.{Exchange}
 use Rattle.bar_window.specs.declared.exchange.Role.{Role}
@@ -10,7 +10,7 @@ use Rattle.bar_wire.specs.declared.kind.Kind.TheVariants as kinds
 use Rattle.bar_wire.specs.Datagram.{Datagram, is_of}
 use Rattle.bar_wire.specs.declared.kind.Kind.{Kind}
 use Rattle.bar_rules.specs.Member.{Session, Member}
-use Rattle.bar_rules.specs.Peer.Knowledge.{Knowledge, this_round, deadline}
+use Rattle.bar_rules.specs.Peer.Knowledge.{Knowledge, this_round, answer_deadline, deadline}
 
 -- an exchange of this round may still be asked about
 abbrev pub IsRecent : Member → Knowledge → ℕ → Type 0
@@ -19,7 +19,7 @@ IsRecent me k round = this_round k ≤ round + me.session.shape.life
 -- an update of this round may still be asked about: it stands in a window of an exchange for which a briefcase may still be sealed, two
 -- rounds back at most, or is to be played
 abbrev pub IsFresh : Member → Knowledge → ℕ → Type 0
-IsFresh me k round = this_round k ≤ round + me.session.shape.life + 1
+IsFresh me k round = this_round k ≤ round + me.session.shape.life + (answer_deadline - 1)
 
 -- How many rounds after its own what was said of a kind is still told whole. A CASE is sent again for fewer rounds than its exchange may be
 -- asked about, and its blocks are held no longer.
