@@ -12,7 +12,7 @@ use Rattle.bar_rules.specs.Peer.Holdings.{is_held, case_heard_from}
 use Rattle.bar_rules.specs.Peer.Log.{Log, Heard, table, round_now, kept}
 use Rattle.bar_rules.specs.Member.{Session, Member, is_alive}
 use Rattle.bar_rules.specs.Values.{opening_of, is_good, datagram_bytes, datagram_of, is_signed_by}
-use Rattle.bar_rules.specs.World.World.{World, Move, member, step_of, run, AreUnforged, Setup, IsSetup, initial}
+use Rattle.bar_rules.specs.World.World.{World, Move, member, party_step, run, AreUnforged, Setup, IsSetup, initial}
 
 -- what a setup's parties have become after some moves
 abbrev pub after : Setup → List Move → World
@@ -118,7 +118,7 @@ abbrev pub StepIsAccepted : Type 0
 StepIsAccepted =
     (setup : Setup) (moves : List Move) → IsSetup setup
     → (party : ℕ) (log : Log) (input : Input) → slice_get (after setup moves).logs party ≡ Some log
-    → AllByRecursion (IsSentBy setup party) (step_of setup party log input).sends
+    → AllByRecursion (IsSentBy setup party) (party_step setup party log input).sends
 
 -- The bytes of a packet spell a datagram of one of the parties, so accepted.
 pub record IsOfParty (setup : Setup) (packet : ℕ × List ℕ) : Type 0 where

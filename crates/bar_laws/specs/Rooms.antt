@@ -43,18 +43,18 @@ abbrev pub room_of : Member → Knowledge → Exchange → Option Room
 room_of me k x = option_map (λ a. record { kind = x.kind; asking = a }) (asking_of k x (role_of me x))
 
 -- Each exchange of which anything was admitted or said has a room, and two of one round have different rooms.
-pub record HasRooms (me : Member) (k : Knowledge) : Type 0 where
+pub record AreInRooms (me : Member) (k : Knowledge) : Type 0 where
   pub heard : (kind : Kind) (x : Exchange) (role : Role) → has_heard_of k kind x role ≡ true → is_some (room_of me k x) ≡ true
   pub said : (kind : Kind) (x : Exchange) (role : Role) → has_said_of k kind x role ≡ true → is_some (room_of me k x) ≡ true
   pub one : (x y : Exchange) (room : Room) → x.round ≡ y.round → room_of me k x ≡ Some room → room_of me k y ≡ Some room → x ≡ y
 
 -- whatever comes
 abbrev pub RunHasRooms : Type 0
-RunHasRooms = InEachLog (λ me log. HasRooms me (known me log))
+RunHasRooms = InEachLog (λ me log. AreInRooms me (known me log))
 
 -- so it is of each log that keeps the rules, whether or not a run leaves it
 abbrev pub LogHasRooms : Type 0
-LogHasRooms = (me : Member) (log : Log) → IsObedient me log → HasRooms me (known me log)
+LogHasRooms = (me : Member) (log : Log) → IsObedient me log → AreInRooms me (known me log)
 
 -- ---- how many
 

@@ -11,7 +11,7 @@ use Rattle.bar_lms.specs.declared.params.Height.TheVariants.{H5, H10, H15}
 use Rattle.bar_lms.specs.declared.params.Ots.TheVariants.{W1, W2, W4, W8}
 use Rattle.bar_lms.specs.declared.private.Private.{Private}
 use Rattle.bar_lms.specs.Params.{digit_bits, chains, last, levels, lms_type, ots_type}
-use Rattle.bar_lms.specs.Chains.{place, step, chain, joined, coef, digit, message_hash, one_time_key}
+use Rattle.bar_lms.specs.Chains.{place, chain_step, chain, joined, coef, digit, message_hash, one_time_key}
 use Rattle.bar_lms.specs.Tree.{value, whole_value, leaf_key, node, parent, leaf_node, climb, sibling, root}
 use Rattle.bar_lms.specs.Signature.{public_of, signed_value, sibling_at, signature, number_at, hash_at, end_at, candidate}
 use Rattle.bar_lms.specs.Acceptance.{Accepts}
@@ -28,8 +28,8 @@ pub length-sha256 : (m : List ℕ) → length (sha256 m) ≡ 32
 unfolding sha256
 length-sha256 m = length-digest_bytes (final_hash initial_hash_256 m) 8
 
-length-step : (at : List ℕ) (j : ℕ) (x : List ℕ) → length (step at j x) ≡ 32
-unfolding step
+length-step : (at : List ℕ) (j : ℕ) (x : List ℕ) → length (chain_step at j x) ≡ 32
+unfolding chain_step
 length-step at j x = length-sha256 (at ++ j ∷ x)
 
 length-chain : (at : List ℕ) (from n : ℕ) (x : List ℕ) → length x ≡ 32 → length (chain at from n x) ≡ 32
@@ -88,7 +88,7 @@ end_of_signed t q hash rest i below =
     let d = digit t.params.ots hash i in
     let all : d + (last t.params.ots - d) ≡ last t.params.ots = omega (arith, digit_le t.params.ots hash i) in
     let there = joined_at (signed_value t q hash) (chains t.params.ots) rest i (λ k. length-value t q (digit t.params.ots hash k) k) below in
-    rw there (chain-chain (place t.ident q i) d (last t.params.ots - d) _ ∙ ap (λ n. chain (place t.ident q i) 0 n (step (place t.ident q i) 255 t.seed)) all)
+    rw there (chain-chain (place t.ident q i) d (last t.params.ots - d) _ ∙ ap (λ n. chain (place t.ident q i) 0 n (chain_step (place t.ident q i) 255 t.seed)) all)
 
 climb_same : (ident : List ℕ) (p s : ℕ → List ℕ) (r : ℕ) (leaf : List ℕ) (n : ℕ) → ((i : ℕ) → i < n → p i ≡ s i) → climb ident p r leaf n ≡ climb ident s r leaf n
 unfolding climb

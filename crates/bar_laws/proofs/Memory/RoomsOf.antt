@@ -1,4 +1,4 @@
--- Each exchange of which anything was admitted or said has a place in its round, and no two of a round have the same.
+-- Each exchange of which anything was admitted or said has a room in its round, and no two of a round have the same.
 use Rattle.bar_wire.specs.Limits.{seats_a_round}
 use Rattle.bar_wire.specs.Bodies.{offer_in, commitment_in}
 use Rattle.bar_rules.specs.Peer.Admission.{is_row_met, terms_with}
@@ -27,11 +27,11 @@ use Rattle.std.specs.Bool.{then_some}
 use Rattle.std.specs.Option.{option_map_or}
 use Rattle.std.specs.Str.{bytes_eq}
 use Rattle.std.proofs.lemmas.Bool.{and_parts, eqb-true}
-use Rattle.bar_laws.specs.Rooms.{Asking, Own, Room, asking_at, asking_of, room_of, HasRooms}
+use Rattle.bar_laws.specs.Rooms.{Asking, Own, Room, asking_at, asking_of, room_of, AreInRooms}
 use Rattle.bar_laws.proofs.Logs.{allowed-at, is_of-is, IsOwn, heard-own, WasHeard, IsLater, later-entry, find-later, map-later, then-later, first_said-was, first_heard-was, some-is, parts-of, IsSaying, names-exchange, saying, is_of-part, receiver-role, admitted-row}
 use Rattle.bar_laws.proofs.Runs.{said-more, heard-more, Placed, placed, seat-of, seat-few, begun-in, one-request, seat-unique}
 
--- ---- an exchange whose request was said or admitted has a place
+-- ---- an exchange whose request was said or admitted has a room
 
 abbrev HasRoom : Member → Log → Exchange → Type 0
 HasRoom me log x = is_some (room_of me (known me log) x) ≡ true
@@ -53,7 +53,7 @@ place-heard me log x h side e =
     let n = some-is (seat log x) (seat-of log x e) in
     rw (side, n.1) (some-mapped _ (asking_at n.0) (two-seats n.0 (seat-few me log x n.0 h n.1)))
 
--- a place stays
+-- a room stays
 asking-later : (me : Member) (log before : Log) (x : Exchange) (role : Role) (a : Asking) → IsLater log before → asking_of (known me before) x role ≡ Some a → asking_of (known me log) x role ≡ Some a
 asking-later me log before x Initiator a later e = go (has_said (is_of (request_kind x.kind) x Initiator) before) refl e
   where
@@ -109,7 +109,7 @@ offer-said : (f : Terms → Bool) (o : Option Datagram) (want give : List Update
 offer-said f (Some d) want give junk e = refl
 offer-said f None want give junk e = cc
 
--- what an admitted message is: a request, or of an exchange that has a place
+-- what an admitted message is: a request, or of an exchange that has a room
 abbrev IsPlaced : Member → Log → ℕ → ℕ × XKind × Role → ℕ → ℕ → Type 0
 IsPlaced me before kind p from to = ((kind ≡ code_of (request_kind p.1)) × (p.2 ≡ Initiator)) ⊎ HasRoom me before (exchange_by p.0 p.1 p.2 from to)
 
@@ -169,9 +169,9 @@ heard-placed me log kind x role h e =
             in
             place-heard me log x h side (sym (λ j. has_heard (λ m. eqb (kind_number m.body) (number j) && option_map_or (is_place x (here.1 j)) (place_of m) false) log) ∙ e)
 
--- ---- one exchange at a place
+-- ---- one exchange in a room
 
--- the kind and the asking of a place
+-- the kind and the asking of a room
 pub place-parts : (x : Exchange) (o : Option Asking) (p : Room) → option_map (λ a. record { kind = x.kind; asking = a }) o ≡ Some p → (x.kind ≡ p.kind) × (o ≡ Some p.asking)
 place-parts x None p e = cc
 place-parts x (Some a) p e = let same : ◌≡◌ {A = Room} (record { kind = x.kind; asking = a }) p = cc in (ap (λ (z : Room). z.kind) same, ap (λ (z : Room). Some z.asking) same)
@@ -232,7 +232,7 @@ asked-same me log x y Initiator Responder a h r k p q e f =
 asked-same me log x y Responder Initiator a h r k p q e f =
     let n = asked-at (seat log x) a e in absurd (asked-not_own n.0 (n.2 ∙ ap Some (own-said _ a f).1))
 
-pub has-rooms : (me : Member) (log : Log) → IsObedient me log → HasRooms me (known me log)
+pub has-rooms : (me : Member) (log : Log) → IsObedient me log → AreInRooms me (known me log)
 has-rooms me log h = record {
   heard = λ kind x role e. heard-placed me log kind x role h e;
   said = λ kind x role e. said-placed me log kind x role h e;

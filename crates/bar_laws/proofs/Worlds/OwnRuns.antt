@@ -4,7 +4,7 @@ use Rattle.bar_rules.specs.Peer.Log.{Log}
 use Rattle.bar_rules.specs.Peer.Run.{Out, step}
 use Rattle.bar_rules.specs.Runs.{state_after, played_from, sends_from}
 use Rattle.bar_rules.specs.Values.{datagram_bytes}
-use Rattle.bar_rules.specs.World.World.{World, Move, TickOf, Deliver, Hostile, member, step_of, spelled, takes, takes_by, delivered, run, Setup, IsSetup, initial}
+use Rattle.bar_rules.specs.World.World.{World, Move, TickOf, Deliver, Hostile, member, party_step, spelled, takes, takes_by, delivered, run, Setup, IsSetup, initial}
 use Rattle.bar_wire.specs.Datagram.{Datagram}
 use Rattle.bar_wire.specs.Inputs.{Input}
 use Rattle.bar_wire.specs.Inputs as event
@@ -68,7 +68,7 @@ record IsAt (setup : Setup) (p : ℕ) (w : World) (log : Log) (played : List ℕ
   sent_is : filter (is_from setup.session p) w.packets ≡ sent
 
 takes-own : (setup : Setup) (p : ℕ) (w : World) (i : Input) (log : Log) (played : List ℕ) (sent : List (ℕ × List ℕ)) → StepsKeep setup → IsSound setup nobody w → IsAt setup p w log played sent
-    → IsAt setup p (takes setup w p i) (step_of setup p log i).state (played ++ concat (step_of setup p log i).contents) (sent ++ spelled setup.session (step_of setup p log i).sends)
+    → IsAt setup p (takes setup w p i) (party_step setup p log i).state (played ++ concat (party_step setup p log i).contents) (sent ++ spelled setup.session (party_step setup p log i).sends)
 takes-own setup p w i log played sent laws sound at = subst (λ o. IsAt setup p (takes_by setup w p i o) out.state (played ++ concat out.contents) (sent ++ spelled setup.session out.sends)) (sym at.log_is) (record {
   log_is = set-same w.logs p log out.state at.log_is;
   played_is = set-same w.played p played (unwrap_or (slice_get w.played p) [] ++ concat out.contents) at.played_is ∙ ap (λ o. Some (unwrap_or o [] ++ concat out.contents)) at.played_is;
@@ -79,7 +79,7 @@ takes-own setup p w i log played sent laws sound at = subst (λ o. IsAt setup p 
 })
   where
     out : Out
-    out = step_of setup p log i
+    out = party_step setup p log i
 
 takes-other : (setup : Setup) (p q : ℕ) (w : World) (i : Input) (log : Log) (played : List ℕ) (sent : List (ℕ × List ℕ)) → StepsKeep setup → IsSound setup nobody w → eqb q p ≡ false → IsAt setup p w log played sent
     → IsAt setup p (takes setup w q i) log played sent
@@ -88,12 +88,12 @@ takes-other setup p q w i log played sent laws sound n at = go (slice_get w.logs
     go : (o : Option Log) → slice_get w.logs q ≡ o → IsAt setup p (takes_by setup w q i o) log played sent
     go None e = at
     go (Some l) e = record {
-      log_is = set-other w.logs q p (step_of setup q l i).state n ∙ at.log_is;
-      played_is = set-other w.played q p (unwrap_or (slice_get w.played q) [] ++ concat (step_of setup q l i).contents) n ∙ at.played_is;
+      log_is = set-other w.logs q p (party_step setup q l i).state n ∙ at.log_is;
+      played_is = set-other w.played q p (unwrap_or (slice_get w.played q) [] ++ concat (party_step setup q l i).contents) n ∙ at.played_is;
       sent_is =
-          filter-append (is_from setup.session p) w.packets (spelled setup.session (step_of setup q l i).sends)
-          ∙ ap (λ old. old ++ filter (is_from setup.session p) (spelled setup.session (step_of setup q l i).sends)) at.sent_is
-          ∙ ap (λ new. sent ++ new) (other-packets setup p q (step_of setup q l i).sends n (step-accepted setup w q l i laws sound e))
+          filter-append (is_from setup.session p) w.packets (spelled setup.session (party_step setup q l i).sends)
+          ∙ ap (λ old. old ++ filter (is_from setup.session p) (spelled setup.session (party_step setup q l i).sends)) at.sent_is
+          ∙ ap (λ new. sent ++ new) (other-packets setup p q (party_step setup q l i).sends n (step-accepted setup w q l i laws sound e))
           ∙ append-nil sent;
     }
 
@@ -103,19 +103,19 @@ takes-other setup p q w i log played sent laws sound n at = go (slice_get w.logs
 abbrev Reaches : Setup → ℕ → World → World → List Input → Type 0
 Reaches setup p w end inputs =
     (log : Log) (played : List ℕ) (sent : List (ℕ × List ℕ)) (number : ℕ) → IsAt setup p w log played sent
-    → IsAt setup p end (state_after (step_of setup p) log inputs) (played ++ played_from (step_of setup p) log inputs) (sent ++ packets_of setup.session (sends_from (step_of setup p) log number inputs))
+    → IsAt setup p end (state_after (party_step setup p) log inputs) (played ++ played_from (party_step setup p) log inputs) (sent ++ packets_of setup.session (sends_from (party_step setup p) log number inputs))
 
 reaches-own : (setup : Setup) (p : ℕ) (w end : World) (i : Input) (inputs : List Input) → StepsKeep setup → IsSound setup nobody w → Reaches setup p (takes setup w p i) end inputs → Reaches setup p w end (i ∷ inputs)
 reaches-own setup p w end i inputs laws sound more log played sent number at =
-    let out : Out = step_of setup p log i in
+    let out : Out = party_step setup p log i in
     let far = more out.state (played ++ concat out.contents) (sent ++ spelled setup.session out.sends) (number + 1) (takes-own setup p w i log played sent laws sound at) in
     record {
       log_is = far.log_is;
-      played_is = far.played_is ∙ ap (λ bytes. Some bytes) (append_assoc played (concat out.contents) (played_from (step_of setup p) out.state inputs));
+      played_is = far.played_is ∙ ap (λ bytes. Some bytes) (append_assoc played (concat out.contents) (played_from (party_step setup p) out.state inputs));
       sent_is =
-          far.sent_is ∙ append_assoc sent (spelled setup.session out.sends) (packets_of setup.session (sends_from (step_of setup p) out.state (number + 1) inputs))
-          ∙ ap (λ new. sent ++ (new ++ packets_of setup.session (sends_from (step_of setup p) out.state (number + 1) inputs))) (sym (numbered setup number out.sends))
-          ∙ ap (λ new. sent ++ new) (sym (map-append _ (map (λ send. (number, send.0, send.1)) out.sends) (sends_from (step_of setup p) out.state (number + 1) inputs)));
+          far.sent_is ∙ append_assoc sent (spelled setup.session out.sends) (packets_of setup.session (sends_from (party_step setup p) out.state (number + 1) inputs))
+          ∙ ap (λ new. sent ++ (new ++ packets_of setup.session (sends_from (party_step setup p) out.state (number + 1) inputs))) (sym (numbered setup number out.sends))
+          ∙ ap (λ new. sent ++ new) (sym (map-append _ (map (λ send. (number, send.0, send.1)) out.sends) (sends_from (party_step setup p) out.state (number + 1) inputs)));
     }
 
 reaches-next : (setup : Setup) (p q : ℕ) (w end : World) (i : Input) (inputs : List Input) → StepsKeep setup → IsSound setup nobody w → Reaches setup p (takes setup w q i) end inputs → Reaches setup p w end (given_to p q i ++ inputs)
@@ -146,7 +146,7 @@ run-reaches setup p w (Deliver k ∷ ms) laws sound = go (slice_get w.packets k)
         reaches-next setup p packet.0 w _ (event.Datagram packet.1) _ laws sound (more next good)
 
 -- from the first move on
-own-run : (setup : Setup) (moves : List Move) (p : ℕ) → IsSetup setup → p ≤ setup.session.shape.peers → IsOwnRun setup moves p (step_of setup p)
+own-run : (setup : Setup) (moves : List Move) (p : ℕ) → IsSetup setup → p ≤ setup.session.shape.peers → IsOwnRun setup moves p (party_step setup p)
 own-run setup moves p is low =
     let all : length setup.secrets ≡ setup.session.shape.peers + 1 = is.parties in
     let few : p < length setup.secrets = omega (arith, all, low) in

@@ -1,6 +1,6 @@
 -- What is sent is accepted, whatever is forged.
 use Rattle.bar_rules.specs.Peer.Log.{Log}
-use Rattle.bar_rules.specs.World.World.{World, Move, TickOf, Deliver, Hostile, member, step_of, spelled, takes, takes_by, delivered, happens, run, Setup, IsSetup, initial}
+use Rattle.bar_rules.specs.World.World.{World, Move, TickOf, Deliver, Hostile, member, party_step, spelled, takes, takes_by, delivered, happens, run, Setup, IsSetup, initial}
 use Rattle.bar_wire.specs.Datagram.{Datagram}
 use Rattle.bar_wire.specs.Inputs.{Input}
 use Rattle.bar_wire.specs.Inputs as event
@@ -29,10 +29,10 @@ all-accepted setup p log [] own a b = tt
 all-accepted setup p log (s ∷ sends) own a b = (sent-accepted setup p log s own a.0 b.0, all-accepted setup p log sends own a.1 b.1)
 
 -- what a party of a sound world sends
-pub step-accepted : (setup : Setup) (w : World) (p : ℕ) (log : Log) (i : Input) → StepsKeep setup → IsSound setup nobody w → slice_get w.logs p ≡ Some log → AllByRecursion (IsSentBy setup p) (step_of setup p log i).sends
+pub step-accepted : (setup : Setup) (w : World) (p : ℕ) (log : Log) (i : Input) → StepsKeep setup → IsSound setup nobody w → slice_get w.logs p ≡ Some log → AllByRecursion (IsSentBy setup p) (party_step setup p log i).sends
 step-accepted setup w p log i laws sound at =
-    let st : IsStep setup p log i (step_of setup p log i) = laws p log i (sound.peers p log at) (sound.proper p log at) in
-    all-accepted setup p (step_of setup p log i).state (step_of setup p log i).sends st.mine st.adds.sent st.fits
+    let st : IsStep setup p log i (party_step setup p log i) = laws p log i (sound.peers p log at) (sound.proper p log at) in
+    all-accepted setup p (party_step setup p log i).state (party_step setup p log i).sends st.mine st.adds.sent st.fits
 
 -- as packets
 all-packets : (setup : Setup) (p : ℕ) (sends : List (ℕ × Datagram)) → p ≤ setup.session.shape.peers → AllByRecursion (IsSentBy setup p) sends → AllByRecursion (IsOfParty setup) (spelled setup.session sends)
@@ -54,7 +54,7 @@ takes-held setup w p i laws h = record { sound = takes-sound setup nobody w p i 
     go : (o : Option Log) → slice_get w.logs p ≡ o → AllByRecursion (IsOfParty setup) (takes_by setup w p i o).packets
     go None e = h.packets
     go (Some log) e =
-        all-both (IsOfParty setup) w.packets _ h.packets (all-packets setup p (step_of setup p log i).sends (h.sound.peers p log e) (step-accepted setup w p log i laws h.sound e))
+        all-both (IsOfParty setup) w.packets _ h.packets (all-packets setup p (party_step setup p log i).sends (h.sound.peers p log e) (step-accepted setup w p log i laws h.sound e))
 
 deliver-held : (setup : Setup) (w : World) (k : ℕ) → StepsKeep setup → IsHeld setup w → IsHeld setup (happens setup w (Deliver k))
 deliver-held setup w k laws h = go (slice_get w.packets k)

@@ -8,7 +8,7 @@ use Rattle.bar_rules.specs.Peer.Rules.{IsObedient}
 use Rattle.bar_rules.specs.Peer.Run.{Out, step}
 use Rattle.bar_rules.specs.Peer.Signing.{MaySay}
 use Rattle.bar_rules.specs.Values.{datagram_bytes, datagram_of}
-use Rattle.bar_rules.specs.World.World.{World, Move, TickOf, Deliver, Hostile, member, step_of, spelled, takes, takes_by, delivered, happens, run, IsGenuine, AllGenuine, IsUnforged, AreUnforged, Setup, IsSetup, initial}
+use Rattle.bar_rules.specs.World.World.{World, Move, TickOf, Deliver, Hostile, member, party_step, spelled, takes, takes_by, delivered, happens, run, IsGenuine, AllGenuine, IsUnforged, AreUnforged, Setup, IsSetup, initial}
 use Rattle.bar_wire.specs.Datagram.{Message, Datagram, Body, Evidence, Manifest, is_signed}
 use Rattle.bar_wire.specs.Inputs.{Input}
 use Rattle.bar_wire.specs.Inputs as event
@@ -290,7 +290,7 @@ has-log setup trusted w p sound low = let all : length w.logs ≡ setup.session.
 
 -- what a step of each party is, where its log is as it should be
 abbrev pub StepsKeep : Setup → Type 0
-StepsKeep setup = (p : ℕ) (log : Log) (i : Input) → p ≤ setup.session.shape.peers → IsProper setup p log → IsStep setup p log i (step_of setup p log i)
+StepsKeep setup = (p : ℕ) (log : Log) (i : Input) → p ≤ setup.session.shape.peers → IsProper setup p log → IsStep setup p log i (party_step setup p log i)
 
 pub takes-sound : (setup : Setup) (trusted : ℕ → Bool) (w : World) (p : ℕ) (i : Input) → StepsKeep setup → IsSound setup trusted w → CameUnforged setup trusted w i → IsSound setup trusted (takes setup w p i)
 takes-sound setup trusted w p i laws sound fresh = go (slice_get w.logs p) refl
@@ -298,7 +298,7 @@ takes-sound setup trusted w p i laws sound fresh = go (slice_get w.logs p) refl
     go : (o : Option Log) → slice_get w.logs p ≡ o → IsSound setup trusted (takes_by setup w p i o)
     go None e = sound
     go (Some log) e =
-        after-sound setup trusted w p log i (step_of setup p log i) sound e fresh
+        after-sound setup trusted w p log i (party_step setup p log i) sound e fresh
         (laws p log i (sound.peers p log e) (sound.proper p log e))
 
 packets-at : (setup : Setup) (trusted : ℕ → Bool) (w : World) (packets : List (ℕ × List ℕ)) (k : ℕ) (d : ℕ × List ℕ) → AllByRecursion (λ (d : ℕ × List ℕ). IsUnforged setup trusted w d.1) packets → slice_get packets k ≡ Some d → IsUnforged setup trusted w d.1
@@ -362,7 +362,7 @@ pub steps-keep : (setup : Setup) → IsSetup setup → StepsKeep setup
 steps-keep setup is zero log i low o = let f = o.1 refl in caster-keeps setup log i (cast-caster setup is) f.0 f.1
 steps-keep setup is (suc p) log i low o =
     let n : eqb (suc p) 0 ≡ false = ne_eqb (suc p) 0 (λ z. absurd (omega arith)) in
-    let out : step_of setup (suc p) log i ≡ step (member setup (suc p)) log i = rw n refl in
+    let out : party_step setup (suc p) log i ≡ step (member setup (suc p)) log i = rw n refl in
     subst (λ z. IsStep setup (suc p) log i z) (sym out) (peer-keeps setup (suc p) log i n (cast-member setup (suc p) is (omega arith) low) (o.0 n))
 
 -- the world at the beginning is sound

@@ -1,6 +1,7 @@
 -- What a peer sends and plays at a tick.
-use Rattle.std.specs.Prelude.{ℕ, ◌+◌, ◌-◌, ◌==◌, ◌&&◌, not, Bool, true, false, List, [], ◌∷◌, ◌++◌, length, map, filter, flat_map, is_some, if◌then◌else◌, nat_le, nat_lt, option_to_list, slice_index, slice_range, ◌*◌}
+use Rattle.std.specs.Prelude.{ℕ, ◌+◌, ◌-◌, ◌==◌, ◌&&◌, not, Bool, true, false, List, [], ◌∷◌, ◌++◌, length, map, filter, flat_map, is_some, if◌then◌else◌, nat_le, nat_lt, option_to_list, slice_range}
 use Rattle.std.specs.List.{range_with_len}
+use Rattle.bar_bytes.specs.Bytes.{first_u16}
 use Rattle.bar_wire.specs.Limits.{largest_content}
 use Rattle.bar_window.specs.declared.update.UpdateId.{UpdateId}
 use Rattle.bar_window.specs.declared.exchange.Exchange.{Exchange}
@@ -84,7 +85,7 @@ orders_at_tick me k =
 -- The content of a block: behind its length, a number of two bytes, as many bytes. A length above the largest plays nothing.
 abbrev pub content_of : List ℕ → List (List ℕ)
 content_of block =
-    let len = 256 * slice_index block 0 + slice_index block 1 in
+    let len = first_u16 block in
     if nat_le len largest_content then slice_range block 2 (2 + len) ∷ [] else []
 
 -- the content of an update, where it is held

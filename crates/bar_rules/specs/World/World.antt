@@ -40,8 +40,8 @@ pub record World : Type 0 where
 abbrev pub member : Setup → ℕ → Member
 member setup p = record { session = setup.session; party = p; secret = unwrap_or (slice_get setup.secrets p) [] }
 
-abbrev pub step_of : Setup → ℕ → Log → Input → Outcome Log
-step_of setup p log input = if p == 0 then caster_step (member setup 0) setup.stream log input else step (member setup p) log input
+abbrev pub party_step : Setup → ℕ → Log → Input → Outcome Log
+party_step setup p log input = if p == 0 then caster_step (member setup 0) setup.stream log input else step (member setup p) log input
 
 abbrev pub spelled : Session → List (ℕ × Datagram) → List (ℕ × List ℕ)
 spelled s sends = map (λ d. (d.0, datagram_bytes s d.1)) sends
@@ -50,7 +50,7 @@ spelled s sends = map (λ d. (d.0, datagram_bytes s d.1)) sends
 abbrev pub takes_by : Setup → World → ℕ → Input → Option Log → World
 takes_by setup w p input None = w
 takes_by setup w p input (Some log) =
-    let out : Outcome Log = step_of setup p log input in
+    let out : Outcome Log = party_step setup p log input in
     record {
       logs = slice_set w.logs p out.state;
       played = slice_set w.played p (unwrap_or (slice_get w.played p) [] ++ concat out.contents);
