@@ -178,7 +178,7 @@ leaves-change_nothing asked old new ends told =
 pub secret-changes_nothing : (asked : Keygen) (old new : Outside) → Ends (keygen_plan asked) old new 8 → IsTrue old.files.told → AsBefore old new
 secret-changes_nothing asked old new ends told =
     let other = refused-secret asked old new ends told in
-    refused asked old new 8 _ ends told (at-refused asked old.files.content other.0 other.1 other.2 other.3) (quiet-read asked.secret old.files.content)
+    refused asked old new 8 _ ends told (at-refused asked old.files.content other.0 other.1.leaves other.1.read other.1.other_length) (quiet-read asked.secret old.files.content)
 
 -- an action of the files isn't one that prints
 files-print_nothing : (a : Action) (plan : List Action) → IsFilesNext (a ∷ []) → IsShowNext (a ∷ plan) → ⊥

@@ -10,7 +10,7 @@ use Rattle.bar_roster.specs.declared.fault.SessionFault.{SessionFault}
 use Rattle.bar_roster.specs.KeyText.{key_text_of}
 use Rattle.bar_roster.specs.SessionText.{enough_leaves}
 use Rattle.bar_cli.specs.Refusals.{session_refused, secret_refused}
-use Rattle.bar_cli.specs.KeygenPlan.{Keygen, KeygenAccepted, KeyMade, HasFewLeaves, IsKeygenCall, secret_of, key_made, lines_of, keygen_actions, making_plan, secret_plan, keygen_plan}
+use Rattle.bar_cli.specs.KeygenPlan.{Keygen, KeygenAccepted, KeyMade, HasFewLeaves, IsKeygenCall, secret_of, key_made, lines_of, keygen_actions, making_plan, secret_plan, keygen_plan, SecretRefused}
 use Rattle.bar_cli.proofs.EndLemmas.{differ}
 
 abbrev unread : List ℕ → Plan
@@ -112,14 +112,14 @@ refused-leaves asked old new ends told = by_case (key_case asked old.files.conte
 
 -- 8 comes only where the secret has another length
 pub refused-secret : (asked : Keygen) (old new : Outside) → Ends (keygen_plan asked) old new 8 → IsTrue old.files.told →
-    (bytes : List ℕ) × (enough_leaves asked.rounds asked.params.height ≡ Ok tt) × (readable old.files.content asked.secret ≡ Some bytes) × (length bytes ≢ 32)
+    (bytes : List ℕ) × SecretRefused asked old.files.content bytes
 refused-secret asked old new ends told = by_case (key_case asked old.files.content) (ends.carried told refl)
   where
     by_case : KeyCase asked old.files.content → Carried (keygen_plan asked old.files.content) old new 8 →
-        (bytes : List ℕ) × (enough_leaves asked.rounds asked.params.height ≡ Ok tt) × (readable old.files.content asked.secret ≡ Some bytes) × (length bytes ≢ 32)
+        (bytes : List ℕ) × SecretRefused asked old.files.content bytes
     by_case (few_leaves fault e plan) c = absurd (differ 8 4 refl (c.is ∙ ap (λ (p : Plan). p.status) plan))
     by_case (no_secret e f plan) c = absurd (differ 8 3 refl (c.is ∙ ap (λ (p : Plan). p.status) plan))
-    by_case (refused_secret bytes e f other plan) c = (bytes, e, f, other)
+    by_case (refused_secret bytes e f other plan) c = (bytes, record { leaves = e; read = f; other_length = other })
     by_case (accepted_secret a plan) c = absurd (differ 8 0 refl (c.is ∙ ap (λ (p : Plan). p.status) plan))
 
 -- what is named, touched and begun of the plan

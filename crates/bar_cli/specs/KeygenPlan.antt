@@ -80,6 +80,16 @@ pub record KeyMade (asked : Keygen) (old new : Outside) : Type 0 where
   pub printed : IsTrue old.out.told → new.out.bytes ≡ old.out.bytes ++ lines_of asked accepted.secret
   pub others : (path : List ℕ) → path ≢ asked.key → new.files.content path ≡ old.files.content path
 
+-- there are enough leaves
+abbrev pub HasEnoughLeaves : Keygen → Type 0
+HasEnoughLeaves asked = enough_leaves asked.rounds asked.params.height ≡ Ok tt
+
+-- so it is, and the secret is there with another length than 32 bytes
+pub record SecretRefused (asked : Keygen) (content : Content) (bytes : List ℕ) : Type 0 where
+  pub leaves : HasEnoughLeaves asked
+  pub read : readable content asked.secret ≡ Some bytes
+  pub other_length : length bytes ≢ 32
+
 -- there are too few leaves
 abbrev pub HasFewLeaves : Keygen → Type 0
 HasFewLeaves asked = (fault : SessionFault) × (enough_leaves asked.rounds asked.params.height ≡ Err fault)

@@ -1,5 +1,5 @@
 -- What `replay` does.
-use Rattle.std.specs.Prelude.{◌≡◌, ◌≢◌, ◌⊎◌, ℕ, List, [], ◌∷◌, ◌++◌, Some, Ok, map, take}
+use Rattle.std.specs.Prelude.{◌≡◌, ◌≢◌, ◌⊎◌, ℕ, List, [], ◌∷◌, ◌++◌, Some, None, Ok, Err, map, take}
 use Rattle.std.specs.List.{flat_map, concat}
 use Rattle.std.specs.Option.{ok_or}
 use Rattle.bar_outside.specs.Disk.{Content, Failure, readable}
@@ -8,6 +8,8 @@ use Rattle.bar_outside.specs.Plan.{Outside, Action, Plan, reading, accepting, en
 use Rattle.bar_outside.specs.Plan.Action.{create, append}
 use Rattle.bar_wire.specs.Inputs.{Input}
 use Rattle.bar_seeds.specs.declared.secrets.Secrets.{Secrets}
+use Rattle.bar_roster.specs.declared.fault.SessionFault.{SessionFault}
+use Rattle.bar_roster.specs.declared.key_fault.KeyFileFault.{KeyFileFault}
 use Rattle.bar_roster.specs.SessionText.{SessionData}
 use Rattle.bar_roster.specs.KeyFile.{Fits}
 use Rattle.bar_rules.specs.Member.{Member}
@@ -85,6 +87,23 @@ pub record Accepted (names : ReplayFiles) (content : Content) : Type 0 where
   pub bytes : List ℕ
   pub read : readable content names.recording ≡ Some bytes
   pub is : recording_of session secrets.party bytes ≡ Some inputs
+
+-- the session's text is there, and refused for this fault
+pub record SessionRefused (names : ReplayFiles) (content : Content) (text : List ℕ) (fault : SessionFault) : Type 0 where
+  pub read : readable content names.session ≡ Some text
+  pub is : session_of text ≡ Err fault
+
+-- the session is accepted, and the key file is there and refused for this fault
+pub record KeyRefused (names : ReplayFiles) (content : Content) (session : SessionData) (bytes : List ℕ) (fault : KeyFileFault) : Type 0 where
+  pub in_session : SessionAccepted names content session
+  pub read : readable content names.key ≡ Some bytes
+  pub is : secrets_of_key session bytes ≡ Err fault
+
+-- both are accepted, and the recording is there and refused
+pub record InputRefused (names : ReplayFiles) (content : Content) (session : SessionData) (secrets : Secrets) (bytes : List ℕ) : Type 0 where
+  pub by_key : KeyAccepted names content session secrets
+  pub read : readable content names.recording ≡ Some bytes
+  pub is : recording_of session secrets.party bytes ≡ None
 
 -- the peer whose key it is
 abbrev pub peer_of : (names : ReplayFiles) (content : Content) → Accepted names content → Member

@@ -69,8 +69,8 @@ Touches-begun plan done path b t =
       | inr c ↦ Touches-right b.front b.rest path (Touches-part b.part b.rest path b.part_is c)
     ])
 
-pub untouched : (plan : Content → Plan) (old new : Outside) (status : ℕ) (path : List ℕ) → Ends plan old new status → IsTrue old.files.told →
+pub untouched : (plan : Content → Plan) (path : List ℕ) (old new : Outside) (status : ℕ) → Ends plan old new status → IsTrue old.files.told →
     (Touches (plan old.files.content).actions path → ⊥) → new.files.content path ≡ old.files.content path
-untouched plan old new status path ends told none =
+untouched plan path old new status ends told none =
     let p = ends.part told in
     ap (λ c. c path) p.ran.files ∙ content-untouched p.done old.files.content path (λ t. none (Touches-begun (plan old.files.content).actions p.done path p.begun t))

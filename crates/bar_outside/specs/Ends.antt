@@ -1,5 +1,5 @@
 -- How a command ends.
-use Rattle.std.specs.Prelude.{◌≡◌, ◌≢◌, ◌⊎◌, ◌≤◌, ◌==◌, ◌||◌, ◌++◌, ℕ, Bool, List, [], IsTrue, IsSomeAnd, take, false}
+use Rattle.std.specs.Prelude.{◌≡◌, ◌≢◌, ◌⊎◌, ◌≤◌, ◌==◌, ◌||◌, ◌++◌, ℕ, Bool, List, [], IsTrue, IsSomeAnd, take, true, false}
 use Rattle.bar_outside.specs.Causes.{Rose}
 use Rattle.bar_outside.specs.Disk.{Content}
 use Rattle.bar_outside.specs.Stream.{Stream}
@@ -50,3 +50,25 @@ pub record Says (plan : Plan) (status : ℕ) (old new : Stream) : Type 0 where
 -- the statuses that tell their line whatever the files hold
 abbrev pub is_plain : ℕ → Bool
 is_plain status = status == 2 || status == 3 || status == 7
+
+-- ---- words for laws on how a plan ends, where the files tell what they hold
+
+-- at whatever status it ended
+abbrev pub OfEachEnd : (Content → Plan) → (Outside → Outside → ℕ → Type 0) → Type 0
+OfEachEnd plan P = (old new : Outside) (status : ℕ) → Ends plan old new status → IsTrue old.files.told → P old new status
+
+-- where it ended with this status
+abbrev pub AtEnd : ℕ → (Content → Plan) → (Outside → Outside → Type 0) → Type 0
+AtEnd status plan P = (old new : Outside) → Ends plan old new status → IsTrue old.files.told → P old new
+
+-- this status comes, unless a fault or want of memory stops the plan
+abbrev pub UnlessStopped : ℕ → ℕ → Type 0
+UnlessStopped expected status = (status ≡ expected) ⊎ (is_stop status ≡ true)
+
+-- no file holds anything else than before
+abbrev pub SameFiles : Outside → Outside → Type 0
+SameFiles old new = new.files.content ≡ old.files.content
+
+-- nothing was printed, where the output tells
+abbrev pub NothingPrinted : Outside → Outside → Type 0
+NothingPrinted old new = IsTrue old.out.told → new.out.bytes ≡ old.out.bytes

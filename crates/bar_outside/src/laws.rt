@@ -2,24 +2,24 @@
 ghost use Rattle.std.specs.Prelude.{◌≡◌, ◌⊎◌, ℕ, List, IsTrue, true};
 ghost use Rattle.bar_outside.specs.Causes.{Rose};
 ghost use Rattle.bar_outside.specs.Disk.{Content};
-ghost use Rattle.bar_outside.specs.Plan.{Outside, Plan, Ran, Touches, is_stop};
-ghost use Rattle.bar_outside.specs.Ends.{Carried, Ends};
+ghost use Rattle.bar_outside.specs.Plan.{Plan, Touches, is_stop};
+ghost use Rattle.bar_outside.specs.Ends.{Carried, OfEachEnd};
 
 /// Whatever the status, a file that no action of the plan creates or adds to is as it was.
 pub fn others_stay()
-    ensures { (plan : Content → Plan) (old new : Outside) (status : ℕ) (path : List ℕ) → Ends plan old new status → IsTrue old.files.told →
-        (Touches (plan old.files.content).actions path → ⊥) → new.files.content path ≡ old.files.content path }
+    ensures { (plan : Content → Plan) (path : List ℕ) → OfEachEnd plan (λ old new status.
+        (Touches (plan old.files.content).actions path → ⊥) → new.files.content path ≡ old.files.content path) }
 {}
 
 /// The plan was carried out to its end, or a fault or want of memory stopped it.
 pub fn carried_or_stopped()
-    ensures { (plan : Content → Plan) (old new : Outside) (status : ℕ) → Ends plan old new status → IsTrue old.files.told →
-        Carried (plan old.files.content) old new status ⊎ (is_stop status ≡ true) }
+    ensures { (plan : Content → Plan) → OfEachEnd plan (λ old new status.
+        Carried (plan old.files.content) old new status ⊎ (is_stop status ≡ true)) }
 {}
 
 /// Where no count rose, the plan was carried out to its end, but for want of memory.
 pub fn done_without_faults()
-    ensures { (plan : Content → Plan) (old new : Outside) (status : ℕ) → Ends plan old new status → IsTrue old.files.told →
+    ensures { (plan : Content → Plan) → OfEachEnd plan (λ old new status.
         (Rose old.files.faults new.files.faults → ⊥) → (Rose old.out.faults new.out.faults → ⊥) →
-        Carried (plan old.files.content) old new status ⊎ (status ≡ 70) }
+        Carried (plan old.files.content) old new status ⊎ (status ≡ 70)) }
 {}

@@ -1,3 +1,4 @@
 pub mod LmsLaws
 pub mod Identities
 pub mod Leaves
+pub mod LeafLaws

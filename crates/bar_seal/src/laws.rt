@@ -1,13 +1,11 @@
 //! What holds of identities and of leaves: laws of the definitions that the calls cite.
 
-ghost use Rattle.std.specs.Prelude.{◌≡◌, ◌↔◌, ℕ, ◌*◌, ◌<◌, ◌≤◌, true, Some, None};
-ghost use Rattle.bar_window.specs.declared.exchange.XKind.{XKind};
-ghost use Rattle.bar_window.specs.declared.exchange.Role.{Role};
-ghost use Rattle.bar_window.specs.declared.exchange.Role.TheVariants.{Responder};
-ghost use Rattle.bar_wire.specs.Datagram.{Message, Body, is_signed, round_of, part_of, kind_number, identity_of};
+ghost use Rattle.std.specs.Prelude.{◌≡◌, ◌↔◌, ℕ, ◌*◌, ◌<◌, ◌≤◌, true};
+ghost use Rattle.bar_wire.specs.Datagram.{Message, Body, is_signed, round_of, identity_of};
 ghost use Rattle.bar_wire.specs.Limits.{leaves_a_round, seats_a_round};
 ghost use Rattle.bar_seal.specs.Identities.{identity};
 ghost use Rattle.bar_seal.specs.Leaves.{leaf_of};
+ghost use Rattle.bar_seal.specs.LeafLaws.{PeersLeavesNameMessages, CastersLeavesNameMessages};
 
 /// Two signed messages have the same identity exactly where the kind and what it is named by are the same.
 pub fn identities_name_messages()
@@ -18,11 +16,8 @@ pub fn identities_name_messages()
 /// A leaf of a peer names the kind of its message, the round, kind and side of the exchange, and the seat of a responder. So different
 /// messages of one round have different leaves.
 pub fn leaves_name_messages()
-    ensures peers { (b c : Body) (p q : ℕ × XKind × Role) (s t : ℕ) → is_signed b ≡ true → is_signed c ≡ true → part_of b ≡ Some p →
-        part_of c ≡ Some q → 1 ≤ p.0 → 1 ≤ q.0 → s < seats_a_round → t < seats_a_round → leaf_of b s ≡ leaf_of c t →
-        (kind_number b ≡ kind_number c) × (p ≡ q) × (p.2 ≡ Responder → s ≡ t) }
-    ensures broadcaster { (b c : Body) (s t : ℕ) → is_signed b ≡ true → is_signed c ≡ true → part_of b ≡ None → part_of c ≡ None →
-        1 ≤ round_of b → 1 ≤ round_of c → leaf_of b s ≡ leaf_of c t → (kind_number b ≡ kind_number c) × (round_of b ≡ round_of c) }
+    ensures peers { PeersLeavesNameMessages }
+    ensures broadcaster { CastersLeavesNameMessages }
 {}
 
 /// The leaves of so many rounds are fewer than those that each round has.

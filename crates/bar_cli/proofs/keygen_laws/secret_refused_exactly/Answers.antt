@@ -9,7 +9,7 @@ pub returns-clause-only : goal.returns-clause-only
 returns-clause-only c = refused-secret
 
 pub returns-clause-then : goal.returns-clause-then
-returns-clause-then c = λ asked old new status bytes ends told enough e other. ended (keygen_plan asked) old new status 8 ends told (ap (λ (p : Plan). p.status) (at-refused asked old.files.content bytes enough e other))
+returns-clause-then c = λ asked bytes old new status ends told r. ended (keygen_plan asked) old new status 8 ends told (ap (λ (p : Plan). p.status) (at-refused asked old.files.content bytes r.leaves r.read r.other_length))
 
 pub returns-clause-line : goal.returns-clause-line
-returns-clause-line c = λ asked content bytes enough e other. ap (λ (p : Plan). line_at p 8) (at-refused asked content bytes enough e other)
+returns-clause-line c = λ asked content bytes r. ap (λ (p : Plan). line_at p 8) (at-refused asked content bytes r.leaves r.read r.other_length)

@@ -16,7 +16,7 @@ pub returns-clause-no_session : goal.returns-clause-no_session
 returns-clause-no_session c = λ names old new status ends told none. stopped (replay_plan names) old new status 3 ends told (ap (λ (p : Plan). p.status) (at-session names old.files.content None none)) refl
 
 pub returns-clause-no_key : goal.returns-clause-no_key
-returns-clause-no_key c = λ names old new status session ends told a none. stopped (replay_plan names) old new status 3 ends told (ap (λ (p : Plan). p.status) (at-key names old.files.content session None a none)) refl
+returns-clause-no_key c = λ names session old new status ends told a none. stopped (replay_plan names) old new status 3 ends told (ap (λ (p : Plan). p.status) (at-key names old.files.content session None a none)) refl
 
 pub returns-clause-no_recording : goal.returns-clause-no_recording
-returns-clause-no_recording c = λ names old new status session secrets ends told a none. stopped (replay_plan names) old new status 3 ends told (ap (λ (p : Plan). p.status) (at-recording names old.files.content session secrets None a none)) refl
+returns-clause-no_recording c = λ names session secrets old new status ends told a none. stopped (replay_plan names) old new status 3 ends told (ap (λ (p : Plan). p.status) (at-recording names old.files.content session secrets None a none)) refl

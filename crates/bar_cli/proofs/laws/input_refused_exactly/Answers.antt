@@ -10,7 +10,7 @@ pub returns-clause-only : goal.returns-clause-only
 returns-clause-only c = refused-input
 
 pub returns-clause-then : goal.returns-clause-then
-returns-clause-then c = λ names old new status session secrets bytes ends told a e f. ended (replay_plan names) old new status 8 ends told (ap (λ (p : Plan). p.status) (at-bytes names old.files.content session secrets bytes None a e f))
+returns-clause-then c = λ names session secrets bytes old new status ends told r. ended (replay_plan names) old new status 8 ends told (ap (λ (p : Plan). p.status) (at-bytes names old.files.content session secrets bytes None r.by_key r.read r.is))
 
 pub returns-clause-line : goal.returns-clause-line
-returns-clause-line c = λ names content session secrets bytes a e f. ap (λ (p : Plan). line_at p 8) (at-bytes names content session secrets bytes None a e f)
+returns-clause-line c = λ names content session secrets bytes r. ap (λ (p : Plan). line_at p 8) (at-bytes names content session secrets bytes None r.by_key r.read r.is)

@@ -10,7 +10,7 @@ pub returns-clause-only : goal.returns-clause-only
 returns-clause-only c = refused-key
 
 pub returns-clause-then : goal.returns-clause-then
-returns-clause-then c = λ names old new status session bytes fault ends told a e f. ended (replay_plan names) old new status 5 ends told (ap (λ (p : Plan). p.status) (at-key_bytes names old.files.content session bytes (Err fault) a e f))
+returns-clause-then c = λ names session bytes fault old new status ends told r. ended (replay_plan names) old new status 5 ends told (ap (λ (p : Plan). p.status) (at-key_bytes names old.files.content session bytes (Err fault) r.in_session r.read r.is))
 
 pub returns-clause-line : goal.returns-clause-line
-returns-clause-line c = λ names content session bytes fault a e f. ap (λ (p : Plan). line_at p 5) (at-key_bytes names content session bytes (Err fault) a e f)
+returns-clause-line c = λ names content session bytes fault r. ap (λ (p : Plan). line_at p 5) (at-key_bytes names content session bytes (Err fault) r.in_session r.read r.is)

@@ -4,4 +4,4 @@ use Rattle.bar_cli.proofs.Rows.{touched}
 use Rattle.bar_cli.proofs.laws.only_played_is_changed.Goals as goal
 
 pub returns : goal.returns
-returns c = λ names old new status path ends told differs. untouched (replay_plan names) old new status path ends told (λ h. differs (touched names old.files.content path h))
+returns c = λ names path old new status ends told differs. untouched (replay_plan names) path old new status ends told (λ h. differs (touched names old.files.content path h))

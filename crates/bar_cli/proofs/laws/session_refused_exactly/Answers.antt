@@ -10,7 +10,7 @@ pub returns-clause-only : goal.returns-clause-only
 returns-clause-only c = refused-session
 
 pub returns-clause-then : goal.returns-clause-then
-returns-clause-then c = λ names old new status text fault ends told e f. ended (replay_plan names) old new status 4 ends told (ap (λ (p : Plan). p.status) (at-text names old.files.content text (Err fault) e f))
+returns-clause-then c = λ names text fault old new status ends told r. ended (replay_plan names) old new status 4 ends told (ap (λ (p : Plan). p.status) (at-text names old.files.content text (Err fault) r.read r.is))
 
 pub returns-clause-line : goal.returns-clause-line
-returns-clause-line c = λ names content text fault e f. ap (λ (p : Plan). line_at p 4) (at-text names content text (Err fault) e f)
+returns-clause-line c = λ names content text fault r. ap (λ (p : Plan). line_at p 4) (at-text names content text (Err fault) r.read r.is)
