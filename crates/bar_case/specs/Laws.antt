@@ -15,7 +15,8 @@ use Rattle.bar_case.specs.Opened.{opening, opened_blocks, is_bad, AreTold}
 -- A sealed briefcase has the length of its items, where the blocks of the promised updates are held and have 1,024 bytes.
 abbrev pub SealedHasItsLength : Type 0
 SealedHasItsLength =
-    (id : List ℕ) (x : Exchange) (cap : ℕ) (terms : Terms) (role : Role) (key : List ℕ) (table : Table) (blocks : UpdateId → Option (List ℕ))
+    (id : List ℕ) (x : Exchange) (cap : ℕ) (terms : Terms) (role : Role) (key : List ℕ) (table : Table)
+    (blocks : UpdateId → Option (List ℕ))
     → AllByRecursion (IsTold table blocks) (promised_updates cap terms role)
     → length (sealed id x cap terms role key blocks) ≡ promised_len cap terms role
 
@@ -23,7 +24,8 @@ SealedHasItsLength =
 -- knows.
 abbrev pub OwnKeyNeverOpensBadly : Type 0
 OwnKeyNeverOpensBadly =
-    (id : List ℕ) (x : Exchange) (cap : ℕ) (terms : Terms) (role : Role) (key : List ℕ) (table : Table) (blocks : UpdateId → Option (List ℕ))
+    (id : List ℕ) (x : Exchange) (cap : ℕ) (terms : Terms) (role : Role) (key : List ℕ) (table : Table)
+    (blocks : UpdateId → Option (List ℕ))
     → AllByRecursion (IsTold table blocks) (promised_updates cap terms role)
     → is_bad (opening id x cap terms role (sealed id x cap terms role key blocks) key table) ≡ false
 

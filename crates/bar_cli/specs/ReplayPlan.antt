@@ -94,13 +94,15 @@ pub record SessionRefused (names : ReplayFiles) (content : Content) (text : List
   pub is : session_of text ≡ Err fault
 
 -- the session is accepted, and the key file is there and refused for this fault
-pub record KeyRefused (names : ReplayFiles) (content : Content) (session : SessionData) (bytes : List ℕ) (fault : KeyFileFault) : Type 0 where
+pub record KeyRefused (names : ReplayFiles) (content : Content) (session : SessionData) (bytes : List ℕ)
+    (fault : KeyFileFault) : Type 0 where
   pub in_session : SessionAccepted names content session
   pub read : readable content names.key ≡ Some bytes
   pub is : secrets_of_key session bytes ≡ Err fault
 
 -- both are accepted, and the recording is there and refused
-pub record InputRefused (names : ReplayFiles) (content : Content) (session : SessionData) (secrets : Secrets) (bytes : List ℕ) : Type 0 where
+pub record InputRefused (names : ReplayFiles) (content : Content) (session : SessionData) (secrets : Secrets)
+    (bytes : List ℕ) : Type 0 where
   pub by_key : KeyAccepted names content session secrets
   pub read : readable content names.recording ≡ Some bytes
   pub is : recording_of session secrets.party bytes ≡ None

@@ -72,8 +72,8 @@ pub fn key_refused_exactly()
 pub fn input_refused_exactly()
     ensures only { (names : ReplayFiles) → AtEnd 8 (replay_plan names) (λ old new.
         (session : SessionData) × (secrets : Secrets) × (bytes : List ℕ) × InputRefused names old.files.content session secrets bytes) }
-    ensures then { (names : ReplayFiles) (session : SessionData) (secrets : Secrets) (bytes : List ℕ) →
-        OfEachEnd (replay_plan names) (λ old new status. InputRefused names old.files.content session secrets bytes → UnlessStopped 8 status) }
+    ensures then { (names : ReplayFiles) (session : SessionData) (k : Secrets) (bytes : List ℕ) →
+        OfEachEnd (replay_plan names) (λ old new status. InputRefused names old.files.content session k bytes → UnlessStopped 8 status) }
     ensures line { (names : ReplayFiles) (content : Content) (session : SessionData) (secrets : Secrets) (bytes : List ℕ) →
         InputRefused names content session secrets bytes → line_at (replay_plan names content) 8 ≡ input_refused }
 {}
