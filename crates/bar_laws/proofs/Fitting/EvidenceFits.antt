@@ -15,7 +15,7 @@ use Rattle.std.specs.Prelude.{Option, Some, None, option_and_then, option_map, i
 use Rattle.std.specs.Bool.{then_some}
 use Rattle.std.specs.List.{AllByRecursion, list_all}
 use Rattle.std.proofs.lemmas.Bool.{and_parts}
-use Rattle.bar_laws.proofs.Logs.{IsFind, find-of, allowed-at, read-fits, spells}
+use Rattle.bar_laws.proofs.Logs.{no-value, IsFind, find-of, allowed-at, read-fits, spells}
 use Rattle.bar_laws.proofs.Fitting.MessageLengths.{spelling-short}
 
 -- ---- what a verdict reads
@@ -86,7 +86,7 @@ kept-named me log q evidence h e = at (find-of (λ before e. kept_in q e) log ev
         go : (b : Bool) → then_some b v ≡ Some evidence → IsReadable me.session evidence
         go true f = let same : v ≡ evidence = cc in subst (λ z. IsReadable me.session z) same (named-readable me.session (table before) p v may.shown)
         go false f = cc
-    by before _ may f = cc
+    by before y may f = absurd (no-value (kept_in q y) evidence refl f)
 
     at : IsFind (λ before e. kept_in q e) log evidence → IsReadable me.session evidence
     at w = by w.before w.entry (allowed-at me log w.before w.entry w.place h).0 w.found

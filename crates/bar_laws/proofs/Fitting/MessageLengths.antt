@@ -22,6 +22,7 @@ use Rattle.std.proofs.Common.{◌≡◌, ℕ, ◌+◌, ◌≤◌, Bool, true, fa
 use Rattle.std.specs.List.{concat}
 use Rattle.bar_laws.proofs.Logs.{length_window_bytes}
 use Rattle.bar_bytes.specs.Bytes.{u16_bytes, u32_bytes}
+use Rattle.std.proofs.lemmas.Bool.{both_ways}
 
 -- ---- the parts
 
@@ -80,7 +81,7 @@ fields-short s (Case c) form range e =
     let a = terms-short s c.round c.kind c.terms form.1 in
     simp (length-append, length-u32) (omega (arith, a, form.2, range.2))
 fields-short s (Key k) form range e = simp (length-append, length-u32) (omega (arith, form.1))
-fields-short s _ form range e = cc
+fields-short s b form range e = absurd (both_ways (is_peer_kind b) refl e)
 
 -- ---- the datagram
 

@@ -33,7 +33,7 @@ use Rattle.std.specs.List.{AllByRecursion}
 use Rattle.std.proofs.lemmas.Bool.{and_parts, eqb-true}
 use Rattle.std.proofs.lemmas.List.{length-map}
 use Rattle.std.proofs.lemmas.List.FromFn.{length-range_with_len}
-use Rattle.bar_laws.proofs.Logs.{party-on, party-over, kind-on, role-own, is_of-is, sign-elsewhere, length-chain_back, length-briefcase_key, length-commitment_of, partner_low, partner_high, promises_equal, promises_some, promises_few, terms_promise, length_sealed, IsFormed, IsBetween, AllFormed, spoken-in, formed-between, party-peer, round-by, told, told-answer, told-offer, told-reply, revealed-formed, fits-formed, heard-fits, some-is, first_heard-was, spoken_in, heard-spoken, set-filter, set-take, history-set, young-set, aged-set}
+use Rattle.bar_laws.proofs.Logs.{no-value, party-on, party-over, kind-on, role-own, is_of-is, sign-elsewhere, length-chain_back, length-briefcase_key, length-commitment_of, partner_low, partner_high, promises_equal, promises_some, promises_few, terms_promise, length_sealed, IsFormed, IsBetween, AllFormed, spoken-in, formed-between, party-peer, round-by, told, told-answer, told-offer, told-reply, revealed-formed, fits-formed, heard-fits, some-is, first_heard-was, spoken_in, heard-spoken, set-filter, set-take, history-set, young-set, aged-set}
 use Rattle.bar_laws.proofs.Judging.{AllHeld, promise-held, blocks-whole, trade-of, offer-of}
 
 -- what a member says to a party is as the grammar has it
@@ -272,4 +272,4 @@ all-formed me (x ∷ log) is h d p (inl f) e = go x f h.0 (all-formed me log is 
     go : (x : Entry) → spoken_in x ≡ Some d → Allows me log x → AllFormed me log → IsFormed me.session.shape d.message
     go (Said c) f a all = let same : c ≡ d = cc in subst (λ z. IsFormed me.session.shape z.message) same (sign-formed me log c.message is h.1 all a.rule)
     go (Heard c) f a all = let same : c ≡ d = cc in fits-formed me.session.shape d p (subst (λ z. IsDatagram me.session.shape z) same (heard-fits me log c a)) e
-    go _ f a all = cc
+    go y f a all = absurd (no-value (spoken_in y) d refl f)

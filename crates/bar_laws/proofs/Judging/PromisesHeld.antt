@@ -28,7 +28,7 @@ use Rattle.std.specs.Prelude.{Option, Some, None, is_some, option_and_then}
 use Rattle.std.specs.List.{list_all}
 use Rattle.std.specs.Bool.{then_some}
 use Rattle.std.proofs.lemmas.Bool.{and_parts, and_from}
-use Rattle.bar_laws.proofs.Logs.{IsEntry, IsFind, find-of, WasSaid, IsLater, later-entry, find-later, some-is, said-rule, all-filter, was-said, all-take, all-filtered, spoken-reply, IsGoodAnswer, own-unheard, inside-all}
+use Rattle.bar_laws.proofs.Logs.{no-value, IsEntry, IsFind, find-of, WasSaid, IsLater, later-entry, find-later, some-is, said-rule, all-filter, was-said, all-take, all-filtered, spoken-reply, IsGoodAnswer, own-unheard, inside-all}
 use Rattle.bar_laws.proofs.Judging.SaidOnce.{own-said}
 use Rattle.bar_laws.proofs.Judging.OwnWordsAgree.{trade-of, offer-of}
 
@@ -47,17 +47,17 @@ held-later s log before (u ∷ us) later e =
 
 answer-held : (me : Member) (before : Log) (to : ℕ) (b : Body) (hb : List UpdateId) → MaySay me (known me before) to b → history_in b ≡ Some hb → AllHeld me.session before hb
 answer-held me before to (Response r us) hb rule f = let same : us ≡ hb = cc in rw (← same, rule.held) (all-filter (is_held me.session before) (window_of me.session r))
-answer-held me before to _ hb rule f = cc
+answer-held me before to b hb rule f = absurd (no-value (history_in b) hb refl f)
 
 young-held : (me : Member) (before : Log) (to : ℕ) (b : Body) (q : List UpdateId × List UpdateId) → MaySay me (known me before) to b → offer_in b ≡ Some q → AllHeld me.session before q.0
 young-held me before to (Query r seed us vs) q rule f =
     let same : us ≡ q.0 = cc in rw (← same, rule.offers) (all-take (is_held me.session before) me.session.cap _ (all-filter (is_held me.session before) _))
-young-held me before to _ q rule f = cc
+young-held me before to b q rule f = absurd (no-value (offer_in b) q refl f)
 
 given-held : (me : Member) (before : Log) (to : ℕ) (b : Body) (t : List UpdateId × List UpdateId × ℕ) → MaySay me (known me before) to b → reply_in b ≡ Some t → AllHeld me.session before t.1
 given-held me before to (Reply r us vs z) t rule f =
     let same : vs ≡ t.1 = cc in rw (← same, rule.gives) (all-take (is_held me.session before) (length (wanted_of me (known me before) rule.young)) _ (all-filter (is_held me.session before) rule.aged))
-given-held me before to _ t rule f = cc
+given-held me before to b t rule f = absurd (no-value (reply_in b) t refl f)
 
 -- so it is held of what the log tells of this member's side
 told-held : {A : Type 0} (me : Member) (log : Log) (x : Exchange) (role : Role) (kind : Kind) (f : Body → Option A) (a : A) (us : List UpdateId) → IsObedient me log → role_of me x ≡ role

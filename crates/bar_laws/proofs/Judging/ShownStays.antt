@@ -17,7 +17,7 @@ use Rattle.std.proofs.Common.{◌≡◌, ℕ, Bool, true, false, List, [], ◌�
 use Rattle.std.specs.Prelude.{Option, Some, None, ◌⊎◌, if◌then◌else◌}
 use Rattle.std.specs.List.{list_all}
 use Rattle.std.specs.Bool.{then_some}
-use Rattle.bar_laws.proofs.Logs.{digest-extends}
+use Rattle.bar_laws.proofs.Logs.{no-value, digest-extends}
 use Rattle.std.proofs.lemmas.Bool.{and_parts, and_from, both_ways, not-true, not_from_false, cases_Bool}
 
 -- what bar_case ensures of an opening that is bad: it stays so under longer tables
@@ -83,11 +83,11 @@ bad_opening-stays law s old new m n (Some c) (Some k) h e =
 
 pub case_of-is : (b : Body) (c : Briefcase) → briefcase_in b ≡ Some c → b ≡ Case c
 case_of-is (Case d) c e = cc
-case_of-is _ c e = cc
+case_of-is b c e = absurd (no-value (briefcase_in b) c refl e)
 
 pub key_of-is : (b : Body) (k : KeyGiven) → key_in b ≡ Some k → b ≡ Key k
 key_of-is (Key d) k e = cc
-key_of-is _ k e = cc
+key_of-is b k e = absurd (no-value (key_in b) k refl e)
 
 -- a fault by opening needs a briefcase first and a key second
 bad_opening-kinds : (s : Session) (table : Table) (m n : Message) → bad_opening s table m n (briefcase_in m.body) (key_in n.body) ≡ true

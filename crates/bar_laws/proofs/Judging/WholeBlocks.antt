@@ -21,7 +21,7 @@ use Rattle.std.specs.Simd.{first_chunks}
 use Rattle.std.specs.Bool.{then_some}
 use Rattle.std.proofs.lemmas.Bool.{and_parts, eqb-true}
 use Rattle.std.proofs.lemmas.Simd.{length-zip2}
-use Rattle.bar_laws.proofs.Logs.{length_keystream, IsFind, find-of, allowed-at, first_heard-was, WasHeard, IsCaseOf, is_of-case, heard-fits, was-heard-fits}
+use Rattle.bar_laws.proofs.Logs.{no-value, length_keystream, IsFind, find-of, allowed-at, first_heard-was, WasHeard, IsCaseOf, is_of-case, heard-fits, was-heard-fits}
 use Rattle.bar_laws.proofs.Runs.{heard-case, HeardCase}
 
 -- a block that is cut out of enough bytes is whole
@@ -89,7 +89,7 @@ blocks-whole me log u b h e = at (find-of (λ before e. block_in me.session befo
         go : (t : Bool) → cond t (block_opened me.session (table before) (exchange_by k.round k.kind k.role d.message.from d.message.to) u k.key (case_heard_from before (exchange_by k.round k.kind k.role d.message.from d.message.to) k.role)) None ≡ Some b → length b ≡ 1024
         go true e = key before (exchange_by k.round k.kind k.role d.message.from d.message.to) k.role k.key _ g refl e
         go false e = cc
-    from before d _ g form e = cc
+    from before d a g form e = absurd (no-value (block_from me.session before u d.message a) b refl e)
 
     by : (before : Log) (y : Entry) → Allows me before y × IsObedient me before → block_in me.session before u y ≡ Some b → length b ≡ 1024
     by before (Heard d) al e = from before d d.message.body al.1 (heard-fits me before d al.0).form e

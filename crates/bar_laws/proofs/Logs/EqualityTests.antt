@@ -11,8 +11,12 @@ use Rattle.bar_window.specs.declared.exchange.XKind.{XKind}
 use Rattle.bar_window.specs.declared.exchange.XKind.TheVariants.{Balanced, Push}
 use Rattle.bar_window.specs.declared.update.UpdateId.{UpdateId}
 use Rattle.std.specs.Str.{bytes_eq}
-use Rattle.std.proofs.Common.{◌≡◌, ℕ, true, List, [], ◌∷◌, refl}
-use Rattle.std.proofs.lemmas.Bool.{and_parts, eqb-true}
+use Rattle.bar_wire.specs.Datagram.{Body, kind_number}
+use Rattle.bar_wire.specs.Kinds.{code_of}
+use Rattle.bar_wire.specs.declared.kind.Kind.{Kind}
+use Rattle.std.proofs.Common.{◌≡◌, ℕ, true, false, List, [], ◌∷◌, refl, ap, eqb}
+use Rattle.std.specs.Prelude.{Option, Some, is_some, unwrap_or}
+use Rattle.std.proofs.lemmas.Bool.{and_parts, both_ways, eq-eqb, eqb-true}
 
 pub same_bytes-is : (xs ys : List ℕ) → bytes_eq xs ys ≡ true → xs ≡ ys
 same_bytes-is [] [] e = refl
@@ -22,6 +26,17 @@ same_bytes-is (x ∷ xs) (y ∷ ys) e =
     let tail : xs ≡ ys = same_bytes-is xs ys p.1 in cc
 same_bytes-is [] (y ∷ ys) e = cc
 same_bytes-is (x ∷ xs) [] e = cc
+
+pub some-equal : {A : Type 0} (a b : A) → ◌≡◌ {A = Option A} (Some a) (Some b) → a ≡ b
+some-equal a b e = ap (λ o. unwrap_or o a) e
+
+-- a look-up that finds nothing has no value
+pub no-value : {A : Type 0} (o : Option A) (a : A) → is_some o ≡ false → o ≡ Some a → ⊥
+no-value o a none e = both_ways (is_some o) none (ap is_some e)
+
+-- a body has the number of no other kind
+pub other-kind : (b : Body) (kind : Kind) → eqb (kind_number b) (code_of kind) ≡ false → kind_number b ≡ code_of kind → ⊥
+other-kind b kind other same = both_ways (eqb (kind_number b) (code_of kind)) other (eq-eqb (kind_number b) (code_of kind) same)
 
 pub same_kind-is : (a b : XKind) → same_kind a b ≡ true → a ≡ b
 same_kind-is Balanced Balanced e = refl

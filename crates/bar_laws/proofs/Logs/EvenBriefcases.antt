@@ -21,12 +21,13 @@ use Rattle.bar_wire.specs.Datagram.{is_place, place_by, Message, Datagram, Body,
 use Rattle.std.proofs.Common.{◌≡◌, ℕ, Bool, true, false, refl, sym, ap, ◌∙◌, subst, inl, inr, length, ◌&&◌}
 use Rattle.std.specs.Prelude.{Option, Some, None, ◌⊎◌, option_and_then, eqb, option_map}
 use Rattle.std.specs.Option.{option_map_or}
-use Rattle.std.proofs.lemmas.Bool.{and_parts}
+use Rattle.std.proofs.lemmas.Bool.{eqb-true, and_parts}
 use Rattle.bar_laws.proofs.Logs.FirstFinds.{allowed-at}
-use Rattle.bar_laws.proofs.Logs.EqualityTests.{same_exchange-is, same_role-is}
+use Rattle.bar_laws.proofs.Logs.EqualityTests.{other-kind, same_exchange-is, same_role-is}
 use Rattle.bar_laws.proofs.Logs.Facts.{promises_equal, terms_promise}
 use Rattle.bar_laws.proofs.Logs.LaterLogs.{IsLater, later-entry, first_said-was, first_heard-was, some-is, said-rule, then-later, WasSaid}
 use Rattle.bar_laws.proofs.Logs.LaterTerms.{terms_of-later, case_for-later, said-later}
+use Rattle.bar_wire.specs.Kinds.{code_of}
 
 -- a message of the kind KEY has a key, of that exchange and side
 pub record IsKeyOf (x : Exchange) (role : Role) (m : Message) : Type 0 where
@@ -45,18 +46,18 @@ place-is : (x y : Exchange) (a b : Role) → (same_exchange x y && same_role a b
 place-is x y a b e = let p = and_parts _ _ e in (same_exchange-is x y p.0, same_role-is a b p.1)
 
 pub is_of-key : (x : Exchange) (role : Role) (m : Message) → is_of kinds.Key x role m ≡ true → IsKeyOf x role m
-is_of-key x role m e = go m.body refl e
+is_of-key x role m e = go m.body refl (eqb-true _ _ (and_parts _ _ e).0) e
   where
-    go : (b : Body) → m.body ≡ b → (eqb (kind_number b) 10 && option_map_or (is_place x role) (option_map (place_by m.from m.to) (part_of b)) false) ≡ true → IsKeyOf x role m
-    go (Key k) h e = let p = place-is _ _ _ _ e in record { given = k; body = h; exchange = p.0; side = p.1 }
-    go _ h e = cc
+    go : (b : Body) → m.body ≡ b → kind_number b ≡ code_of kinds.Key → (eqb (kind_number b) 10 && option_map_or (is_place x role) (option_map (place_by m.from m.to) (part_of b)) false) ≡ true → IsKeyOf x role m
+    go (Key k) h n e = let p = place-is _ _ _ _ e in record { given = k; body = h; exchange = p.0; side = p.1 }
+    go b h n e = absurd (other-kind b kinds.Key refl n)
 
 pub is_of-case : (x : Exchange) (role : Role) (m : Message) → is_of kinds.Case x role m ≡ true → IsCaseOf x role m
-is_of-case x role m e = go m.body refl e
+is_of-case x role m e = go m.body refl (eqb-true _ _ (and_parts _ _ e).0) e
   where
-    go : (b : Body) → m.body ≡ b → (eqb (kind_number b) 8 && option_map_or (is_place x role) (option_map (place_by m.from m.to) (part_of b)) false) ≡ true → IsCaseOf x role m
-    go (Case c) h e = let p = place-is _ _ _ _ e in record { case = c; body = h; exchange = p.0; side = p.1 }
-    go _ h e = cc
+    go : (b : Body) → m.body ≡ b → kind_number b ≡ code_of kinds.Case → (eqb (kind_number b) 8 && option_map_or (is_place x role) (option_map (place_by m.from m.to) (part_of b)) false) ≡ true → IsCaseOf x role m
+    go (Case c) h n e = let p = place-is _ _ _ _ e in record { case = c; body = h; exchange = p.0; side = p.1 }
+    go b h n e = absurd (other-kind b kinds.Case refl n)
 
 -- ---- what a said key and a said briefcase had before them
 

@@ -28,6 +28,7 @@ use Rattle.bar_laws.proofs.Logs.Grammar.{part-in-range, part-of-peers}
 use Rattle.bar_laws.proofs.Logs.OneIdentity.{part-round}
 use Rattle.bar_laws.proofs.Logs.Spoken.{spoken_in, WasSpoken, said-spoken, heard-spoken, first_on-was}
 use Rattle.bar_laws.proofs.Logs.WindowSets.{history-set}
+use Rattle.bar_laws.proofs.Logs.EqualityTests.{no-value}
 
 -- a message of an exchange as the grammar has it
 pub record IsFormed (s : Shape) (m : Message) : Type 0 where
@@ -116,7 +117,7 @@ told-answer me log x hb w = subst (λ r. IsWindowSet me.session.shape r hb) w.ro
   where
     go : (b : Body) → HasForm me.session.shape b → history_in b ≡ Some hb → IsWindowSet me.session.shape (round_of b) hb
     go (Response r us) form e = let same : us ≡ hb = cc in subst (λ z. IsWindowSet me.session.shape r z) same form.1
-    go _ form e = cc
+    go b form e = absurd (no-value (history_in b) hb refl e)
 
 pub told-offer : (me : Member) (log : Log) (x : Exchange) (q : List UpdateId × List UpdateId) → WasTold me log x offer_in q → IsWindowSet me.session.shape x.round q.0 × IsWindowSet me.session.shape x.round q.1
 told-offer me log x q w = subst (λ r. IsWindowSet me.session.shape r q.0 × IsWindowSet me.session.shape r q.1) w.round (go w.message.body w.formed.form w.found)
@@ -126,7 +127,7 @@ told-offer me log x q w = subst (λ r. IsWindowSet me.session.shape r q.0 × IsW
         let a : us ≡ q.0 = cc in
         let b : vs ≡ q.1 = cc in
         (subst (λ z. IsWindowSet me.session.shape r z) a form.2, subst (λ z. IsWindowSet me.session.shape r z) b form.3)
-    go _ form e = cc
+    go b form e = absurd (no-value (offer_in b) q refl e)
 
 pub told-reply : (me : Member) (log : Log) (x : Exchange) (t : List UpdateId × List UpdateId × ℕ) → WasTold me log x reply_in t
     → IsWindowSet me.session.shape x.round t.0 × IsWindowSet me.session.shape x.round t.1 × (t.2 ≤ 16)
@@ -139,7 +140,7 @@ told-reply me log x t w =
         let b : vs ≡ t.1 = cc in
         let c : z ≡ t.2 = cc in
         (subst (λ y. IsWindowSet me.session.shape r y) a form.1, subst (λ y. IsWindowSet me.session.shape r y) b form.2, subst (λ y. y ≤ 16) c range.1)
-    go _ form range e = cc
+    go b form range e = absurd (no-value (reply_in b) t refl e)
 
 -- the nonce and the history that were revealed, and the exchange in which they were
 pub record WasRevealed (me : Member) (x : Exchange) (a : List ℕ × List UpdateId) : Type 0 where
@@ -169,7 +170,7 @@ revealed-formed me log x a all e = at (find-of (λ before e. revealed_in me befo
         let n : nonce ≡ a.0 = cc in
         let h : ha ≡ a.1 = cc in
         (subst (λ z. length z ≡ 32) n form.1, subst (λ z. IsWindowSet me.session.shape r z) h form.2)
-    divulge _ form f = cc
+    divulge b form f = absurd (no-value (divulge_in b) a refl f)
 
     heard : (d : Datagram) (b : Bool) → is_of kinds.Divulge x Initiator d.message ≡ b → SpokenIn log d → cond b (divulge_in d.message.body) None ≡ Some a → WasRevealed me x a
     heard d true i s f =

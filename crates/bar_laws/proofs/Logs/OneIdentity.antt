@@ -1,4 +1,5 @@
 -- Messages of one identity: a message that wasn't said for its exchange has no other of its identity said.
+use Rattle.bar_wire.specs.declared.kind.Kind.TheVariants as kinds
 use Rattle.bar_wire.specs.declared.kind.Kind.{Kind}
 use Rattle.bar_rules.specs.Peer.Log.{Log, Said, earliest, if_passes, said_in, first_said, has_said}
 use Rattle.bar_rules.specs.Peer.Signing.{has_same_identity}
@@ -15,7 +16,7 @@ use Rattle.std.proofs.Common.{◌≡◌, ℕ, Bool, true, false, [], ◌∷◌, 
 use Rattle.std.specs.Prelude.{Option, Some, None, is_some}
 use Rattle.std.specs.Bool.{then_some}
 use Rattle.std.proofs.lemmas.Bool.{and_parts, and_from, eqb-true, eq-eqb, both_ways}
-use Rattle.bar_laws.proofs.Logs.EqualityTests.{same_kind-is, same_role-is}
+use Rattle.bar_laws.proofs.Logs.EqualityTests.{no-value, other-kind, same_kind-is, same_role-is}
 use Rattle.bar_laws.proofs.Logs.LaterLogs.{WasSaid, first_said-was, some-is}
 
 pub eqb_refl : (n : ℕ) → eqb n n ≡ true
@@ -66,20 +67,20 @@ is_whole (Case c) = true
 is_whole (Key k) = true
 is_whole _ = false
 
-twin-by : (m n : Message) (b c : Body) → m.body ≡ b → n.body ≡ c → is_whole b ≡ true → bytes_eq (kind_number c ∷ named c n.from n.to) (kind_number b ∷ named b m.from m.to) ≡ true → IsTwin m n
-twin-by m n (Response r hb) (Response r' hb') p q w e =
+twin-by : (m n : Message) (b c : Body) → m.body ≡ b → n.body ≡ c → is_whole b ≡ true → kind_number c ≡ kind_number b → bytes_eq (kind_number c ∷ named c n.from n.to) (kind_number b ∷ named b m.from m.to) ≡ true → IsTwin m n
+twin-by m n (Response r hb) (Response r' hb') p q w same e =
     let a = and_parts _ _ e in
     let b = and_parts _ _ a.1 in
     let c = and_parts _ _ b.1 in
     let rounds : r' ≡ r = eqb-true _ _ c.0 in
     record { from = eqb-true _ _ a.0; to = eqb-true _ _ b.0; kind = rw (p, q) refl; part = rw (p, q, rounds) refl }
-twin-by m n (Reply r w' g z) (Reply r' w'' g' z') p q w e =
+twin-by m n (Reply r w' g z) (Reply r' w'' g' z') p q w same e =
     let a = and_parts _ _ e in
     let b = and_parts _ _ a.1 in
     let c = and_parts _ _ b.1 in
     let rounds : r' ≡ r = eqb-true _ _ c.0 in
     record { from = eqb-true _ _ a.0; to = eqb-true _ _ b.0; kind = rw (p, q) refl; part = rw (p, q, rounds) refl }
-twin-by m n (Case k) (Case l) p q w e =
+twin-by m n (Case k) (Case l) p q w same e =
     let a = and_parts _ _ e in
     let b = and_parts _ _ a.1 in
     let c = and_parts _ _ b.1 in
@@ -89,7 +90,7 @@ twin-by m n (Case k) (Case l) p q w e =
     let kinds : l.kind ≡ k.kind = same_kind-is l.kind k.kind d.0 in
     let roles : l.role ≡ k.role = same_role-is l.role k.role f.0 in
     record { from = eqb-true _ _ a.0; to = eqb-true _ _ b.0; kind = rw (p, q) refl; part = rw (p, q, rounds, kinds, roles) refl }
-twin-by m n (Key k) (Key l) p q w e =
+twin-by m n (Key k) (Key l) p q w same e =
     let a = and_parts _ _ e in
     let b = and_parts _ _ a.1 in
     let c = and_parts _ _ b.1 in
@@ -99,10 +100,14 @@ twin-by m n (Key k) (Key l) p q w e =
     let kinds : l.kind ≡ k.kind = same_kind-is l.kind k.kind d.0 in
     let roles : l.role ≡ k.role = same_role-is l.role k.role f.0 in
     record { from = eqb-true _ _ a.0; to = eqb-true _ _ b.0; kind = rw (p, q) refl; part = rw (p, q, rounds, kinds, roles) refl }
-twin-by m n _ _ p q w e = cc
+twin-by m n (Response r hb) c p q w same e = absurd (other-kind c kinds.Response refl same)
+twin-by m n (Reply r w' g z) c p q w same e = absurd (other-kind c kinds.Reply refl same)
+twin-by m n (Case k) c p q w same e = absurd (other-kind c kinds.Case refl same)
+twin-by m n (Key k) c p q w same e = absurd (other-kind c kinds.Key refl same)
+twin-by m n b c p q w same e = absurd (both_ways (is_whole b) refl w)
 
 pub twin-whole : (m n : Message) → is_whole m.body ≡ true → has_same_identity m n ≡ true → IsTwin m n
-twin-whole m n w e = twin-by m n m.body n.body refl refl w e
+twin-whole m n w e = twin-by m n m.body n.body refl refl w (eqb-true _ _ (and_parts _ _ e).0) e
 
 none-false : {A : Type 0} (o : Option A) → o ≡ None → is_some o ≡ false
 none-false o e = ap is_some e
@@ -134,4 +139,4 @@ part-round (Reply q w g z) r k role e = (parts-of (q, Push, Responder) (r, k, ro
 part-round (Case c) r k role e = (parts-of (c.round, c.kind, c.role) (r, k, role) e).0
 part-round (KeyReq q l a) r k role e = (parts-of (q, l, a) (r, k, role) e).0
 part-round (Key c) r k role e = (parts-of (c.round, c.kind, c.role) (r, k, role) e).0
-part-round _ r k role e = cc
+part-round b r k role e = absurd (no-value (part_of b) (r, k, role) refl e)

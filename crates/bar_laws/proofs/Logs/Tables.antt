@@ -23,7 +23,7 @@ use Rattle.std.specs.Bool.{then_some}
 use Rattle.std.specs.List.{list_all}
 use Rattle.std.proofs.lemmas.Bool.{and_parts, and_from}
 use Rattle.bar_laws.proofs.Logs.FirstFinds.{IsEntry, IsFind, find-of, allowed-at, earliest-more}
-use Rattle.bar_laws.proofs.Logs.EqualityTests.{same_bytes-is, same_update-is}
+use Rattle.bar_laws.proofs.Logs.EqualityTests.{no-value, same_bytes-is, same_update-is}
 use Rattle.bar_laws.proofs.Logs.Facts.{good_told}
 use Rattle.bar_laws.proofs.Logs.LaterLogs.{IsLater, later-entry, some-is}
 
@@ -135,7 +135,7 @@ from-known me before u m (Key k) block row e = go (is_alive me.session u.round (
     go false o g = cc
     go true None g = cc
     go true (Some c) g = opened c _ refl g
-from-known me before u m _ block row e = cc
+from-known me before u m b block row e = absurd (no-value (block_from me.session before u m b) block refl e)
 
 pub admitted-row : (me : Member) (before : Log) (d : Datagram) → is_admitted me (known me before) d ≡ true → is_row_met me (known me before) d.message.from d.message.to d.message.body ≡ true
 unfolding is_admitted
@@ -154,7 +154,7 @@ held-known me log u block h e = at (find-of (λ before e. block_in me.session be
 
     by : (before : Log) (e : Entry) → IsEntry log before e → block_in me.session before u e ≡ Some block → IsBlockOf (table before) u block
     by before (Heard d) place f = heard before d place f
-    by before _ place f = cc
+    by before y place f = absurd (no-value (block_in me.session before u y) block refl f)
 
     at : IsFind (λ before e. block_in me.session before u e) log block → IsBlockOf (table log) u block
     at w = known-digest-extends (table w.before) (table log) u (sha256 block) (table-later log w.before (later-entry log w.before w.entry w.place)) (by w.before w.entry w.place w.found)

@@ -36,7 +36,7 @@ use Rattle.std.specs.Bool.{then_some}
 use Rattle.std.specs.Option.{option_map_or}
 use Rattle.std.proofs.lemmas.Bool.{and_parts, and_from, eq-eqb, le-leb, leb-true, eqb-true, or_right, or_left}
 use Rattle.bar_laws.proofs.Logs.FirstFinds.{IsFind, find-of, allowed-at}
-use Rattle.bar_laws.proofs.Logs.EqualityTests.{same_exchange-is}
+use Rattle.bar_laws.proofs.Logs.EqualityTests.{some-equal, no-value, same_exchange-is}
 use Rattle.bar_laws.proofs.Logs.LaterLogs.{IsLater, later-entry, then-later}
 use Rattle.bar_laws.proofs.Logs.Spoken.{spoken_in, WasSpoken, first_on-was, body_on-later}
 use Rattle.bar_laws.proofs.Logs.Tables.{table-later, within-extends, history-within, held-within, admitted-row, admitted-for, all-filter}
@@ -116,7 +116,7 @@ spoken-by me log d P w h said heard lasts =
         let same : c ≡ d = cc in
         heard w.before a.1 (subst (λ z. is_for me z.message ≡ true) same (admitted-for me w.before c a.0.0))
         (subst (λ z. is_row_met me (known me w.before) z.message.from z.message.to z.message.body ≡ true) same (admitted-row me w.before c a.0.0))
-    go _ f a = cc
+    go e f a = absurd (no-value (spoken_in e) d refl f)
 
 -- ---- balanced terms
 
@@ -125,12 +125,12 @@ abbrev AnswerWithin : Log → Message → Type 0
 AnswerWithin log m = (hb : List UpdateId) → history_in m.body ≡ Some hb → is_within (table log) hb ≡ true
 
 answer-said : (me : Member) (before : Log) (to : ℕ) (b : Body) (hb : List UpdateId) → IsObedient me before → MaySay me (known me before) to b → history_in b ≡ Some hb → is_within (table before) hb ≡ true
-answer-said me before to (Response r hb') hb h rule e = let same : hb' ≡ hb = cc in rw (← same, rule.held) (history-within me before r h)
-answer-said me before to _ hb h rule e = cc
+answer-said me before to (Response r hb') hb h rule e = let same : hb' ≡ hb = some-equal hb' hb e in rw (← same, rule.held) (history-within me before r h)
+answer-said me before to b hb h rule e = absurd (no-value (history_in b) hb refl e)
 
 answer-heard : (me : Member) (before : Log) (from to : ℕ) (b : Body) (hb : List UpdateId) → is_row_met me (known me before) from to b ≡ true → history_in b ≡ Some hb → is_within (table before) hb ≡ true
-answer-heard me before from to (Response r hb') hb row e = let same : hb' ≡ hb = cc in rw (← same) (and_parts _ _ (and_parts _ _ row).0).1
-answer-heard me before from to _ hb row e = cc
+answer-heard me before from to (Response r hb') hb row e = let same : hb' ≡ hb = some-equal hb' hb e in rw (← same) (and_parts _ _ (and_parts _ _ row).0).1
+answer-heard me before from to b hb row e = absurd (no-value (history_in b) hb refl e)
 
 answer-lasts : (log before : Log) (m : Message) → IsLater log before → AnswerWithin before m → AnswerWithin log m
 answer-lasts log before m later w hb e = within-extends _ _ hb (table-later log before later) (w hb e)
@@ -147,8 +147,8 @@ spoken-answer me log x hb h e = go (first_on me (known me log) kinds.Response x 
         (λ before later w. answer-lasts log before d.message later w) hb e
 
 divulged-within : (me : Member) (before : Log) (from to : ℕ) (b : Body) (a : List ℕ × List UpdateId) → is_row_met me (known me before) from to b ≡ true → divulge_in b ≡ Some a → is_within (table before) a.1 ≡ true
-divulged-within me before from to (Divulge r nonce ha) a row e = let same : ha ≡ a.1 = cc in rw (← same) (and_parts _ _ (and_parts _ _ row).0).1
-divulged-within me before from to _ a row e = cc
+divulged-within me before from to (Divulge r nonce ha) a row e = let same : ha ≡ a.1 = ap (λ (z : List ℕ × List UpdateId). z.1) (some-equal (nonce, ha) a e) in rw (← same) (and_parts _ _ (and_parts _ _ row).0).1
+divulged-within me before from to b a row e = absurd (no-value (divulge_in b) a refl e)
 
 revealed-within : (me : Member) (log : Log) (x : Exchange) (a : List ℕ × List UpdateId) → IsObedient me log → revealed me log x ≡ Some a → is_within (table log) a.1 ≡ true
 revealed-within me log x a h e = at (find-of (λ before e. revealed_in me before x e) log a e)
@@ -164,7 +164,7 @@ revealed-within me log x a h e = at (find-of (λ before e. revealed_in me before
     by : (before : Log) (e : Entry) → Allows me before e × IsObedient me before → revealed_in me before x e ≡ Some a → is_within (table before) a.1 ≡ true
     by before (Said d) al f = said before (is_of kinds.Request x Initiator d.message) al.1 f
     by before (Heard d) al f = heard before d (is_of kinds.Divulge x Initiator d.message) (admitted-row me before d al.0.0) f
-    by before _ al f = cc
+    by before y al f = absurd (no-value (revealed_in me before x y) a refl f)
 
     at : IsFind (λ before e. revealed_in me before x e) log a → is_within (table log) a.1 ≡ true
     at w = within-extends _ _ a.1 (table-later log w.before (later-entry log w.before w.entry w.place)) (by w.before w.entry (allowed-at me log w.before w.entry w.place h) w.found)
@@ -227,22 +227,24 @@ own-offer me before r h =
 
 query-said : (me : Member) (before : Log) (to : ℕ) (b : Body) (q : List UpdateId × List UpdateId) → IsObedient me before → MaySay me (known me before) to b → offer_in b ≡ Some q → IsGoodOffer me before (round_of b) q.0 q.1
 query-said me before to (Query r seed young aged) q h rule e =
-    let a : young ≡ q.0 = cc in
-    let b : aged ≡ q.1 = cc in
+    let same = some-equal (young, aged) q e in
+    let a : young ≡ q.0 = ap (λ (z : List UpdateId × List UpdateId). z.0) same in
+    let b : aged ≡ q.1 = ap (λ (z : List UpdateId × List UpdateId). z.1) same in
     rw (← a, ← b, rule.offers, rule.asks) (own-offer me before r h)
-query-said me before to _ q h rule e = cc
+query-said me before to b q h rule e = absurd (no-value (offer_in b) q refl e)
 
 query-heard : (me : Member) (before : Log) (from to : ℕ) (b : Body) (q : List UpdateId × List UpdateId) → is_row_met me (known me before) from to b ≡ true → offer_in b ≡ Some q → IsGoodOffer me before (round_of b) q.0 q.1
 query-heard me before from to (Query r seed young aged) q row e =
-    let a : young ≡ q.0 = cc in
-    let b : aged ≡ q.1 = cc in
+    let same = some-equal (young, aged) q e in
+    let a : young ≡ q.0 = ap (λ (z : List UpdateId × List UpdateId). z.0) same in
+    let b : aged ≡ q.1 = ap (λ (z : List UpdateId × List UpdateId). z.1) same in
     let p = and_parts _ _ (and_parts _ _ (and_parts _ _ row).0).0 in
     let w = and_parts _ _ p.1 in
     let o = and_parts _ _ (and_parts _ _ p.0).0 in
     let j = and_parts _ _ o.0 in
     let k = and_parts _ _ o.1 in
     rw (← a, ← b) (record { young_rounds = j.0; aged_rounds = j.1; young_len = k.0; aged_len = k.1; young_within = w.0; aged_within = w.1 })
-query-heard me before from to _ q row e = cc
+query-heard me before from to b q row e = absurd (no-value (offer_in b) q refl e)
 
 -- what a QUERY offers is good
 abbrev OfferGood : Member → Log → Message → Type 0
@@ -312,14 +314,14 @@ AnswerGood me log m = (t : List UpdateId × List UpdateId × ℕ) → reply_in m
 reply-said : (me : Member) (before : Log) (m : Message) (b : Body) (t : List UpdateId × List UpdateId × ℕ) → m.from ≡ me.party → MaySay me (known me before) m.to b → reply_in b ≡ Some t
     → IsGoodAnswer me before (exchange_by (round_of b) Push Responder m.from m.to) t
 reply-said me before m (Reply r want give junk) t mine rule e =
-    let same : (want, give, junk) ≡ t = cc in
+    let same : (want, give, junk) ≡ t = some-equal (want, give, junk) t e in
     subst (λ z. IsGoodAnswer me before (exchange_by r Push Responder m.from m.to) z) same
     (record {
       query = (rule.young, rule.aged);
       stands = rw mine rule.offers;
       fits = own-answer me before rule.young rule.aged want give junk rule.wants rule.some_wanted rule.gives rule.pads;
     })
-reply-said me before m _ t mine rule e = cc
+reply-said me before m b t mine rule e = absurd (no-value (reply_in b) t refl e)
 
 -- a member that a REPLY is for is the initiator
 reply-own : (me : Member) (before : Log) (r from to : ℕ) → to ≡ me.party → body_on me (known me before) kinds.Query (exchange_by r Push Responder from to) Initiator ≡ body_said (known me before) kinds.Query (exchange_by r Push Responder from to) Initiator
@@ -336,14 +338,14 @@ reply-heard me before from to (Reply r want give junk) t own row e = go (option_
         → option_map_or (terms_ok me.session (table before) x) (terms_with o want give junk) false ≡ true → IsGoodAnswer me before x t
     go None f k = cc
     go (Some q) f k =
-        let same : (want, give, junk) ≡ t = cc in
+        let same : (want, give, junk) ≡ t = some-equal (want, give, junk) t e in
         subst (λ z. IsGoodAnswer me before x z) same
         (record { query = q; stands = ap (option_and_then offer_in) (reply-own me before r from to own) ∙ f; fits = (and_parts _ _ k).1 })
-reply-heard me before from to _ t own row e = cc
+reply-heard me before from to b t own row e = absurd (no-value (reply_in b) t refl e)
 
 reply-to : (me : Member) (m : Message) (b : Body) (t : List UpdateId × List UpdateId × ℕ) → reply_in b ≡ Some t → cond (is_to_all b) (eqb m.to everyone) (eqb m.to me.party) ≡ true → m.to ≡ me.party
 reply-to me m (Reply r want give junk) t e own = eqb-true _ _ own
-reply-to me m _ t e own = cc
+reply-to me m b t e own = absurd (no-value (reply_in b) t refl e)
 
 answer_good-lasts : (me : Member) (log before : Log) (x : Exchange) (t : List UpdateId × List UpdateId × ℕ) → IsLater log before → IsGoodAnswer me before x t → IsGoodAnswer me log x t
 answer_good-lasts me log before x t later g =

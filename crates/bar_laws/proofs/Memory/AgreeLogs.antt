@@ -52,6 +52,20 @@ promised-more None None q same = refl
 promised-more (Some d) None q same = cc
 promised-more None (Some e) q same = cc
 
+-- of a round both have a manifest or neither has, whatever is heard
+listed-more : (o p q : Option Datagram) → is_some o ≡ is_some p → is_some (option_or o q) ≡ is_some (option_or p q)
+listed-more (Some d) (Some e) q both = refl
+listed-more None None q both = refl
+listed-more (Some d) None q both = cc
+listed-more None (Some e) q both = cc
+
+-- then its list stays alike
+list-more : (o p q : Option Datagram) (round : ℕ) → is_some o ≡ is_some p → lists_of (λ r. o) round ≡ lists_of (λ r. p) round → lists_of (λ r. option_or o q) round ≡ lists_of (λ r. option_or p q) round
+list-more (Some d) (Some e) q round both same = same
+list-more None None q round both same = refl
+list-more (Some d) None q round both same = cc
+list-more None (Some e) q round both same = cc
+
 module _ (me : Member) (one two : Knowledge) (same : AgreesWith me one two) where
   pub now : this_round one ≡ this_round two
   now = ap round_after same.time
@@ -80,7 +94,8 @@ module _ (me : Member) (one two : Knowledge) (same : AgreesWith me one two) wher
   tick-agree : AgreesWith me (with_tick me one) (with_tick me two)
   tick-agree = record {
     time = ap (λ t. t + 1) same.time;
-    manifests = same.manifests;
+    table = same.table;
+    listed = same.listed;
     evictions = same.evictions;
     announced = same.announced;
     evidence = same.evidence;
@@ -98,7 +113,8 @@ module _ (me : Member) (one two : Knowledge) (same : AgreesWith me one two) wher
   keep-agree : (q : ℕ) (evidence : List (List ℕ)) → AgreesWith me (with_kept q evidence one) (with_kept q evidence two)
   keep-agree q evidence = record {
     time = same.time;
-    manifests = same.manifests;
+    table = same.table;
+    listed = same.listed;
     evictions = same.evictions;
     announced = same.announced;
     evidence = λ party. ap (λ o. option_or o (then_some (eqb q party) evidence)) (same.evidence party);
@@ -121,7 +137,7 @@ module _ (me : Member) (one two : Knowledge) (same : AgreesWith me one two) wher
   block-added u m (Key g) h =
       let x : Exchange = exchange_by g.round g.kind g.role m.from m.to in
       let r : IsRecent me one x.round = subst (λ z. this_round one ≤ z + me.session.shape.life) (sym (by-round g.round g.kind g.role m.from m.to)) h in
-      (λ i. cond (is_alive me.session u.round (now i)) (block_opened me.session (lists_of (same.manifests i)) x u g.key (case-same x g.role r i)) None)
+      (λ i. cond (is_alive me.session u.round (now i)) (block_opened me.session (same.table i) x u g.key (case-same x g.role r i)) None)
   block-added u m _ h = refl
 
   own-heard : (kind : Kind) (x : Exchange) (role : Role) (d e : Datagram) (o : Option Datagram) (b : Bool) → is_of kind x role d.message ≡ b → (o ≡ Some e → is_of kind x role e.message ≡ true)
@@ -133,7 +149,8 @@ module _ (me : Member) (one two : Knowledge) (same : AgreesWith me one two) wher
   grow-agree : (d : Datagram) → IsInTime me.session.shape.life (this_round one) d.message.body → AgreesWith me (grown me d one) (grown me d two)
   grow-agree d h = record {
     time = same.time;
-    manifests = λ i round. option_or (same.manifests i round) (then_some (is_manifest_of round d.message.body) d);
+    table = λ i round. list-more (one.manifest round) (two.manifest round) (then_some (is_manifest_of round d.message.body) d) round (same.listed round) (ap (λ t. t round) same.table) i;
+    listed = λ round. listed-more (one.manifest round) (two.manifest round) (then_some (is_manifest_of round d.message.body) d) (same.listed round);
     evictions = λ round. ap (λ b. b || has_kind_and_round kinds.Evict round d.message) (same.evictions round);
     announced = λ party. ap (λ b. b || names_party party d.message) (same.announced party);
     evidence = same.evidence;
@@ -168,7 +185,8 @@ module _ (me : Member) (one two : Knowledge) (same : AgreesWith me one two) wher
   speak-agree : (d : Datagram) → (kind_number d.message.body ≡ 3 → this_round one ≤ round_of d.message.body + answer_deadline) → AgreesWith me (with_said me d one) (with_said me d two)
   speak-agree d h = record {
     time = same.time;
-    manifests = same.manifests;
+    table = same.table;
+    listed = same.listed;
     evictions = same.evictions;
     announced = same.announced;
     evidence = same.evidence;
@@ -205,7 +223,8 @@ agree-trans me a b c f g =
     let later : (bound : ℕ) → this_round a ≤ bound → this_round b ≤ bound = λ bound r. subst (λ n. round_after n ≤ bound) f.time r in
     record {
       time = f.time ∙ g.time;
-      manifests = f.manifests ∙ g.manifests;
+      table = f.table ∙ g.table;
+      listed = λ round. f.listed round ∙ g.listed round;
       evictions = λ round. f.evictions round ∙ g.evictions round;
       announced = λ party. f.announced party ∙ g.announced party;
       evidence = λ party. f.evidence party ∙ g.evidence party;

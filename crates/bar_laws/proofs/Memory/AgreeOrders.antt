@@ -22,7 +22,7 @@ use Rattle.bar_rules.specs.Peer.Choices.{young_of, aged_of, wanted_of, given_of}
 use Rattle.bar_rules.specs.Peer.Exchanges.{request_kind, role_of, partner_in, answer_kind}
 use Rattle.bar_rules.specs.Peer.Holdings.{block_of, history}
 use Rattle.bar_rules.specs.Peer.Knowledge.{table_of, Knowledge, known, this_round, holds, with_said, request_deadline, answer_deadline}
-use Rattle.bar_rules.specs.Peer.Log.{lists_of, Log, Said, first_said, round_now}
+use Rattle.bar_rules.specs.Peer.Log.{Log, Said, first_said, round_now}
 use Rattle.bar_rules.specs.Peer.Machine.{logs, minds, message_to, send_if}
 use Rattle.bar_rules.specs.Peer.Machine as machine
 use Rattle.bar_rules.specs.Peer.Orders.{Order, Ask, Answer, Reveal, GiveCase, AskKey, GiveKey, Resend, Report, ask_body, answer_body, reply_to, reply_body, case_body, key_body}
@@ -39,7 +39,7 @@ use Rattle.std.specs.List.{AllByRecursion, range_with_len}
 use Rattle.bar_laws.proofs.Memory.AgreeLogs.{now, filter-same, held-on, blocks-on, history-same, said-agree}
 use Rattle.bar_laws.proofs.Memory.AgreeRows.{all-with, body-same, terms-same, wanted-same}
 use Rattle.bar_laws.proofs.Memory.InLife.{InLife, BodyInLife, LogInLife, from-in-life, history-in-life, young-in-life, aged-in-life, wanted-in-life, given-in-life, promised-in-life, offered-in-life, terms-in-life, by-round}
-use Rattle.bar_laws.proofs.Logs.{parts-of}
+use Rattle.bar_laws.proofs.Logs.{some-equal, other-kind, parts-of}
 
 -- ---- briefcases
 
@@ -122,7 +122,7 @@ module _ (me : Member) (one two : Knowledge) (same : AgreesWith me one two) wher
       ap (take me.session.cap)
       (filter-same (λ u. not (holds one u) && is_known (digest_of (table_of one) u)) (λ u. not (holds two u) && is_known (digest_of (table_of one) u)) us
       (all-with (λ u b. not b && is_known (digest_of (table_of one) u)) (holds one) (holds two) us held)
-      ∙ ap (λ t. filter (λ u. not (holds two u) && is_known (digest_of (lists_of t) u)) us) same.manifests)
+      ∙ ap (λ t. filter (λ u. not (holds two u) && is_known (digest_of t u)) us) same.table)
 
   given-same : (round : ℕ) (young aged : List UpdateId) → this_round one ≤ round + answer_deadline → InLife me.session.shape.life round young → InLife me.session.shape.life round aged → given_of me one young aged ≡ given_of me two young aged
   given-same round young aged h y o =
@@ -209,7 +209,7 @@ new-alike me at a b x (Some body) life w recent f =
   where
     request-soon : (me : Member) (at : ℕ) (a : Outcome Log) (x : Exchange) (body : Body) → round_now a.state ≡ at → IsSayable me.session.shape.life at x body → kind_number body ≡ 3 → round_now a.state ≤ round_of body + 2
     request-soon me at a x (Request r seed c) now may k = (let here : r ≡ x.round = may.part (r, Balanced, Initiator) refl in let h : at ≤ x.round + answer_deadline = may.soon refl in let n : round_now a.state ≡ at = now in omega (arith, here, h, n))
-    request-soon me at a x _ now may k = cc
+    request-soon me at a x b now may k = absurd (other-kind b kinds.Request refl k)
 
 say-alike : (me : Member) (at : ℕ) (a : Outcome Log) (b : Outcome Knowledge) (kind : Kind) (x : Exchange) (o p : Option Body) → 2 ≤ me.session.shape.life → IsAlike me at a b → at ≤ x.round + told_by me.session.shape.life kind → o ≡ p
     → ((body : Body) → o ≡ Some body → IsSayable me.session.shape.life at x body) → IsAlike me at (machine.say (logs me) me a kind x o) (machine.say (minds me) me b kind x p)
@@ -258,15 +258,12 @@ case-sayable me at log x b e = go (terms_of me (known me log) x) e
 key-sayable : (me : Member) (at : ℕ) (x : Exchange) (b : Body) → key_body me x ≡ b → IsSayable me.session.shape.life at x b
 key-sayable me at x b e = subst (λ z. IsSayable me.session.shape.life at x z) e (record { part = λ p q. sym (parts-of (x.round, x.kind, role_of me x) p q).0; soon = λ k. cc; lives = tt })
 
-some-is-same : (a b : Body) → ◌≡◌ {A = Option Body} (Some a) (Some b) → a ≡ b
-some-is-same a b e = cc
-
 -- ---- orders
 
 pub perform-alike : (me : Member) (at : ℕ) (a : Outcome Log) (b : Outcome Knowledge) (o : Order) → 2 ≤ me.session.shape.life → IsAlike me at a b → IsTimely me.session.shape.life at o → IsAlike me at (machine.perform (logs me) me a o) (machine.perform (minds me) me b o)
 perform-alike me at a b (Ask x) life w h =
     say-alike me at a b (request_kind x.kind) x _ _ life w (let told = told-request me.session.shape.life x.kind in omega (arith, h, told)) (ap Some (ask-same me (known me a.state) b.state w.agree x x.kind life (let n : round_now a.state ≡ at = w.moment in omega (arith, n, h))))
-    (λ body e. ask-sayable me at a.state x x.kind body life h (some-is-same _ body e))
+    (λ body e. ask-sayable me at a.state x x.kind body life h (some-equal _ body e))
 perform-alike me at a b (Answer x) life w h =
     say-alike me at a b (answer_kind x.kind) x _ _ life w (let told = told-answer me.session.shape.life x.kind in omega (arith, h, told))
     (answer-same me a.state b.state w.agree x x.kind w.lives (let n : round_now a.state ≡ at = w.moment in omega (arith, n, h)) (let n : round_now a.state ≡ at = w.moment in omega (arith, n, h)))
@@ -275,7 +272,7 @@ perform-alike me at a b (GiveCase x) life w h =
     say-alike me at a b kinds.Case x _ _ life w (omega (arith, h))
     (cases-same me a.state b.state w.agree x w.lives (let n : round_now a.state ≡ at = w.moment in omega (arith, n, h)) (let n : round_now a.state ≡ at = w.moment in omega (arith, n, h)))
     (λ body e. case-sayable me at a.state x body e)
-perform-alike me at a b (GiveKey x) life w h = say-alike me at a b kinds.Key x (Some (key_body me x)) (Some (key_body me x)) life w h refl (λ body e. key-sayable me at x body (some-is-same _ body e))
+perform-alike me at a b (GiveKey x) life w h = say-alike me at a b kinds.Key x (Some (key_body me x)) (Some (key_body me x)) life w h refl (λ body e. key-sayable me at x body (some-equal _ body e))
 perform-alike me at a b (Resend kind x) life w h = say-alike me at a b kind x None None life w h refl (λ body e. cc)
 perform-alike me at a b (Reveal x) life w h =
     send_if-alike me at a b (partner_in me x) _ _ w

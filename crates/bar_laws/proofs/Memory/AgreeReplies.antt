@@ -14,7 +14,7 @@ use Rattle.bar_rules.specs.Peer.Admission.{is_admitted}
 use Rattle.bar_rules.specs.Peer.Evidence.{is_tried, pair_with, pairs_by, if_accuses, new_evidence}
 use Rattle.bar_rules.specs.Peer.Exchanges.{opening_kind}
 use Rattle.bar_rules.specs.Peer.Knowledge.{table_of, Knowledge, known, this_round, with_heard, with_kept, request_deadline, answer_deadline}
-use Rattle.bar_rules.specs.Peer.Log.{lists_of, Log, Heard, Kept, round_now}
+use Rattle.bar_rules.specs.Peer.Log.{Log, Heard, Kept, round_now}
 use Rattle.bar_rules.specs.Peer.Machine.{Keeping, logs, minds}
 use Rattle.bar_rules.specs.Peer.Machine as machine
 use Rattle.bar_rules.specs.Peer.Orders.{Order, Answer, Reveal, GiveCase, AskKey, GiveKey, Report}
@@ -31,7 +31,7 @@ use Rattle.std.proofs.lemmas.Bool.{and_parts, leb-true, lt-leb, leb-false}
 use Rattle.bar_laws.proofs.Memory.AgreeLogs.{now, IsInTime, kept-agree, heard-agree}
 use Rattle.bar_laws.proofs.Memory.AgreeRows.{terms-same, admitted-same, row-in-time, and_last}
 use Rattle.bar_laws.proofs.Memory.AgreeOrders.{IsTimely, IsAlike, perform-alike, perform_all-alike}
-use Rattle.bar_laws.proofs.Logs.{is_of-is, first_heard-was, parts-of, part-round, admitted-row}
+use Rattle.bar_laws.proofs.Logs.{no-value, is_of-is, first_heard-was, parts-of, part-round, admitted-row}
 use Rattle.bar_laws.proofs.Memory.InLife.{BodyInLife, LogInLife, of-round, by-round}
 
 -- ---- the orders for a datagram
@@ -92,7 +92,7 @@ stale-orders me k from to (Case c) p life e h = refl
 stale-orders me k from to (KeyReq r kind role) p life e h =
     let same : r ≡ p.0 = (parts-of (r, kind, role) p e).0 in ap (λ z. orders_when z (GiveKey (exchange_by r kind role from to) ∷ [])) (lt-leb (this_round k) (r + me.session.shape.life) (omega (arith, same, h)))
 stale-orders me k from to (Key g) p life e h = refl
-stale-orders me k from to _ p life e h = cc
+stale-orders me k from to b p life e h = absurd (no-value (part_of b) p refl e)
 
 module _ (me : Member) (one two : Knowledge) (same : AgreesWith me one two) (life : 2 ≤ me.session.shape.life) where
   orders-same : (is_new : Bool) (from to : ℕ) (b : Body) → IsNewInTime me.session.shape.life (this_round one) is_new b → orders_for me one is_new from to b ≡ orders_for me two is_new from to b
@@ -134,8 +134,8 @@ module _ (me : Member) (one two : Knowledge) (same : AgreesWith me one two) (lif
           let round : round_of d.message.body ≡ x.round = part-round d.message.body p.0 p.1 p.2 e ∙ sym (by-round p.0 p.1 p.2 d.message.from d.message.to) in
           let r : IsRecent me one x.round = subst (λ z. this_round one ≤ z + me.session.shape.life) round h in
           (λ i.
-          option_or (pair_with me.session (lists_of (same.manifests i)) d (same.heard (opening_kind x.kind p.2) x p.2 r i))
-          (option_or (pair_with me.session (lists_of (same.manifests i)) d (same.heard kinds.Case x p.2 r i)) (pair_with me.session (lists_of (same.manifests i)) d (same.heard kinds.Key x p.2 r i))))
+          option_or (pair_with me.session (same.table i) d (same.heard (opening_kind x.kind p.2) x p.2 r i))
+          (option_or (pair_with me.session (same.table i) d (same.heard kinds.Case x p.2 r i)) (pair_with me.session (same.table i) d (same.heard kinds.Key x p.2 r i))))
 
   completed-same : (d : Datagram) → new_evidence me one d ≡ new_evidence me two d
   unfolding new_evidence
@@ -148,7 +148,7 @@ module _ (me : Member) (one two : Knowledge) (same : AgreesWith me one two) (lif
       go false e = rw e refl
       go true e =
           let h : this_round one ≤ round_of d.message.body + me.session.shape.life = leb-true (this_round one) (round_of d.message.body + me.session.shape.life) (and_parts _ _ e).1 in
-          rw e (λ i. option_or (if_accuses me.session (lists_of (same.manifests i)) d.message.from (datagram_bytes me.session d ∷ [])) (pairs-same d h i))
+          rw e (λ i. option_or (if_accuses me.session (same.table i) d.message.from (datagram_bytes me.session d ∷ [])) (pairs-same d h i))
 
 -- ---- one datagram
 

@@ -13,7 +13,6 @@ use Rattle.bar_window.specs.declared.update.UpdateId.{UpdateId}
 use Rattle.bar_wire.specs.declared.kind.Kind.TheVariants as kinds
 use Rattle.bar_wire.specs.declared.kind.Kind.{Kind}
 use Rattle.bar_wire.specs.Datagram.{Message, Datagram, Body, Manifest, Block, Request, Response, Divulge, Query, Reply, Case, KeyReq, Key, Evict, is_signed, kind_of, part_of, exchange_by, place_of, place_by}
-use Rattle.bar_rules.specs.Peer.Log.{lists_of}
 use Rattle.bar_rules.specs.Peer.Admission.{is_admitted, is_row_met, is_for, is_heard_again, is_named_again, may_ask, has_digest, meets_commitment, body_said, are_terms, terms_with, has_valid_signature}
 use Rattle.bar_rules.specs.Peer.Agreement.{promised_by, IsRepeatable, AgreesWith, IsRecent}
 use Rattle.bar_rules.specs.Peer.Choices.{wanted_of}
@@ -32,7 +31,7 @@ use Rattle.std.specs.List.{AllByRecursion}
 use Rattle.std.proofs.lemmas.Bool.{and_parts, leb-true, ltb-true}
 use Rattle.bar_laws.proofs.Memory.AgreeLogs.{now, filter-same, IsInTime, held-on}
 use Rattle.bar_laws.proofs.Memory.InLife.{InLife, rounds-in-life, by-round}
-use Rattle.bar_laws.proofs.Logs.{parts-of}
+use Rattle.bar_laws.proofs.Logs.{no-value, parts-of}
 
 -- ---- tests
 
@@ -79,7 +78,7 @@ in-time-recent life at (Reply r want give junk) p two h e = let same : r ≡ p.0
 in-time-recent life at (Case c) p two h e = let same : c.round ≡ p.0 = (parts-of (c.round, c.kind, c.role) p e).0 in omega arith
 in-time-recent life at (KeyReq r kind role) p two h e = let same : r ≡ p.0 = (parts-of (r, kind, role) p e).0 in omega arith
 in-time-recent life at (Key k) p two h e = let same : k.round ≡ p.0 = (parts-of (k.round, k.kind, k.role) p e).0 in omega arith
-in-time-recent life at _ p two h e = cc
+in-time-recent life at b p two h e = absurd (no-value (part_of b) p refl e)
 
 -- two tests that are the same on a list are so inside a third
 pub all-with : {X : Type 0} (f : X → Bool → Bool) (p q : X → Bool) (xs : List X) → AllByRecursion (λ x. p x ≡ q x) xs → AllByRecursion (λ x. f x (p x) ≡ f x (q x)) xs
@@ -153,7 +152,7 @@ module _ (me : Member) (one two : Knowledge) (same : AgreesWith me one two) wher
     row-same : (from to : ℕ) (b : Body) → is_row_met me one from to b ≡ is_row_met me two from to b
     row-same from to (Manifest r digests) = ap (λ n. nat_le r (n + 1) && is_alive me.session r n) (now me one two same)
     row-same from to (Block u block) =
-        (λ i. ((has_digest (digest_of (lists_of (same.manifests i)) u) block && not (holds one u)) && is_alive me.session u.round (this_round one)))
+        (λ i. ((has_digest (digest_of (same.table i) u) block && not (holds one u)) && is_alive me.session u.round (this_round one)))
         ∙ and_middle (has_digest (digest_of (table_of two) u) block) (not (holds one u)) (not (holds two u)) (is_alive me.session u.round (this_round one))
         (λ a b. ap (λ o. not (is_some o)) (same.blocks u (let m : this_round one < u.round + me.session.shape.life = ltb-true (this_round one) (u.round + me.session.shape.life) b in omega (arith, m))))
         ∙ ap (λ n. (has_digest (digest_of (table_of two) u) block && not (holds two u)) && is_alive me.session u.round n) (now me one two same)
@@ -162,7 +161,7 @@ module _ (me : Member) (one two : Knowledge) (same : AgreesWith me one two) wher
     row-same from to (Response r hb) =
         let x : Exchange = exchange_by r Balanced Responder from to in
         bounded (has_said_of one kinds.Request x Initiator && is_within (table_of one) hb) (has_said_of two kinds.Request x Initiator && is_within (table_of two) hb) (r + answer_deadline)
-        (λ b i. said-same kinds.Request x Initiator (soon-recent r b) i && is_within (lists_of (same.manifests i)) hb)
+        (λ b i. said-same kinds.Request x Initiator (soon-recent r b) i && is_within (same.table i) hb)
     row-same from to (Divulge r nonce ha) =
         let x : Exchange = exchange_by r Balanced Initiator from to in
         bounded ((meets_commitment me one x nonce ha && not (has_heard_of one kinds.Divulge x Initiator)) && is_within (table_of one) ha)
@@ -170,10 +169,10 @@ module _ (me : Member) (one two : Knowledge) (same : AgreesWith me one two) wher
         (λ b i.
         (option_map_or (λ c. bytes_eq c (commitment_of me.session x nonce ha)) (option_and_then commitment_in (option_map (λ d. d.message.body) (same.heard kinds.Request x Initiator (soon-recent r b) i))) false
         && not (heard-same kinds.Divulge x Initiator (soon-recent r b) i))
-        && is_within (lists_of (same.manifests i)) ha)
+        && is_within (same.table i) ha)
     row-same from to (Query r seed young aged) =
         (λ i.
-        ((offer_ok me.session.cap me.session.shape.life (lists_of (same.manifests i)) r young aged && (is_within (lists_of (same.manifests i)) young && is_within (lists_of (same.manifests i)) aged)) && nat_lt 0 (length (wanted_of me one young)))
+        ((offer_ok me.session.cap me.session.shape.life (same.table i) r young aged && (is_within (same.table i) young && is_within (same.table i) aged)) && nat_lt 0 (length (wanted_of me one young)))
         && may_ask me one Push from r seed)
         ∙ and_middle (offer_ok me.session.cap me.session.shape.life (table_of two) r young aged && (is_within (table_of two) young && is_within (table_of two) aged)) (nat_lt 0 (length (wanted_of me one young)))
         (nat_lt 0 (length (wanted_of me two young))) (may_ask me one Push from r seed)
@@ -183,7 +182,7 @@ module _ (me : Member) (one two : Knowledge) (same : AgreesWith me one two) wher
         let x : Exchange = exchange_by r Push Responder from to in
         bounded (option_map_or (terms_ok me.session (table_of one) x) (terms_with (option_and_then offer_in (body_said one kinds.Query x Initiator)) want give junk) false)
         (option_map_or (terms_ok me.session (table_of two) x) (terms_with (option_and_then offer_in (body_said two kinds.Query x Initiator)) want give junk) false) (r + answer_deadline)
-        (λ b i. option_map_or (terms_ok me.session (lists_of (same.manifests i)) x) (terms_with (option_and_then offer_in (option_map (λ d. d.message.body) (same.said kinds.Query x Initiator (soon-recent r b) i))) want give junk) false)
+        (λ b i. option_map_or (terms_ok me.session (same.table i) x) (terms_with (option_and_then offer_in (option_map (λ d. d.message.body) (same.said kinds.Query x Initiator (soon-recent r b) i))) want give junk) false)
     row-same from to (Case c) =
         let x : Exchange = exchange_by c.round c.kind c.role from to in
         bounded ((has_said_of one kinds.Case x (other_role c.role) && are_terms c.terms (terms_of me one x)) && counts_ok me.session c) ((has_said_of two kinds.Case x (other_role c.role) && are_terms c.terms (terms_of me two x)) && counts_ok me.session c) (c.round + answer_deadline)
@@ -210,7 +209,7 @@ module _ (me : Member) (one two : Knowledge) (same : AgreesWith me one two) wher
     named-same m signed time = go (part_of m.body) refl
       where
         alone : (b : Body) → is_named_again one None b ≡ is_named_again two None b
-        alone (Manifest r ds) = λ i. is_some (same.manifests i r)
+        alone (Manifest r ds) = same.listed r
         alone (Evict r ps) = same.evictions r
         alone _ = refl
 

@@ -18,7 +18,7 @@ use Rattle.bar_wire.specs.Kinds.{code_of}
 use Rattle.std.proofs.Common.{◌≡◌, ℕ, zero, suc, ◌+◌, ◌-◌, ◌*◌, ◌<◌, ◌≤◌, Bool, true, false, List, [], ◌∷◌, ◌++◌, length, map, refl, sym, ap, ◌∙◌, subst, inl, inr, ◌&&◌, eqb, arith}
 use Rattle.std.specs.Prelude.{Some, ◌⊎◌, option_map, unwrap_or, nat_le}
 use Rattle.std.specs.List.{AllByRecursion, IsDistinct, list_all, list_any}
-use Rattle.std.proofs.lemmas.Bool.{and_parts, or_cases, eqb-true, leb-true, both_ways}
+use Rattle.std.proofs.lemmas.Bool.{both_ways, and_parts, or_cases, eqb-true, leb-true, both_ways}
 use Rattle.std.proofs.lemmas.List.{length-map}
 use Rattle.std.proofs.lemmas.Map.Steps.{length-le_from_distinct_below}
 use Rattle.bar_laws.specs.Rooms.{Asking, Own, First, Second, Room, asking_of, room_of, is_kept, KeepsFew}
@@ -113,14 +113,14 @@ round-later log before later = let h : ticks before ≤ ticks log = subst (λ l.
 said-now : (me : Member) (before : Log) (to : ℕ) (b : Body) (k : XKind) → eqb (kind_number b) (code_of (request_kind k)) ≡ true → MaySay me (known me before) to b → round_of b ≡ round_now before
 said-now me before to (Request r s c) Balanced e rule = rule.now
 said-now me before to (Query r s y o) Push e rule = rule.now
-said-now me before to _ Balanced e rule = cc
-said-now me before to _ Push e rule = cc
+said-now me before to b Balanced e rule = absurd (both_ways (eqb (kind_number b) (code_of (request_kind Balanced))) refl e)
+said-now me before to b Push e rule = absurd (both_ways (eqb (kind_number b) (code_of (request_kind Push))) refl e)
 
 heard-near : (me : Member) (before : Log) (from to : ℕ) (b : Body) (k : XKind) → eqb (kind_number b) (code_of (request_kind k)) ≡ true → is_row_met me (known me before) from to b ≡ true → round_of b ≤ round_now before + 1
 heard-near me before from to (Request r s c) Balanced e row = leb-true r (round_now before + 1) (and_parts _ _ (and_parts _ _ row).1).0
 heard-near me before from to (Query r s y o) Push e row = leb-true r (round_now before + 1) (and_parts _ _ (and_parts _ _ (and_parts _ _ row).1).1).0
-heard-near me before from to _ Balanced e row = cc
-heard-near me before from to _ Push e row = cc
+heard-near me before from to b Balanced e row = absurd (both_ways (eqb (kind_number b) (code_of (request_kind Balanced))) refl e)
+heard-near me before from to b Push e row = absurd (both_ways (eqb (kind_number b) (code_of (request_kind Push))) refl e)
 
 asked-near : (me : Member) (log : Log) (x : Exchange) (role : Role) (a : Asking) → IsObedient me log → asking_of (known me log) x role ≡ Some a → x.round ≤ round_now log + 1
 asked-near me log x Initiator a h e =

@@ -31,7 +31,7 @@ use Rattle.std.specs.Prelude.{Option, Some, None, max, filter, ◌/◌, Contains
 use Rattle.std.specs.Bool.{then_some}
 use Rattle.std.specs.List.{list_all, AllByRecursion}
 use Rattle.std.proofs.lemmas.Bool.{and_parts, and_from, leb-true, le-leb}
-use Rattle.bar_laws.proofs.Logs.{IsEntry, IsFind, find-of, is_of-is, heard-fits, WasSpoken, spoken_in, first_on-was, all-take, all-filtered, updates_from-rounds}
+use Rattle.bar_laws.proofs.Logs.{no-value, IsEntry, IsFind, find-of, is_of-is, heard-fits, WasSpoken, spoken_in, first_on-was, all-take, all-filtered, updates_from-rounds}
 
 -- an update is alive in a round, or of a later one
 abbrev pub is_since : ℕ → ℕ → UpdateId → Bool
@@ -193,25 +193,25 @@ offered-body : (life round : ℕ) (b : Body) (q : List UpdateId × List UpdateId
 offered-body life round (Query r seed young aged) q w e =
     let same : (young, aged) ≡ q = cc in
     subst (λ z. InLife life round z.0 × InLife life round z.1) same (subst (λ z. InLife life z young × InLife life z aged) (w.at (r, Push, Initiator) refl) w.lives)
-offered-body life round _ q w e = cc
+offered-body life round b q w e = absurd (no-value (offer_in b) q refl e)
 
 taken-body : (life round : ℕ) (b : Body) (q : List UpdateId × List UpdateId × ℕ) → IsBodyOf life round b → reply_in b ≡ Some q → InLife life round q.0 × InLife life round q.1
 taken-body life round (Reply r want give junk) q w e =
     let same : (want, give, junk) ≡ q = cc in
     subst (λ (z : List UpdateId × List UpdateId × ℕ). InLife life round z.0 × InLife life round z.1) same (subst (λ z. InLife life z want × InLife life z give) (w.at (r, Push, Responder) refl) w.lives)
-taken-body life round _ q w e = cc
+taken-body life round b q w e = absurd (no-value (reply_in b) q refl e)
 
 answered-body : (life round : ℕ) (b : Body) (hb : List UpdateId) → IsBodyOf life round b → history_in b ≡ Some hb → InLife life round hb
 answered-body life round (Response r us) hb w e =
     let same : us ≡ hb = cc in
     subst (λ z. InLife life round z) same (subst (λ z. InLife life z us) (w.at (r, Balanced, Responder) refl) w.lives)
-answered-body life round _ hb w e = cc
+answered-body life round b hb w e = absurd (no-value (history_in b) hb refl e)
 
 divulged-body : (life round : ℕ) (b : Body) (a : List ℕ × List UpdateId) → IsBodyOf life round b → divulge_in b ≡ Some a → InLife life round a.1
 divulged-body life round (Divulge r nonce ha) a w e =
     let same : (nonce, ha) ≡ a = cc in
     subst (λ (z : List ℕ × List UpdateId). InLife life round z.1) same (subst (λ z. InLife life z ha) (w.at (r, Balanced, Initiator) refl) w.lives)
-divulged-body life round _ a w e = cc
+divulged-body life round b a w e = absurd (no-value (divulge_in b) a refl e)
 
 pub offered-in-life : (me : Member) (life : ℕ) (log : Log) (kind : Kind) (x : Exchange) (role : Role) (q : List UpdateId × List UpdateId) → LogInLife life log → option_and_then offer_in (body_on me (known me log) kind x role) ≡ Some q
     → InLife life x.round q.0 × InLife life x.round q.1

@@ -28,7 +28,7 @@ use Rattle.bar_laws.specs.Remembering.{Remembers, SaysAlike}
 use Rattle.bar_laws.specs.Rewriting.{body_again, written, IsRewritten}
 use Rattle.bar_laws.proofs.Memory.AgreeOrders.{signed-same, case-same}
 use Rattle.bar_laws.proofs.Memory.InLife.{obedient-in-life}
-use Rattle.bar_laws.proofs.Logs.{first_heard-was, parts-of}
+use Rattle.bar_laws.proofs.Logs.{some-equal, first_heard-was, parts-of}
 use Rattle.bar_laws.proofs.Memory.Rewritten.{rewritten}
 
 -- what the first knows, with the seats, commitments and blocks of the second
@@ -38,7 +38,8 @@ mixed one two = record one { block = two.block; revealed = two.revealed; seat = 
 mixed-agrees : (me : Member) (log : Log) (two : Knowledge) → Remembers me (known me log) two → AgreesWith me (known me log) (mixed (known me log) two)
 mixed-agrees me log two same = record {
   time = refl;
-  manifests = refl;
+  table = refl;
+  listed = λ round. refl;
   evictions = λ round. refl;
   announced = λ party. refl;
   evidence = λ party. refl;
@@ -71,9 +72,6 @@ again-round me k kind x b p e f = go kind e
     go kinds.Case q = mapped (case_body me k x) (terms_of me k x) (λ a z. sym (parts-of (x.round, x.kind, role_of me x) p z).0) q
     go kinds.Key q = let same : key_body me x ≡ b = cc in sym (parts-of (x.round, x.kind, role_of me x) p (ap part_of same ∙ f)).0
     go _ q = cc
-
-some-one : (d c : Datagram) → ◌≡◌ {A = Option Datagram} (Some d) (Some c) → d ≡ c
-some-one d c e = cc
 
 mapped-self : (o : Option Datagram) → option_map (λ d. d) o ≡ o
 mapped-self (Some d) = refl
@@ -157,7 +155,7 @@ module _ (me : Member) (log : Log) (two : Knowledge) (h : IsObedient me log) (li
 
   says-alike : SaysAlike me (known me log) two
   says-alike = record {
-    said = λ kind x role r. (let s = by-both (λ d. d) kind x role (recent-by kind x r) (λ d c e g. some-one d c (sym (mine.same kind x d e) ∙ written-alike kind x r ∙ same.written.same kind x c g)) in sym (mapped-self _) ∙ s ∙ mapped-self _);
+    said = λ kind x role r. (let s = by-both (λ d. d) kind x role (recent-by kind x r) (λ d c e g. some-equal d c (sym (mine.same kind x d e) ∙ written-alike kind x r ∙ same.written.same kind x c g)) in sym (mapped-self _) ∙ s ∙ mapped-self _);
     promises = λ x role r.
         by-both promised_by kinds.Case x role r
         (λ d c e g. promised-one me (known me log) x d (mine.same kinds.Case x d e) ∙ ap (option_map (λ t. (t, role_of me x))) (terms-alike x r) ∙ sym (promised-one me two x c (same.written.same kinds.Case x c g)));

@@ -77,7 +77,7 @@ request-again me log x d (Request r seed c) h s i e k =
     let commits : c ≡ commitment_of me.session x a.0.0 a.0.1 = commits-revealed me log d x r seed c a.0 h word e a.1 in
     ap (option_map (λ (z : List ℕ × List UpdateId). Request x.round (seed_of me x.round) (commitment_of me.session x z.0 z.1))) a.1
     ∙ (λ j. Some (Request (sym names.0 j) ((ap (seed_of me) (sym names.0) ∙ sym rule.seeded) j) (sym commits j)))
-request-again me log x d _ h s i e k = cc
+request-again me log x d b h s i e k = absurd (both_ways (eqb (kind_number b) 3) refl k)
 
 query-again : (me : Member) (log : Log) (x : Exchange) (d : Datagram) (b : Body) → IsSaying me log x (role_of me x) d → first_said (is_of kinds.Query x (role_of me x)) log ≡ Some d → d.message.body ≡ b → eqb (kind_number b) 6 ≡ true
     → body_again me (known me log) kinds.Query x ≡ Some b
@@ -87,7 +87,7 @@ query-again me log x d (Query r seed young aged) s f e k =
     let rule = subst (λ z. MaySay me (known me s.was.before) d.message.to z) e s.sign.rule in
     ap (λ o. option_map (λ (q : List UpdateId × List UpdateId). Query x.round (seed_of me x.round) q.0 q.1) (option_and_then offer_in o)) told
     ∙ (λ j. Some (Query (sym names.0 j) ((ap (seed_of me) (sym names.0) ∙ sym rule.seeded) j) young aged))
-query-again me log x d _ s f e k = cc
+query-again me log x d b s f e k = absurd (both_ways (eqb (kind_number b) 6) refl k)
 
 response-again : (me : Member) (log : Log) (x : Exchange) (d : Datagram) (b : Body) → IsSaying me log x (role_of me x) d → first_said (is_of kinds.Response x (role_of me x)) log ≡ Some d → d.message.body ≡ b → eqb (kind_number b) 4 ≡ true
     → body_again me (known me log) kinds.Response x ≡ Some b
@@ -95,7 +95,7 @@ response-again me log x d (Response r hb) s f e k =
     let names = parts-of (r, Balanced, Responder) (x.round, x.kind, role_of me x) (sym (ap part_of e) ∙ s.part) in
     let told : body_on me (known me log) kinds.Response x Responder ≡ Some (Response r hb) = own-body me log kinds.Response x Responder d names.2 f ∙ ap Some e in
     ap (λ o. option_map (λ us. Response x.round us) (option_and_then history_in o)) told ∙ (λ j. Some (Response (sym names.0 j) hb))
-response-again me log x d _ s f e k = cc
+response-again me log x d b s f e k = absurd (both_ways (eqb (kind_number b) 4) refl k)
 
 reply-again : (me : Member) (log : Log) (x : Exchange) (d : Datagram) (b : Body) → IsSaying me log x (role_of me x) d → first_said (is_of kinds.Reply x (role_of me x)) log ≡ Some d → d.message.body ≡ b → eqb (kind_number b) 7 ≡ true
     → body_again me (known me log) kinds.Reply x ≡ Some b
@@ -104,7 +104,7 @@ reply-again me log x d (Reply r want give junk) s f e k =
     let told : body_on me (known me log) kinds.Reply x Responder ≡ Some (Reply r want give junk) = own-body me log kinds.Reply x Responder d names.2 f ∙ ap Some e in
     ap (λ o. option_map (λ (t : List UpdateId × List UpdateId × ℕ). Reply x.round t.0 t.1 t.2) (option_and_then reply_in o)) told
     ∙ (λ j. Some (Reply (sym names.0 j) want give junk))
-reply-again me log x d _ s f e k = cc
+reply-again me log x d b s f e k = absurd (both_ways (eqb (kind_number b) 7) refl k)
 
 -- a member is on its own side
 own-party : (me : Member) (x : Exchange) (to : ℕ) → exchange_by x.round x.kind (role_of me x) me.party to ≡ x → party_on x (role_of me x) ≡ me.party
@@ -169,7 +169,7 @@ case-again me log x d (Case c) s e k =
       terms = c.terms;
       cipher = sym cipher i;
     }
-case-again me log x d _ s e k = cc
+case-again me log x d b s e k = absurd (both_ways (eqb (kind_number b) 8) refl k)
 
 key-again : (me : Member) (log : Log) (x : Exchange) (d : Datagram) (b : Body) → IsSaying me log x (role_of me x) d → d.message.body ≡ b → eqb (kind_number b) 10 ≡ true → body_again me (known me log) kinds.Key x ≡ Some b
 key-again me log x d (Key g) s e k =
@@ -178,7 +178,7 @@ key-again me log x d (Key g) s e k =
     let named : exchange_by g.round g.kind g.role me.party d.message.to ≡ x = (λ i. exchange_by (names.0 i) (names.1 i) (names.2 i) me.party d.message.to) ∙ s.exchange in
     let key : g.key ≡ briefcase_key me x (role_of me x) = rule.key ∙ (λ i. briefcase_key me (named i) (names.2 i)) in
     (λ i. Some (Key (record { round = sym names.0 i; kind = sym names.1 i; role = sym names.2 i; key = sym key i })))
-key-again me log x d _ s e k = cc
+key-again me log x d b s e k = absurd (both_ways (eqb (kind_number b) 10) refl k)
 
 -- ---- each kind
 

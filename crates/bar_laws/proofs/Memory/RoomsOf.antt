@@ -28,7 +28,7 @@ use Rattle.std.specs.Option.{option_map_or}
 use Rattle.std.specs.Str.{bytes_eq}
 use Rattle.std.proofs.lemmas.Bool.{and_parts, eqb-true}
 use Rattle.bar_laws.specs.Rooms.{Asking, Own, Room, asking_at, asking_of, room_of, AreInRooms}
-use Rattle.bar_laws.proofs.Logs.{allowed-at, is_of-is, IsOwn, heard-own, WasHeard, IsLater, later-entry, find-later, map-later, then-later, first_said-was, first_heard-was, some-is, parts-of, IsSaying, names-exchange, saying, is_of-part, receiver-role, admitted-row}
+use Rattle.bar_laws.proofs.Logs.{no-value, allowed-at, is_of-is, IsOwn, heard-own, WasHeard, IsLater, later-entry, find-later, map-later, then-later, first_said-was, first_heard-was, some-is, parts-of, IsSaying, names-exchange, saying, is_of-part, receiver-role, admitted-row}
 use Rattle.bar_laws.proofs.Runs.{said-more, heard-more, Placed, placed, seat-of, seat-few, begun-in, one-request, seat-unique}
 
 -- ---- an exchange whose request was said or admitted has a room
@@ -142,7 +142,7 @@ row-placed me before from to (KeyReq r k role) p h own other e row =
 row-placed me before from to (Key g) p h own other e row =
     placed-by me before 10 (g.round, g.kind, g.role) p from to e
     (said-placed me before kinds.Case (exchange_by g.round g.kind g.role from to) (other_role g.role) h (and_parts _ _ (and_parts _ _ row).0).0)
-row-placed me before from to _ p h own other e row = cc
+row-placed me before from to b p h own other e row = absurd (no-value (part_of b) p refl e)
 
 heard-placed : (me : Member) (log : Log) (kind : Kind) (x : Exchange) (role : Role) → IsObedient me log → has_heard_of (known me log) kind x role ≡ true → HasRoom me log x
 heard-placed me log kind x role h e =

@@ -267,30 +267,30 @@ exchange-parts x y a b c d = rw (a, b, c, d) (same_exchange_refl x)
 -- another request of the round went to the same partner
 ask-twin : (me : Member) (log before : Log) (x : Exchange) (k : XKind) (n : Message) → IsRequest me log x → x.kind ≡ k → MaySign me before n
     → bytes_eq (identity_of n) (identity_of (message_to me x (ask_body me (known me log) x k))) ≡ true → is_of (request_kind k) x Initiator n ≡ true
-ask-twin me log before x Balanced n q k sign e = go n.body sign.rule e
+ask-twin me log before x Balanced n q k sign e = go n.body (and_parts _ _ e).0 sign.rule e
   where
-    go : (b : Body) → MaySay me (known me before) n.to b → bytes_eq (kind_number b ∷ named b n.from n.to) (3 ∷ me.party ∷ x.round ∷ []) ≡ true
+    go : (b : Body) → eqb (kind_number b) 3 ≡ true → MaySay me (known me before) n.to b → bytes_eq (kind_number b ∷ named b n.from n.to) (3 ∷ me.party ∷ x.round ∷ []) ≡ true
         → (eqb (kind_number b) 3 && option_map_or (is_place x Initiator) (option_map (place_by n.from n.to) (part_of b)) false) ≡ true
-    go (Request r seed c) rule e =
+    go (Request r seed c) number rule e =
         let a = and_parts _ _ e in
         let b = and_parts _ _ a.1 in
         let from : n.from ≡ me.party = eqb-true _ _ a.0 in
         let round : r ≡ x.round = eqb-true _ _ b.0 in
         let to : n.to ≡ x.responder = rule.chosen ∙ ap (λ z. partner_of me.session z Balanced me.party) rule.seeded ∙ ap (λ z. partner_of me.session (seed_of me z) Balanced me.party) round ∙ sym (subst (λ z. x.responder ≡ partner_of me.session (seed_of me x.round) z me.party) k q.chosen) in
         and_from _ _ (exchange-parts x (exchange_by r Balanced Initiator n.from n.to) round (sym k) (from ∙ sym q.mine) to) refl
-    go _ rule e = cc
-ask-twin me log before x Push n q k sign e = go n.body sign.rule e
+    go b number rule e = absurd (both_ways (eqb (kind_number b) 3) refl number)
+ask-twin me log before x Push n q k sign e = go n.body (and_parts _ _ e).0 sign.rule e
   where
-    go : (b : Body) → MaySay me (known me before) n.to b → bytes_eq (kind_number b ∷ named b n.from n.to) (6 ∷ me.party ∷ x.round ∷ []) ≡ true
+    go : (b : Body) → eqb (kind_number b) 6 ≡ true → MaySay me (known me before) n.to b → bytes_eq (kind_number b ∷ named b n.from n.to) (6 ∷ me.party ∷ x.round ∷ []) ≡ true
         → (eqb (kind_number b) 6 && option_map_or (is_place x Initiator) (option_map (place_by n.from n.to) (part_of b)) false) ≡ true
-    go (Query r seed young aged) rule e =
+    go (Query r seed young aged) number rule e =
         let a = and_parts _ _ e in
         let b = and_parts _ _ a.1 in
         let from : n.from ≡ me.party = eqb-true _ _ a.0 in
         let round : r ≡ x.round = eqb-true _ _ b.0 in
         let to : n.to ≡ x.responder = rule.chosen ∙ ap (λ z. partner_of me.session z Push me.party) rule.seeded ∙ ap (λ z. partner_of me.session (seed_of me z) Push me.party) round ∙ sym (subst (λ z. x.responder ≡ partner_of me.session (seed_of me x.round) z me.party) k q.chosen) in
         and_from _ _ (exchange-parts x (exchange_by r Push Initiator n.from n.to) round (sym k) (from ∙ sym q.mine) to) refl
-    go _ rule e = cc
+    go b number rule e = absurd (both_ways (eqb (kind_number b) 6) refl number)
 
 once-ask : (me : Member) (log : Log) (x : Exchange) → IsObedient me log → IsRequest me log x → first_said (is_of (request_kind x.kind) x Initiator) log ≡ None
     → has_said (has_same_identity (message_to me x (ask_body me (known me log) x x.kind))) log ≡ false

@@ -25,7 +25,7 @@ use Rattle.std.proofs.Common.{◌≡◌, ℕ, ◌<◌, ◌≤◌, ◌^◌, ◌*�
 use Rattle.std.specs.Prelude.{Option, Some, None, ◌⊎◌, is_some, option_map, unwrap_or, if◌then◌else◌}
 use Rattle.std.specs.Option.{option_map_or}
 use Rattle.std.proofs.lemmas.Bool.{and_parts, ltb-true}
-use Rattle.bar_laws.proofs.Logs.{option_or-cases, allowed-at, admitted-row, party-on, kind-on, is_of-is, is_of-own, terms-said, role-own, sign-elsewhere, CaseMoment, case-moment, leaves_few, peers_named, WasSaid, later-entry, some-is, heard_in-is, first_said-was, said-rule, parts-of, part-round, said-found, same_exchange-is, SaidIn, said-in, unique}
+use Rattle.bar_laws.proofs.Logs.{other-kind, option_or-cases, allowed-at, admitted-row, party-on, kind-on, is_of-is, is_of-own, terms-said, role-own, sign-elsewhere, CaseMoment, case-moment, leaves_few, peers_named, WasSaid, later-entry, some-is, heard_in-is, first_said-was, said-rule, parts-of, part-round, said-found, same_exchange-is, SaidIn, said-in, unique}
 use Rattle.bar_laws.proofs.Runs.Obeys.{said-more, heard-more}
 use Rattle.bar_laws.proofs.Runs.Seats.{new-seat, seat-unique}
 
@@ -46,18 +46,19 @@ seat-of (e ∷ log) x h = go (first_heard p log) (seat log x) (if_passes p (hear
     go None None None k h = cc
 
 seat-row : (me : Member) (before : Log) (x : Exchange) (from to : ℕ) (b : Body) (k : XKind)
+    → kind_number b ≡ code_of (request_kind k)
     → (eqb (kind_number b) (code_of (request_kind k)) && option_map_or (is_place x Initiator) (option_map (place_by from to) (part_of b)) false) ≡ true
     → is_row_met me (known me before) from to b ≡ true → count_heard (has_kind_and_round (request_kind k) x.round) before < seats_a_round
-seat-row me before x from to (Request r s c) Balanced e row =
+seat-row me before x from to (Request r s c) Balanced n e row =
     let same : exchange_by r Balanced Initiator from to ≡ x = same_exchange-is (exchange_by r Balanced Initiator from to) x (and_parts _ _ e).0 in
     let round : r ≡ x.round = ap (λ (z : Exchange). z.round) same in
     subst (λ z. count_heard (has_kind_and_round kinds.Request z) before < seats_a_round) round (ltb-true _ _ (and_parts _ _ (and_parts _ _ row).0).1)
-seat-row me before x from to (Query r s y o) Push e row =
+seat-row me before x from to (Query r s y o) Push n e row =
     let same : exchange_by r Push Initiator from to ≡ x = same_exchange-is (exchange_by r Push Initiator from to) x (and_parts _ _ e).0 in
     let round : r ≡ x.round = ap (λ (z : Exchange). z.round) same in
     subst (λ z. count_heard (has_kind_and_round kinds.Query z) before < seats_a_round) round (ltb-true _ _ (and_parts _ _ (and_parts _ _ (and_parts _ _ row).1).0).1)
-seat-row me before x from to _ Balanced e row = cc
-seat-row me before x from to _ Push e row = cc
+seat-row me before x from to b Balanced n e row = absurd (other-kind b (request_kind Balanced) refl n)
+seat-row me before x from to b Push n e row = absurd (other-kind b (request_kind Push) refl n)
 
 -- the seat is that of the request's admission
 pub seat-few : (me : Member) (log : Log) (x : Exchange) (n : ℕ) → IsObedient me log → seat log x ≡ Some n → n < seats_a_round
@@ -67,7 +68,7 @@ seat-few me (e ∷ log) x n h s = go (option_or-cases (seat log x) _ n s) (seat-
     heard : (d : Datagram) → heard_in e ≡ Some d → is_of (request_kind x.kind) x Initiator d.message ≡ true → n ≡ count_heard (has_kind_and_round (request_kind x.kind) x.round) log → n < seats_a_round
     heard d f k c =
         let al : Allows me log (Heard d) = subst (λ y. Allows me log y) (heard_in-is e d f) h.0 in
-        rw c (seat-row me log x d.message.from d.message.to d.message.body x.kind k (admitted-row me log d al.0))
+        rw c (seat-row me log x d.message.from d.message.to d.message.body x.kind (is_of-is (request_kind x.kind) x Initiator d.message k).number k (admitted-row me log d al.0))
 
     go : (seat log x ≡ Some n) ⊎ ((seat log x ≡ None) × (seat_in log x e ≡ Some n)) → (seat log x ≡ Some n → n < seats_a_round) → n < seats_a_round
     go (inl p) f = f p
@@ -121,22 +122,23 @@ first-asked me log r k to h e = at (some-is _ e)
     x = exchange_by r k Responder me.party to
 
     answer : (d : Datagram) (before : Log) → d.message.from ≡ me.party → (b : Body) (k' : XKind) → MaySay me (known me before) d.message.to b
+        → kind_number b ≡ code_of (answer_kind k')
         → (eqb (kind_number b) (code_of (answer_kind k')) && option_map_or (is_place x Responder) (option_map (place_by d.message.from d.message.to) (part_of b)) false) ≡ true
         → has_heard (is_of (request_kind k') x Initiator) before ≡ true
-    answer d before mine (Response q hb) Balanced rule i =
+    answer d before mine (Response q hb) Balanced rule n i =
         let same : exchange_by q Balanced Responder d.message.from d.message.to ≡ x = same_exchange-is (exchange_by q Balanced Responder d.message.from d.message.to) x (and_parts _ _ i).0 in
         subst (λ y. has_heard (is_of kinds.Request y Initiator) before ≡ true) (ap (λ z. exchange_by q Balanced Responder z d.message.to) (sym mine) ∙ same) rule.asked
-    answer d before mine (Reply q a g z) Push rule i =
+    answer d before mine (Reply q a g z) Push rule n i =
         let same : exchange_by q Push Responder d.message.from d.message.to ≡ x = same_exchange-is (exchange_by q Push Responder d.message.from d.message.to) x (and_parts _ _ i).0 in
         subst (λ y. has_heard (is_of kinds.Query y Initiator) before ≡ true) (ap (λ z. exchange_by q Push Responder z d.message.to) (sym mine) ∙ same) rule.asked
-    answer d before mine _ Balanced rule i = cc
-    answer d before mine _ Push rule i = cc
+    answer d before mine b Balanced rule n i = absurd (other-kind b (answer_kind Balanced) refl n)
+    answer d before mine b Push rule n i = absurd (other-kind b (answer_kind Push) refl n)
 
     at : (d : Datagram) × (first_said (is_of (answer_kind k) x Responder) log ≡ Some d) → has_heard (is_of (request_kind k) x Initiator) log ≡ true
     at g =
         let was = first_said-was (is_of (answer_kind k) x Responder) log g.0 g.1 in
         let sign = (said-rule me log g.0 was.0 h).rule in
-        heard-more (is_of (request_kind k) x Initiator) log was.0.before (later-entry log was.0.before (Said g.0) was.0.place) (answer g.0 was.0.before sign.mine g.0.message.body k sign.rule was.1)
+        heard-more (is_of (request_kind k) x Initiator) log was.0.before (later-entry log was.0.before (Said g.0) was.0.place) (answer g.0 was.0.before sign.mine g.0.message.body k sign.rule (is_of-is (answer_kind k) x Responder g.0.message was.1).number was.1)
 
 -- ---- a message that may be signed
 
@@ -203,27 +205,31 @@ one-request me log r k s t h a b = go k a b
         let was = first_said-was (is_of (request_kind k) (exchange_by r k Initiator me.party u) Initiator) log g.0 g.1 in
         (g.0, said-in log g.0 was.0, was.1)
 
-    parts : (k : XKind) (u : ℕ) (m : Message) (b : Body) → (eqb (kind_number b) (code_of (request_kind k)) && option_map_or (is_place (exchange_by r k Initiator me.party u) Initiator) (option_map (place_by m.from m.to) (part_of b)) false) ≡ true
+    number : (k : XKind) (u : ℕ) (m : Message) → is_of (request_kind k) (exchange_by r k Initiator me.party u) Initiator m ≡ true → kind_number m.body ≡ code_of (request_kind k)
+    number k u m e = (is_of-is (request_kind k) (exchange_by r k Initiator me.party u) Initiator m e).number
+
+    parts : (k : XKind) (u : ℕ) (m : Message) (b : Body) → kind_number b ≡ code_of (request_kind k)
+        → (eqb (kind_number b) (code_of (request_kind k)) && option_map_or (is_place (exchange_by r k Initiator me.party u) Initiator) (option_map (place_by m.from m.to) (part_of b)) false) ≡ true
         → (kind_number b ∷ named b m.from m.to ≡ code_of (request_kind k) ∷ me.party ∷ r ∷ []) × (m.to ≡ u)
-    parts Balanced u m (Request q x c) e =
+    parts Balanced u m (Request q x c) n e =
         let same : exchange_by q Balanced Initiator m.from m.to ≡ exchange_by r Balanced Initiator me.party u = same_exchange-is (exchange_by q Balanced Initiator m.from m.to) (exchange_by r Balanced Initiator me.party u) (and_parts _ _ e).0 in
         let from : m.from ≡ me.party = ap (λ (z : Exchange). z.initiator) same in
         let round : q ≡ r = ap (λ (z : Exchange). z.round) same in
-        (rw (from, round) refl, ap (λ (z : Exchange). z.responder) same)
-    parts Push u m (Query q x y o) e =
+        ((λ i. code_of kinds.Request ∷ from i ∷ round i ∷ []), ap (λ (z : Exchange). z.responder) same)
+    parts Push u m (Query q x y o) n e =
         let same : exchange_by q Push Initiator m.from m.to ≡ exchange_by r Push Initiator me.party u = same_exchange-is (exchange_by q Push Initiator m.from m.to) (exchange_by r Push Initiator me.party u) (and_parts _ _ e).0 in
         let from : m.from ≡ me.party = ap (λ (z : Exchange). z.initiator) same in
         let round : q ≡ r = ap (λ (z : Exchange). z.round) same in
-        (rw (from, round) refl, ap (λ (z : Exchange). z.responder) same)
-    parts Balanced u m _ e = cc
-    parts Push u m _ e = cc
+        ((λ i. code_of kinds.Query ∷ from i ∷ round i ∷ []), ap (λ (z : Exchange). z.responder) same)
+    parts Balanced u m b n e = absurd (other-kind b (request_kind Balanced) refl n)
+    parts Push u m b n e = absurd (other-kind b (request_kind Push) refl n)
 
     go : (k : XKind) → IsBegun log r k Initiator me.party s → IsBegun log r k Initiator me.party t → s ≡ t
     go k a b =
         let d = request k s a in
         let e = request k t b in
-        let x = parts k s d.0.message d.0.message.body d.2 in
-        let y = parts k t e.0.message e.0.message.body e.2 in
+        let x = parts k s d.0.message d.0.message.body (number k s d.0.message d.2) d.2 in
+        let y = parts k t e.0.message e.0.message.body (number k t e.0.message e.2) e.2 in
         let same : d.0 ≡ e.0 = unique me log d.0 e.0 h d.1 e.1 (x.0 ∙ sym y.0) in
         sym x.1 ∙ ap (λ z. z.message.to) same ∙ y.1
 

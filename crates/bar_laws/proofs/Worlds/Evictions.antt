@@ -12,16 +12,16 @@ use Rattle.bar_rules.specs.Judge.Verdict.{Shown, NotShown, Malformed, NotSigned,
 use Rattle.bar_rules.specs.World.World.{World, member, AllGenuine, Setup}
 use Rattle.bar_terms.specs.Table.{Table, Agrees}
 use Rattle.bar_wire.specs.Datagram.{Datagram, Body, Request, Response, Query, Reply, Case, Key, is_signed, Manifest}
-use Rattle.std.proofs.Common.{◌≡◌, ℕ, Bool, true, false, List, [], ◌∷◌, refl, sym, ap, ◌∙◌, subst, ◌&&◌, eqb}
+use Rattle.std.proofs.Common.{is_some, ◌≡◌, ℕ, Bool, true, false, List, [], ◌∷◌, refl, sym, ap, ◌∙◌, subst, ◌&&◌, eqb}
 use Rattle.std.specs.Prelude.{Option, Some, None, slice_get, option_map, option_and_then, if◌then◌else◌, not}
 use Rattle.std.specs.List.{AllByRecursion, list_all}
-use Rattle.std.proofs.lemmas.Bool.{and_parts, eqb-true}
+use Rattle.std.proofs.lemmas.Bool.{both_ways, and_parts, eqb-true}
 use Rattle.bar_laws.proofs.Worlds.SoundWorlds.{IsSound}
 use Rattle.std.proofs.Common.{inl, inr}
 use Rattle.std.specs.Prelude.{◌⊎◌, nat_le, cond}
 use Rattle.std.specs.Bool.{then_some}
 use Rattle.bar_laws.proofs.Runs.{heard-in, HeardIn}
-use Rattle.bar_laws.proofs.Logs.{SaidIn, option_or-cases, IsEntry, IsFind, find-of, allowed-at, first_heard-was, IsLater, later-entry, table-later, heard-fits}
+use Rattle.bar_laws.proofs.Logs.{no-value, SaidIn, option_or-cases, IsEntry, IsFind, find-of, allowed-at, first_heard-was, IsLater, later-entry, table-later, heard-fits}
 use Rattle.bar_laws.proofs.Fitting.{IsFair, IsOwnBody}
 use Rattle.bar_wire.specs.Grammar.{IsDatagram, MaySend}
 use Rattle.bar_wire.specs.Datagram.{kind_of}
@@ -62,7 +62,7 @@ peer-signed (Query r s y o) e = refl
 peer-signed (Reply r w g z) e = refl
 peer-signed (Case c) e = refl
 peer-signed (Key k) e = refl
-peer-signed _ e = cc
+peer-signed b e = absurd (both_ways (is_peer_kind b) refl e)
 
 -- genuine evidence of a trusted party is made of what it said
 all-said : (setup : Setup) (trusted : ℕ → Bool) (w : World) (q : ℕ) (log : Log) (ev : List (List ℕ)) (ds : List Datagram) → trusted q ≡ true → slice_get w.logs q ≡ Some log → AllGenuine setup trusted w ev
@@ -97,8 +97,7 @@ not-shown setup trusted w q log t ev f is sound n trust at agree g e =
     let peer : list_all (λ d. is_peer_kind d.message.body && eqb d.message.from q) s.datagrams ≡ true = subst (λ z. list_all (λ d. is_peer_kind d.message.body && eqb d.message.from z) s.datagrams ≡ true) s.sender s.peer in
     let said = all-said setup trusted w q log ev s.datagrams trust at g s.read peer s.signed in
     let none : fault_of setup.session t s.datagrams ≡ None = no-framing (member setup q) log t s.datagrams is ((sound.proper q log at).0 n) agree said in
-    let some : fault_of setup.session t s.datagrams ≡ Some f = s.fault in
-    cc
+    no-value (fault_of setup.session t s.datagrams) f (ap is_some none) s.fault
 
 -- ---- tables
 
@@ -108,7 +107,7 @@ list-heard log r ds e = at (manifest log r) refl e
   where
     body : (b : Body) → is_manifest_of r b ≡ true → digests_in b ≡ Some ds → b ≡ Manifest r ds
     body (Manifest q es) g f = let round : q ≡ r = eqb-true q r g in let same : es ≡ ds = cc in (λ i. Manifest (round i) (same i))
-    body _ g f = cc
+    body b g f = absurd (both_ways (is_manifest_of r b) refl g)
 
     at : (o : Option Datagram) → manifest log r ≡ o → option_and_then (λ d. digests_in d.message.body) o ≡ Some ds → (d : Datagram) × HeardIn log d × (d.message.body ≡ Manifest r ds)
     at None m f = cc

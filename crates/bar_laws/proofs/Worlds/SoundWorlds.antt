@@ -2,7 +2,7 @@
 use Rattle.bar_rules.specs.Broadcaster.Sending.{caster_step}
 use Rattle.bar_wire.specs.Bodies.{evidence_in}
 use Rattle.bar_rules.specs.Peer.Knowledge.{known}
-use Rattle.bar_rules.specs.Peer.Log.{kept, kept_in, Log, Entry, Ticked, Heard, Said, Kept, HasSaid}
+use Rattle.bar_rules.specs.Peer.Log.{heard_in, kept, kept_in, Log, Entry, Ticked, Heard, Said, Kept, HasSaid}
 use Rattle.bar_rules.specs.Member.{IsMember}
 use Rattle.bar_rules.specs.Peer.Rules.{IsObedient}
 use Rattle.bar_rules.specs.Peer.Run.{Out, step}
@@ -17,7 +17,7 @@ use Rattle.std.specs.Prelude.{Option, Some, None, ◌⊎◌, slice_get, slice_se
 use Rattle.std.specs.List.{AllByRecursion, concat}
 use Rattle.std.proofs.lemmas.Bool.{both_ways, ne_eqb}
 use Rattle.std.specs.Bool.{then_some}
-use Rattle.bar_laws.proofs.Logs.{option_or-cases, IsLater, said-rule, spells, fits-reads, SaidIn, was-said}
+use Rattle.bar_laws.proofs.Logs.{no-value, option_or-cases, IsLater, said-rule, spells, fits-reads, SaidIn, was-said}
 use Rattle.bar_laws.proofs.Runs.{Adds, AddedBy, SentBy, IsSource, HeardIn, came, step-adds, step-obedient}
 use Rattle.bar_laws.proofs.Fitting.{IsFair, IsOwnBody, IsOwnMessage, AreOwn, AllFit, IsCaster, own-inside, caster-casts, said-accepted, said-fits, step-fits}
 
@@ -183,7 +183,7 @@ module _ (setup : Setup) (trusted : ℕ → Bool) (w : World) (p : ℕ) (log : L
     where
       go : (x : Entry) → AddedBy (member setup p) log (came (member setup p) i) x → x ≡ Heard d → IsGenuine setup trusted w (datagram_bytes setup.session d)
       go (Heard c) b e = let same : c ≡ d = cc in (came-genuine d (subst (λ z. came (member setup p) i ≡ Some z) same b)).0
-      go _ b e = cc
+      go y b e = absurd (no-value (heard_in y) d refl (ap heard_in e))
   heard-new (x ∷ new) d a (inr h) = heard-new new d a.1 h
 
   sources : (e : List (List ℕ)) → AllByRecursion (IsSource (member setup p) log (came (member setup p) i)) e → AllGenuine setup trusted w e

@@ -1,5 +1,5 @@
 -- What a peer must still know: whatever agrees with it in this much gets the same replies.
-use Rattle.std.specs.Prelude.{◌≡◌, ℕ, ◌+◌, ◌-◌, ◌≤◌, true, Option, Some, option_map}
+use Rattle.std.specs.Prelude.{◌≡◌, ℕ, ◌+◌, ◌-◌, ◌≤◌, true, Option, Some, is_some, option_map}
 use Rattle.bar_window.specs.declared.update.UpdateId.{UpdateId}
 use Rattle.bar_window.specs.declared.exchange.Exchange.{Exchange}
 use Rattle.bar_window.specs.declared.exchange.Role.{Role}
@@ -10,7 +10,7 @@ use Rattle.bar_wire.specs.declared.kind.Kind.TheVariants as kinds
 use Rattle.bar_wire.specs.Datagram.{Datagram, is_of}
 use Rattle.bar_wire.specs.declared.kind.Kind.{Kind}
 use Rattle.bar_rules.specs.Member.{Session, Member}
-use Rattle.bar_rules.specs.Peer.Knowledge.{Knowledge, this_round, answer_deadline, deadline}
+use Rattle.bar_rules.specs.Peer.Knowledge.{Knowledge, table_of, this_round, answer_deadline, deadline}
 
 -- an exchange of this round may still be asked about
 abbrev pub IsRecent : Member → Knowledge → ℕ → Type 0
@@ -38,11 +38,13 @@ promised_by d = option_map (λ c. (c.terms, c.role)) (briefcase_in d.message.bod
 abbrev pub promise_of : Knowledge → Exchange → Role → Option (Option (Terms × Role))
 promise_of k x role = option_map promised_by (k.said kinds.Case x role)
 
--- The two agree in their ticks, manifests and evictions, in the evidence kept, in the blocks of fresh updates, in what was heard and
--- counted of recent rounds, and in what was said: whole while it may be sent again, and of a CASE by its terms afterwards.
+-- The two agree in their ticks, in the lists of their manifests and the rounds that have one, in evictions, in the evidence kept, in the
+-- blocks of fresh updates, in what was heard and counted of recent rounds, and in what was said: whole while it may be sent again, and of a
+-- CASE by its terms afterwards.
 pub record AgreesWith (me : Member) (one two : Knowledge) : Type 0 where
   pub time : one.ticks ≡ two.ticks
-  pub manifests : one.manifest ≡ two.manifest
+  pub table : table_of one ≡ table_of two
+  pub listed : (round : ℕ) → is_some (one.manifest round) ≡ is_some (two.manifest round)
   pub evictions : (round : ℕ) → one.has_evict round ≡ two.has_evict round
   pub announced : (party : ℕ) → one.is_announced party ≡ two.is_announced party
   pub evidence : (party : ℕ) → one.evidence party ≡ two.evidence party

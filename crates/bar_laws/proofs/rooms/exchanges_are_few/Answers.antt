@@ -1,8 +1,14 @@
 use Rattle.std.proofs.Common.{[]}
 use Rattle.bar_rules.specs.Peer.Run.{log_after}
-use Rattle.bar_laws.proofs.Memory.{keeps-few}
+use Rattle.bar_laws.proofs.Memory.{has-rooms, keeps-few}
 use Rattle.bar_laws.proofs.Runs.{run-obedient}
 use Rattle.bar_laws.proofs.rooms.exchanges_are_few.Goals as goal
+
+pub returns-clause-run_rooms : goal.returns-clause-run_rooms
+returns-clause-run_rooms c = λ me inputs. has-rooms me (log_after me [] inputs) (run-obedient me [] inputs tt)
+
+pub returns-clause-obedient_rooms : goal.returns-clause-obedient_rooms
+returns-clause-obedient_rooms c = has-rooms
 
 pub returns-clause-run : goal.returns-clause-run
 returns-clause-run c = λ me inputs. keeps-few me (log_after me [] inputs) (run-obedient me [] inputs tt)

@@ -1,5 +1,0 @@
-use Rattle.bar_laws.proofs.Memory.{totals-agree}
-use Rattle.bar_laws.proofs.agreement.agreeing_totals.Goals as goal
-
-pub returns : goal.returns
-returns c = totals-agree
