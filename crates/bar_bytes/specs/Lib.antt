@@ -4,3 +4,4 @@ pub mod Held
 pub mod Putting
 pub mod Written
 pub use Rattle.sha2.specs.Sha256
+pub mod Room

@@ -1,6 +1,6 @@
 //! Worked values, and each public call once.
 
-use crate::{Full, Reader, Short, Tagged, Writer};
+use crate::{Full, Reader, Room, Short, Tagged, Writer};
 use std::test::Fail;
 
 const BYTES: [u8; 20] = [
@@ -57,4 +57,16 @@ fn hashes_tag_id_and_fields(rt: HostRuntime) {
             0xa8, 0x02, 0x7f, 0x8e,
         ]
     );
+}
+
+#[test]
+fn a_room_keeps_what_came_last(rt: HostRuntime) -> Result<(), Fail> {
+    let mut room = Room::make(rt.alloc(), 4)?;
+    assert_eq!(rt; room.kept(), None);
+    room.keep(b"one");
+    room.keep(b"two");
+    assert_eq!(rt; room.kept(), Some(b"two".as_slice()));
+    room.empty();
+    assert_eq!(rt; room.kept(), None);
+    Ok(())
 }

@@ -2,6 +2,7 @@
 mod CasterAdds
 mod CasterFits
 mod MessageLengths
+mod Largest
 mod SaidFits
 mod EvidenceFits
 mod PeerFits
@@ -10,3 +11,4 @@ mod SignedAccepted
 pub use Rattle.bar_laws.proofs.Fitting.CasterAdds.{IsOwnMessage, IsBegun, IsOwnBody, IsFair, AreOwn, AllFit, IsCaster, own-inside, caster-casts}
 pub use Rattle.bar_laws.proofs.Fitting.PeerFits.{said-fits, step-fits}
 pub use Rattle.bar_laws.proofs.Fitting.SignedAccepted.{said-accepted}
+pub use Rattle.bar_laws.proofs.Fitting.Largest.{heard-largest}

@@ -15,7 +15,7 @@ mod HeardCame
 pub use Rattle.bar_laws.proofs.Judging.ShownStays.{verdict-stays}
 pub use Rattle.bar_laws.proofs.Judging.Accuses.{or-second}
 pub use Rattle.bar_laws.proofs.Judging.KeptEvidence.{named-shown, kept-shown, run-watchful}
-pub use Rattle.bar_laws.proofs.Judging.BadKeys.{HeardBriefcase, heard-briefcase, key-row, heard-signed, opens-badly-kept}
+pub use Rattle.bar_laws.proofs.Judging.BadKeys.{HeardBriefcase, heard-briefcase, key-row, heard-signed, heard-was, opens-badly-kept}
 pub use Rattle.bar_laws.proofs.Judging.OwnWordsAgree.{trade-of, offer-of, IsOwnWord, commits-revealed}
 pub use Rattle.bar_laws.proofs.Judging.PromisesHeld.{AllHeld, promise-held}
 pub use Rattle.bar_laws.proofs.Judging.WholeBlocks.{blocks-whole}

@@ -11,9 +11,7 @@ mod AgreeTicks
 mod AgreeTotals
 mod GoingOn
 mod Rewritten
-mod RoomsOf
 mod Remembered
-mod Few
 -- the lemmas that other groups may cite
 pub use Rattle.bar_laws.proofs.Memory.OpenList.{all-inserted}
 pub use Rattle.bar_laws.proofs.Memory.MachineImage.{runs-as-known, learned}
@@ -22,6 +20,4 @@ pub use Rattle.bar_laws.proofs.Memory.AgreeTicks.{answers-alike}
 pub use Rattle.bar_laws.proofs.Memory.AgreeTotals.{totals-agree}
 pub use Rattle.bar_laws.proofs.Memory.GoingOn.{goes-on}
 pub use Rattle.bar_laws.proofs.Memory.Rewritten.{rewritten}
-pub use Rattle.bar_laws.proofs.Memory.RoomsOf.{has-rooms}
 pub use Rattle.bar_laws.proofs.Memory.Remembered.{remembered}
-pub use Rattle.bar_laws.proofs.Memory.Few.{keeps-few}

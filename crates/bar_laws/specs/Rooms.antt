@@ -1,5 +1,5 @@
 -- Few exchanges: of each round a peer keeps `exchanges_a_round` at most, each in a room of its own.
-use Rattle.std.specs.Prelude.{◌≡◌, ℕ, zero, suc, ◌+◌, ◌*◌, ◌==◌, ◌&&◌, ◌≤◌, nat_le, Bool, true, List, length, Option, Some, None, is_some, option_map, option_and_then}
+use Rattle.std.specs.Prelude.{◌≡◌, ℕ, zero, suc, ◌+◌, ◌*◌, ◌==◌, ◌&&◌, ◌<◌, ◌≤◌, nat_le, Bool, true, false, List, ◌∷◌, ◌++◌, length, Option, Some, None, is_some, option_map, option_and_then}
 use Rattle.std.specs.Bool.{then_some}
 use Rattle.std.specs.List.{list_all, IsDistinct}
 use Rattle.bar_window.specs.Exchange.{same_exchange}
@@ -11,7 +11,7 @@ use Rattle.bar_wire.specs.Limits.{exchanges_a_round}
 use Rattle.bar_wire.specs.declared.kind.Kind.{Kind}
 use Rattle.bar_rules.specs.Peer.Exchanges.{role_of, request_kind}
 use Rattle.bar_rules.specs.Peer.Knowledge.{Knowledge, known, this_round, has_heard_of, has_said_of}
-use Rattle.bar_rules.specs.Peer.Log.{Log}
+use Rattle.bar_rules.specs.Peer.Log.{Log, Entry}
 use Rattle.bar_rules.specs.Member.{Member}
 use Rattle.bar_rules.specs.Peer.Rules.{IsObedient}
 use Rattle.bar_laws.specs.Always.{InEachLog}
@@ -62,6 +62,10 @@ LogHasRooms = (me : Member) (log : Log) → IsObedient me log → AreInRooms me 
 abbrev pub is_kept : Member → Knowledge → Exchange → Bool
 is_kept me k x = is_some (room_of me k x)
 
+-- one that is kept and may still be asked about
+abbrev pub is_recent : Member → Knowledge → Exchange → Bool
+is_recent me k x = nat_le (this_round k) (x.round + me.session.shape.life) && is_kept me k x
+
 -- Different exchanges of one round that are kept are `exchanges_a_round` at most. Those that may still be asked about are of
 -- the rounds from a life before this one to the next one: so they are at most as many for each of these rounds, of which there are two more
 -- than in a life.
@@ -70,8 +74,7 @@ pub record KeepsFew (me : Member) (k : Knowledge) : Type 0 where
       (round : ℕ) (xs : List Exchange) → IsDistinct same_exchange xs → list_all (λ x. (x.round == round) && is_kept me k x) xs ≡ true
       → length xs ≤ exchanges_a_round
   pub recent :
-      (xs : List Exchange) → IsDistinct same_exchange xs
-      → list_all (λ x. nat_le (this_round k) (x.round + me.session.shape.life) && is_kept me k x) xs ≡ true
+      (xs : List Exchange) → IsDistinct same_exchange xs → list_all (is_recent me k) xs ≡ true
       → length xs ≤ exchanges_a_round * (me.session.shape.life + 2)
 
 -- whatever comes
@@ -81,3 +84,21 @@ RunKeepsFew = InEachLog (λ me log. KeepsFew me (known me log))
 -- so it is of each log that keeps the rules
 abbrev pub LogKeepsFew : Type 0
 LogKeepsFew = (me : Member) (log : Log) → IsObedient me log → KeepsFew me (known me log)
+
+-- ---- room that is left
+
+-- Where an entry makes an exchange kept that wasn't, a room was left for it: different exchanges that were kept before the entry and may
+-- still be asked about are fewer than the rooms of those rounds.
+abbrev pub LeavesRoom : Member → Log → Entry → Type 0
+LeavesRoom me before e =
+    (x : Exchange) → is_kept me (known me before) x ≡ false → is_kept me (known me (e ∷ before)) x ≡ true
+    → (xs : List Exchange) → IsDistinct same_exchange xs → list_all (is_recent me (known me before)) xs ≡ true
+    → length xs < exchanges_a_round * (me.session.shape.life + 2)
+
+-- so it is of each entry, whatever comes
+abbrev pub RunLeavesRoom : Type 0
+RunLeavesRoom = InEachLog (λ me log. (new before : Log) (e : Entry) → log ≡ new ++ e ∷ before → LeavesRoom me before e)
+
+-- and of each entry that the rules allow
+abbrev pub LogLeavesRoom : Type 0
+LogLeavesRoom = (me : Member) (before : Log) (e : Entry) → IsObedient me (e ∷ before) → LeavesRoom me before e

@@ -16,3 +16,4 @@ pub mod Machine
 pub mod Run
 pub mod Listening
 pub mod Agreement
+pub mod Sizes

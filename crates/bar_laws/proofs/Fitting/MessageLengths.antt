@@ -30,7 +30,7 @@ pub length-u16 : (n : ℕ) → length (u16_bytes n) ≡ 2
 unfolding u16_bytes
 length-u16 n = refl
 
-length-u32 : (n : ℕ) → length (u32_bytes n) ≡ 4
+pub length-u32 : (n : ℕ) → length (u32_bytes n) ≡ 4
 unfolding u32_bytes
 length-u32 n = refl
 
@@ -85,7 +85,7 @@ fields-short s b form range e = absurd (both_ways (is_peer_kind b) refl e)
 
 -- ---- the datagram
 
-header-is : (s : Shape) (m : Message) → length (message_bytes s m) ≡ 16 + length (concat (pieces s m.body))
+pub header-is : (s : Shape) (m : Message) → length (message_bytes s m) ≡ 16 + length (concat (pieces s m.body))
 header-is s m =
     let id : length s.id ≡ 8 = s.shaped.id_long in
     simp (length-append, length-u16) (omega (arith, id))

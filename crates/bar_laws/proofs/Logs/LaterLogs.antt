@@ -36,7 +36,7 @@ if_passes-is p (Some c) d e = go (p c.message) refl e
     go true h e = (e, let same : c ≡ d = cc in subst (λ z. p z.message ≡ true) same h)
     go false h e = cc
 
-said_in-is : (e : Entry) (d : Datagram) → said_in e ≡ Some d → e ≡ Said d
+pub said_in-is : (e : Entry) (d : Datagram) → said_in e ≡ Some d → e ≡ Said d
 said_in-is (Said c) d e = cc
 said_in-is _ d e = cc
 

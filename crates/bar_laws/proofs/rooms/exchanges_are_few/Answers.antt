@@ -1,6 +1,8 @@
-use Rattle.std.proofs.Common.{[]}
+use Rattle.std.proofs.Common.{[], ◌∷◌, subst}
+use Rattle.bar_rules.specs.Peer.Rules.{IsObedient}
 use Rattle.bar_rules.specs.Peer.Run.{log_after}
-use Rattle.bar_laws.proofs.Memory.{has-rooms, keeps-few}
+use Rattle.bar_laws.proofs.Logs.{obedient-before}
+use Rattle.bar_laws.proofs.Keeping.{has-rooms, keeps-few, leaves-room}
 use Rattle.bar_laws.proofs.Runs.{run-obedient}
 use Rattle.bar_laws.proofs.rooms.exchanges_are_few.Goals as goal
 
@@ -15,3 +17,9 @@ returns-clause-run c = λ me inputs. keeps-few me (log_after me [] inputs) (run-
 
 pub returns-clause-obedient : goal.returns-clause-obedient
 returns-clause-obedient c = keeps-few
+
+pub returns-clause-run_left : goal.returns-clause-run_left
+returns-clause-run_left c = λ me inputs new before e split. leaves-room me before e (obedient-before me new (e ∷ before) (subst (λ l. IsObedient me l) split (run-obedient me [] inputs tt)))
+
+pub returns-clause-obedient_left : goal.returns-clause-obedient_left
+returns-clause-obedient_left c = leaves-room

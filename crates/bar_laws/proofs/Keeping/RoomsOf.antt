@@ -62,7 +62,7 @@ asking-later me log before x Initiator a later e = go (has_said (is_of (request_
     go false f g = cc
 asking-later me log before x Responder a later e = then-later asking_at (seat before x) (seat log x) a (λ n. find-later (λ before e. seat_in before x e) log before n later) e
 
-place-later : (me : Member) (log before : Log) (x : Exchange) → IsLater log before → HasRoom me before x → HasRoom me log x
+pub place-later : (me : Member) (log before : Log) (x : Exchange) → IsLater log before → HasRoom me before x → HasRoom me log x
 place-later me log before x later e =
     let p = some-is (room_of me (known me before) x) e in
     ap is_some (map-later (λ (a : Asking). record { kind = x.kind; asking = a }) (asking_of (known me before) x (role_of me x)) (asking_of (known me log) x (role_of me x)) p.0 (λ a. asking-later me log before x (role_of me x) a later) p.1)

@@ -1,7 +1,7 @@
 -- The exchanges that are kept are few: their rooms are.
 use Rattle.bar_rules.specs.Peer.Admission.{is_row_met}
 use Rattle.bar_rules.specs.Peer.Exchanges.{role_of, request_kind, seat, seat_in}
-use Rattle.bar_rules.specs.Peer.Knowledge.{known, this_round}
+use Rattle.bar_rules.specs.Peer.Knowledge.{known, this_round, request_deadline}
 use Rattle.bar_rules.specs.Peer.Log.{Log, Heard, Said, ticks, round_now, first_said, has_said}
 use Rattle.bar_rules.specs.Member.{Member}
 use Rattle.bar_rules.specs.Peer.Rules.{IsObedient, Allows}
@@ -23,7 +23,7 @@ use Rattle.std.proofs.lemmas.List.{length-map}
 use Rattle.std.proofs.lemmas.Map.Steps.{length-le_from_distinct_below}
 use Rattle.bar_laws.specs.Rooms.{Asking, Own, First, Second, Room, asking_of, room_of, is_kept, KeepsFew}
 use Rattle.bar_laws.proofs.Logs.{IsFind, find-of, allowed-at, round-of-exchange, IsLater, later-entry, first_said-was, heard_in-is, some-is, same_exchange_refl, admitted-row}
-use Rattle.bar_laws.proofs.Memory.RoomsOf.{own-said, asked-at, place-parts, has-rooms}
+use Rattle.bar_laws.proofs.Keeping.RoomsOf.{own-said, asked-at, place-parts, has-rooms}
 use Rattle.bar_laws.proofs.Runs.{new-seat}
 
 -- ---- different numbers below a bound are few
@@ -110,15 +110,20 @@ ticks-later (e ∷ new) before = let h = ticks-later new before in omega (arith,
 round-later : (log before : Log) → IsLater log before → round_now before ≤ round_now log
 round-later log before later = let h : ticks before ≤ ticks log = subst (λ l. ticks before ≤ ticks l) (sym later.split) (ticks-later later.new before) in omega (arith, h)
 
-said-now : (me : Member) (before : Log) (to : ℕ) (b : Body) (k : XKind) → eqb (kind_number b) (code_of (request_kind k)) ≡ true → MaySay me (known me before) to b → round_of b ≡ round_now before
+pub said-now : (me : Member) (before : Log) (to : ℕ) (b : Body) (k : XKind) → eqb (kind_number b) (code_of (request_kind k)) ≡ true → MaySay me (known me before) to b → round_of b ≡ round_now before
 said-now me before to (Request r s c) Balanced e rule = rule.now
 said-now me before to (Query r s y o) Push e rule = rule.now
 said-now me before to b Balanced e rule = absurd (both_ways (eqb (kind_number b) (code_of (request_kind Balanced))) refl e)
 said-now me before to b Push e rule = absurd (both_ways (eqb (kind_number b) (code_of (request_kind Push))) refl e)
 
-heard-near : (me : Member) (before : Log) (from to : ℕ) (b : Body) (k : XKind) → eqb (kind_number b) (code_of (request_kind k)) ≡ true → is_row_met me (known me before) from to b ≡ true → round_of b ≤ round_now before + 1
-heard-near me before from to (Request r s c) Balanced e row = leb-true r (round_now before + 1) (and_parts _ _ (and_parts _ _ row).1).0
-heard-near me before from to (Query r s y o) Push e row = leb-true r (round_now before + 1) (and_parts _ _ (and_parts _ _ (and_parts _ _ row).1).1).0
+near : (round now : ℕ) → (nat_le round (now + 1) && nat_le now (round + request_deadline)) ≡ true → (round ≤ now + 1) × (now ≤ round + request_deadline)
+near round now e = let p = and_parts _ _ e in (leb-true _ _ p.0, leb-true _ _ p.1)
+
+-- an admitted request is of a round that has begun or of the next, and its deadline has not passed
+pub heard-near : (me : Member) (before : Log) (from to : ℕ) (b : Body) (k : XKind) → eqb (kind_number b) (code_of (request_kind k)) ≡ true → is_row_met me (known me before) from to b ≡ true
+    → (round_of b ≤ round_now before + 1) × (round_now before ≤ round_of b + request_deadline)
+heard-near me before from to (Request r s c) Balanced e row = near r (round_now before) (and_parts _ _ row).1
+heard-near me before from to (Query r s y o) Push e row = near r (round_now before) (and_parts _ _ (and_parts _ _ row).1).1
 heard-near me before from to b Balanced e row = absurd (both_ways (eqb (kind_number b) (code_of (request_kind Balanced))) refl e)
 heard-near me before from to b Push e row = absurd (both_ways (eqb (kind_number b) (code_of (request_kind Push))) refl e)
 
@@ -139,7 +144,7 @@ asked-near me log x Responder a h e = (let n = asked-at (seat log x) a e in at n
         let new = (new-seat w.before x w.entry n w.found).1 in
         let al : Allows me w.before (Heard new.0) = subst (λ y. Allows me w.before y) (heard_in-is w.entry new.0 new.1) (allowed-at me log w.before w.entry w.place h).0 in
         let near : round_of new.0.message.body ≤ round_now w.before + 1 =
-        heard-near me w.before new.0.message.from new.0.message.to new.0.message.body x.kind (and_parts _ _ new.2).0 (admitted-row me w.before new.0 al.0)
+        (heard-near me w.before new.0.message.from new.0.message.to new.0.message.body x.kind (and_parts _ _ new.2).0 (admitted-row me w.before new.0 al.0)).0
         in
         let round : round_of new.0.message.body ≡ x.round = round-of-exchange (request_kind x.kind) x Initiator new.0.message new.2 in
         let later : round_now w.before ≤ round_now log = round-later log w.before (later-entry log w.before w.entry w.place) in

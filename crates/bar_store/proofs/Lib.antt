@@ -1,0 +1,6 @@
+pub mod Ring
+pub mod Picked
+pub mod Lists
+pub mod Learns
+pub mod Known
+pub mod EmptyRooms

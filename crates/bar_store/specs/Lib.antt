@@ -1,0 +1,7 @@
+pub mod Rooms
+pub mod Held
+pub mod Holds
+pub mod Knowing
+pub mod Windows
+pub mod Sized
+pub mod Manifests
