@@ -1,0 +1,4 @@
+pub mod Terms
+pub mod Sets
+pub mod FourTests
+pub mod Views

@@ -1,0 +1,39 @@
+use Rattle.std.proofs.Common.{◌≡◌, ◌≤◌, ◌+◌, ◌∙◌, ℕ, true, not, is_some, sym, ap, subst, arith}
+use Rattle.std.proofs.lemmas.Bool.{le-leb}
+use Rattle.std.proofs.lemmas.Bool.Decides.{nat_tests}
+use Rattle.bar_window.specs.declared.exchange.Exchange.{Exchange}
+use Rattle.bar_window.specs.declared.exchange.Role.TheVariants.{Initiator}
+use Rattle.bar_window.specs.Window.{members, IsWindowOf}
+use Rattle.bar_wire.specs.declared.kind.Kind.TheVariants as kinds
+use Rattle.bar_rules.specs.Peer.Admission.{meets_commitment}
+use Rattle.bar_rules.specs.Peer.Agreement.{IsRecent}
+use Rattle.bar_rules.specs.Peer.Knowledge.{has_heard_of, is_in_time}
+use Rattle.bar_rules.specs.Values.{datagram_bytes}
+use Rattle.bar_window.specs.declared.exchange.XKind.TheVariants.{Balanced}
+use Rattle.bar_wire.specs.Datagram.{exchange_by}
+use Rattle.bar_balanced.proofs.FourTests.{fails_third, first_of_four, some_of}
+use Rattle.bar_balanced.proofs.divulge.admits_divulge.Goals as goal
+
+pub returns-then-not-has_digests : goal.returns-then-not-has_digests
+returns-then-not-has_digests c me k from to r shape holds h spelled life now is windows =
+    let x : Exchange = exchange_by r Balanced Initiator from to in
+    fails_third (meets_commitment me k x c.args.nonce.now (members c.args.ha.now)) (not (has_heard_of k kinds.Divulge x Initiator)) _
+    (is_in_time me.session k kinds.Divulge r)
+    (sym (c.has_digests.ensures me k holds) ∙ search)
+
+pub returns : goal.returns
+returns c me k from to r shape holds h spelled life now is windows =
+    let round : c.args.x.round ≡ r = ap (λ (x : Exchange). x.round) is in
+    let by : c.args.round ≤ c.args.x.round + 2 = grind (arith, nat_tests) in
+    let recent : IsRecent me k c.args.x.round = omega arith in
+    let unheard : not (has_heard_of k kinds.Divulge c.args.x Initiator) ≡ true =
+    ap not (sym (some_of (datagram_bytes me.session) (k.heard kinds.Divulge c.args.x Initiator)) ∙ ap (λ o. is_some o) (h.heard kinds.Divulge c.args.x Initiator recent) ∙ sym c.has_heard.ensures ∙ c.if-has_heard.false)
+    in
+    let here : IsWindowOf me.session.shape.life c.args.x.round c.args.ha.now =
+    subst (λ (r : ℕ). IsWindowOf me.session.shape.life r c.args.ha.now) (sym round) windows
+    in
+    first_of_four _ _ _ (is_in_time me.session k kinds.Divulge r) _
+    ((λ i. not (has_heard_of k kinds.Divulge (sym is i) Initiator)) ∙ unheard)
+    (sym (c.has_digests.ensures me k holds) ∙ search)
+    (le-leb _ _ (omega arith))
+    (c.meets_commitment.ensures me k shape h spelled recent here ∙ ap (λ (x : Exchange). meets_commitment me k x c.args.nonce.now (members c.args.ha.now)) is)

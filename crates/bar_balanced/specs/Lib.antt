@@ -1,0 +1,4 @@
+pub mod Says
+pub mod Parts
+pub mod Balanced
+pub mod Counts

@@ -1,0 +1,35 @@
+-- What is to be said of exchanges, as orders.
+use Rattle.std.specs.Prelude.{List, [], ◌∷◌, map}
+use Rattle.bar_window.specs.declared.exchange.Exchange.{Exchange}
+use Rattle.bar_wire.specs.declared.kind.Kind.{Kind}
+use Rattle.bar_wire.specs.declared.kind.Kind.TheVariants as kinds
+use Rattle.bar_rules.specs.Peer.Orders.{Order, Answer, Reveal, GiveCase, AskKey, GiveKey, Resend}
+use Rattle.bar_balanced.specs.declared.say.Say.{Say}
+use Rattle.bar_balanced.specs.declared.says.Says.{Says}
+use Rattle.bar_balanced.specs.declared.says.Says.TheVariants.{Nothing, One, Two}
+
+abbrev pub says_in : Says → List Say
+says_in Nothing = []
+says_in (One first) = first ∷ []
+says_in (Two first second) = first ∷ second ∷ []
+
+-- the order that a kind stands for in a reply
+abbrev pub order_by : Kind → Exchange → Order
+order_by kinds.Response x = Answer x
+order_by kinds.Divulge x = Reveal x
+order_by kinds.Case x = GiveCase x
+order_by kinds.KeyReq x = AskKey x
+order_by kinds.Key x = GiveKey x
+order_by kind x = Resend kind x
+
+-- the order that a kind stands for at a tick: what was said is sent again
+abbrev pub order_again : Kind → Exchange → Order
+order_again kinds.Divulge x = Reveal x
+order_again kinds.KeyReq x = AskKey x
+order_again kind x = Resend kind x
+
+abbrev pub orders_of_reply : Says → List Order
+orders_of_reply says = map (λ say. order_by say.kind say.x) (says_in says)
+
+abbrev pub orders_at_tick : Says → List Order
+orders_at_tick says = map (λ say. order_again say.kind say.x) (says_in says)

@@ -1,0 +1,60 @@
+//! Which datagrams of balanced exchanges a peer admits.
+ghost use Rattle.std.specs.Prelude.{◌≡◌, ◌+◌, ◌≤◌, ℕ, List};
+ghost use Rattle.bar_wire.specs.Views.{plain, IsView};
+ghost use Rattle.bar_rules.specs.Member.{Member};
+ghost use Rattle.bar_rules.specs.Peer.Knowledge.{Knowledge, this_round};
+ghost use Rattle.bar_store.specs.Holds.{Holds};
+ghost use Rattle.bar_ledger.specs.Recalls.{Recalls};
+ghost use Rattle.bar_balanced.specs.Balanced.{AreSpelled, is_balanced_row_met};
+
+use crate::asking::admits_request;
+use crate::case::admits_case;
+use crate::counts::Counts;
+use crate::divulge::admits_divulge;
+use crate::place::{Place, place_of};
+use crate::rows::{admits_key, admits_key_request, admits_response};
+use bar_bytes::Steps;
+use bar_ledger::Ledger;
+use bar_roster::Session;
+use bar_store::Store;
+use bar_wire::{Body, View};
+use std::sync::ledger::Ledger as StepLedger;
+
+/// Whether a datagram of a balanced exchange meets the row of its kind in this round. It counts the steps along the seeds of a REQUEST.
+pub fn admit<L: StepLedger>(
+    session: &Session,
+    store: &Store,
+    ledger: &Ledger,
+    round: u32,
+    view: &View<'_>,
+    steps: &mut Steps<L>,
+) -> bool
+    ensures row { (me : Member) (k : Knowledge) (bytes : List ℕ) → me.session ≡ session.now → Holds me k store.now
+        → Recalls me k ledger.now → AreSpelled me k → round ≡ this_round k → IsView session.now.shape bytes view.now
+        → result ≡ is_balanced_row_met me k view.now.from view.now.to (plain view.now.body) }
+    ensures cost { steps.new ≤ steps.old + (round + 1) }
+{
+    let shape = session.shape();
+    let Some(place) = place_of(view) else {
+        return false;
+    };
+    let Place { x, role } = place;
+    match view.body {
+        Body::Request { seed, .. } => {
+            admits_request(session, ledger, round, view.from, x.round, seed, steps)
+        }
+        Body::Response { hb, .. } => admits_response(store, ledger, round, x, &hb),
+        Body::Divulge { nonce, ha, .. } => {
+            admits_divulge(&shape, store, ledger, round, x, nonce, &ha)
+        }
+        Body::Case {
+            updates,
+            junk,
+            terms,
+            ..
+        } => admits_case(ledger, round, x, role, &terms, Counts { updates, junk }),
+        Body::KeyReq { .. } => admits_key_request(ledger, round, x, role),
+        Body::Key { .. } => admits_key(ledger, round, x, role),
+        _ => false,
+    }
+}

@@ -1,0 +1,95 @@
+//! When a DIVULGE is admitted.
+ghost use Rattle.std.specs.Prelude.{◌≡◌, ◌≤◌, ◌↔◌, ℕ, IsTrue};
+ghost use Rattle.bar_window.specs.declared.exchange.XKind.TheVariants.{Balanced};
+ghost use Rattle.bar_window.specs.declared.exchange.Role.TheVariants.{Initiator};
+ghost use Rattle.bar_window.specs.Window.{members, IsWindowOf};
+ghost use Rattle.bar_wire.specs.Bodies.{commitment_in};
+ghost use Rattle.bar_wire.specs.Datagram.{Datagram, Divulge, exchange_by};
+ghost use Rattle.bar_wire.specs.Grammar.{SpellsDatagram};
+ghost use Rattle.bar_rules.specs.Member.{Member};
+ghost use Rattle.bar_rules.specs.Peer.Admission.{is_row_met, meets_commitment};
+ghost use Rattle.bar_rules.specs.Peer.Agreement.{IsRecent};
+ghost use Rattle.bar_rules.specs.Peer.Knowledge.{Knowledge, this_round};
+ghost use Rattle.bar_store.specs.Holds.{Holds};
+ghost use Rattle.bar_ledger.specs.Recalls.{Recalls};
+ghost use Rattle.bar_balanced.specs.Balanced.{AreSpelled};
+
+use crate::recall::{ANSWER_DEADLINE, has_heard, is_within};
+use crate::rows::has_digests;
+use bar_ledger::Ledger;
+use bar_seeds::commitment;
+use bar_store::Store;
+use bar_window::{Exchange, Role, Window};
+use bar_wire::{Body, Kind, Shape, decode};
+
+/// The commitment of a REQUEST.
+fn commitment_in(bytes: &[u8], shape: &Shape) -> Option<[u8; 32]>
+    ensures { (d : Datagram) → SpellsDatagram shape.now d bytes.now → result ≡ commitment_in d.message.body }
+{
+    match decode(bytes, shape) {
+        Ok(view) => match view.body {
+            Body::Request { commitment, .. } => Some(*commitment),
+            _ => None,
+        },
+        Err(_) => None,
+    }
+}
+
+/// Whether it is the window of a round, where updates live for so many rounds.
+fn is_window_of(window: &Window, life: u8, round: u32) -> bool
+    ensures { IsTrue result ↔ IsWindowOf life round window.now }
+{
+    let end = u64::from(round) + 1;
+    let base = u64::from(window.base);
+    base == end.saturating_sub(u64::from(life)).max(1) && base + u64::from(window.used) == end
+}
+
+/// Whether a nonce and a history meet the commitment of the REQUEST that was heard of an exchange.
+fn meets_commitment(
+    shape: &Shape,
+    ledger: &Ledger,
+    x: Exchange,
+    nonce: &[u8; 32],
+    ha: &Window,
+) -> bool
+    ensures { (me : Member) (k : Knowledge) → me.session.shape ≡ shape.now → Recalls me k ledger.now → AreSpelled me k
+        → IsRecent me k x.round → IsWindowOf me.session.shape.life x.round ha.now
+        → result ≡ meets_commitment me k x nonce.now (members ha.now) }
+{
+    if !is_window_of(ha, shape.life, x.round) {
+        return false;
+    }
+    let Some(bytes) = ledger.heard(x, Kind::Request) else {
+        return false;
+    };
+    let Some(committed) = commitment_in(bytes, shape) else {
+        return false;
+    };
+    committed == commitment(&shape.id, x, nonce, ha, shape.life)
+}
+
+/// The row of a DIVULGE.
+pub(crate) fn admits_divulge(
+    shape: &Shape,
+    store: &Store,
+    ledger: &Ledger,
+    round: u32,
+    x: Exchange,
+    nonce: &[u8; 32],
+    ha: &Window,
+) -> bool
+    ensures { (me : Member) (k : Knowledge) (from to r : ℕ) → me.session.shape ≡ shape.now → Holds me k store.now → Recalls me k ledger.now
+        → AreSpelled me k → 2 ≤ me.session.shape.life → round ≡ this_round k → x ≡ exchange_by r Balanced Initiator from to
+        → IsWindowOf me.session.shape.life r ha.now → result ≡ is_row_met me k from to (Divulge r nonce.now (members ha.now)) }
+{
+    if !is_within(round, x.round, ANSWER_DEADLINE) {
+        return false;
+    }
+    if has_heard(ledger, x, Kind::Divulge, Role::Initiator) {
+        return false;
+    }
+    if !has_digests(store, ha) {
+        return false;
+    }
+    meets_commitment(shape, ledger, x, nonce, ha)
+}

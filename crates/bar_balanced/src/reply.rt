@@ -1,0 +1,98 @@
+//! What is answered to a datagram.
+ghost use Rattle.std.specs.Prelude.{◌≡◌, ◌+◌, ◌≤◌, ◌||◌, ◌&&◌, [], ◌∷◌, true, nat_le};
+ghost use Rattle.bar_wire.specs.Views.{datagram};
+ghost use Rattle.bar_rules.specs.Member.{Member};
+ghost use Rattle.bar_rules.specs.Peer.Agreement.{IsRecent};
+ghost use Rattle.bar_rules.specs.Peer.Knowledge.{Knowledge, this_round};
+ghost use Rattle.bar_rules.specs.Peer.Orders.{Reveal, GiveCase};
+ghost use Rattle.bar_rules.specs.Peer.Replies.{is_trade_worth, orders_when};
+ghost use Rattle.bar_rules.specs.Peer.Terms.{terms_of};
+ghost use Rattle.bar_ledger.specs.Recalls.{Recalls};
+ghost use Rattle.bar_balanced.specs.Balanced.{balanced_orders, IsRecentWhereNew};
+ghost use Rattle.bar_balanced.specs.Says.{order_by, orders_of_reply};
+
+use crate::place::place_of;
+use crate::recall::{ANSWER_DEADLINE, REQUEST_DEADLINE, is_within};
+use crate::say::Say;
+use crate::says::Says;
+use crate::worth::is_worth;
+use bar_ledger::Ledger;
+use bar_roster::Session;
+use bar_window::Exchange;
+use bar_wire::{Body, Kind, View};
+
+/// One thing to be said, where it is due.
+fn one_when(is_due: bool, kind: Kind, x: Exchange) -> Says
+    ensures { orders_of_reply result ≡ orders_when is_due (order_by kind x ∷ []) }
+{
+    if is_due {
+        Says::One(Say { kind, x })
+    } else {
+        Says::Nothing
+    }
+}
+
+/// To a RESPONSE that is admitted now: the DIVULGE and the CASE.
+fn to_response(ledger: &Ledger, x: Exchange, is_new: bool) -> Says
+    ensures { (me : Member) (k : Knowledge) → Recalls me k ledger.now → (is_new ≡ true → IsRecent me k x.round)
+        → orders_of_reply result ≡ orders_when (is_new && is_trade_worth me.session (terms_of me k x)) (Reveal x ∷ GiveCase x ∷ []) }
+{
+    if is_new && is_worth(ledger, x) {
+        let reveal = Say {
+            kind: Kind::Divulge,
+            x,
+        };
+        let case = Say {
+            kind: Kind::Case,
+            x,
+        };
+        Says::Two(reveal, case)
+    } else {
+        Says::Nothing
+    }
+}
+
+/// To a DIVULGE: the CASE.
+fn to_divulge(ledger: &Ledger, round: u32, x: Exchange, is_new: bool) -> Says
+    ensures { (me : Member) (k : Knowledge) → 2 ≤ me.session.shape.life → Recalls me k ledger.now → round ≡ this_round k
+        → (is_new ≡ true → IsRecent me k x.round)
+        → orders_of_reply result ≡
+        orders_when ((is_new || nat_le (this_round k) (x.round + 2)) && is_trade_worth me.session (terms_of me k x)) (GiveCase x ∷ []) }
+{
+    if is_new || is_within(round, x.round, ANSWER_DEADLINE) {
+        one_when(is_worth(ledger, x), Kind::Case, x)
+    } else {
+        Says::Nothing
+    }
+}
+
+/// What is answered to a datagram of a balanced exchange that is admitted now or comes again, in this round.
+pub fn replies(
+    session: &Session,
+    ledger: &Ledger,
+    round: u32,
+    view: &View<'_>,
+    is_new: bool,
+) -> Says
+    ensures { (me : Member) (k : Knowledge) → me.session ≡ session.now → Recalls me k ledger.now → round ≡ this_round k
+        → IsRecentWhereNew me k is_new (datagram session.now.shape view.now).message
+        → orders_of_reply result ≡ balanced_orders me k is_new (datagram session.now.shape view.now) }
+{
+    let life = session.shape().life;
+    let Some(place) = place_of(view) else {
+        return Says::Nothing;
+    };
+    let x = place.x;
+    match view.body {
+        Body::Request { .. } => one_when(
+            is_new || is_within(round, x.round, REQUEST_DEADLINE),
+            Kind::Response,
+            x,
+        ),
+        Body::Response { .. } => to_response(ledger, x, is_new),
+        Body::Divulge { .. } => to_divulge(ledger, round, x, is_new),
+        Body::Case { .. } => one_when(is_new, Kind::KeyReq, x),
+        Body::KeyReq { .. } => one_when(is_new || is_within(round, x.round, life), Kind::Key, x),
+        _ => Says::Nothing,
+    }
+}

@@ -1,0 +1,98 @@
+//! What is said again at a tick.
+ghost use Rattle.std.specs.Prelude.{◌≡◌, ◌++◌, [], ◌∷◌};
+ghost use Rattle.bar_window.specs.declared.exchange.XKind.TheVariants.{Balanced};
+ghost use Rattle.bar_rules.specs.Member.{Member, IsMember};
+ghost use Rattle.bar_rules.specs.Peer.Knowledge.{Knowledge, this_round};
+ghost use Rattle.bar_rules.specs.Peer.Ticks.{lacks_answer, lacks_case, lacks_key, reveals, again};
+ghost use Rattle.bar_rules.specs.Peer.Exchanges.{role_of};
+ghost use Rattle.bar_rules.specs.Peer.Orders.{Resend};
+ghost use Rattle.bar_wire.specs.declared.kind.Kind.TheVariants.{Case};
+ghost use Rattle.bar_ledger.specs.Recalls.{Recalls};
+ghost use Rattle.bar_balanced.specs.Says.{orders_at_tick};
+
+use crate::recall::{ANSWER_DEADLINE, REQUEST_DEADLINE, has_heard, has_said_case, is_within, side};
+use crate::say::Say;
+use crate::says::Says;
+use bar_ledger::Ledger;
+use bar_window::{Exchange, Role};
+use bar_wire::Kind;
+
+/// Whether this peer asked and has no answer.
+fn lacks_answer(ledger: &Ledger, round: u32, x: Exchange) -> bool
+    ensures { (me : Member) (k : Knowledge) → IsMember me → Recalls me k ledger.now → round ≡ this_round k → x.kind ≡ Balanced
+        → result ≡ lacks_answer me k x }
+{
+    is_within(round, x.round, REQUEST_DEADLINE)
+        && x.initiator == ledger.me()
+        && !has_heard(ledger, x, Kind::Response, Role::Responder)
+}
+
+/// Whether this peer's CASE is said, and the partner's isn't heard.
+fn lacks_case(ledger: &Ledger, round: u32, x: Exchange) -> bool
+    ensures { (me : Member) (k : Knowledge) → IsMember me → Recalls me k ledger.now → round ≡ this_round k → result ≡ lacks_case me k x }
+{
+    let role = side(ledger, x);
+    is_within(round, x.round, ANSWER_DEADLINE)
+        && has_said_case(ledger, x, role)
+        && !has_heard(ledger, x, Kind::Case, role.other())
+}
+
+/// Whether this peer's CASE is said and the partner's is heard, but no KEY is.
+fn lacks_key(ledger: &Ledger, round: u32, x: Exchange) -> bool
+    ensures { (me : Member) (k : Knowledge) → Recalls me k ledger.now → round ≡ this_round k → result ≡ lacks_key me k x }
+{
+    let role = side(ledger, x);
+    if !is_within(round, x.round, ledger.life()) {
+        return false;
+    }
+    if !has_said_case(ledger, x, role) {
+        return false;
+    }
+    if !has_heard(ledger, x, Kind::Case, role.other()) {
+        return false;
+    }
+    !has_heard(ledger, x, Kind::Key, role.other())
+}
+
+/// The CASE again, behind the DIVULGE where this peer is the initiator.
+fn case_again(ledger: &Ledger, x: Exchange) -> Says
+    ensures { (me : Member) (k : Knowledge) → Recalls me k ledger.now → x.kind ≡ Balanced
+        → orders_at_tick result ≡ reveals x.kind (role_of me x) x ++ Resend Case x ∷ [] }
+{
+    let case = Say {
+        kind: Kind::Case,
+        x,
+    };
+    match side(ledger, x) {
+        Role::Initiator => Says::Two(
+            Say {
+                kind: Kind::Divulge,
+                x,
+            },
+            case,
+        ),
+        Role::Responder => Says::One(case),
+    }
+}
+
+/// What is said again at a tick of this round, of an open exchange.
+pub fn again(ledger: &Ledger, round: u32, x: Exchange) -> Says
+    ensures { (me : Member) (k : Knowledge) → IsMember me → Recalls me k ledger.now → round ≡ this_round k → x.kind ≡ Balanced
+        → orders_at_tick result ≡ again me k x }
+{
+    if lacks_answer(ledger, round, x) {
+        Says::One(Say {
+            kind: Kind::Request,
+            x,
+        })
+    } else if lacks_case(ledger, round, x) {
+        case_again(ledger, x)
+    } else if lacks_key(ledger, round, x) {
+        Says::One(Say {
+            kind: Kind::KeyReq,
+            x,
+        })
+    } else {
+        Says::Nothing
+    }
+}

@@ -1,0 +1,9 @@
+pub mod Hearing
+pub mod Order
+pub mod Kept
+pub mod Asking
+pub mod Slots
+pub mod Memory
+pub mod Lookups
+pub mod Totals
+pub mod Recalls

@@ -1,0 +1,64 @@
+-- What a ledger answers.
+use Rattle.std.specs.Prelude.{◌≡◌, ℕ, true, IfSome, Bool, List, Option, option_and_then, nat_lt, count_by}
+use Rattle.std.specs.Bool.{then_some}
+use Rattle.std.specs.List.{find}
+use Rattle.bar_window.specs.declared.exchange.Exchange.{Exchange}
+use Rattle.bar_window.specs.declared.exchange.XKind.{XKind}
+use Rattle.bar_wire.specs.Limits.{seats_a_round}
+use Rattle.bar_wire.specs.declared.kind.Kind.{Kind}
+use Rattle.bar_ledger.specs.declared.entry.Entry.{Entry}
+use Rattle.bar_ledger.specs.declared.ledger.Ledger.{Ledger}
+use Rattle.bar_ledger.specs.Asking.{is_asked, opens_of}
+use Rattle.bar_ledger.specs.Hearing.{hears}
+use Rattle.bar_ledger.specs.Kept.{Kept, is_for, heard_of, newly, if_recent}
+use Rattle.bar_ledger.specs.Slots.{entries_of, exchanges_of}
+
+-- all that is kept
+abbrev pub entries_in : Ledger → List Kept
+entries_in l = entries_of l.shape.life l.round l.slots.items
+
+-- the exchanges that are kept
+abbrev pub kept_in : Ledger → List Exchange
+kept_in l = exchanges_of (entries_in l)
+
+-- what is kept of an exchange
+abbrev pub find_in : Ledger → Exchange → Option Kept
+find_in l x = find (is_for x) (entries_in l)
+
+-- the datagram of a kind that was heard of it
+abbrev pub bytes_in : Ledger → Exchange → Kind → Option (List ℕ)
+bytes_in l x kind = option_and_then (heard_of kind) (find_in l x)
+
+-- whether this peer hears a kind in what is kept
+abbrev pub can_hear : Kind → Kept → Bool
+can_hear kind k = hears kind k.entry.x.kind k.entry.role
+
+-- ---- seats
+
+-- how many requests of a kind and round were admitted
+abbrev pub asked_in : Ledger → XKind → ℕ → ℕ
+asked_in l kind round = count_by (is_asked kind round) (entries_in l)
+
+-- the seat of the next one after so many
+abbrev pub next_seat : ℕ → Option ℕ
+next_seat asked = then_some (nat_lt asked seats_a_round) asked
+
+-- ---- the exchanges in which this peer said its first message, in order
+
+abbrev pub opens_in : Ledger → List Exchange
+opens_in l = opens_of (entries_in l)
+
+-- an entry, as it is found once it is added
+abbrev pub added : Ledger → Entry → Option Kept
+added l e = if_recent l.shape.life l.round (newly e)
+
+-- an entry in place of what is kept says its first message, where that did
+abbrev pub StaysOpen : Entry → Option Kept → Type 0
+StaysOpen e o = IfSome o (λ k. k.entry.first_said ≡ true → e.first_said ≡ true)
+
+-- The numbers are the same.
+pub record HasSame (old new : Ledger) : Type 0 where
+  pub me : new.me ≡ old.me
+  pub cap : new.cap ≡ old.cap
+  pub shape : new.shape ≡ old.shape
+  pub round : new.round ≡ old.round

@@ -1,0 +1,30 @@
+-- The order of exchanges, and the least one of some.
+use Rattle.std.specs.Prelude.{Bool, true, ◌==◌, ◌&&◌, ◌||◌, nat_lt, List, Option, Some, None, if◌then◌else◌}
+use Rattle.std.specs.List.{find}
+use Rattle.bar_window.specs.declared.exchange.Exchange.{Exchange}
+use Rattle.bar_window.specs.Exchange.{kind_code, same_kind}
+use Rattle.bar_rules.specs.Peer.Exchanges.{precedes}
+
+-- the order of the exchanges of one round
+abbrev pub parties_precede : Exchange → Exchange → Bool
+parties_precede x y =
+    nat_lt (kind_code x.kind) (kind_code y.kind)
+    || same_kind x.kind y.kind && (nat_lt x.initiator y.initiator || (x.initiator == y.initiator) && nat_lt x.responder y.responder)
+
+-- whether an exchange stands above another one, where there is one
+abbrev pub is_above : Option Exchange → Exchange → Bool
+is_above None x = true
+is_above (Some y) x = precedes y x
+
+abbrev pub is_below : Exchange → Option Exchange → Bool
+is_below x None = true
+is_below x (Some y) = precedes x y
+
+-- the first that stands above
+abbrev pub first_above : Option Exchange → List Exchange → Option Exchange
+first_above after xs = find (is_above after) xs
+
+-- the best so far, with one exchange more, where there is one
+abbrev pub best_with : Option Exchange → Option Exchange → Option Exchange → Option Exchange
+best_with after best None = best
+best_with after best (Some x) = if is_above after x && is_below x best then Some x else best

@@ -1,0 +1,86 @@
+//! How exchanges are told apart and ordered, and which kind of datagram opens one.
+ghost use Rattle.std.specs.Prelude.{◌≡◌, Some};
+ghost use Rattle.bar_window.specs.Exchange.{same_exchange};
+ghost use Rattle.bar_rules.specs.Peer.Exchanges.{opening_kind, precedes};
+ghost use Rattle.bar_ledger.specs.Hearing.{is_opening};
+ghost use Rattle.bar_ledger.specs.Order.{parties_precede, is_above, is_below, best_with};
+
+use bar_window::{Exchange, Role, XKind};
+use bar_wire::Kind;
+
+pub(crate) fn is_same(x: Exchange, y: Exchange) -> bool
+    ensures { result ≡ same_exchange x y }
+{
+    x.round == y.round
+        && x.kind.code() == y.kind.code()
+        && x.initiator == y.initiator
+        && x.responder == y.responder
+}
+
+fn precedes_in_round(x: Exchange, y: Exchange) -> bool
+    ensures { result ≡ parties_precede x y }
+{
+    x.kind.code() < y.kind.code()
+        || (x.kind.code() == y.kind.code()
+            && (x.initiator < y.initiator
+                || (x.initiator == y.initiator && x.responder < y.responder)))
+}
+
+/// Whether one exchange stands before another, by round, kind, initiator and responder in turn.
+fn precedes(x: Exchange, y: Exchange) -> bool
+    ensures { result ≡ precedes x y }
+{
+    x.round < y.round || (x.round == y.round && precedes_in_round(x, y))
+}
+
+/// The kind of a side's first signed datagram.
+fn opening_kind(kind: XKind, role: Role) -> Kind
+    ensures { result ≡ opening_kind kind role }
+{
+    match (kind, role) {
+        (XKind::Balanced, Role::Initiator) => Kind::Request,
+        (XKind::Balanced, Role::Responder) => Kind::Response,
+        (XKind::Push, Role::Initiator) => Kind::Query,
+        (XKind::Push, Role::Responder) => Kind::Reply,
+    }
+}
+
+/// Whether a kind is that of the first signed datagram of the other side.
+pub(crate) fn opens(kind: Kind, x: Exchange, role: Role) -> bool
+    ensures { result ≡ is_opening kind x.kind role }
+{
+    kind.code() == opening_kind(x.kind, role.other()).code()
+}
+
+/// The exchange, where it stands above one and below the other, and otherwise the other.
+pub(crate) fn least_above(
+    x: Exchange,
+    after: Option<Exchange>,
+    best: Option<Exchange>,
+) -> Option<Exchange>
+    ensures { result ≡ best_with after best (Some x) }
+{
+    if is_above(after, x) && is_below(x, best) {
+        Some(x)
+    } else {
+        best
+    }
+}
+
+fn is_above(after: Option<Exchange>, x: Exchange) -> bool
+    ensures { result ≡ is_above after x }
+{
+    match after {
+        Some(y) => precedes(y, x),
+        None => true,
+    }
+}
+
+fn is_below(x: Exchange, best: Option<Exchange>) -> bool
+    ensures { result ≡ is_below x best }
+{
+    match best {
+        Some(y) => precedes(x, y),
+        None => true,
+    }
+}

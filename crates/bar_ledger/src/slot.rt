@@ -1,0 +1,213 @@
+//! A slot for one exchange: its entry, and rooms for what is heard of it.
+ghost use Rattle.std.specs.Prelude.{◌≡◌, ◌≤◌, Some, None, IfOk, length, is_some, option_map, option_and_then, option_copied, IfSome, true, false, if◌then◌else◌};
+ghost use Rattle.std.specs.Option.{option_map_or};
+ghost use Rattle.bar_window.specs.Terms.{plain_terms};
+ghost use Rattle.bar_wire.specs.Limits.{largest_datagram};
+ghost use Rattle.bar_terms.specs.Terms.{promise};
+ghost use Rattle.bar_ledger.specs.Kept.{kept_of, newly, with_new, with_bytes, heard_of, live_of, is_for, keeps};
+ghost use Rattle.bar_wire.specs.declared.shape.Shape.{Shape};
+ghost use Rattle.bar_ledger.specs.Hearing.{is_opening};
+ghost use Rattle.bar_ledger.specs.Asking.{is_asked, open_of};
+ghost use Rattle.bar_ledger.specs.Slots.{HasRooms, size_for};
+ghost use Rattle.bar_ledger.specs.Totals.{totals_by, no_totals, CanTotal, AreSound};
+
+use crate::entry::Entry;
+use crate::exchanges::{is_same, opens};
+use crate::sizes::{largest, most_first};
+use crate::totals::Totals;
+use bar_bytes::Room;
+use bar_window::{Exchange, Role, XKind};
+use bar_wire::{Kind, Shape};
+use std::alloc::{AllocError, Global};
+
+#[derive(Drop)]
+pub struct Slot {
+    pub entry: Option<Entry>,
+    /// The other side's first signed datagram.
+    pub first: Room,
+    pub divulge: Room,
+    pub case: Room,
+    pub key_request: Room,
+    pub key: Room,
+}
+
+impl Slot {
+    /// An empty slot.
+    pub(crate) fn make(alloc: Global, shape: &Shape) -> Result<Slot, AllocError>
+        requires { shape.now.sig_len ≤ largest_datagram }
+        ensures empty { IfOk result (λ s. s.entry ≡ None) }
+        ensures rooms { IfOk result (HasRooms shape.now) }
+    {
+        Ok(Slot {
+            entry: None,
+            first: Room::make(alloc, most_first(shape))?,
+            divulge: Room::make(alloc, largest(Kind::Divulge, shape))?,
+            case: Room::make(alloc, largest(Kind::Case, shape))?,
+            key_request: Room::make(alloc, largest(Kind::KeyReq, shape))?,
+            key: Room::make(alloc, largest(Kind::Key, shape))?,
+        })
+    }
+
+    /// Whether it keeps an exchange that isn't given up in a round.
+    pub(crate) fn is_live(&self, life: u8, round: u32) -> bool
+        ensures { result ≡ is_some (live_of life round self.now) }
+    {
+        match &self.entry {
+            Some(entry) => round.saturating_sub(u32::from(life)) <= entry.x.round,
+            None => false,
+        }
+    }
+
+    fn is_of(&self, x: Exchange) -> bool
+        ensures { result ≡ option_map_or (is_for x) (kept_of self.now) false }
+    {
+        match &self.entry {
+            Some(entry) => is_same(entry.x, x),
+            None => false,
+        }
+    }
+
+    /// Whether it keeps this exchange, and doesn't give it up in a round.
+    pub(crate) fn keeps(&self, x: Exchange, life: u8, round: u32) -> bool
+        ensures { result ≡ keeps x life round self.now }
+    {
+        self.is_live(life, round) && self.is_of(x)
+    }
+
+    /// Whether it keeps an exchange of a round and kind that this peer was asked for, and doesn't give it up in another round.
+    pub(crate) fn is_asked(&self, round: u32, kind: XKind, life: u8, now: u32) -> bool
+        ensures { result ≡ option_map_or (is_asked kind round) (live_of life now self.now) false }
+    {
+        match &self.entry {
+            Some(entry) => {
+                self.is_live(life, now)
+                    && entry.role.code() == Role::Responder.code()
+                    && entry.x.kind.code() == kind.code()
+                    && entry.x.round == round
+            }
+            None => false,
+        }
+    }
+
+    /// Its exchange, where this peer said its first message in it and it isn't given up in a round.
+    pub(crate) fn open(&self, life: u8, round: u32) -> Option<Exchange>
+        ensures { result ≡ option_and_then open_of (live_of life round self.now) }
+    {
+        match &self.entry {
+            Some(entry) => (entry.first_said && self.is_live(life, round)).then_some(entry.x),
+            None => None,
+        }
+    }
+
+    /// Gives the slot to another exchange, of which nothing is heard.
+    pub(crate) fn renew(&mut self, entry: Entry)
+        ensures kept { kept_of self.new ≡ Some (newly entry) }
+        ensures rooms { (shape : Shape) → HasRooms shape self.old → HasRooms shape self.new }
+    {
+        self.entry = Some(entry);
+        self.first.empty();
+        self.divulge.empty();
+        self.case.empty();
+        self.key_request.empty();
+        self.key.empty();
+    }
+
+    /// Changes the entry, where there is one.
+    pub(crate) fn put(&mut self, entry: Entry)
+        ensures kept { kept_of self.new ≡ option_map (with_new entry) (kept_of self.old) }
+        ensures rooms { (shape : Shape) → HasRooms shape self.old → HasRooms shape self.new }
+    {
+        if self.entry.is_some() {
+            self.entry = Some(entry);
+        }
+    }
+
+    /// Keeps a datagram that is heard.
+    pub(crate) fn hear(&mut self, kind: Kind, bytes: &[u8])
+        requires { length bytes.now ≤ size_for kind self.old }
+        ensures kept { kept_of self.new ≡ option_map (with_bytes kind bytes.now) (kept_of self.old) }
+        ensures rooms { (shape : Shape) → HasRooms shape self.old → HasRooms shape self.new }
+    {
+        match kind {
+            Kind::Divulge => self.divulge.keep(bytes),
+            Kind::Case => self.case.keep(bytes),
+            Kind::KeyReq => self.key_request.keep(bytes),
+            Kind::Key => self.key.keep(bytes),
+            Kind::Manifest
+            | Kind::Block
+            | Kind::Request
+            | Kind::Response
+            | Kind::Query
+            | Kind::Reply
+            | Kind::Evidence
+            | Kind::Evict => self.first.keep(bytes),
+        }
+    }
+
+    /// The datagram of a kind that was heard.
+    pub(crate) fn heard(&self, kind: Kind) -> Option<&[u8]>
+        ensures { option_copied result ≡ option_and_then (heard_of kind) (kept_of self.now) }
+    {
+        let Some(entry) = &self.entry else {
+            return None;
+        };
+        match kind {
+            Kind::Divulge => self.divulge.kept(),
+            Kind::Case => self.case.kept(),
+            Kind::KeyReq => self.key_request.kept(),
+            Kind::Key => self.key.kept(),
+            Kind::Manifest
+            | Kind::Block
+            | Kind::Request
+            | Kind::Response
+            | Kind::Query
+            | Kind::Reply
+            | Kind::Evidence
+            | Kind::Evict => self.opening(kind, entry),
+        }
+    }
+
+    /// The other side's first signed datagram, where it is of this kind.
+    fn opening(&self, kind: Kind, entry: &Entry) -> Option<&[u8]>
+        ensures { option_copied result ≡ (if is_opening kind entry.now.x.kind entry.now.role then self.now.first.kept else None) }
+    {
+        if opens(kind, entry.x, entry.role) {
+            self.first.kept()
+        } else {
+            None
+        }
+    }
+
+    /// What was promised, received and opened.
+    pub(crate) fn totals(&self, cap: u8) -> Totals
+        requires cap { cap ≤ 16 }
+        requires terms { IfSome (kept_of self.now) (CanTotal cap) }
+        ensures { result ≡ option_map_or (totals_by cap) (kept_of self.now) no_totals }
+    {
+        let Some(entry) = &self.entry else {
+            return Totals {
+                promised: 0,
+                received: 0,
+                opened: 0,
+            };
+        };
+        Totals {
+            promised: size_if(entry.case_said, entry, entry.role, cap),
+            received: size_if(self.case.kept().is_some(), entry, entry.role.other(), cap),
+            opened: size_if(entry.key_said, entry, entry.role, cap),
+        }
+    }
+}
+
+/// How many items a side promises, where it did.
+fn size_if(promised: bool, entry: &Entry, role: Role, cap: u8) -> u8
+    requires cap { cap ≤ 16 }
+    requires terms { promised ≡ true → AreSound cap entry.now.terms }
+    ensures { result ≡ (if promised then length (promise cap (plain_terms entry.now.terms) role) else 0) }
+{
+    if promised {
+        bar_terms::promise(&entry.terms, role, cap).len
+    } else {
+        0
+    }
+}
