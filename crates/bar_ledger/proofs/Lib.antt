@@ -10,3 +10,4 @@ pub mod Giving
 pub mod Opens
 pub mod Counts
 pub mod Recent
+pub mod Recalled

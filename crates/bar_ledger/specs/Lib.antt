@@ -7,3 +7,4 @@ pub mod Memory
 pub mod Lookups
 pub mod Totals
 pub mod Recalls
+pub mod Recalling

@@ -48,6 +48,7 @@ impl Ledger {
     ghost use Rattle.bar_ledger.specs.Asking.{asked_as, open_of};
     ghost use Rattle.bar_ledger.specs.Order.{first_above, best_with};
     ghost use Rattle.bar_ledger.specs.Lookups.{KeepsRecent};
+    ghost use Rattle.bar_ledger.specs.Recalling.{StartsFrom, GivesUp};
     ghost use Rattle.bar_ledger.specs.Totals.{totals_by, no_totals, CanTotal};
 
     /// A ledger that remembers nothing. All its memory is taken here.
@@ -56,6 +57,7 @@ impl Ledger {
         requires signatures { shape.now.sig_len ≤ largest_datagram }
         ensures numbers { IfOk result (λ l. (l.me ≡ me) × (l.cap ≡ cap) × (l.shape ≡ shape.now) × (l.round ≡ 0)) }
         ensures empty { IfOk result (λ l. entries_in l ≡ []) }
+        ensures starts { IfOk result StartsFrom }
     {
         let count = (usize::from(shape.life) + 2) * EXCHANGES_A_ROUND;
         let mut slots = Vec::new(alloc);
@@ -275,6 +277,7 @@ impl Ledger {
             (if is_recent self.old.shape.life round y then find_in self.old y else None) }
         ensures kept { kept_in self.new ≡ filter (is_recent self.old.shape.life round) (kept_in self.old) }
         ensures recent { KeepsRecent self.old self.new round }
+        ensures keeps { GivesUp round self.old self.new }
         ensures round { self.new.round ≡ round }
         ensures same { (self.new.me ≡ self.old.me) × (self.new.cap ≡ self.old.cap) × (self.new.shape ≡ self.old.shape) }
     {

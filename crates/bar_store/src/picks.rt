@@ -1,6 +1,6 @@
 //! The updates of a run of rounds that pass a test, as a window.
 
-ghost use Rattle.std.specs.Prelude.{◌≡◌, ◌+◌, ◌-◌, ◌<◌, ◌≤◌, ◌&&◌, Bool, not, is_some, filter};
+ghost use Rattle.std.specs.Prelude.{◌≡◌, ◌+◌, ◌-◌, ◌<◌, ◌≤◌, ◌&&◌, Bool, [], not, is_some, filter};
 ghost use Rattle.bar_window.specs.declared.update.UpdateId.{UpdateId};
 ghost use Rattle.bar_window.specs.Updates.{updates_from, first_round};
 ghost use Rattle.bar_window.specs.Window.{members, IsWindowOf};
@@ -61,16 +61,39 @@ fn rounds_between(first: u32, last: u32) -> u32
     if last < first { 0 } else { last - first + 1 }
 }
 
+/// The first round of the window of a round.
+pub(crate) fn first_round(round: u32, life: u8) -> u32
+    requires { 0 < life }
+    ensures { result ≡ first_round life round }
+{
+    round.saturating_sub(u32::from(life) - 1).max(1)
+}
+
+/// The window of round 0, which has no rounds.
+fn no_rounds(life: u8) -> Window
+    requires { 0 < life }
+    ensures rounds { IsWindowOf life 0 result }
+    ensures members { members result ≡ [] }
+{
+    Window {
+        base: 1,
+        used: 0,
+        words: [0; 16],
+    }
+}
+
 /// The updates of the rounds `first` to `last` that pass a test, as a window of a round.
 pub(crate) fn pick<T: Test>(test: &T, round: u32, life: u8, first: u32, last: u32) -> Window
     requires life { 0 < life }
     requires room { life ≤ 16 }
-    requires round { 0 < round }
     requires first { first_round life round ≤ first }
     requires last { last ≤ round }
     ensures rounds { IsWindowOf life round result }
     ensures members { members result ≡ filter (T.passes test.now) (updates_from 1 first last) }
 {
+    if round == 0 {
+        return no_rounds(life);
+    }
     let mut window = Window::empty(round, life);
     let rounds = rounds_between(first, last);
     for place in 0..PLACES * rounds {

@@ -1,31 +1,29 @@
 //! The updates that a store holds and lacks, as windows.
 
-ghost use Rattle.std.specs.Prelude.{◌≡◌, ◌-◌, ◌<◌, ◌≤◌, ◌&&◌, not, max, is_some, filter};
+ghost use Rattle.std.specs.Prelude.{◌≡◌, ◌-◌, ◌≤◌, ◌&&◌, not, max, is_some, filter};
 ghost use Rattle.bar_window.specs.Updates.{updates_from, window_of, first_round};
 ghost use Rattle.bar_window.specs.Window.{members, IsWindowOf};
 ghost use Rattle.bar_terms.specs.Table.{is_known, digest_of, digests_of};
 ghost use Rattle.bar_store.specs.Held.{block_in};
 ghost use Rattle.bar_store.specs.Windows.{IsHistory, IsYoung, IsAged};
 
-use crate::picks::{Held, Lacking, pick};
+use crate::picks::{Held, Lacking, first_round, pick};
 use crate::store::Store;
 use bar_window::Window;
 
 impl Store {
-    /// The held updates of the window of a round, which is a number from 1 on.
+    /// The held updates of the window of a round.
     pub fn history(&self, round: u32) -> Window
-        requires { 0 < round }
         ensures rounds { IsWindowOf self.now.life round result }
         ensures members { members result ≡ filter (λ u. is_some (block_in self.now u)) (window_of 1 self.now.life round) }
         ensures known { IsHistory self.now round (members result) }
     {
-        let first = Window::empty(round, self.life()).base;
+        let first = first_round(round, self.life());
         pick(&Held(self), round, self.life(), first, round)
     }
 
     /// The held updates of a round and the one before, of which a push offers the first ones.
     pub fn young(&self, round: u32) -> Window
-        requires { 0 < round }
         ensures rounds { IsWindowOf self.now.life round result }
         ensures members { members result ≡ filter (λ u. is_some (block_in self.now u)) (updates_from 1 (max 1 (round - 1)) round) }
         ensures known { IsYoung self.now round (members result) }
@@ -37,15 +35,14 @@ impl Store {
     /// The updates within the table that are lacking, of the rounds of a round's window up to the last, of which a push asks for the first
     /// ones.
     pub fn lacking(&self, round: u32, last: u32) -> Window
-        requires round { 0 < round }
-        requires last { last ≤ round }
+        requires { last ≤ round }
         ensures rounds { IsWindowOf self.now.life round result }
         ensures members { members result ≡
             filter (λ u. not (is_some (block_in self.now u)) && is_known (digest_of (digests_of self.now.table.lists) u))
             (updates_from 1 (first_round self.now.life round) last) }
         ensures known { IsAged self.now round last (members result) }
     {
-        let first = Window::empty(round, self.life()).base;
+        let first = first_round(round, self.life());
         pick(&Lacking(self), round, self.life(), first, last)
     }
 }

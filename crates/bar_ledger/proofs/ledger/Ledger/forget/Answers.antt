@@ -1,10 +1,11 @@
-use Rattle.std.proofs.Common.{ap, ◌∙◌}
+use Rattle.std.proofs.Common.{refl, ap, ◌∙◌}
 use Rattle.std.specs.List.{find}
 use Rattle.bar_ledger.specs.Kept.{is_for, is_recent}
 use Rattle.bar_ledger.specs.Memory.{entries_in}
 use Rattle.bar_ledger.specs.Slots.{exchanges_of}
 use Rattle.bar_ledger.proofs.Giving.{entries-later, found-passing, exchanges-passing, later-distinct}
 use Rattle.bar_ledger.proofs.Recent.{keeps-recent}
+use Rattle.bar_ledger.proofs.Recalled.{gives_up}
 use Rattle.bar_ledger.proofs.ledger.Ledger.forget.Goals as goal
 
 pub invariant_of-self : goal.invariant_of-self
@@ -24,3 +25,6 @@ returns-clause-kept c =
 
 pub returns-clause-recent : goal.returns-clause-recent
 returns-clause-recent c = keeps-recent c.args.self.now _ c.args.round (returns-clause-found c) (let l = c.args.self.now in entries-later l.shape.life l.round c.args.round l.slots.items c.requires)
+
+pub returns-clause-keeps : goal.returns-clause-keeps
+returns-clause-keeps c = gives_up c.args.self.now _ c.args.round refl refl refl refl (returns-clause-found c) (returns-clause-recent c)

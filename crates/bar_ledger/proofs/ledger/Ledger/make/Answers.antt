@@ -1,5 +1,6 @@
-use Rattle.std.proofs.Common.{arith}
+use Rattle.std.proofs.Common.{refl, arith}
 use Rattle.bar_ledger.proofs.Making.{made-none, made-more, made-distinct}
+use Rattle.bar_ledger.proofs.Recalled.{starts}
 use Rattle.bar_ledger.proofs.ledger.Ledger.make.Goals as goal
 
 pub loop-init : goal.loop-init
@@ -16,3 +17,6 @@ invariant_of-result c = record {
   rooms = c.loop.invariant.rooms;
   distinct = made-distinct c.args.shape.now.life c.loop.slots.items c.loop.invariant.empty;
 }
+
+pub returns-clause-starts : goal.returns-clause-starts
+returns-clause-starts c = starts _ c.loop.invariant.empty refl
