@@ -1,4 +1,1 @@
-pub mod Terms
-pub mod Sets
-pub mod FourTests
 pub mod Views

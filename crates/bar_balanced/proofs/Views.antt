@@ -6,19 +6,16 @@ use Rattle.bar_window.specs.declared.exchange.XKind.{XKind}
 use Rattle.bar_window.specs.declared.exchange.XKind.TheVariants.{Balanced, Push}
 use Rattle.bar_window.specs.declared.terms.Terms.{Terms}
 use Rattle.bar_window.specs.declared.terms.Terms.TheVariants as raw
-use Rattle.bar_window.specs.Terms.{plain_terms}
 use Rattle.bar_terms.specs.Windows.{AreWindowsOf}
 use Rattle.bar_wire.specs.Datagram.{Body, exchange_by}
-use Rattle.bar_wire.specs.Grammar.{HasTermForm}
 use Rattle.bar_wire.specs.Views.{AreTermWindows}
 use Rattle.bar_wire.specs.declared.shape.Shape.{Shape}
 use Rattle.bar_rules.specs.Member.{Member}
 use Rattle.bar_rules.specs.Peer.Admission.{is_row_met}
 use Rattle.bar_rules.specs.Peer.Knowledge.{Knowledge}
-use Rattle.bar_ledger.specs.Recalls.{kind_of_terms}
 use Rattle.bar_balanced.specs.Balanced.{is_balanced_row_met}
 use Rattle.bar_balanced.specs.Parts.{is_balanced, part_by, place_by}
-use Rattle.bar_balanced.specs.declared.place.Place.{Place}
+use Rattle.bar_exchange.specs.declared.place.Place.{Place}
 
 pub row_of : (me : Member) (k : Knowledge) (from to : ℕ) (a b : Body) (r : Bool) → a ≡ b → is_balanced b ≡ true → r ≡ is_row_met me k from to b
     → r ≡ is_balanced_row_met me k from to a
@@ -27,10 +24,6 @@ row_of me k from to a b r same balanced met = met ∙ ap (λ t. t && is_row_met 
 pub windows_of : (s : Shape) (round : ℕ) (t : Terms) → AreTermWindows s round t → AreWindowsOf s.life round t
 windows_of s round (raw.Balanced nonce ha hb) h = h
 windows_of s round (raw.Push young aged want give junk) h = h
-
-pub form_of : (s : Shape) (round : ℕ) (t : Terms) → HasTermForm s round Balanced (plain_terms t) → kind_of_terms (plain_terms t) ≡ Balanced
-form_of s round (raw.Balanced nonce ha hb) h = refl
-form_of s round (raw.Push young aged want give junk) h = absurd (let other = h.0 in cc)
 
 -- the place of a part that is told
 pub stands : (p : Place) (from to : ℕ) (part : ℕ × Role) → Some p ≡ option_map (place_by from to) (Some part) → p ≡ place_by from to part

@@ -1,4 +1,2 @@
-pub mod Says
 pub mod Parts
 pub mod Balanced
-pub mod Counts

@@ -8,12 +8,11 @@ ghost use Rattle.bar_ledger.specs.Recalls.{Recalls};
 ghost use Rattle.bar_balanced.specs.Balanced.{AreSpelled, is_balanced_row_met};
 
 use crate::asking::admits_request;
-use crate::case::admits_case;
-use crate::counts::Counts;
 use crate::divulge::admits_divulge;
-use crate::place::{Place, place_of};
-use crate::rows::{admits_key, admits_key_request, admits_response};
+use crate::place::place_of;
+use crate::rows::admits_response;
 use bar_bytes::Steps;
+use bar_exchange::{Counts, Place, admits_case, admits_key, admits_key_request};
 use bar_ledger::Ledger;
 use bar_roster::Session;
 use bar_store::Store;

@@ -1,5 +1,5 @@
 //! When a DIVULGE is admitted.
-ghost use Rattle.std.specs.Prelude.{◌≡◌, ◌≤◌, ◌↔◌, ℕ, IsTrue};
+ghost use Rattle.std.specs.Prelude.{◌≡◌, ◌≤◌, ℕ};
 ghost use Rattle.bar_window.specs.declared.exchange.XKind.TheVariants.{Balanced};
 ghost use Rattle.bar_window.specs.declared.exchange.Role.TheVariants.{Initiator};
 ghost use Rattle.bar_window.specs.Window.{members, IsWindowOf};
@@ -14,8 +14,7 @@ ghost use Rattle.bar_store.specs.Holds.{Holds};
 ghost use Rattle.bar_ledger.specs.Recalls.{Recalls};
 ghost use Rattle.bar_balanced.specs.Balanced.{AreSpelled};
 
-use crate::recall::{ANSWER_DEADLINE, has_heard, is_within};
-use crate::rows::has_digests;
+use bar_exchange::{ANSWER_DEADLINE, has_digests, has_heard, is_window_of, is_within};
 use bar_ledger::Ledger;
 use bar_seeds::commitment;
 use bar_store::Store;
@@ -33,15 +32,6 @@ fn commitment_in(bytes: &[u8], shape: &Shape) -> Option<[u8; 32]>
         },
         Err(_) => None,
     }
-}
-
-/// Whether it is the window of a round, where updates live for so many rounds.
-fn is_window_of(window: &Window, life: u8, round: u32) -> bool
-    ensures { IsTrue result ↔ IsWindowOf life round window.now }
-{
-    let end = u64::from(round) + 1;
-    let base = u64::from(window.base);
-    base == end.saturating_sub(u64::from(life)).max(1) && base + u64::from(window.used) == end
 }
 
 /// Whether a nonce and a history meet the commitment of the REQUEST that was heard of an exchange.

@@ -3,23 +3,15 @@
 
 mod admission;
 mod asking;
-mod case;
-mod counts;
 mod divulge;
 mod place;
-mod recall;
 mod reply;
 mod rows;
-mod same_terms;
-mod say;
-mod says;
 mod tick;
 mod worth;
 
 pub use admission::admit;
 pub use reply::replies;
-pub use say::Say;
-pub use says::Says;
 pub use tick::again;
 
 #[cfg(test)]

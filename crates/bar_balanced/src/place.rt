@@ -1,36 +1,12 @@
 //! Where a datagram of a balanced exchange stands.
 ghost use Rattle.std.specs.Prelude.{◌≡◌, option_map};
-ghost use Rattle.bar_window.specs.declared.exchange.XKind.TheVariants.{Balanced};
-ghost use Rattle.bar_wire.specs.Datagram.{exchange_by};
 ghost use Rattle.bar_wire.specs.Views.{plain};
 ghost use Rattle.bar_wire.specs.Places.{kind_from, role_from};
 ghost use Rattle.bar_balanced.specs.Parts.{part_by, part_in, place_in};
 
-use bar_window::{Exchange, Role, XKind};
+use bar_exchange::{Place, exchange_by};
+use bar_window::{Role, XKind};
 use bar_wire::{Body, View, role_from};
-
-/// A balanced exchange, and the side of it that a datagram's sender is on.
-#[derive(Clone, Copy, Debug)]
-pub struct Place {
-    pub x: Exchange,
-    pub role: Role,
-}
-
-/// The balanced exchange of a datagram from a party on one side to the other.
-fn exchange_by(round: u32, role: Role, from: u16, to: u16) -> Exchange
-    ensures { result ≡ exchange_by round Balanced role from to }
-{
-    let (initiator, responder) = match role {
-        Role::Initiator => (from, to),
-        Role::Responder => (to, from),
-    };
-    Exchange {
-        round,
-        kind: XKind::Balanced,
-        initiator,
-        responder,
-    }
-}
 
 /// A round and the side of a code, where the other code is that of balanced exchanges.
 fn part_by(round: u32, xkind: u8, role: u8) -> Option<(u32, Role)>
@@ -73,7 +49,7 @@ pub(crate) fn place_of(view: &View<'_>) -> Option<Place>
 {
     match part_of(&view.body) {
         Some((round, role)) => Some(Place {
-            x: exchange_by(round, role, view.from, view.to),
+            x: exchange_by(round, XKind::Balanced, role, view.from, view.to),
             role,
         }),
         None => None,

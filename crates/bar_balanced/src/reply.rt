@@ -9,28 +9,15 @@ ghost use Rattle.bar_rules.specs.Peer.Replies.{is_trade_worth, orders_when};
 ghost use Rattle.bar_rules.specs.Peer.Terms.{terms_of};
 ghost use Rattle.bar_ledger.specs.Recalls.{Recalls};
 ghost use Rattle.bar_balanced.specs.Balanced.{balanced_orders, IsRecentWhereNew};
-ghost use Rattle.bar_balanced.specs.Says.{order_by, orders_of_reply};
+ghost use Rattle.bar_exchange.specs.Says.{orders_of_reply};
 
 use crate::place::place_of;
-use crate::recall::{ANSWER_DEADLINE, REQUEST_DEADLINE, is_within};
-use crate::say::Say;
-use crate::says::Says;
 use crate::worth::is_worth;
+use bar_exchange::{ANSWER_DEADLINE, REQUEST_DEADLINE, Say, Says, is_within, one_when};
 use bar_ledger::Ledger;
 use bar_roster::Session;
 use bar_window::Exchange;
 use bar_wire::{Body, Kind, View};
-
-/// One thing to be said, where it is due.
-fn one_when(is_due: bool, kind: Kind, x: Exchange) -> Says
-    ensures { orders_of_reply result ≡ orders_when is_due (order_by kind x ∷ []) }
-{
-    if is_due {
-        Says::One(Say { kind, x })
-    } else {
-        Says::Nothing
-    }
-}
 
 /// To a RESPONSE that is admitted now: the DIVULGE and the CASE.
 fn to_response(ledger: &Ledger, x: Exchange, is_new: bool) -> Says

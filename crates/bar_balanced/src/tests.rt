@@ -3,8 +3,9 @@ ghost use Rattle.bar_wire.specs.declared.kind.Kind.TheVariants.{Case};
 ghost use Rattle.bar_rules.specs.Peer.Sizes.{largest};
 ghost use Rattle.bar_ledger.specs.Memory.{HasSame};
 
-use crate::{Say, Says, admit, again, replies};
+use crate::{admit, again, replies};
 use bar_bytes::Steps;
+use bar_exchange::{Say, Says};
 use bar_ledger::{Entry, Ledger};
 use bar_roster::Session;
 use bar_store::Store;

@@ -3,16 +3,16 @@ ghost use Rattle.std.specs.Prelude.{◌≡◌, ◌++◌, [], ◌∷◌};
 ghost use Rattle.bar_window.specs.declared.exchange.XKind.TheVariants.{Balanced};
 ghost use Rattle.bar_rules.specs.Member.{Member, IsMember};
 ghost use Rattle.bar_rules.specs.Peer.Knowledge.{Knowledge, this_round};
-ghost use Rattle.bar_rules.specs.Peer.Ticks.{lacks_answer, lacks_case, lacks_key, reveals, again};
+ghost use Rattle.bar_rules.specs.Peer.Ticks.{lacks_answer, reveals, again};
 ghost use Rattle.bar_rules.specs.Peer.Exchanges.{role_of};
 ghost use Rattle.bar_rules.specs.Peer.Orders.{Resend};
 ghost use Rattle.bar_wire.specs.declared.kind.Kind.TheVariants.{Case};
 ghost use Rattle.bar_ledger.specs.Recalls.{Recalls};
-ghost use Rattle.bar_balanced.specs.Says.{orders_at_tick};
+ghost use Rattle.bar_exchange.specs.Says.{orders_at_tick};
 
-use crate::recall::{ANSWER_DEADLINE, REQUEST_DEADLINE, has_heard, has_said_case, is_within, side};
-use crate::say::Say;
-use crate::says::Says;
+use bar_exchange::{
+    REQUEST_DEADLINE, Say, Says, has_heard, is_within, lacks_case, lacks_key, side,
+};
 use bar_ledger::Ledger;
 use bar_window::{Exchange, Role};
 use bar_wire::Kind;
@@ -25,33 +25,6 @@ fn lacks_answer(ledger: &Ledger, round: u32, x: Exchange) -> bool
     is_within(round, x.round, REQUEST_DEADLINE)
         && x.initiator == ledger.me()
         && !has_heard(ledger, x, Kind::Response, Role::Responder)
-}
-
-/// Whether this peer's CASE is said, and the partner's isn't heard.
-fn lacks_case(ledger: &Ledger, round: u32, x: Exchange) -> bool
-    ensures { (me : Member) (k : Knowledge) → IsMember me → Recalls me k ledger.now → round ≡ this_round k → result ≡ lacks_case me k x }
-{
-    let role = side(ledger, x);
-    is_within(round, x.round, ANSWER_DEADLINE)
-        && has_said_case(ledger, x, role)
-        && !has_heard(ledger, x, Kind::Case, role.other())
-}
-
-/// Whether this peer's CASE is said and the partner's is heard, but no KEY is.
-fn lacks_key(ledger: &Ledger, round: u32, x: Exchange) -> bool
-    ensures { (me : Member) (k : Knowledge) → Recalls me k ledger.now → round ≡ this_round k → result ≡ lacks_key me k x }
-{
-    let role = side(ledger, x);
-    if !is_within(round, x.round, ledger.life()) {
-        return false;
-    }
-    if !has_said_case(ledger, x, role) {
-        return false;
-    }
-    if !has_heard(ledger, x, Kind::Case, role.other()) {
-        return false;
-    }
-    !has_heard(ledger, x, Kind::Key, role.other())
 }
 
 /// The CASE again, behind the DIVULGE where this peer is the initiator.

@@ -1,6 +1,5 @@
 //! Whether a balanced exchange is worth it.
-ghost use Rattle.std.specs.Prelude.{◌≡◌, ◌↔◌, ℕ, IsTrue, Some};
-ghost use Rattle.bar_window.specs.Window.{IsAligned};
+ghost use Rattle.std.specs.Prelude.{◌≡◌, ℕ, Some};
 ghost use Rattle.bar_window.specs.Terms.{plain_terms};
 ghost use Rattle.bar_terms.specs.Windows.{AreWindowsOf};
 ghost use Rattle.bar_rules.specs.Member.{Member, Session};
@@ -10,16 +9,10 @@ ghost use Rattle.bar_rules.specs.Peer.Replies.{is_trade_worth};
 ghost use Rattle.bar_rules.specs.Peer.Terms.{terms_of};
 ghost use Rattle.bar_ledger.specs.Recalls.{Recalls};
 
+use bar_exchange::are_aligned;
 use bar_ledger::Ledger;
 use bar_terms::balanced_count;
-use bar_window::{Exchange, Terms, Window};
-
-/// Whether two windows are of the same rounds.
-pub(crate) fn are_aligned(one: &Window, two: &Window) -> bool
-    ensures { IsTrue result ↔ IsAligned one.now two.now }
-{
-    one.base == two.base && one.used == two.used
-}
+use bar_window::{Exchange, Terms};
 
 /// Whether each side lacks something of the other's.
 fn are_worth(terms: &Terms, cap: u8) -> bool

@@ -4,7 +4,7 @@ use Rattle.bar_window.specs.declared.exchange.Role.TheVariants.{Initiator, Respo
 use Rattle.bar_window.specs.Terms.{plain_terms}
 use Rattle.bar_terms.specs.Windows.{AreWindowsOf}
 use Rattle.bar_wire.specs.Datagram.{Body, Briefcase, Request, Case, Key, kind_of}
-use Rattle.bar_wire.specs.Grammar.{MaySend, HasForm}
+use Rattle.bar_wire.specs.Grammar.{MaySend}
 use Rattle.bar_wire.specs.Places.{kind_from, role_from}
 use Rattle.bar_wire.specs.Views.{plain, AreWindows, AreTermWindows}
 use Rattle.bar_wire.specs.declared.kind.Kind.{Kind}
@@ -12,8 +12,8 @@ use Rattle.bar_wire.specs.declared.kind.Kind.TheVariants as kinds
 use Rattle.bar_wire.specs.declared.view.Body.{Body as RawBody}
 use Rattle.bar_rules.specs.Member.{Session}
 use Rattle.bar_balanced.specs.Parts.{place_in}
-use Rattle.bar_balanced.specs.declared.place.Place.{Place}
-use Rattle.bar_balanced.proofs.Views.{row_of, windows_of, form_of, stands, stands_by}
+use Rattle.bar_exchange.specs.declared.place.Place.{Place}
+use Rattle.bar_balanced.proofs.Views.{row_of, windows_of, stands, stands_by}
 use Rattle.bar_balanced.proofs.admission.admit.Goals as goal
 
 pub returns-in-Request-clause-row : goal.returns-in-Request-clause-row
@@ -56,12 +56,10 @@ returns-in-Case-clause-row g c me k bytes same holds h spelled now is =
     told
     ∙ (λ i. Case (record { round = w.round; kind = at.kind_is i; role = sym at.role_is i; updates = w.updates; junk = w.junk; terms = plain_terms w.terms; cipher = w.cipher.now }))
     in
-    let form : HasForm shape (Case b) = subst (λ (b : Body). HasForm shape b) body is.spelled.fits.form in
     let windows : AreTermWindows shape w.round w.terms = subst (λ (b : RawBody). AreWindows shape b) w.is is.body.windows in
     row_of me k v.from v.to (plain v.body) (Case b) _ body refl
-    (c.admits_case.ensures me k v.from v.to b h life now at.x_is refl refl
+    (c.admits_case.ensures me k v.from v.to b h life now at.x_is refl
     (subst (λ (s : Session). AreWindowsOf s.shape.life w.round w.terms) (sym same) (windows_of shape w.round w.terms windows))
-    (form_of shape w.round w.terms form.1)
     (record { updates = refl; junk = refl }) refl)
 
 pub returns-in-Key-clause-row : goal.returns-in-Key-clause-row
@@ -76,4 +74,4 @@ returns-in-Key-clause-row g c me k bytes same holds h spelled now is =
     told ∙ (λ i. Key (record { round = w.round; kind = at.kind_is i; role = sym at.role_is i; key = w.key.now }))
     in
     row_of me k v.from v.to (plain v.body) b _ body refl
-    (c.admits_key.ensures me k v.from v.to w.round w.key.now h now at.x_is)
+    (c.admits_key.ensures me k Balanced v.from v.to w.round w.key.now h now at.x_is)

@@ -11,7 +11,7 @@ use Rattle.bar_rules.specs.Peer.Knowledge.{has_heard_of, is_in_time}
 use Rattle.bar_rules.specs.Values.{datagram_bytes}
 use Rattle.bar_window.specs.declared.exchange.XKind.TheVariants.{Balanced}
 use Rattle.bar_wire.specs.Datagram.{exchange_by}
-use Rattle.bar_balanced.proofs.FourTests.{fails_third, first_of_four, some_of}
+use Rattle.bar_exchange.proofs.FourTests.{fails_third, first_of_four, some_of}
 use Rattle.bar_balanced.proofs.divulge.admits_divulge.Goals as goal
 
 pub returns-then-not-has_digests : goal.returns-then-not-has_digests

@@ -1,6 +1,6 @@
 use Rattle.std.proofs.Common.{◌∙◌, sym, ap}
 use Rattle.bar_rules.specs.Peer.Replies.{is_trade_worth}
-use Rattle.bar_balanced.proofs.Terms.{complete_is}
+use Rattle.bar_exchange.proofs.Terms.{complete_is}
 use Rattle.bar_balanced.proofs.worth.is_worth.Goals as goal
 
 pub returns-then-entry : goal.returns-then-entry

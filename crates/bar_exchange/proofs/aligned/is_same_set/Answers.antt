@@ -3,8 +3,8 @@ use Rattle.std.proofs.Common.{arith}
 use Rattle.std.proofs.lemmas.Bool.Decides.{nat_tests}
 use Rattle.bar_window.specs.Window.{members}
 use Rattle.bar_window.proofs.Spelling.{members_rise}
-use Rattle.bar_balanced.proofs.Sets.{first_size, second_size}
-use Rattle.bar_balanced.proofs.same_terms.is_same_set.Goals as goal
+use Rattle.bar_exchange.proofs.Sets.{first_size, second_size}
+use Rattle.bar_exchange.proofs.aligned.is_same_set.Goals as goal
 
 pub returns-then-size-eq0 : goal.returns-then-size-eq0
 returns-then-size-eq0 c aligned =

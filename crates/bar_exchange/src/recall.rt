@@ -14,20 +14,20 @@ use bar_window::{Exchange, Role, XKind};
 use bar_wire::Kind;
 
 /// For how many rounds after its own a REQUEST is admitted, sent again and answered.
-pub(crate) const REQUEST_DEADLINE: u8 = 1;
+pub const REQUEST_DEADLINE: u8 = 1;
 
 /// For how many rounds after its own all is admitted and sent again that comes after the REQUEST, up to the CASEs.
-pub(crate) const ANSWER_DEADLINE: u8 = 2;
+pub const ANSWER_DEADLINE: u8 = 2;
 
 /// Whether a round is at most so many after another one.
-pub(crate) fn is_within(now: u32, round: u32, after: u8) -> bool
+pub fn is_within(now: u32, round: u32, after: u8) -> bool
     ensures { result ≡ nat_le now (round + after) }
 {
     u64::from(now) <= u64::from(round) + u64::from(after)
 }
 
 /// This peer's side of an exchange.
-pub(crate) fn side(ledger: &Ledger, x: Exchange) -> Role
+pub fn side(ledger: &Ledger, x: Exchange) -> Role
     ensures { (me : Member) (k : Knowledge) → Recalls me k ledger.now → result ≡ role_of me x }
 {
     if x.initiator == ledger.me() {
@@ -38,7 +38,7 @@ pub(crate) fn side(ledger: &Ledger, x: Exchange) -> Role
 }
 
 /// Whether a datagram of a side was heard.
-pub(crate) fn has_heard(ledger: &Ledger, x: Exchange, kind: Kind, role: Role) -> bool
+pub fn has_heard(ledger: &Ledger, x: Exchange, kind: Kind, role: Role) -> bool
     ensures { result ≡ is_some (heard_in ledger.now kind x role) }
 {
     match ledger.find(x) {
@@ -48,7 +48,7 @@ pub(crate) fn has_heard(ledger: &Ledger, x: Exchange, kind: Kind, role: Role) ->
 }
 
 /// Whether this peer said the CASE of a side.
-pub(crate) fn has_said_case(ledger: &Ledger, x: Exchange, role: Role) -> bool
+pub fn has_said_case(ledger: &Ledger, x: Exchange, role: Role) -> bool
     ensures { result ≡ said_in ledger.now Case x role }
 {
     match ledger.find(x) {
@@ -58,7 +58,7 @@ pub(crate) fn has_said_case(ledger: &Ledger, x: Exchange, role: Role) -> bool
 }
 
 /// Whether this peer said the REQUEST of a balanced exchange.
-pub(crate) fn has_asked(ledger: &Ledger, x: Exchange) -> bool
+pub fn has_asked(ledger: &Ledger, x: Exchange) -> bool
     ensures { x.kind ≡ Balanced → result ≡ said_in ledger.now Request x Initiator }
 {
     match ledger.find(x) {

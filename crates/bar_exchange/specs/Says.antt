@@ -4,9 +4,9 @@ use Rattle.bar_window.specs.declared.exchange.Exchange.{Exchange}
 use Rattle.bar_wire.specs.declared.kind.Kind.{Kind}
 use Rattle.bar_wire.specs.declared.kind.Kind.TheVariants as kinds
 use Rattle.bar_rules.specs.Peer.Orders.{Order, Answer, Reveal, GiveCase, AskKey, GiveKey, Resend}
-use Rattle.bar_balanced.specs.declared.say.Say.{Say}
-use Rattle.bar_balanced.specs.declared.says.Says.{Says}
-use Rattle.bar_balanced.specs.declared.says.Says.TheVariants.{Nothing, One, Two}
+use Rattle.bar_exchange.specs.declared.say.Say.{Say}
+use Rattle.bar_exchange.specs.declared.says.Says.{Says}
+use Rattle.bar_exchange.specs.declared.says.Says.TheVariants.{Nothing, One, Two}
 
 abbrev pub says_in : Says → List Say
 says_in Nothing = []
@@ -16,6 +16,7 @@ says_in (Two first second) = first ∷ second ∷ []
 -- the order that a kind stands for in a reply
 abbrev pub order_by : Kind → Exchange → Order
 order_by kinds.Response x = Answer x
+order_by kinds.Reply x = Answer x
 order_by kinds.Divulge x = Reveal x
 order_by kinds.Case x = GiveCase x
 order_by kinds.KeyReq x = AskKey x

@@ -2,7 +2,6 @@ use Rattle.std.proofs.Common.{◌≡◌, ◌≤◌, ◌+◌, ◌∙◌, ℕ, tru
 use Rattle.std.proofs.lemmas.Bool.{le-leb}
 use Rattle.std.proofs.lemmas.Bool.Decides.{nat_tests}
 use Rattle.bar_window.specs.declared.exchange.Exchange.{Exchange}
-use Rattle.bar_window.specs.declared.exchange.XKind.TheVariants.{Balanced}
 use Rattle.bar_window.specs.Exchange.{other_role}
 use Rattle.bar_terms.specs.Windows.{AreWindowsOf}
 use Rattle.bar_wire.specs.Datagram.{exchange_by}
@@ -12,15 +11,14 @@ use Rattle.bar_rules.specs.Peer.Agreement.{IsRecent}
 use Rattle.bar_rules.specs.Peer.Knowledge.{has_said_of, is_in_time}
 use Rattle.bar_rules.specs.Peer.Terms.{terms_of}
 use Rattle.bar_ledger.specs.Lookups.{said_in}
-use Rattle.bar_balanced.proofs.FourTests.{round_by, kind_by, third_of_four}
-use Rattle.bar_balanced.proofs.case.admits_case.Goals as goal
+use Rattle.bar_exchange.proofs.FourTests.{round_by, third_of_four}
+use Rattle.bar_exchange.proofs.case.admits_case.Goals as goal
 
 pub returns : goal.returns
-returns c me k from to b h life now is kind role windows form counts terms =
+returns c me k from to b h life now is role windows counts terms =
     let x : Exchange = c.args.x in
-    let round : c.args.x.round ≡ b.round = ap (λ (x : Exchange). x.round) is ∙ round_by b.round Balanced c.args.role from to in
-    let balanced : c.args.x.kind ≡ Balanced = ap (λ (x : Exchange). x.kind) is ∙ kind_by b.round Balanced c.args.role from to in
-    let same : c.args.x ≡ exchange_by b.round b.kind b.role from to = is ∙ (λ i. exchange_by b.round (sym kind i) (sym role i) from to) in
+    let round : c.args.x.round ≡ b.round = ap (λ (x : Exchange). x.round) is ∙ round_by b.round b.kind c.args.role from to in
+    let same : c.args.x ≡ exchange_by b.round b.kind b.role from to = is ∙ (λ i. exchange_by b.round b.kind (sym role i) from to) in
     let by : c.args.round ≤ c.args.x.round + 2 = grind (arith, nat_tests) in
     let recent : IsRecent me k c.args.x.round = omega arith in
     let case_said : c.has_said_case.result ≡ true = search in
@@ -31,9 +29,9 @@ returns c me k from to b h life now is kind role windows form counts terms =
     let here : AreWindowsOf me.session.shape.life c.args.x.round c.args.terms.now =
     subst (λ (r : ℕ). AreWindowsOf me.session.shape.life r c.args.terms.now) (sym round) windows
     in
-    let known = c.are_terms.ensures me k h recent balanced here form in
+    let known = c.are_terms.ensures me k h recent here in
     third_of_four _ _ _ (is_in_time me.session k kinds.Case b.round) _
     ((λ i. has_said_of k kinds.Case (sym same i) (other_role (role i))) ∙ said)
     ((λ i. are_terms (terms i) (terms_of me k (sym same i))) ∙ sym known ∙ terms_same)
     (le-leb _ _ (omega arith))
-    (c.are_promised.ensures me.session me.session.shape.life b.round b (c.cap.ensures ∙ h.cap) windows form counts terms)
+    (c.are_promised.ensures me.session me.session.shape.life b.round b (c.cap.ensures ∙ h.cap) windows role counts terms)

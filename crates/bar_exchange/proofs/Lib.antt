@@ -1,0 +1,3 @@
+pub mod Terms
+pub mod Sets
+pub mod FourTests

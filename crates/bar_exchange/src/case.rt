@@ -1,0 +1,77 @@
+//! When a CASE is admitted.
+ghost use Rattle.std.specs.Prelude.{◌≡◌, ◌≤◌, ℕ, List};
+ghost use Rattle.bar_window.specs.declared.update.UpdateId.{UpdateId};
+ghost use Rattle.bar_window.specs.Window.{members};
+ghost use Rattle.bar_window.specs.Terms.{Push, plain_terms};
+ghost use Rattle.bar_terms.specs.Windows.{AreWindowsOf};
+ghost use Rattle.bar_wire.specs.Datagram.{Briefcase, Case, exchange_by};
+ghost use Rattle.bar_rules.specs.Member.{Member, Session};
+ghost use Rattle.bar_rules.specs.Values.{counts_ok};
+ghost use Rattle.bar_rules.specs.Peer.Admission.{is_row_met};
+ghost use Rattle.bar_rules.specs.Peer.Knowledge.{Knowledge, this_round};
+ghost use Rattle.bar_ledger.specs.Recalls.{Recalls};
+ghost use Rattle.bar_exchange.specs.Counts.{HasCounts};
+
+use crate::aligned::are_aligned;
+use crate::counts::Counts;
+use crate::recall::{ANSWER_DEADLINE, has_said_case, is_within};
+use crate::same_terms::are_terms;
+use bar_ledger::Ledger;
+use bar_terms::balanced_count;
+use bar_window::{Exchange, Role, Terms, Window};
+
+/// Whether counts are those of a side's promise by what is wanted and given in a push.
+fn are_of_push(counts: Counts, role: Role, want: &Window, give: &Window, junk: u8) -> bool
+    ensures { (s : Session) (young aged : List UpdateId) (c : Briefcase) → HasCounts counts c → c.role ≡ role
+        → c.terms ≡ Push young aged (members want.now) (members give.now) junk → result ≡ counts_ok s c }
+{
+    let (updates, padding) = match role {
+        Role::Initiator => (want.size(), 0),
+        Role::Responder => (give.size(), junk),
+    };
+    u32::from(counts.updates) == updates && counts.junk == padding
+}
+
+/// Whether counts are those of a side's promise by the terms.
+fn are_promised(counts: Counts, terms: &Terms, role: Role, cap: u8) -> bool
+    ensures { (s : Session) (life round : ℕ) (c : Briefcase) → cap ≡ s.cap → AreWindowsOf life round terms.now
+        → c.role ≡ role → HasCounts counts c → c.terms ≡ plain_terms terms.now → result ≡ counts_ok s c }
+{
+    match terms {
+        Terms::Balanced { ha, hb, .. } => {
+            counts.junk == 0 && are_aligned(ha, hb) && counts.updates == balanced_count(ha, hb, cap)
+        }
+        Terms::Push {
+            want,
+            give,
+            junk,
+            ..
+        } => are_of_push(counts, role, want, give, *junk),
+    }
+}
+
+/// The row of a CASE of a side.
+pub fn admits_case(
+    ledger: &Ledger,
+    round: u32,
+    x: Exchange,
+    role: Role,
+    terms: &Terms,
+    counts: Counts,
+) -> bool
+    ensures { (me : Member) (k : Knowledge) (from to : ℕ) (c : Briefcase) → Recalls me k ledger.now → 2 ≤ me.session.shape.life
+        → round ≡ this_round k → x ≡ exchange_by c.round c.kind role from to → c.role ≡ role
+        → AreWindowsOf me.session.shape.life c.round terms.now → HasCounts counts c → c.terms ≡ plain_terms terms.now
+        → result ≡ is_row_met me k from to (Case c) }
+{
+    if !is_within(round, x.round, ANSWER_DEADLINE) {
+        return false;
+    }
+    if !has_said_case(ledger, x, role.other()) {
+        return false;
+    }
+    if !are_terms(ledger, x, terms) {
+        return false;
+    }
+    are_promised(counts, terms, role, ledger.cap())
+}

@@ -1,0 +1,31 @@
+-- The datagrams of pushes, and where they stand.
+use Rattle.std.specs.Prelude.{ℕ, Bool, Option, Some, None, is_some, option_map}
+use Rattle.bar_window.specs.declared.exchange.Role.{Role}
+use Rattle.bar_window.specs.declared.exchange.Role.TheVariants.{Initiator, Responder}
+use Rattle.bar_window.specs.declared.exchange.XKind.{XKind}
+use Rattle.bar_window.specs.declared.exchange.XKind.TheVariants.{Balanced, Push}
+use Rattle.bar_wire.specs.Datagram.{Body, Query, Reply, Case, KeyReq, Key, exchange_by}
+use Rattle.bar_exchange.specs.declared.place.Place.{Place}
+
+-- a round and a side, where the exchange is a push
+abbrev pub part_by : ℕ → XKind → Role → Option (ℕ × Role)
+part_by round Push role = Some (round, role)
+part_by round Balanced role = None
+
+-- the round of a datagram of a push, and the side of its sender
+abbrev pub part_in : Body → Option (ℕ × Role)
+part_in (Query round seed young aged) = Some (round, Initiator)
+part_in (Reply round want give junk) = Some (round, Responder)
+part_in (Case c) = part_by c.round c.kind c.role
+part_in (KeyReq round kind role) = part_by round kind role
+part_in (Key g) = part_by g.round g.kind g.role
+part_in _ = None
+
+abbrev pub is_push : Body → Bool
+is_push b = is_some (part_in b)
+
+abbrev pub place_by : ℕ → ℕ → ℕ × Role → Place
+place_by from to part = record { x = exchange_by part.0 Push part.1 from to; role = part.1 }
+
+abbrev pub place_in : ℕ → ℕ → Body → Option Place
+place_in from to b = option_map (place_by from to) (part_in b)

@@ -1,0 +1,57 @@
+//! Where a datagram of a push stands.
+ghost use Rattle.std.specs.Prelude.{◌≡◌, option_map};
+ghost use Rattle.bar_wire.specs.Views.{plain};
+ghost use Rattle.bar_wire.specs.Places.{kind_from, role_from};
+ghost use Rattle.bar_push.specs.Parts.{part_by, part_in, place_in};
+
+use bar_exchange::{Place, exchange_by};
+use bar_window::{Role, XKind};
+use bar_wire::{Body, View, role_from};
+
+/// A round and the side of a code, where the other code is that of pushes.
+fn part_by(round: u32, xkind: u8, role: u8) -> Option<(u32, Role)>
+    ensures { result ≡ part_by round (kind_from xkind) (role_from role) }
+{
+    if xkind == 0 {
+        None
+    } else {
+        Some((round, role_from(role)))
+    }
+}
+
+/// The round of a datagram of a push, and the side of its sender.
+fn part_of(body: &Body<'_>) -> Option<(u32, Role)>
+    ensures { result ≡ part_in (plain body.now) }
+{
+    match *body {
+        Body::Query { round, .. } => Some((round, Role::Initiator)),
+        Body::Reply { round, .. } => Some((round, Role::Responder)),
+        Body::Case {
+            round,
+            xkind,
+            role,
+            ..
+        } => part_by(round, xkind, role),
+        Body::KeyReq { round, xkind, role } => part_by(round, xkind, role),
+        Body::Key {
+            round,
+            xkind,
+            role,
+            ..
+        } => part_by(round, xkind, role),
+        _ => None,
+    }
+}
+
+/// The place of a datagram of a push.
+pub(crate) fn place_of(view: &View<'_>) -> Option<Place>
+    ensures { result ≡ place_in view.now.from view.now.to (plain view.now.body) }
+{
+    match part_of(&view.body) {
+        Some((round, role)) => Some(Place {
+            x: exchange_by(round, XKind::Push, role, view.from, view.to),
+            role,
+        }),
+        None => None,
+    }
+}

@@ -1,0 +1,53 @@
+//! What is answered to a datagram.
+ghost use Rattle.std.specs.Prelude.{◌≡◌, ◌||◌, [], ◌∷◌, nat_le};
+ghost use Rattle.bar_wire.specs.Views.{datagram};
+ghost use Rattle.bar_rules.specs.Member.{Member};
+ghost use Rattle.bar_rules.specs.Peer.Knowledge.{Knowledge, this_round};
+ghost use Rattle.bar_rules.specs.Peer.Orders.{Answer, GiveCase};
+ghost use Rattle.bar_rules.specs.Peer.Replies.{orders_when};
+ghost use Rattle.bar_exchange.specs.Says.{orders_of_reply};
+ghost use Rattle.bar_push.specs.Push.{push_orders};
+
+use crate::place::place_of;
+use bar_exchange::{REQUEST_DEADLINE, Say, Says, is_within, one_when};
+use bar_roster::Session;
+use bar_window::Exchange;
+use bar_wire::{Body, Kind, View};
+
+/// To a QUERY: the REPLY and the CASE.
+fn to_query(is_due: bool, x: Exchange) -> Says
+    ensures { orders_of_reply result ≡ orders_when is_due (Answer x ∷ GiveCase x ∷ []) }
+{
+    let answer = Say {
+        kind: Kind::Reply,
+        x,
+    };
+    let case = Say {
+        kind: Kind::Case,
+        x,
+    };
+    if is_due {
+        Says::Two(answer, case)
+    } else {
+        Says::Nothing
+    }
+}
+
+/// What is answered to a datagram of a push that is admitted now or comes again, in this round.
+pub fn replies(session: &Session, round: u32, view: &View<'_>, is_new: bool) -> Says
+    ensures { (me : Member) (k : Knowledge) → me.session ≡ session.now → round ≡ this_round k
+        → orders_of_reply result ≡ push_orders me k is_new (datagram session.now.shape view.now) }
+{
+    let life = session.shape().life;
+    let Some(place) = place_of(view) else {
+        return Says::Nothing;
+    };
+    let x = place.x;
+    match view.body {
+        Body::Query { .. } => to_query(is_new || is_within(round, x.round, REQUEST_DEADLINE), x),
+        Body::Reply { .. } => one_when(is_new, Kind::Case, x),
+        Body::Case { .. } => one_when(is_new, Kind::KeyReq, x),
+        Body::KeyReq { .. } => one_when(is_new || is_within(round, x.round, life), Kind::Key, x),
+        _ => Says::Nothing,
+    }
+}
