@@ -5,3 +5,4 @@ pub mod Opens
 pub mod OwnKey
 pub mod Longer
 mod Worked
+pub mod Blocks

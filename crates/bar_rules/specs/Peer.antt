@@ -13,6 +13,7 @@ pub mod Orders
 pub mod Replies
 pub mod Ticks
 pub mod Machine
+pub mod Writing
 pub mod Run
 pub mod Listening
 pub mod Agreement

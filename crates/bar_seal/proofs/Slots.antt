@@ -76,7 +76,7 @@ kind_is (Case c) p s part = refl
 kind_is (Key k) p s part = refl
 kind_is b p s part = cc
 
-leaf_is : (b : Body) (p : ℕ × XKind × Role) (s : ℕ) → part_of b ≡ Some p → leaf_of b s ≡ leaf_at p.0 p.1 p.2 (step_of b) s
+pub leaf_is : (b : Body) (p : ℕ × XKind × Role) (s : ℕ) → part_of b ≡ Some p → leaf_of b s ≡ leaf_at p.0 p.1 p.2 (step_of b) s
 leaf_is (Request r d c) p s part = ap (λ o. leaf_by o 0 s) part
 leaf_is (Response r hb) p s part = ap (λ o. leaf_by o 0 s) part
 leaf_is (Divulge r n ha) p s part = ap (λ o. leaf_by o 0 s) part

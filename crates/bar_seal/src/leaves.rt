@@ -1,13 +1,13 @@
 //! The leaf that signs a message.
 
-ghost use Rattle.std.specs.Prelude.{◌≡◌, ℕ, ◌*◌, ◌≤◌, ◌<◌, ◌^◌, true};
-ghost use Rattle.bar_wire.specs.Datagram.{is_signed, round_of};
+ghost use Rattle.std.specs.Prelude.{◌≡◌, ℕ, ◌*◌, ◌≤◌, ◌<◌, ◌^◌, true, Some};
+ghost use Rattle.bar_wire.specs.Datagram.{Body as PlainBody, is_signed, round_of, kind_of, part_of};
 ghost use Rattle.bar_wire.specs.Limits.{leaves_a_round, seats_a_round};
 ghost use Rattle.bar_wire.specs.Views.{plain};
-ghost use Rattle.bar_seal.specs.Leaves.{leaf_of, first_slot, leaf_at};
+ghost use Rattle.bar_seal.specs.Leaves.{leaf_of, first_slot, leaf_at, step_of};
 
-use bar_window::{Role, XKind};
-use bar_wire::{Body, LEAVES_A_ROUND, SEATS_A_ROUND, kind_from, role_from};
+use bar_window::{Exchange, Role, XKind};
+use bar_wire::{Body, Kind, LEAVES_A_ROUND, SEATS_A_ROUND, kind_from, role_from};
 
 /// The steps of a side of an exchange: its first message, its briefcase and its key.
 const FIRST: u32 = 0;
@@ -37,6 +37,28 @@ fn leaf_at(round: u32, kind: XKind, role: Role, step: u32, seat: u8) -> u32
     ensures { result ≡ leaf_at round kind role step seat }
 {
     LEAVES_A_ROUND * (round - 1) + (first_slot(kind, role, seat) + step)
+}
+
+/// The step of a side that takes a message of a kind.
+fn step_of(kind: Kind) -> u32
+    ensures step { (b : PlainBody) → kind_of b ≡ kind → result ≡ step_of b }
+    ensures low { result < 3 }
+{
+    match kind {
+        Kind::Case => CASE,
+        Kind::Key => KEY,
+        _ => FIRST,
+    }
+}
+
+/// The leaf that signs a message of a kind from one side of an exchange, where a responder has a seat below `SEATS_A_ROUND`.
+pub fn leaf_for(kind: Kind, x: Exchange, role: Role, seat: u8) -> u32
+    requires first { 1 ≤ x.round }
+    requires fits { leaves_a_round * x.round < 2 ^ 32 }
+    requires seat { seat < seats_a_round }
+    ensures { (b : PlainBody) → kind_of b ≡ kind → part_of b ≡ Some (x.round, x.kind, role) → result ≡ leaf_of b seat }
+{
+    leaf_at(x.round, x.kind, role, step_of(kind), seat)
 }
 
 /// The leaf that signs a message of a signed kind, where its sender has a seat below `SEATS_A_ROUND` if it is the responder.

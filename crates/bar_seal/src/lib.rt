@@ -11,7 +11,7 @@ mod scheme;
 
 pub use checker::Checker;
 pub use identities::Identity;
-pub use leaves::leaf_of;
+pub use leaves::{leaf_for, leaf_of};
 pub use lms::{LmsScheme, LmsVerifier, is_accepted_under};
 pub use naming::identity;
 pub use scheme::{Scheme, Verifier};

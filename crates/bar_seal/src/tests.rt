@@ -6,14 +6,14 @@ ghost use Rattle.bar_wire.specs.declared.shape.Shape.{Shape};
 
 use crate::checker::Checker;
 use crate::identities::Identity;
-use crate::leaves::leaf_of;
+use crate::leaves::{leaf_for, leaf_of};
 use crate::lms::{LmsScheme, LmsVerifier, is_accepted_under};
 use crate::naming::identity;
 use crate::scheme::{Scheme, Verifier};
 use bar_bytes::Steps;
 use bar_lms::{Height, Ots, Params, SecretKey};
-use bar_window::{Role, Terms, Window, XKind};
-use bar_wire::{Body, Shape, View, decode, encode};
+use bar_window::{Exchange, Role, Terms, Window, XKind};
+use bar_wire::{Body, Kind, Shape, View, decode, encode};
 use std::alloc::{AllocError, Global};
 use std::marker::Brand;
 use std::sync::ledger::{Blank, Ledger};
@@ -121,7 +121,7 @@ fn an_identity_has_the_fields_of_its_kind(rt: HostRuntime) {
     let asked = Identity {
         kind: 3,
         from: 1,
-        ..Identity::of_round(bar_wire::Kind::Request, 3)
+        ..Identity::of_round(Kind::Request, 3)
     };
     assert_eq!(rt; identity(&from_one(request, &[], &[])), Some(asked));
     let response = Body::Response {
@@ -168,6 +168,14 @@ fn each_message_of_a_round_has_its_leaf(rt: HostRuntime) {
     assert_eq!(rt; leaf_of(&reply, 0), 48);
     assert_eq!(rt; leaf_of(&key_of(1, 1), 1), 53);
     assert_eq!(rt; leaf_of(&notice, 0), 5);
+    let x = Exchange {
+        round: 3,
+        kind: XKind::Push,
+        initiator: 1,
+        responder: 2,
+    };
+    assert_eq!(rt; leaf_for(Kind::Query, x, Role::Initiator, 0), 39);
+    assert_eq!(rt; leaf_for(Kind::Key, x, Role::Responder, 1), 53);
 }
 
 /// Terms with empty windows of round 16.

@@ -91,6 +91,13 @@ impl SeedChain {
         self.values[self.rounds as usize]
     }
 
+    /// The last round of the session.
+    pub fn rounds(&self) -> u32
+        ensures { result ≡ self.now.rounds }
+    {
+        self.rounds
+    }
+
     /// The seed of a round, from 1 to the last.
     pub fn seed(&self, round: u32) -> [u8; 32]
         requires first { 1 ≤ round }

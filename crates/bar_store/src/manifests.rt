@@ -33,6 +33,13 @@ impl Manifests {
         Ok(Manifests { size, rooms })
     }
 
+    /// The most bytes of a datagram.
+    pub fn size(&self) -> usize
+        ensures { result ≡ self.now.size }
+    {
+        self.size
+    }
+
     /// Keeps the datagram of a round's manifest.
     pub fn keep(&mut self, round: u32, datagram: &[u8])
         requires last { round < length self.old.rooms.items }

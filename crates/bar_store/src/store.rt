@@ -134,6 +134,7 @@ impl Store {
     /// What becomes of a block that comes in a round.
     pub fn cause(&self, id: UpdateId, block: &[u8; 1024], now: u32) -> Added
         ensures cause { result ≡ cause_of self.now id block.now now }
+        ensures row { now ≡ self.now.round → MeetsRow id block.now self.now (is_new result) }
         ensures inside { is_new result ≡ true → id.index < self.now.per_round }
     {
         if u64::from(now) >= u64::from(id.round) + u64::from(self.life) {

@@ -12,7 +12,7 @@ pub use items::{Item, Promise};
 pub use promised::{balanced_count, promise};
 pub use push::{PushAnswer, push_answer};
 pub use table::{Digest, Table};
-pub use valid::{offer_ok, terms_ok, within};
+pub use valid::{can_promise, offer_ok, terms_ok, within};
 
 #[cfg(test)]
 mod tests;

@@ -33,7 +33,7 @@ pub use limits::{EVERYONE, LARGEST_CONTENT, LARGEST_DATAGRAM, LEAVES_A_ROUND, SE
 pub use reading::decode;
 pub use shape::Shape;
 pub use view::{Body, View};
-pub use writing::encode;
+pub use writing::{encode, kind_of};
 
 #[cfg(test)]
 mod tests;

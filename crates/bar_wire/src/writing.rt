@@ -200,7 +200,7 @@ fn put_body(out: &mut [u8], at: usize, body: &Body<'_>, shape: &Shape) -> usize
 }
 
 /// The kind of a body.
-fn kind_of(body: &Body<'_>) -> Kind
+pub fn kind_of(body: &Body<'_>) -> Kind
     ensures { result ≡ kind_of (plain body.now) }
 {
     match body {
