@@ -12,6 +12,7 @@ mod AgreeTotals
 mod GoingOn
 mod Rewritten
 mod Remembered
+mod Sound
 -- the lemmas that other groups may cite
 pub use Rattle.bar_laws.proofs.Memory.OpenList.{all-inserted}
 pub use Rattle.bar_laws.proofs.Memory.MachineImage.{runs-as-known, learned}
@@ -21,3 +22,4 @@ pub use Rattle.bar_laws.proofs.Memory.AgreeTotals.{totals-agree}
 pub use Rattle.bar_laws.proofs.Memory.GoingOn.{goes-on}
 pub use Rattle.bar_laws.proofs.Memory.Rewritten.{rewritten}
 pub use Rattle.bar_laws.proofs.Memory.Remembered.{remembered}
+pub use Rattle.bar_laws.proofs.Memory.Sound.{sound}

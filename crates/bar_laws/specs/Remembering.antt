@@ -11,7 +11,8 @@ use Rattle.bar_rules.specs.Peer.Log.{Log}
 use Rattle.bar_rules.specs.Member.{Member, IsMember}
 use Rattle.bar_rules.specs.Peer.Rules.{IsObedient}
 use Rattle.bar_laws.specs.Always.{InEachPeersLog}
-use Rattle.bar_laws.specs.Rewriting.{offer_of, answer_of, reply_of, IsRewritten}
+use Rattle.bar_rules.specs.Peer.Writing.{offer_of, answer_of, reply_of}
+use Rattle.bar_laws.specs.Rewriting.{IsRewritten}
 
 -- Of recent exchanges the second knows as much as the first: which kinds were said, what is revealed, offered, answered and replied, and
 -- the responder's seat. It has the blocks of fresh updates. What it has as said is what would be written by all this.

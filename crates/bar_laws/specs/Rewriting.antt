@@ -1,51 +1,16 @@
 -- What was said is what would be written now: a peer has to keep none of its own datagrams.
-use Rattle.std.specs.Prelude.{◌≡◌, ℕ, List, Option, Some, None, option_map, option_and_then}
-use Rattle.bar_wire.specs.Bodies.{history_in, offer_in, reply_in}
+use Rattle.std.specs.Prelude.{◌≡◌, Some}
 use Rattle.bar_window.specs.declared.exchange.Exchange.{Exchange}
-use Rattle.bar_window.specs.declared.update.UpdateId.{UpdateId}
 use Rattle.bar_window.specs.declared.exchange.Role.{Role}
-use Rattle.bar_window.specs.declared.exchange.Role.TheVariants.{Initiator, Responder}
-use Rattle.bar_wire.specs.Datagram.{Datagram, Body, Request, Response, Query, Reply}
-use Rattle.bar_wire.specs.declared.kind.Kind.TheVariants as kinds
+use Rattle.bar_wire.specs.Datagram.{Datagram}
 use Rattle.bar_wire.specs.declared.kind.Kind.{Kind}
+use Rattle.bar_rules.specs.Member.{Member}
 use Rattle.bar_rules.specs.Peer.Exchanges.{role_of}
 use Rattle.bar_rules.specs.Peer.Knowledge.{Knowledge, known}
 use Rattle.bar_rules.specs.Peer.Log.{Log}
-use Rattle.bar_rules.specs.Peer.Machine.{message_to}
-use Rattle.bar_rules.specs.Member.{Member}
-use Rattle.bar_rules.specs.Peer.Orders.{case_body, key_body}
 use Rattle.bar_rules.specs.Peer.Rules.{IsObedient}
-use Rattle.bar_rules.specs.Secrets.{seed_of, commitment_of}
-use Rattle.bar_rules.specs.Peer.Signing.{signed}
-use Rattle.bar_rules.specs.Peer.Terms.{terms_of, body_on}
+use Rattle.bar_rules.specs.Peer.Writing.{body_again, written}
 use Rattle.bar_laws.specs.Always.{InEachLog}
-
--- what the QUERY of an exchange offers and asks for, the history of its RESPONSE, and what its REPLY wants and gives with its junk
-abbrev pub offer_of : Member → Knowledge → Exchange → Option (List UpdateId × List UpdateId)
-offer_of me k x = option_and_then offer_in (body_on me k kinds.Query x Initiator)
-
-abbrev pub answer_of : Member → Knowledge → Exchange → Option (List UpdateId)
-answer_of me k x = option_and_then history_in (body_on me k kinds.Response x Responder)
-
-abbrev pub reply_of : Member → Knowledge → Exchange → Option (List UpdateId × List UpdateId × ℕ)
-reply_of me k x = option_and_then reply_in (body_on me k kinds.Reply x Responder)
-
--- The body that a message of this member's side of an exchange has, by what is known now:
--- a REQUEST by the nonce and the history that it commits to; a QUERY by what it offers and asks for; a RESPONSE by the history that it
--- answers with; a REPLY by what it wants and gives, and its junk; a CASE by the terms, with the blocks that are held now; a KEY by no more.
-abbrev pub body_again : Member → Knowledge → Kind → Exchange → Option Body
-body_again me k kinds.Request x =
-    option_map (λ a. Request x.round (seed_of me x.round) (commitment_of me.session x a.0 a.1)) (k.revealed x)
-body_again me k kinds.Query x = option_map (λ q. Query x.round (seed_of me x.round) q.0 q.1) (offer_of me k x)
-body_again me k kinds.Response x = option_map (λ hb. Response x.round hb) (answer_of me k x)
-body_again me k kinds.Reply x = option_map (λ t. Reply x.round t.0 t.1 t.2) (reply_of me k x)
-body_again me k kinds.Case x = option_map (case_body me k x) (terms_of me k x)
-body_again me k kinds.Key x = Some (key_body me x)
-body_again me k _ x = None
-
--- the datagram of a body to the partner in an exchange, signed by what is known now
-abbrev pub written : Member → Knowledge → Exchange → Option Body → Option Datagram
-written me k x body = option_map (λ b. signed me k (message_to me x b)) body
 
 -- What was said of an exchange, whatever its kind and however long ago, is of this member's own side, and is what would be written now.
 pub record IsRewritten (me : Member) (k : Knowledge) : Type 0 where

@@ -2,7 +2,7 @@
 use Rattle.bar_rules.specs.Peer.Admission.{is_row_met}
 use Rattle.bar_rules.specs.Peer.Exchanges.{role_of, request_kind, seat, seat_in}
 use Rattle.bar_rules.specs.Peer.Knowledge.{known, this_round, request_deadline}
-use Rattle.bar_rules.specs.Peer.Log.{Log, Heard, Said, ticks, round_now, first_said, has_said}
+use Rattle.bar_rules.specs.Peer.Log.{Log, Heard, Said, round_now, first_said, has_said}
 use Rattle.bar_rules.specs.Member.{Member}
 use Rattle.bar_rules.specs.Peer.Rules.{IsObedient, Allows}
 use Rattle.bar_rules.specs.Peer.Signing.{MaySay}
@@ -15,14 +15,14 @@ use Rattle.bar_window.specs.declared.exchange.XKind.TheVariants.{Balanced, Push}
 use Rattle.bar_wire.specs.Limits.{exchanges_a_round}
 use Rattle.bar_wire.specs.Datagram.{Message, Body, Request, Query, is_of, kind_number, round_of}
 use Rattle.bar_wire.specs.Kinds.{code_of}
-use Rattle.std.proofs.Common.{◌≡◌, ℕ, zero, suc, ◌+◌, ◌-◌, ◌*◌, ◌<◌, ◌≤◌, Bool, true, false, List, [], ◌∷◌, ◌++◌, length, map, refl, sym, ap, ◌∙◌, subst, inl, inr, ◌&&◌, eqb, arith}
+use Rattle.std.proofs.Common.{◌≡◌, ℕ, zero, suc, ◌+◌, ◌-◌, ◌*◌, ◌<◌, ◌≤◌, Bool, true, false, List, [], ◌∷◌, length, map, refl, sym, ap, ◌∙◌, subst, inl, inr, ◌&&◌, eqb, arith}
 use Rattle.std.specs.Prelude.{Some, ◌⊎◌, option_map, unwrap_or, nat_le}
 use Rattle.std.specs.List.{AllByRecursion, IsDistinct, list_all, list_any}
 use Rattle.std.proofs.lemmas.Bool.{both_ways, and_parts, or_cases, eqb-true, leb-true, both_ways}
 use Rattle.std.proofs.lemmas.List.{length-map}
 use Rattle.std.proofs.lemmas.Map.Steps.{length-le_from_distinct_below}
 use Rattle.bar_laws.specs.Rooms.{Asking, Own, First, Second, Room, asking_of, room_of, is_kept, KeepsFew}
-use Rattle.bar_laws.proofs.Logs.{IsFind, find-of, allowed-at, round-of-exchange, IsLater, later-entry, first_said-was, heard_in-is, some-is, same_exchange_refl, admitted-row}
+use Rattle.bar_laws.proofs.Logs.{IsFind, find-of, allowed-at, round-of-exchange, later-entry, round-later, first_said-was, heard_in-is, some-is, same_exchange_refl, admitted-row}
 use Rattle.bar_laws.proofs.Keeping.RoomsOf.{own-said, asked-at, place-parts, has-rooms}
 use Rattle.bar_laws.proofs.Runs.{new-seat}
 
@@ -102,13 +102,6 @@ number-one : (p q : Room) → number_by p.kind p.asking ≡ number_by q.kind q.a
 number-one p q e = sym (numbered-back p.kind p.asking) ∙ ap room_at e ∙ numbered-back q.kind q.asking
 
 -- ---- the round of an exchange that is kept is one of those begun, or the next
-
-ticks-later : (new before : Log) → ticks before ≤ ticks (new ++ before)
-ticks-later [] before = omega arith
-ticks-later (e ∷ new) before = let h = ticks-later new before in omega (arith, h)
-
-round-later : (log before : Log) → IsLater log before → round_now before ≤ round_now log
-round-later log before later = let h : ticks before ≤ ticks log = subst (λ l. ticks before ≤ ticks l) (sym later.split) (ticks-later later.new before) in omega (arith, h)
 
 pub said-now : (me : Member) (before : Log) (to : ℕ) (b : Body) (k : XKind) → eqb (kind_number b) (code_of (request_kind k)) ≡ true → MaySay me (known me before) to b → round_of b ≡ round_now before
 said-now me before to (Request r s c) Balanced e rule = rule.now

@@ -1,9 +1,9 @@
 -- What a log says, each later log says.
-use Rattle.bar_rules.specs.Peer.Log.{Log, Entry, Heard, Said, earliest, heard_in, said_in, if_passes, first_heard, first_said}
+use Rattle.bar_rules.specs.Peer.Log.{Log, Entry, Heard, Said, earliest, heard_in, said_in, if_passes, first_heard, first_said, ticks, round_now}
 use Rattle.bar_rules.specs.Member.{Member}
 use Rattle.bar_rules.specs.Peer.Rules.{IsObedient, IsSignedByRule}
 use Rattle.bar_wire.specs.Datagram.{Message, Datagram}
-use Rattle.std.proofs.Common.{◌≡◌, Bool, true, false, [], ◌∷◌, ◌++◌, refl, sym, ap, ◌∙◌, subst}
+use Rattle.std.proofs.Common.{◌≡◌, ◌≤◌, Bool, true, false, [], ◌∷◌, ◌++◌, refl, sym, ap, ◌∙◌, subst, arith}
 use Rattle.std.specs.Prelude.{Option, Some, None, is_some, option_and_then, option_map}
 use Rattle.std.specs.Bool.{then_some}
 use Rattle.bar_laws.proofs.Logs.FirstFinds.{earliest-more, IsEntry, find-of, allowed-at}
@@ -82,3 +82,12 @@ map-later g None p b k e = cc
 pub then-later : {A B : Type 0} (g : A → Option B) (o p : Option A) (b : B) → ((a : A) → o ≡ Some a → p ≡ Some a) → option_and_then g o ≡ Some b → option_and_then g p ≡ Some b
 then-later g (Some a) p b k e = rw (k a refl) e
 then-later g None p b k e = cc
+
+-- ---- time
+
+ticks-later : (new before : Log) → ticks before ≤ ticks (new ++ before)
+ticks-later [] before = omega arith
+ticks-later (e ∷ new) before = let h = ticks-later new before in omega (arith, h)
+
+pub round-later : (log before : Log) → IsLater log before → round_now before ≤ round_now log
+round-later log before later = let h : ticks before ≤ ticks log = subst (λ l. ticks before ≤ ticks l) (sym later.split) (ticks-later later.new before) in omega (arith, h)

@@ -1,11 +1,8 @@
 -- A log, and what agrees with it in what a peer keeps, carry out the same orders alike.
 use Rattle.bar_wire.specs.Bodies.{offer_in}
-use Rattle.bar_case.specs.Items.{plaintext, item_bytes, junk_key}
-use Rattle.bar_case.specs.Keystream.{keystream, xor_bytes}
-use Rattle.bar_case.specs.Sealed as sealing
+use Rattle.bar_case.proofs.Blocks.{sealed_same}
 use Rattle.bar_terms.specs.Table.{is_known, digest_of}
 use Rattle.bar_terms.specs.Terms.{promised_updates, promised_junk}
-use Rattle.bar_terms.specs.declared.items.Item.TheVariants.{Update, Junk}
 use Rattle.bar_window.specs.Terms.{Terms}
 use Rattle.bar_window.specs.declared.exchange.Exchange.{Exchange}
 use Rattle.bar_window.specs.declared.exchange.Role.{Role}
@@ -33,30 +30,13 @@ use Rattle.bar_rules.specs.Peer.Signing.{signed, seat_by}
 use Rattle.bar_rules.specs.Values.{updates_from, first_round, message_bytes, unsigned}
 use Rattle.bar_seal.specs.Leaves as leaves
 use Rattle.std.proofs.Common.{◌≡◌, ℕ, ◌≤◌, ◌+◌, ◌-◌, Bool, true, false, List, [], ◌∷◌, ◌++◌, length, take, refl, sym, ap, ◌∙◌, subst, ◌&&◌, not, arith}
-use Rattle.std.specs.Prelude.{Option, Some, None, option_map, option_and_then, unwrap_or, nat_lt, filter, map, max, ◌/◌}
+use Rattle.std.specs.Prelude.{Option, Some, None, option_map, option_and_then, unwrap_or, nat_lt, filter, max, ◌/◌}
 use Rattle.std.specs.Bool.{then_some}
-use Rattle.std.specs.List.{AllByRecursion, range_with_len}
+use Rattle.std.specs.List.{AllByRecursion}
 use Rattle.bar_laws.proofs.Memory.AgreeLogs.{now, filter-same, held-on, blocks-on, history-same, said-agree}
 use Rattle.bar_laws.proofs.Memory.AgreeRows.{all-with, body-same, terms-same, wanted-same}
 use Rattle.bar_laws.proofs.Memory.InLife.{InLife, BodyInLife, LogInLife, from-in-life, history-in-life, young-in-life, aged-in-life, wanted-in-life, given-in-life, promised-in-life, offered-in-life, terms-in-life, by-round}
 use Rattle.bar_laws.proofs.Logs.{some-equal, other-kind, parts-of}
-
--- ---- briefcases
-
--- what is sealed has the blocks of the promised updates alone
-plain-same : (junk : List ℕ) (b c : UpdateId → Option (List ℕ)) (us : List UpdateId) (ts : List ℕ) → AllByRecursion (λ u. b u ≡ c u) us → plaintext junk b (map Update us ++ map Junk ts) ≡ plaintext junk c (map Update us ++ map Junk ts)
-plain-same junk b c [] ts h = junk-same ts
-  where
-    junk-same : (ts : List ℕ) → plaintext junk b (map Junk ts) ≡ plaintext junk c (map Junk ts)
-    junk-same [] = refl
-    junk-same (t ∷ ts) = ap (λ z. item_bytes junk b (Junk t) ++ z) (junk-same ts)
-plain-same junk b c (u ∷ us) ts h = λ i. unwrap_or (h.0 i) [] ++ plain-same junk b c us ts h.1 i
-
-pub sealed-same : (id : List ℕ) (x : Exchange) (cap : ℕ) (t : Terms) (role : Role) (key : List ℕ) (b c : UpdateId → Option (List ℕ)) → AllByRecursion (λ u. b u ≡ c u) (promised_updates cap t role)
-    → sealing.sealed id x cap t role key b ≡ sealing.sealed id x cap t role key c
-unfolding sealing.sealed
-sealed-same id x cap t role key b c h =
-    ap (λ plain. xor_bytes plain (keystream key (length plain))) (plain-same (junk_key id x) b c (promised_updates cap t role) (range_with_len 0 (promised_junk t role)) h)
 
 -- ---- orders in time
 
@@ -165,7 +145,7 @@ module _ (me : Member) (one : Log) (two : Knowledge) (same : AgreesWith me (know
       let cap : ℕ = me.session.cap in
       let blocks = blocks-on me (known me one) two same x.round (promised_updates cap t role) h (promised-in-life me.session.shape.life x.round cap t role (terms-in-life me one x t l e)) in
       ap (λ cipher. Case (record { round = x.round; kind = x.kind; role = role; updates = length (promised_updates cap t role); junk = promised_junk t role; terms = t; cipher = cipher }))
-      (sealed-same me.session.shape.id x cap t role (briefcase_key me x role) (known me one).block two.block blocks)
+      (sealed_same me.session.shape.id x cap t role (briefcase_key me x role) (known me one).block two.block blocks)
 
   -- the message of GiveCase
   cases-same : (x : Exchange) → LogInLife me.session.shape.life one → IsRecent me (known me one) x.round → this_round (known me one) ≤ x.round + answer_deadline → option_map (case_body me (known me one) x) (terms_of me (known me one) x) ≡ option_map (case_body me two x) (terms_of me two x)

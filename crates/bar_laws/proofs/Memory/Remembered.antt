@@ -25,7 +25,8 @@ use Rattle.std.proofs.Common.{◌≡◌, ℕ, ◌+◌, ◌≤◌, List, refl, sy
 use Rattle.std.specs.Prelude.{Option, Some, None, is_some, option_map, option_and_then}
 use Rattle.std.proofs.lemmas.Bool.{both_ways}
 use Rattle.bar_laws.specs.Remembering.{Remembers, SaysAlike}
-use Rattle.bar_laws.specs.Rewriting.{body_again, written, IsRewritten}
+use Rattle.bar_rules.specs.Peer.Writing.{body_again, written}
+use Rattle.bar_laws.specs.Rewriting.{IsRewritten}
 use Rattle.bar_laws.proofs.Memory.AgreeOrders.{signed-same, case-same}
 use Rattle.bar_laws.proofs.Memory.InLife.{obedient-in-life}
 use Rattle.bar_laws.proofs.Logs.{some-equal, first_heard-was, parts-of}

@@ -27,9 +27,10 @@ use Rattle.std.proofs.Common.{◌≡◌, ℕ, Bool, true, false, List, [], ◌�
 use Rattle.std.specs.Prelude.{Some, option_map, option_and_then}
 use Rattle.std.specs.List.{AllByRecursion}
 use Rattle.std.proofs.lemmas.Bool.{and_parts, eqb-true, both_ways}
-use Rattle.bar_laws.specs.Rewriting.{body_again, written, IsRewritten}
+use Rattle.bar_rules.specs.Peer.Writing.{body_again, written}
+use Rattle.bar_laws.specs.Rewriting.{IsRewritten}
 use Rattle.bar_laws.proofs.Judging.{or-second, AllHeld, promise-held, IsOwnWord, commits-revealed}
-use Rattle.bar_laws.proofs.Memory.AgreeOrders.{sealed-same}
+use Rattle.bar_case.proofs.Blocks.{sealed_same}
 use Rattle.bar_laws.proofs.Logs.{is_of-is, party-on, receiver-on, sender-on, WasSaid, IsLater, later-entry, find-later, first_said-was, some-is, terms_of-later, parts-of, IsSaying, saying, first_on-own, said-in}
 use Rattle.bar_laws.proofs.Runs.{said-sealed}
 
@@ -139,7 +140,7 @@ case-again me log x d (Case c) s e k =
     cipher =
         rule.cipher
         ∙ (λ i. sealed me.session (named i) c.terms (names.2 i) (briefcase_key me (named i) (names.2 i)) (known me s.was.before).block)
-        ∙ sealed-same me.session.shape.id x me.session.cap c.terms (role_of me x) (briefcase_key me x (role_of me x)) (known me s.was.before).block (known me log).block
+        ∙ sealed_same me.session.shape.id x me.session.cap c.terms (role_of me x) (briefcase_key me x (role_of me x)) (known me s.was.before).block (known me log).block
         (held-stays me.session log s.was.before (promised_updates me.session.cap c.terms (role_of me x)) later held)
 
     updates : c.updates ≡ length (promised_updates me.session.cap c.terms (role_of me x))

@@ -139,12 +139,14 @@ give_case-rule me log x b h s e = go (terms_of me (known me log) x) refl e
           };
         })
 
--- a briefcase that was heard has the terms of the log, and its counts
+-- a briefcase that was heard has the terms of the log, and its counts, and the other side has said one
 pub record HeardCase (me : Member) (log : Log) (x : Exchange) (role : Role) : Type 0 where
   pub case : Briefcase
   pub found : case_heard_from log x role ≡ Some case
   pub terms : terms_of me (known me log) x ≡ Some case.terms
   pub counts : counts_ok me.session case ≡ true
+  pub side : case.role ≡ role
+  pub said : has_said (is_of kinds.Case x (other_role role)) log ≡ true
 
 terms-same : (t : Terms) (o : Option Terms) → are_terms t o ≡ true → o ≡ Some t
 terms-same t (Some u) e = ap Some (same_terms-is u t e)
@@ -152,9 +154,14 @@ terms-same t None e = cc
 
 case-row : (me : Member) (before : Log) (from to : ℕ) (c : Briefcase) → is_row_met me (known me before) from to (Case c) ≡ true
     → (terms_of me (known me before) (exchange_by c.round c.kind c.role from to) ≡ Some c.terms) × (counts_ok me.session c ≡ true)
+    × (has_said (is_of kinds.Case (exchange_by c.round c.kind c.role from to) (other_role c.role)) before ≡ true)
 case-row me before from to c row =
     let p = and_parts _ _ (and_parts _ _ row).0 in
-    (terms-same c.terms _ (and_parts _ _ p.0).1, p.1)
+    let q = and_parts _ _ p.0 in
+    (terms-same c.terms _ q.1, p.1, q.0)
+
+has-said-later : (p : Message → Bool) (log before : Log) → IsLater log before → has_said p before ≡ true → has_said p log ≡ true
+has-said-later p log before later e = let f = some-is (first_said p before) e in ap is_some (said-later p log before f.0 later f.1)
 
 pub heard-case : (me : Member) (log : Log) (x : Exchange) (role : Role) → IsObedient me log → has_heard (is_of kinds.Case x role) log ≡ true → HeardCase me log x role
 heard-case me log x role h e = go (some-is (first_heard (is_of kinds.Case x role) log) e)
@@ -169,6 +176,11 @@ heard-case me log x role h e = go (some-is (first_heard (is_of kinds.Case x role
           found = ap (option_and_then (λ d. briefcase_in d.message.body)) f ∙ ap briefcase_in k.body;
           terms = terms_of-later me log w.before x k.case.terms (later-entry log w.before (Heard d) w.place) (subst (λ y. terms_of me (known me w.before) y ≡ Some k.case.terms) k.exchange r.0);
           counts = r.1;
+          side = k.side;
+          said =
+              has-said-later _ log w.before (later-entry log w.before (Heard d) w.place)
+              (subst (λ role. has_said (is_of kinds.Case x (other_role role)) w.before ≡ true) k.side
+              (subst (λ y. has_said (is_of kinds.Case y (other_role k.case.role)) w.before ≡ true) k.exchange r.2));
         }
 
     go : (d : Datagram) × (first_heard (is_of kinds.Case x role) log ≡ Some d) → HeardCase me log x role

@@ -45,6 +45,21 @@ seat-of (e ∷ log) x h = go (first_heard p log) (seat log x) (if_passes p (hear
     go (Some d) None None k h = k refl
     go None None None k h = cc
 
+-- a seat was taken by a request that was heard
+pub seat-heard : (log : Log) (x : Exchange) → is_some (seat log x) ≡ true → has_heard (is_of (request_kind x.kind) x Initiator) log ≡ true
+seat-heard [] x h = cc
+seat-heard (e ∷ log) x h = go (first_heard p log) (seat log x) (if_passes p (heard_in e)) (seat-heard log x) h
+  where
+    p : Message → Bool
+    p = is_of (request_kind x.kind) x Initiator
+
+    go : (o : Option Datagram) (s : Option ℕ) (q : Option Datagram) → (is_some s ≡ true → is_some o ≡ true)
+        → is_some (option_or s (option_map (λ d. count_heard (has_kind_and_round (request_kind x.kind) x.round) log) q)) ≡ true → is_some (option_or o q) ≡ true
+    go (Some d) s q k h = refl
+    go None s (Some d) k h = refl
+    go None (Some n) None k h = k refl
+    go None None None k h = cc
+
 seat-row : (me : Member) (before : Log) (x : Exchange) (from to : ℕ) (b : Body) (k : XKind)
     → kind_number b ≡ code_of (request_kind k)
     → (eqb (kind_number b) (code_of (request_kind k)) && option_map_or (is_place x Initiator) (option_map (place_by from to) (part_of b)) false) ≡ true

@@ -1,0 +1,54 @@
+-- What a peer's memory may rely on: how the parts of what is known of a log hang together.
+use Rattle.std.specs.Prelude.{◌≡◌, ℕ, ◌+◌, ◌<◌, ◌≤◌, true, IsSome, Some, is_some}
+use Rattle.std.specs.List.{All}
+use Rattle.bar_window.specs.declared.exchange.Exchange.{Exchange}
+use Rattle.bar_window.specs.declared.exchange.Role.{Role}
+use Rattle.bar_window.specs.declared.exchange.Role.TheVariants.{Initiator}
+use Rattle.bar_window.specs.Exchange.{other_role}
+use Rattle.bar_window.specs.Terms.{Terms}
+use Rattle.bar_terms.specs.Terms.{can_promise, promised_updates}
+use Rattle.bar_wire.specs.Bodies.{is_manifest_of}
+use Rattle.bar_wire.specs.Datagram.{Datagram, Briefcase, is_of}
+use Rattle.bar_wire.specs.Grammar.{IsDatagram}
+use Rattle.bar_wire.specs.Limits.{seats_a_round}
+use Rattle.bar_wire.specs.declared.kind.Kind.{Kind}
+use Rattle.bar_wire.specs.declared.kind.Kind.TheVariants as kinds
+use Rattle.bar_rules.specs.Member.{Member}
+use Rattle.bar_rules.specs.Values.{counts_ok}
+use Rattle.bar_rules.specs.Peer.Exchanges.{role_of, request_kind}
+use Rattle.bar_rules.specs.Peer.Knowledge.{Knowledge, known, this_round, has_heard_of, has_said_of, case_heard_of}
+use Rattle.bar_rules.specs.Peer.Log.{Log}
+use Rattle.bar_rules.specs.Peer.Rules.{IsObedient}
+use Rattle.bar_rules.specs.Peer.Terms.{terms_of}
+
+-- a side can promise by these terms, and holds the updates that it promises
+pub record CanGive (me : Member) (k : Knowledge) (x : Exchange) (t : Terms) : Type 0 where
+  pub valid : can_promise me.session.cap t ≡ true
+  pub held : All (λ u. IsSome (k.block u)) (promised_updates me.session.cap t (role_of me x))
+
+-- A briefcase that was heard from the other side of an exchange, which has said one: it has the terms of the exchange, and the counts of
+-- its sender's promise by them.
+pub record IsTheirs (me : Member) (k : Knowledge) (x : Exchange) (c : Briefcase) : Type 0 where
+  pub side : c.role ≡ other_role (role_of me x)
+  pub said : has_said_of k kinds.Case x (role_of me x) ≡ true
+  pub terms : terms_of me k x ≡ Some c.terms
+  pub counts : counts_ok me.session c ≡ true
+
+-- What was heard has a spelling, and was sent to this member. What was heard or said of a kind, exchange and side is of them. The
+-- manifests are of rounds up to the next. Who has a seat asked for it, and there are two. Where a CASE was said, its blocks are held. Where
+-- one was heard from the other side, it is as this side expects.
+pub record IsSound (me : Member) (k : Knowledge) : Type 0 where
+  pub spelled : (kind : Kind) (x : Exchange) (role : Role) (d : Datagram) → k.heard kind x role ≡ Some d → IsDatagram me.session.shape d
+  pub heard : (kind : Kind) (x : Exchange) (role : Role) (d : Datagram) → k.heard kind x role ≡ Some d → is_of kind x role d.message ≡ true
+  pub received : (kind : Kind) (x : Exchange) (role : Role) (d : Datagram) → k.heard kind x role ≡ Some d → d.message.to ≡ me.party
+  pub said : (kind : Kind) (x : Exchange) (role : Role) (d : Datagram) → k.said kind x role ≡ Some d → is_of kind x role d.message ≡ true
+  pub manifests : (round : ℕ) (d : Datagram) → k.manifest round ≡ Some d → is_manifest_of round d.message.body ≡ true
+  pub near : (round : ℕ) → is_some (k.manifest round) ≡ true → round ≤ this_round k + 1
+  pub seated : (x : Exchange) → is_some (k.seat x) ≡ true → has_heard_of k (request_kind x.kind) x Initiator ≡ true
+  pub seats : (x : Exchange) (seat : ℕ) → k.seat x ≡ Some seat → seat < seats_a_round
+  pub cases : (x : Exchange) (t : Terms) → has_said_of k kinds.Case x (role_of me x) ≡ true → terms_of me k x ≡ Some t → CanGive me k x t
+  pub theirs : (x : Exchange) (c : Briefcase) → case_heard_of k x (other_role (role_of me x)) ≡ Some c → IsTheirs me k x c
+
+-- of each log that keeps the rules
+abbrev pub LogIsSound : Type 0
+LogIsSound = (me : Member) (log : Log) → IsObedient me log → IsSound me (known me log)
