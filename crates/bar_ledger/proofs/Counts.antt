@@ -1,19 +1,21 @@
 -- What a change of one slot changes of what is counted, and of the open exchanges.
-use Rattle.std.proofs.Common.{◌≡◌, ℕ, suc, ◌+◌, Bool, cond, List, [], ◌∷◌, ◌++◌, take, drop, Option, Some, None, sym, ap, subst, ◌∙◌, arith, count_by}
-use Rattle.std.specs.Prelude.{option_and_then, option_map}
+use Rattle.std.proofs.Common.{◌≡◌, ℕ, suc, ◌+◌, Bool, cond, ◌&&◌, List, [], ◌∷◌, ◌++◌, take, drop, Option, Some, None, sym, ap, subst, ◌∙◌, arith, count_by}
+use Rattle.std.specs.Prelude.{IfSome, ◌==◌, option_and_then, option_map}
 use Rattle.std.specs.Bool.{then_some}
 use Rattle.std.specs.Option.{option_to_list}
 use Rattle.std.specs.List.{find}
 use Rattle.std.proofs.Math.ListN.{set}
 use Rattle.std.proofs.lemmas.List.Sums.{sum_by-append}
 use Rattle.bar_window.specs.declared.exchange.Exchange.{Exchange}
+use Rattle.bar_window.specs.declared.exchange.Role.TheVariants.{Responder}
 use Rattle.bar_window.specs.declared.exchange.XKind.{XKind}
+use Rattle.bar_window.specs.Exchange.{same_kind, same_role}
 use Rattle.bar_rules.specs.Peer.Exchanges.{with_exchange}
 use Rattle.bar_ledger.specs.declared.entry.Entry.{Entry}
 use Rattle.bar_ledger.specs.declared.slot.Slot.{Slot}
 use Rattle.bar_ledger.specs.Asking.{is_asked, asked_as, open_of, opens_of}
 use Rattle.bar_ledger.specs.Kept.{Kept, newly, with_new, is_for, if_recent}
-use Rattle.bar_ledger.specs.Memory.{StaysOpen}
+use Rattle.bar_ledger.specs.Memory.{StaysOpen, IsAsBefore}
 use Rattle.bar_ledger.specs.Slots.{entries_of}
 use Rattle.bar_ledger.proofs.Slots.{with_part}
 use Rattle.bar_ledger.proofs.Changes.{IsChange, IsGiven, keeps, change-after, given-before, given-after}
@@ -98,3 +100,28 @@ put-opens e life now slots place s changed c stays =
     ap opens_of (change-after e.x life now slots place s changed (with_new e) c) ∙ opens-part before (Some (with_new e k.kept)) after
     ∙ opens-more k.kept (with_new e k.kept) (opens_of (with_part before None after)) k.named (subst (StaysOpen e) k.found stays)
     ∙ ap (λ xs. with_exchange (then_some e.first_said e.x) xs) (sym (opens-part before (Some k.kept) after) ∙ sym (ap opens_of k.parts))
+
+-- one that is as before is counted and open as before
+pub same-asked : (kind : XKind) (round : ℕ) (e : Entry) (life now : ℕ) (slots : List Slot) (place : ℕ) (s changed : Slot) → IsChange e.x life now slots place s changed (with_new e) → IfSome (find (is_for e.x) (entries_of life now slots)) (IsAsBefore e)
+    → count_by (is_asked kind round) (entries_of life now (set slots place changed)) ≡ count_by (is_asked kind round) (entries_of life now slots)
+same-asked kind round e life now slots place s changed c before =
+    let k = keeps e.x life now slots place s c.at in
+    let p : Kept → Bool = is_asked kind round in
+    let like : IsAsBefore e k.kept = subst (λ o. IfSome o (IsAsBefore e)) k.found before in
+    let was : count_by p (option_to_list (find (is_for e.x) (entries_of life now slots))) ≡ count_by p (k.kept ∷ []) = ap (λ o. count_by p (option_to_list o)) k.found in
+    let is : count_by p (with_new e k.kept ∷ []) ≡ count_by p (k.kept ∷ []) =
+    λ i. 0 + cond (same_role (like.side i) Responder && same_kind (sym k.named i).kind kind && ((sym k.named i).round == round)) 1 0
+    in
+    omega (arith, change-counted p e.x life now slots place s changed (with_new e) c, was, is)
+
+pub same-opens : (e : Entry) (life now : ℕ) (slots : List Slot) (place : ℕ) (s changed : Slot) → IsChange e.x life now slots place s changed (with_new e) → IfSome (find (is_for e.x) (entries_of life now slots)) (IsAsBefore e)
+    → opens_of (entries_of life now (set slots place changed)) ≡ opens_of (entries_of life now slots)
+same-opens e life now slots place s changed c before =
+    let k = keeps e.x life now slots place s c.at in
+    let rest : List Exchange = opens_of (with_part (entries_of life now (take place slots)) None (entries_of life now (drop (suc place) slots))) in
+    let like : IsAsBefore e k.kept = subst (λ o. IfSome o (IsAsBefore e)) k.found before in
+    ap opens_of (change-after e.x life now slots place s changed (with_new e) c)
+    ∙ opens-part (entries_of life now (take place slots)) (Some (with_new e k.kept)) (entries_of life now (drop (suc place) slots))
+    ∙ (λ i. with_exchange (then_some (like.said i) (sym k.named i)) rest)
+    ∙ sym (opens-part (entries_of life now (take place slots)) (Some k.kept) (entries_of life now (drop (suc place) slots)))
+    ∙ sym (ap opens_of k.parts)

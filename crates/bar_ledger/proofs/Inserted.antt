@@ -75,7 +75,7 @@ last-total x y other r k i le = elim (cases_lt y.responder x.responder) [
   ]
 ]
 
-precedes-total : (x y : Exchange) → same_exchange x y ≡ false → precedes x y ≡ false → precedes y x ≡ true
+pub precedes-total : (x y : Exchange) → same_exchange x y ≡ false → precedes x y ≡ false → precedes y x ≡ true
 precedes-total x y other e =
     number-total x.round y.round _ _ e (λ r e. number-total (kind_code x.kind) (kind_code y.kind) _ _ e (λ k e. number-total x.initiator y.initiator _ _ e (λ i e. last-total x y other r k i e)))
 

@@ -11,3 +11,4 @@ pub mod Opens
 pub mod Counts
 pub mod Recent
 pub mod Recalled
+pub mod Rising

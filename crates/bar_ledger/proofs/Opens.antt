@@ -70,7 +70,7 @@ opens-passing test u ks = fold-passing test u [] ks
 
 -- ---- the first one above, with one exchange more
 
-above-upward : (after : Option Exchange) → IsUpward (is_above after)
+pub above-upward : (after : Option Exchange) → IsUpward (is_above after)
 above-upward None = record { up = λ x y e t. t }
 above-upward (Some z) = record { up = λ x y e t. precedes-chain z x y t e }
 

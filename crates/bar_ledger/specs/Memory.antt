@@ -1,11 +1,12 @@
 -- What a ledger answers.
-use Rattle.std.specs.Prelude.{◌≡◌, ℕ, true, IfSome, Bool, List, Option, option_and_then, nat_lt, count_by}
+use Rattle.std.specs.Prelude.{◌≡◌, ℕ, ◌≤◌, true, IfSome, Bool, List, Option, None, length, is_some, option_and_then, nat_lt, count_by}
 use Rattle.std.specs.Bool.{then_some}
 use Rattle.std.specs.List.{find}
 use Rattle.bar_window.specs.declared.exchange.Exchange.{Exchange}
 use Rattle.bar_window.specs.declared.exchange.XKind.{XKind}
 use Rattle.bar_wire.specs.Limits.{seats_a_round}
 use Rattle.bar_wire.specs.declared.kind.Kind.{Kind}
+use Rattle.bar_rules.specs.Peer.Sizes.{largest}
 use Rattle.bar_ledger.specs.declared.entry.Entry.{Entry}
 use Rattle.bar_ledger.specs.declared.ledger.Ledger.{Ledger}
 use Rattle.bar_ledger.specs.Asking.{is_asked, opens_of}
@@ -33,6 +34,13 @@ bytes_in l x kind = option_and_then (heard_of kind) (find_in l x)
 abbrev pub can_hear : Kind → Kept → Bool
 can_hear kind k = hears kind k.entry.x.kind k.entry.role
 
+-- The exchange is kept, this peer hears the kind in it, none of it was heard, and the bytes fit its room.
+pub record MayHear (l : Ledger) (x : Exchange) (kind : Kind) (bytes : List ℕ) : Type 0 where
+  pub kept : is_some (find_in l x) ≡ true
+  pub new : bytes_in l x kind ≡ None
+  pub short : length bytes ≤ largest l.shape kind
+  pub heard : IfSome (find_in l x) (λ k. can_hear kind k ≡ true)
+
 -- ---- seats
 
 -- how many requests of a kind and round were admitted
@@ -55,6 +63,11 @@ added l e = if_recent l.shape.life l.round (newly e)
 -- an entry in place of what is kept says its first message, where that did
 abbrev pub StaysOpen : Entry → Option Kept → Type 0
 StaysOpen e o = IfSome o (λ k. k.entry.first_said ≡ true → e.first_said ≡ true)
+
+-- An entry in place of what is kept is of the same side, and its first message is said as before.
+pub record IsAsBefore (e : Entry) (k : Kept) : Type 0 where
+  pub side : e.role ≡ k.entry.role
+  pub said : e.first_said ≡ k.entry.first_said
 
 -- The numbers are the same.
 pub record HasSame (old new : Ledger) : Type 0 where

@@ -1,5 +1,5 @@
 -- The order of exchanges, and the least one of some.
-use Rattle.std.specs.Prelude.{Bool, true, ◌==◌, ◌&&◌, ◌||◌, nat_lt, List, Option, Some, None, if◌then◌else◌}
+use Rattle.std.specs.Prelude.{◌≡◌, Bool, true, ◌==◌, ◌&&◌, ◌||◌, nat_lt, List, [], ◌∷◌, filter, Option, Some, None, if◌then◌else◌}
 use Rattle.std.specs.List.{find}
 use Rattle.bar_window.specs.declared.exchange.Exchange.{Exchange}
 use Rattle.bar_window.specs.Exchange.{kind_code, same_kind}
@@ -28,3 +28,12 @@ first_above after xs = find (is_above after) xs
 abbrev pub best_with : Option Exchange → Option Exchange → Option Exchange → Option Exchange
 best_with after best None = best
 best_with after best (Some x) = if is_above after x && is_below x best then Some x else best
+
+-- those of a list that stand above
+abbrev pub above : Option Exchange → List Exchange → List Exchange
+above after xs = filter (is_above after) xs
+
+-- it is the first of a list that stands above, before those that stand above itself; where there is none, none stands above
+abbrev pub IsFirstAbove : Option Exchange → Option Exchange → List Exchange → Type 0
+IsFirstAbove after None xs = above after xs ≡ []
+IsFirstAbove after (Some x) xs = above after xs ≡ x ∷ above (Some x) xs

@@ -1,5 +1,5 @@
 -- What a ledger recalls of what a peer knows: what was heard and said of the exchanges that may still be asked about.
-use Rattle.std.specs.Prelude.{◌≡◌, ℕ, Option, option_and_then, option_map, IfSome}
+use Rattle.std.specs.Prelude.{◌≡◌, ℕ, true, Option, option_and_then, option_map, IfSome}
 use Rattle.std.specs.Bool.{then_some}
 use Rattle.bar_window.specs.declared.exchange.Exchange.{Exchange}
 use Rattle.bar_window.specs.declared.exchange.Role.{Role}
@@ -36,11 +36,14 @@ abbrev pub kind_of_terms : Terms → XKind
 kind_of_terms (forms.Balanced nonce ha hb) = Balanced
 kind_of_terms (forms.Push young aged want give junk) = Push
 
--- The side of a kept exchange is this peer's, and its terms are of the kind and the round of the exchange.
+-- The side of a kept exchange is this peer's, and its terms are of the kind and the round of the exchange. One that it asked for has its
+-- REQUEST or QUERY said, and one with its CASE has its first message said.
 pub record IsKeptBy (me : Member) (x : Exchange) (kept : Kept) : Type 0 where
   pub side : kept.entry.role ≡ role_of me x
   pub form : kind_of_terms (plain_terms kept.entry.terms) ≡ x.kind
   pub windows : AreWindowsOf me.session.shape.life x.round kept.entry.terms
+  pub asked : kept.entry.role ≡ Initiator → kept.entry.first_said ≡ true
+  pub opened : kept.entry.case_said ≡ true → kept.entry.first_said ≡ true
 
 pub record Recalls (me : Member) (k : Knowledge) (l : Ledger) : Type 0 where
   pub party : l.me ≡ me.party

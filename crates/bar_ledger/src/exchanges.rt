@@ -2,7 +2,7 @@
 ghost use Rattle.std.specs.Prelude.{◌≡◌, Some};
 ghost use Rattle.bar_window.specs.Exchange.{same_exchange};
 ghost use Rattle.bar_rules.specs.Peer.Exchanges.{opening_kind, precedes};
-ghost use Rattle.bar_ledger.specs.Hearing.{is_opening};
+ghost use Rattle.bar_ledger.specs.Hearing.{hears, is_opening};
 ghost use Rattle.bar_ledger.specs.Order.{parties_precede, is_above, is_below, best_with};
 
 use bar_window::{Exchange, Role, XKind};
@@ -50,6 +50,27 @@ pub(crate) fn opens(kind: Kind, x: Exchange, role: Role) -> bool
     ensures { result ≡ is_opening kind x.kind role }
 {
     kind.code() == opening_kind(x.kind, role.other()).code()
+}
+
+/// Whether a side of an exchange hears a kind.
+pub(crate) fn hears(kind: Kind, x: Exchange, role: Role) -> bool
+    ensures { result ≡ hears kind x.kind role }
+{
+    match kind {
+        Kind::Case | Kind::KeyReq | Kind::Key => true,
+        Kind::Divulge => match (x.kind, role) {
+            (XKind::Balanced, Role::Responder) => true,
+            _ => false,
+        },
+        Kind::Manifest
+        | Kind::Block
+        | Kind::Request
+        | Kind::Response
+        | Kind::Query
+        | Kind::Reply
+        | Kind::Evidence
+        | Kind::Evict => opens(kind, x, role),
+    }
 }
 
 /// The exchange, where it stands above one and below the other, and otherwise the other.

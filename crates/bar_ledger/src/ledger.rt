@@ -2,11 +2,12 @@ ghost use Rattle.std.specs.Prelude.{◌≡◌, ◌+◌, ◌*◌, ◌≤◌, leng
 ghost use Rattle.std.proofs.Props.{props};
 ghost use Rattle.std.specs.List.{All, IsDistinct};
 ghost use Rattle.bar_window.specs.Exchange.{same_exchange};
-ghost use Rattle.bar_wire.specs.Limits.{exchanges_a_round};
+ghost use Rattle.bar_wire.specs.Limits.{exchanges_a_round, largest_datagram};
 ghost use Rattle.bar_ledger.specs.Slots.{HasRooms, entries_of, exchanges_of};
 
 use crate::entry::Entry;
-use crate::exchanges::least_above;
+use crate::exchanges::{hears, least_above};
+use crate::sizes::largest;
 use crate::slot::Slot;
 use crate::totals::Totals;
 use bar_window::{Exchange, Role, XKind};
@@ -27,13 +28,14 @@ pub struct Ledger {
     /// Slots for the exchanges of life + 2 rounds, in any order. One is free where it is empty or its exchange is given up.
     slots: Vec<Slot>,
     ghost cap_fits: { cap ≤ 16 },
+    ghost signatures_fit: { shape.sig_len ≤ largest_datagram },
     ghost count: { length slots.items ≡ exchanges_a_round * (shape.life + 2) },
     ghost rooms: { All (HasRooms shape) slots.items },
     ghost distinct: { IsDistinct same_exchange (exchanges_of (entries_of shape.life round slots.items)) } by { Prim.hlevel props },
 }
 
 impl Ledger {
-    ghost use Rattle.std.specs.Prelude.{◌≡◌, ℕ, ◌+◌, ◌*◌, ◌<◌, ◌≤◌, [], length, filter, Bool, Option, Some, None, IfOk, IfSome, IsNone, true, false, is_some, option_copied, option_map, option_and_then, if◌then◌else◌};
+    ghost use Rattle.std.specs.Prelude.{◌≡◌, ℕ, ◌+◌, ◌*◌, ◌<◌, ◌≤◌, [], length, nat_lt, filter, Bool, Option, Some, None, IfOk, IfSome, IsNone, true, false, is_some, option_copied, option_map, option_and_then, if◌then◌else◌};
     ghost use Rattle.std.specs.Bool.{then_some};
     ghost use Rattle.std.specs.Option.{option_map_or, option_to_list};
     ghost use Rattle.std.specs.List.{HoldsAt, IsDistinct, list_all, list_any};
@@ -44,9 +46,9 @@ impl Ledger {
     ghost use Rattle.bar_rules.specs.Peer.Exchanges.{with_exchange};
     ghost use Rattle.bar_rules.specs.Peer.Sizes.{largest};
     ghost use Rattle.bar_ledger.specs.Kept.{IsOwn, kept_of, live_of, keeps, with_new, with_bytes, is_recent};
-    ghost use Rattle.bar_ledger.specs.Memory.{entries_in, kept_in, find_in, bytes_in, can_hear, asked_in, next_seat, opens_in, added, StaysOpen, HasSame};
+    ghost use Rattle.bar_ledger.specs.Memory.{entries_in, kept_in, find_in, bytes_in, can_hear, asked_in, next_seat, opens_in, added, StaysOpen, IsAsBefore, HasSame, MayHear};
     ghost use Rattle.bar_ledger.specs.Asking.{asked_as, open_of};
-    ghost use Rattle.bar_ledger.specs.Order.{first_above, best_with};
+    ghost use Rattle.bar_ledger.specs.Order.{first_above, best_with, IsFirstAbove};
     ghost use Rattle.bar_ledger.specs.Lookups.{KeepsRecent};
     ghost use Rattle.bar_ledger.specs.Recalling.{StartsFrom, GivesUp};
     ghost use Rattle.bar_ledger.specs.Totals.{totals_by, no_totals, CanTotal};
@@ -102,6 +104,8 @@ impl Ledger {
         ensures among { (x : Exchange) → list_any (same_exchange x) (kept_in self.now) ≡ is_some (find_in self.now x) }
         ensures each { (test : Exchange → Bool) → ((x : Exchange) → is_some (find_in self.now x) ≡ true → test x ≡ true) →
             list_all test (kept_in self.now) ≡ true }
+        ensures opens { length (opens_in self.now) ≤ result }
+        ensures most { result ≤ exchanges_a_round * (self.now.shape.life + 2) }
     {
         let mut count = 0;
         for place in 0..self.slots.len() {
@@ -110,6 +114,17 @@ impl Ledger {
             }
         }
         count
+    }
+
+    /// Whether there is room for one exchange more.
+    pub fn has_room(&self) -> bool
+        ensures few { result ≡ nat_lt (length (kept_in self.now)) (exchanges_a_round * (self.now.shape.life + 2)) }
+        ensures distinct { IsDistinct same_exchange (kept_in self.now) }
+        ensures each { (test : Exchange → Bool) → ((x : Exchange) → is_some (find_in self.now x) ≡ true → test x ≡ true) →
+            list_all test (kept_in self.now) ≡ true }
+        ensures own { (x : Exchange) → IfSome (find_in self.now x) (IsOwn x self.now.shape.life self.now.round) }
+    {
+        self.len() < self.slots.len()
     }
 
     /// How many exchanges of a round and kind this peer was asked for.
@@ -217,12 +232,28 @@ impl Ledger {
             asked_in self.old kind round + asked_as kind round (option_map (with_new entry) (find_in self.old entry.x)) }
         ensures opens { StaysOpen entry (find_in self.old entry.x) →
             opens_in self.new ≡ with_exchange (then_some entry.first_said entry.x) (opens_in self.old) }
+        ensures counted { IfSome (find_in self.old entry.x) (IsAsBefore entry) → (kind : XKind) (round : ℕ) →
+            asked_in self.new kind round ≡ asked_in self.old kind round }
+        ensures opened { IfSome (find_in self.old entry.x) (IsAsBefore entry) → opens_in self.new ≡ opens_in self.old }
         ensures same { HasSame self.old self.new }
     {
         let Some(place) = self.place(entry.x) else {
             unreachable!()
         };
         self.slots[place].put(entry);
+    }
+
+    /// Whether a datagram of an exchange may be kept: the exchange is, it hears this kind and heard none, and the datagram isn't too long.
+    pub fn may_hear(&self, x: Exchange, kind: Kind, bytes: &[u8]) -> bool
+        ensures sound { result ≡ true → MayHear self.now x kind bytes.now }
+        ensures complete { MayHear self.now x kind bytes.now → result ≡ true }
+    {
+        let Some(entry) = self.find(x) else {
+            return false;
+        };
+        hears(kind, entry.x, entry.role)
+            && self.heard(x, kind).is_none()
+            && bytes.len() <= largest(kind, &self.shape)
     }
 
     /// Keeps a datagram that is heard of an exchange: its CASE, KEYREQ or KEY, its DIVULGE at the responder of a balanced exchange, or the
@@ -301,7 +332,8 @@ impl Ledger {
 
     /// Of the exchanges in which this peer said its first message, the least one above another, or the least of all.
     pub fn next_open(&self, after: Option<Exchange>) -> Option<Exchange>
-        ensures { result ≡ first_above after (opens_in self.now) }
+        ensures first { result ≡ first_above after (opens_in self.now) }
+        ensures rest { IsFirstAbove after result (opens_in self.now) }
     {
         let mut best = None;
         for place in 0..self.slots.len() {

@@ -19,6 +19,7 @@ invariant_of-self c =
     let l = c.args.self.now in
     record {
       cap_fits = l.cap_fits;
+      signatures_fit = l.signatures_fit;
       count = length-set l.slots.items c.in-Some.place c.renew.new.self ∙ l.count;
       rooms = rooms-set l.shape l.slots.items c.in-Some.place c.index_mut.result.now c.renew.new.self c.in-Some.ensures.inside c.index_mut.ensures.value l.rooms (c.renew.ensures.rooms l.shape);
       distinct = given-distinct l.shape.life l.round l.slots.items c.in-Some.place c.index_mut.result.now c.renew.new.self c.args.entry (record { inside = c.in-Some.ensures.inside; read = c.index_mut.ensures.value; free = c.in-Some.ensures.free; is = c.renew.ensures.kept; new = c.requires.new }) l.distinct;

@@ -11,7 +11,7 @@ use Rattle.bar_ledger.proofs.ledger.Ledger.forget.Goals as goal
 pub invariant_of-self : goal.invariant_of-self
 invariant_of-self c =
     let l = c.args.self.now in
-    record { cap_fits = l.cap_fits; count = l.count; rooms = l.rooms; distinct = later-distinct l.shape.life l.round c.args.round l.slots.items c.requires l.distinct }
+    record { cap_fits = l.cap_fits; signatures_fit = l.signatures_fit; count = l.count; rooms = l.rooms; distinct = later-distinct l.shape.life l.round c.args.round l.slots.items c.requires l.distinct }
 
 pub returns-clause-found : goal.returns-clause-found
 returns-clause-found c y =

@@ -17,6 +17,7 @@ invariant_of-self c =
     let l = c.args.self.now in
     record {
       cap_fits = l.cap_fits;
+      signatures_fit = l.signatures_fit;
       count = length-set l.slots.items c.in-Some.place c.hear.new.self ∙ l.count;
       rooms = rooms-set l.shape l.slots.items c.in-Some.place c.index_mut.result.now c.hear.new.self c.in-Some.ensures.inside c.index_mut.ensures.value l.rooms (c.hear.ensures.rooms l.shape);
       distinct = change-distinct c.args.x l.shape.life l.round l.slots.items c.in-Some.place c.index_mut.result.now c.hear.new.self (with_bytes c.args.kind c.args.bytes.now) (record { at = record { inside = c.in-Some.ensures.inside; read = c.index_mut.ensures.value; has = c.in-Some.ensures.there; distinct = c.args.self.now.distinct }; kept = c.hear.ensures.kept; named = bytes-named c.args.kind c.args.bytes.now c.args.x });

@@ -1,7 +1,10 @@
-use Rattle.std.proofs.Common.{◌<◌, true, false, length, sym, ◌∙◌, refl, arith}
+use Rattle.std.proofs.Common.{◌≡◌, ◌<◌, ◌≤◌, true, false, length, sym, ap, ◌∙◌, refl, arith}
+use Rattle.std.proofs.lemmas.List.{take_all}
 use Rattle.bar_ledger.specs.Memory.{entries_in}
 use Rattle.bar_ledger.proofs.Distinct.{among-found, each-found}
 use Rattle.bar_ledger.proofs.Loops.{length-more}
+use Rattle.bar_ledger.specs.Slots.{entries_of}
+use Rattle.bar_ledger.proofs.Rising.{opens-few}
 use Rattle.bar_ledger.proofs.Slots.{entries-none}
 use Rattle.bar_ledger.proofs.ledger.Ledger.len.Goals as goal
 use Rattle.bar_ledger.proofs.ledger.Ledger.len.Goals.{then-is_live, else-is_live}
@@ -27,3 +30,17 @@ returns-clause-among c x = among-found x (entries_in c.args.self.now)
 
 pub returns-clause-each : goal.returns-clause-each
 returns-clause-each c test = each-found test (entries_in c.args.self.now)
+
+pub returns-clause-opens : goal.returns-clause-opens
+returns-clause-opens c =
+    let l = c.args.self.now in
+    let past : length l.slots.items ≤ c.loop-place.place = omega (arith, c.loop-place-test.false, c.len-place-end.ensures, l.slots.ok.0) in
+    let all : c.loop-place.count ≡ length (entries_in l) =
+    c.loop-place.invariant.counted ∙ ap (λ slots. length (entries_of l.shape.life l.round slots)) (take_all c.loop-place.place l.slots.items past)
+    in
+    omega (arith, opens-few (entries_in l), all)
+
+pub returns-clause-most : goal.returns-clause-most
+returns-clause-most c =
+    let l = c.args.self.now in
+    omega (arith, c.loop-place.invariant.few, c.loop-place.auto.place-end, c.len-place-end.ensures, l.slots.ok.0, l.count)

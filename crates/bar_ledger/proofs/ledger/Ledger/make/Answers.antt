@@ -13,6 +13,7 @@ loop-preserved c =
 pub invariant_of-result : goal.invariant_of-result
 invariant_of-result c = record {
   cap_fits = c.requires.cap;
+  signatures_fit = c.requires.signatures;
   count = omega (arith, c.loop.invariant.count, c.loop.auto.counter-end, c.loop-test.false, c.from.ensures);
   rooms = c.loop.invariant.rooms;
   distinct = made-distinct c.args.shape.now.life c.loop.slots.items c.loop.invariant.empty;
