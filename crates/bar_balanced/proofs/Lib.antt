@@ -1,1 +1,5 @@
 pub mod Views
+pub mod Others
+pub mod Responses
+pub mod Divulges
+pub mod Kept

@@ -4,15 +4,22 @@
 mod admission;
 mod asking;
 mod divulge;
+mod keeping;
+mod known;
 mod place;
 mod reply;
 mod rows;
+mod saying;
 mod tick;
 mod worth;
+mod writing;
 
 pub use admission::admit;
+pub use keeping::keep;
 pub use reply::replies;
+pub use saying::{say_request, say_response};
 pub use tick::again;
+pub use writing::write;
 
 #[cfg(test)]
 mod tests;

@@ -9,7 +9,7 @@ ghost use Rattle.bar_rules.specs.Peer.Replies.{is_trade_worth, orders_when};
 ghost use Rattle.bar_rules.specs.Peer.Terms.{terms_of};
 ghost use Rattle.bar_ledger.specs.Recalls.{Recalls};
 ghost use Rattle.bar_balanced.specs.Balanced.{balanced_orders, IsRecentWhereNew};
-ghost use Rattle.bar_exchange.specs.Says.{orders_of_reply};
+ghost use Rattle.bar_exchange.specs.Says.{orders_of_reply, AreFitting};
 
 use crate::place::place_of;
 use crate::worth::is_worth;
@@ -21,7 +21,8 @@ use bar_wire::{Body, Kind, View};
 
 /// To a RESPONSE that is admitted now: the DIVULGE and the CASE.
 fn to_response(ledger: &Ledger, x: Exchange, is_new: bool) -> Says
-    ensures { (me : Member) (k : Knowledge) → Recalls me k ledger.now → (is_new ≡ true → IsRecent me k x.round)
+    ensures fitting { AreFitting result }
+    ensures orders { (me : Member) (k : Knowledge) → Recalls me k ledger.now → (is_new ≡ true → IsRecent me k x.round)
         → orders_of_reply result ≡ orders_when (is_new && is_trade_worth me.session (terms_of me k x)) (Reveal x ∷ GiveCase x ∷ []) }
 {
     if is_new && is_worth(ledger, x) {
@@ -41,7 +42,8 @@ fn to_response(ledger: &Ledger, x: Exchange, is_new: bool) -> Says
 
 /// To a DIVULGE: the CASE.
 fn to_divulge(ledger: &Ledger, round: u32, x: Exchange, is_new: bool) -> Says
-    ensures { (me : Member) (k : Knowledge) → 2 ≤ me.session.shape.life → Recalls me k ledger.now → round ≡ this_round k
+    ensures fitting { AreFitting result }
+    ensures orders { (me : Member) (k : Knowledge) → 2 ≤ me.session.shape.life → Recalls me k ledger.now → round ≡ this_round k
         → (is_new ≡ true → IsRecent me k x.round)
         → orders_of_reply result ≡
         orders_when ((is_new || nat_le (this_round k) (x.round + 2)) && is_trade_worth me.session (terms_of me k x)) (GiveCase x ∷ []) }
@@ -61,9 +63,10 @@ pub fn replies(
     view: &View<'_>,
     is_new: bool,
 ) -> Says
-    ensures { (me : Member) (k : Knowledge) → me.session ≡ session.now → Recalls me k ledger.now → round ≡ this_round k
+    ensures orders { (me : Member) (k : Knowledge) → me.session ≡ session.now → Recalls me k ledger.now → round ≡ this_round k
         → IsRecentWhereNew me k is_new (datagram session.now.shape view.now).message
         → orders_of_reply result ≡ balanced_orders me k is_new (datagram session.now.shape view.now) }
+    ensures fitting { AreFitting result }
 {
     let life = session.shape().life;
     let Some(place) = place_of(view) else {

@@ -3,11 +3,12 @@ ghost use Rattle.bar_wire.specs.declared.kind.Kind.TheVariants.{Case};
 ghost use Rattle.bar_rules.specs.Peer.Sizes.{largest};
 ghost use Rattle.bar_ledger.specs.Memory.{HasSame};
 
-use crate::{admit, again, replies};
+use crate::{admit, again, replies, write};
 use bar_bytes::Steps;
-use bar_exchange::{Say, Says};
+use bar_exchange::{Say, Says, Sources};
 use bar_ledger::{Entry, Ledger};
 use bar_roster::Session;
+use bar_seeds::{Secrets, SeedChain};
 use bar_store::Store;
 use bar_window::{Exchange, Role, Terms, Window, XKind};
 use bar_wire::{Body, Kind, View};
@@ -156,5 +157,41 @@ fn a_key_request_is_admitted_behind_the_case(rt: HostRuntime) -> Result<(), Fail
     assert!(rt; !admits(&session, &store, &ledger, &view));
     hear(&rt, &mut ledger, Kind::Case);
     assert!(rt; admits(&session, &store, &ledger, &view));
+    Ok(())
+}
+
+#[test]
+fn messages_have_their_lengths(rt: HostRuntime) -> Result<(), Fail> {
+    let session = Session::read(rt.alloc(), SESSION.as_bytes())?;
+    let store = Store::make(rt.alloc(), 10, 4, 8)?;
+    let mut ledger = Ledger::make(rt.alloc(), 1, 4, &session.shape())?;
+    add(&rt, &mut ledger, entry());
+    let id = session.shape().id;
+    let secret = [7; 32];
+    let chain = SeedChain::make(rt.alloc(), &id, 1, 10, &secret)?;
+    let secrets = Secrets {
+        id,
+        party: 1,
+        secret,
+    };
+    let sources = Sources {
+        session: &session,
+        secrets: &secrets,
+        chain: &chain,
+        ledger: &ledger,
+        store: &store,
+    };
+    let mut out = [0; 65_507];
+    for (kind, length) in [
+        (Kind::Request, Some(84)),
+        (Kind::Response, None),
+        (Kind::Divulge, Some(84)),
+        (Kind::Case, None),
+        (Kind::KeyReq, Some(22)),
+        (Kind::Key, Some(54)),
+        (Kind::Query, None),
+    ] {
+        assert_eq!(rt; write(&sources, kind, X, &mut out), length);
+    }
     Ok(())
 }

@@ -1,6 +1,9 @@
 -- What is to be said of exchanges, as orders.
-use Rattle.std.specs.Prelude.{List, [], ◌∷◌, map}
+use Rattle.std.specs.Prelude.{◌≡◌, List, [], ◌∷◌, map}
+use Rattle.std.specs.List.{AllByRecursion}
 use Rattle.bar_window.specs.declared.exchange.Exchange.{Exchange}
+use Rattle.bar_window.specs.declared.exchange.XKind.{XKind}
+use Rattle.bar_window.specs.declared.exchange.XKind.TheVariants.{Balanced, Push}
 use Rattle.bar_wire.specs.declared.kind.Kind.{Kind}
 use Rattle.bar_wire.specs.declared.kind.Kind.TheVariants as kinds
 use Rattle.bar_rules.specs.Peer.Orders.{Order, Answer, Reveal, GiveCase, AskKey, GiveKey, Resend}
@@ -34,3 +37,12 @@ orders_of_reply says = map (λ say. order_by say.kind say.x) (says_in says)
 
 abbrev pub orders_at_tick : Says → List Order
 orders_at_tick says = map (λ say. order_again say.kind say.x) (says_in says)
+
+-- an answer is of its kind of exchange
+abbrev pub Fits : Kind → XKind → Type 0
+Fits kinds.Response kind = kind ≡ Balanced
+Fits kinds.Reply kind = kind ≡ Push
+Fits _ kind = Unit {0}
+
+abbrev pub AreFitting : Says → Type 0
+AreFitting says = AllByRecursion (λ say. Fits say.kind say.x.kind) (says_in says)

@@ -1,8 +1,12 @@
 //! Where a datagram of an exchange stands.
-ghost use Rattle.std.specs.Prelude.{◌≡◌};
-ghost use Rattle.bar_wire.specs.Datagram.{exchange_by};
+ghost use Rattle.std.specs.Prelude.{◌≡◌, option_map};
+ghost use Rattle.bar_wire.specs.Datagram.{exchange_by, part_of, place_of};
+ghost use Rattle.bar_wire.specs.Views.{datagram, plain};
+ghost use Rattle.bar_wire.specs.declared.shape.Shape.{Shape};
+ghost use Rattle.bar_exchange.specs.Places.{place_in};
 
 use bar_window::{Exchange, Role, XKind};
+use bar_wire::{Body, View, kind_from, role_from};
 
 /// An exchange, and the side of it that a datagram's sender is on.
 #[derive(Clone, Copy, Debug)]
@@ -24,5 +28,48 @@ pub fn exchange_by(round: u32, kind: XKind, role: Role, from: u16, to: u16) -> E
         kind,
         initiator,
         responder,
+    }
+}
+
+/// The round, kind and side of the sender that a datagram of an exchange speaks of.
+fn part_of(body: &Body<'_>) -> Option<(u32, XKind, Role)>
+    ensures { result ≡ part_of (plain body.now) }
+{
+    match *body {
+        Body::Request { round, .. } | Body::Divulge { round, .. } => {
+            Some((round, XKind::Balanced, Role::Initiator))
+        }
+        Body::Response { round, .. } => Some((round, XKind::Balanced, Role::Responder)),
+        Body::Query { round, .. } => Some((round, XKind::Push, Role::Initiator)),
+        Body::Reply { round, .. } => Some((round, XKind::Push, Role::Responder)),
+        Body::Case {
+            round,
+            xkind,
+            role,
+            ..
+        } => Some((round, kind_from(xkind), role_from(role))),
+        Body::KeyReq { round, xkind, role } => Some((round, kind_from(xkind), role_from(role))),
+        Body::Key {
+            round,
+            xkind,
+            role,
+            ..
+        } => Some((round, kind_from(xkind), role_from(role))),
+        Body::Manifest { .. } | Body::Block { .. } | Body::Evidence { .. } | Body::Evict { .. } => {
+            None
+        }
+    }
+}
+
+/// The place of a datagram of an exchange.
+pub fn place_of(view: &View<'_>) -> Option<Place>
+    ensures { (shape : Shape) → option_map place_in result ≡ place_of (datagram shape view.now).message }
+{
+    match part_of(&view.body) {
+        Some((round, kind, role)) => Some(Place {
+            x: exchange_by(round, kind, role, view.from, view.to),
+            role,
+        }),
+        None => None,
     }
 }

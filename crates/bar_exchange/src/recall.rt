@@ -1,5 +1,5 @@
 //! What a ledger tells of an exchange, by kind and side.
-ghost use Rattle.std.specs.Prelude.{◌≡◌, ◌+◌, nat_le, is_some};
+ghost use Rattle.std.specs.Prelude.{◌≡◌, ◌+◌, nat_le, is_some, option_copied};
 ghost use Rattle.bar_wire.specs.declared.kind.Kind.TheVariants.{Case, Request};
 ghost use Rattle.bar_window.specs.declared.exchange.XKind.TheVariants.{Balanced};
 ghost use Rattle.bar_window.specs.declared.exchange.Role.TheVariants.{Initiator};
@@ -41,9 +41,22 @@ pub fn side(ledger: &Ledger, x: Exchange) -> Role
 pub fn has_heard(ledger: &Ledger, x: Exchange, kind: Kind, role: Role) -> bool
     ensures { result ≡ is_some (heard_in ledger.now kind x role) }
 {
+    heard_from(ledger, x, kind, role).is_some()
+}
+
+/// The datagram of a side that was heard.
+pub fn heard_from(ledger: &Ledger, x: Exchange, kind: Kind, role: Role) -> Option<&[u8]>
+    ensures { option_copied result ≡ heard_in ledger.now kind x role }
+{
     match ledger.find(x) {
-        Some(entry) => role.code() == entry.role.other().code() && ledger.heard(x, kind).is_some(),
-        None => false,
+        Some(entry) => {
+            if role.code() == entry.role.other().code() {
+                ledger.heard(x, kind)
+            } else {
+                None
+            }
+        }
+        None => None,
     }
 }
 

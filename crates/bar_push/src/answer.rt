@@ -90,7 +90,7 @@ fn makes_terms(store: &Store, ledger: &Ledger, x: Exchange, answer: PushAnswer) 
 }
 
 /// The row of a REPLY.
-pub fn admits_reply(
+pub(crate) fn admits_reply(
     store: &Store,
     ledger: &Ledger,
     round: u32,

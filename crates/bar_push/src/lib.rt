@@ -1,11 +1,26 @@
-//! Pushes: when a REPLY is admitted, what a peer answers to their datagrams, and what it says again.
+//! Pushes: which of their datagrams a peer admits, what it answers, and what it says again.
 #![tactic(auto)]
 
+mod admission;
 mod answer;
+mod asking;
+mod choosing;
+mod keeping;
+mod known;
+mod offer;
 mod place;
 mod reply;
+mod saying;
 mod tick;
+mod writing;
 
-pub use answer::admits_reply;
+pub use admission::admit;
+pub use choosing::answer_to_offer;
+pub use keeping::keep;
 pub use reply::replies;
+pub use saying::{say_query, say_reply};
 pub use tick::again;
+pub use writing::write;
+
+#[cfg(test)]
+mod tests;

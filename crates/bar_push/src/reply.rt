@@ -1,11 +1,12 @@
 //! What is answered to a datagram.
 ghost use Rattle.std.specs.Prelude.{◌≡◌, ◌||◌, [], ◌∷◌, nat_le};
+ghost use Rattle.bar_window.specs.declared.exchange.XKind.TheVariants.{Push};
 ghost use Rattle.bar_wire.specs.Views.{datagram};
 ghost use Rattle.bar_rules.specs.Member.{Member};
 ghost use Rattle.bar_rules.specs.Peer.Knowledge.{Knowledge, this_round};
 ghost use Rattle.bar_rules.specs.Peer.Orders.{Answer, GiveCase};
 ghost use Rattle.bar_rules.specs.Peer.Replies.{orders_when};
-ghost use Rattle.bar_exchange.specs.Says.{orders_of_reply};
+ghost use Rattle.bar_exchange.specs.Says.{orders_of_reply, AreFitting};
 ghost use Rattle.bar_push.specs.Push.{push_orders};
 
 use crate::place::place_of;
@@ -16,7 +17,8 @@ use bar_wire::{Body, Kind, View};
 
 /// To a QUERY: the REPLY and the CASE.
 fn to_query(is_due: bool, x: Exchange) -> Says
-    ensures { orders_of_reply result ≡ orders_when is_due (Answer x ∷ GiveCase x ∷ []) }
+    ensures fitting { x.kind ≡ Push → AreFitting result }
+    ensures orders { orders_of_reply result ≡ orders_when is_due (Answer x ∷ GiveCase x ∷ []) }
 {
     let answer = Say {
         kind: Kind::Reply,
@@ -35,8 +37,9 @@ fn to_query(is_due: bool, x: Exchange) -> Says
 
 /// What is answered to a datagram of a push that is admitted now or comes again, in this round.
 pub fn replies(session: &Session, round: u32, view: &View<'_>, is_new: bool) -> Says
-    ensures { (me : Member) (k : Knowledge) → me.session ≡ session.now → round ≡ this_round k
+    ensures orders { (me : Member) (k : Knowledge) → me.session ≡ session.now → round ≡ this_round k
         → orders_of_reply result ≡ push_orders me k is_new (datagram session.now.shape view.now) }
+    ensures fitting { AreFitting result }
 {
     let life = session.shape().life;
     let Some(place) = place_of(view) else {

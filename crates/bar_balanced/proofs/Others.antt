@@ -1,0 +1,47 @@
+-- Of the other kinds nothing is written in a balanced exchange.
+use Rattle.std.proofs.Common.{◌≡◌, ◌∙◌, None, refl, ap, arith}
+use Rattle.std.specs.Prelude.{option_map}
+use Rattle.bar_window.specs.declared.exchange.Exchange.{Exchange}
+use Rattle.bar_window.specs.declared.exchange.XKind.TheVariants.{Balanced}
+use Rattle.bar_window.specs.Exchange.{kind_code}
+use Rattle.bar_window.specs.Terms.{Terms}
+use Rattle.bar_window.specs.Terms as forms
+use Rattle.bar_wire.specs.Datagram.{Query, Reply}
+use Rattle.bar_wire.specs.declared.kind.Kind.{Kind}
+use Rattle.bar_wire.specs.declared.kind.Kind.TheVariants as kinds
+use Rattle.bar_rules.specs.Member.{Member}
+use Rattle.bar_rules.specs.Secrets.{seed_of}
+use Rattle.bar_rules.specs.Peer.Agreement.{IsRecent}
+use Rattle.bar_rules.specs.Peer.Knowledge.{Knowledge}
+use Rattle.bar_rules.specs.Peer.Writing.{body_now}
+use Rattle.bar_ledger.specs.declared.ledger.Ledger.{Ledger}
+use Rattle.bar_ledger.specs.Lookups.{knows_offer, knows_answer, offer_of, reply_of}
+use Rattle.bar_ledger.specs.Recalls.{Recalls, kind_of_terms}
+use Rattle.bar_exchange.proofs.Knowing.{no_part}
+
+no_offer : (t : Terms) → kind_of_terms t ≡ Balanced → offer_of t ≡ None
+no_offer (forms.Balanced nonce ha hb) e = refl
+no_offer (forms.Push young aged want give junk) e = absurd (omega (arith, ap kind_code e))
+
+no_reply : (t : Terms) → kind_of_terms t ≡ Balanced → reply_of t ≡ None
+no_reply (forms.Balanced nonce ha hb) e = refl
+no_reply (forms.Push young aged want give junk) e = absurd (omega (arith, ap kind_code e))
+
+pub no_body : (me : Member) (k : Knowledge) (l : Ledger) (x : Exchange) (kind : Kind) → Recalls me k l → IsRecent me k x.round → x.kind ≡ Balanced
+    → (kind ≡ kinds.Request → ⊥) → (kind ≡ kinds.Response → ⊥) → (kind ≡ kinds.Divulge → ⊥) → (kind ≡ kinds.Case → ⊥)
+    → (kind ≡ kinds.KeyReq → ⊥) → (kind ≡ kinds.Key → ⊥) → body_now me k kind x ≡ None
+no_body me k l x kinds.Query h recent is request response divulge case key_request key =
+    ap (option_map (λ q. Query x.round (seed_of me x.round) q.0 q.1))
+    (h.offers x recent ∙ no_part knows_offer offer_of Balanced no_offer me l x (h.kept x) is)
+no_body me k l x kinds.Reply h recent is request response divulge case key_request key =
+    ap (option_map (λ t. Reply x.round t.0 t.1 t.2)) (h.replies x recent ∙ no_part knows_answer reply_of Balanced no_reply me l x (h.kept x) is)
+no_body me k l x kinds.Manifest h recent is request response divulge case key_request key = refl
+no_body me k l x kinds.Block h recent is request response divulge case key_request key = refl
+no_body me k l x kinds.Evidence h recent is request response divulge case key_request key = refl
+no_body me k l x kinds.Evict h recent is request response divulge case key_request key = refl
+no_body me k l x kinds.Request h recent is request response divulge case key_request key = absurd (request refl)
+no_body me k l x kinds.Response h recent is request response divulge case key_request key = absurd (response refl)
+no_body me k l x kinds.Divulge h recent is request response divulge case key_request key = absurd (divulge refl)
+no_body me k l x kinds.Case h recent is request response divulge case key_request key = absurd (case refl)
+no_body me k l x kinds.KeyReq h recent is request response divulge case key_request key = absurd (key_request refl)
+no_body me k l x kinds.Key h recent is request response divulge case key_request key = absurd (key refl)

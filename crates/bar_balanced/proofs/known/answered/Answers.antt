@@ -1,0 +1,30 @@
+use Rattle.std.proofs.Common.{◌∙◌, Some, sym, ap}
+use Rattle.std.specs.Prelude.{option_and_then, option_map}
+use Rattle.bar_window.specs.declared.terms.Terms.{Terms}
+use Rattle.bar_window.specs.Terms.{plain_terms}
+use Rattle.bar_window.specs.Window.{members}
+use Rattle.bar_ledger.specs.Lookups.{knows_answer, history_of}
+use Rattle.bar_exchange.proofs.Knowing.{is_known}
+use Rattle.bar_balanced.proofs.known.answered.Goals as goal
+
+pub returns-in_err-hb-clause-known : goal.returns-in_err-hb-clause-known
+returns-in_err-hb-clause-known c me k tells recent =
+    ap (option_map members) c.from_residual.ensures
+    ∙ sym (tells.recalls.answers c.args.x recent
+    ∙ is_known knows_answer history_of c.args.sources.now.ledger.now c.args.x c.knows_answer.result c.kept_terms.result c.knows_answer.ensures c.if-not-knows_answer.false
+    (c.kept_terms.ensures.kept me k tells)
+    ∙ ap (option_and_then (λ (t : Terms). history_of (plain_terms t))) c.in_err-hb.was)
+
+pub returns-in_default-clause-known : goal.returns-in_default-clause-known
+returns-in_default-clause-known c me k tells recent =
+    sym (tells.recalls.answers c.args.x recent
+    ∙ is_known knows_answer history_of c.args.sources.now.ledger.now c.args.x c.knows_answer.result c.kept_terms.result c.knows_answer.ensures c.if-not-knows_answer.false
+    (c.kept_terms.ensures.kept me k tells)
+    ∙ ap (option_and_then (λ (t : Terms). history_of (plain_terms t))) (c.in_ok-hb.was ∙ ap Some c.in_default.is))
+
+pub returns-clause-known : goal.returns-clause-known
+returns-clause-known c me k tells recent =
+    sym (tells.recalls.answers c.args.x recent
+    ∙ is_known knows_answer history_of c.args.sources.now.ledger.now c.args.x c.knows_answer.result c.kept_terms.result c.knows_answer.ensures c.if-not-knows_answer.false
+    (c.kept_terms.ensures.kept me k tells)
+    ∙ ap (option_and_then (λ (t : Terms). history_of (plain_terms t))) (c.in_ok-hb.was ∙ ap Some c.in-Balanced.is))

@@ -1,0 +1,41 @@
+//! What is known of the terms of a balanced exchange.
+ghost use Rattle.std.specs.Prelude.{◌≡◌, IfSome, option_map};
+ghost use Rattle.bar_window.specs.Window.{members, IsWindowOf};
+ghost use Rattle.bar_rules.specs.Member.{Member};
+ghost use Rattle.bar_rules.specs.Peer.Agreement.{IsRecent};
+ghost use Rattle.bar_rules.specs.Peer.Knowledge.{Knowledge};
+ghost use Rattle.bar_rules.specs.Peer.Writing.{answer_of};
+ghost use Rattle.bar_exchange.specs.Writing.{Tells};
+
+use bar_exchange::{Sources, kept_terms, knows_answer, knows_commit};
+use bar_window::{Exchange, Terms, Window};
+
+/// The nonce and the history that the initiator commits to, where they are known.
+pub(crate) fn revealed(sources: &Sources<'_>, x: Exchange) -> Option<([u8; 32], Window)>
+    ensures known { (me : Member) (k : Knowledge) → Tells me k sources.now → IsRecent me k x.round
+        → option_map (λ c. (c.0, members c.1)) result ≡ k.revealed x }
+    ensures windows { IfSome result (λ c. IsWindowOf sources.now.session.now.shape.life x.round c.1) }
+{
+    if !knows_commit(sources.ledger, x) {
+        return None;
+    }
+    let Terms::Balanced { nonce, ha, .. } = kept_terms(sources, x)? else {
+        return None;
+    };
+    Some((nonce, ha))
+}
+
+/// The history that the responder answers with, where it is known.
+pub(crate) fn answered(sources: &Sources<'_>, x: Exchange) -> Option<Window>
+    ensures known { (me : Member) (k : Knowledge) → Tells me k sources.now → IsRecent me k x.round
+        → option_map members result ≡ answer_of me k x }
+    ensures windows { IfSome result (IsWindowOf sources.now.session.now.shape.life x.round) }
+{
+    if !knows_answer(sources.ledger, x) {
+        return None;
+    }
+    let Terms::Balanced { hb, .. } = kept_terms(sources, x)? else {
+        return None;
+    };
+    Some(hb)
+}

@@ -1,0 +1,73 @@
+//! Which datagrams of pushes a peer admits.
+ghost use Rattle.std.specs.Prelude.{◌≡◌, ◌+◌, ◌≤◌, ℕ, List};
+ghost use Rattle.bar_wire.specs.Views.{plain, IsView};
+ghost use Rattle.bar_rules.specs.Member.{Member};
+ghost use Rattle.bar_rules.specs.Peer.Knowledge.{Knowledge, this_round};
+ghost use Rattle.bar_store.specs.Holds.{Holds};
+ghost use Rattle.bar_ledger.specs.Recalls.{Recalls};
+ghost use Rattle.bar_push.specs.Push.{is_push_row_met};
+
+use crate::answer::admits_reply;
+use crate::asking::admits_query;
+use crate::offer::Offer;
+use crate::place::place_of;
+use bar_bytes::Steps;
+use bar_exchange::{Counts, Place, admits_case, admits_key, admits_key_request};
+use bar_ledger::Ledger;
+use bar_roster::Session;
+use bar_store::Store;
+use bar_terms::PushAnswer;
+use bar_wire::{Body, View};
+use std::sync::ledger::Ledger as StepLedger;
+
+/// Whether a datagram of a push meets the row of its kind in this round. It counts the steps along the seeds of a QUERY.
+pub fn admit<L: StepLedger>(
+    session: &Session,
+    store: &Store,
+    ledger: &Ledger,
+    round: u32,
+    view: &View<'_>,
+    steps: &mut Steps<L>,
+) -> bool
+    ensures row { (me : Member) (k : Knowledge) (bytes : List ℕ) → me.session ≡ session.now → Holds me k store.now
+        → Recalls me k ledger.now → round ≡ this_round k → IsView session.now.shape bytes view.now
+        → result ≡ is_push_row_met me k view.now.from view.now.to (plain view.now.body) }
+    ensures cost { steps.new ≤ steps.old + (round + 1) }
+{
+    let Some(place) = place_of(view) else {
+        return false;
+    };
+    let Place { x, role } = place;
+    match view.body {
+        Body::Query {
+            seed,
+            young,
+            aged,
+            ..
+        } => {
+            let offer = Offer {
+                round: x.round,
+                young,
+                aged,
+            };
+            admits_query(
+                session, store, ledger, round, view.from, seed, &offer, steps,
+            )
+        }
+        Body::Reply {
+            want,
+            give,
+            junk,
+            ..
+        } => admits_reply(store, ledger, round, x, PushAnswer { want, give, junk }),
+        Body::Case {
+            updates,
+            junk,
+            terms,
+            ..
+        } => admits_case(ledger, round, x, role, &terms, Counts { updates, junk }),
+        Body::KeyReq { .. } => admits_key_request(ledger, round, x, role),
+        Body::Key { .. } => admits_key(ledger, round, x, role),
+        _ => false,
+    }
+}

@@ -1,0 +1,108 @@
+//! When a QUERY is admitted.
+ghost use Rattle.std.specs.Prelude.{◌≡◌, ◌+◌, ◌≤◌, ℕ, nat_lt, length};
+ghost use Rattle.bar_window.specs.Window.{members, IsWindowOf};
+ghost use Rattle.bar_terms.specs.Terms.{offer_ok};
+ghost use Rattle.bar_wire.specs.Datagram.{Query};
+ghost use Rattle.bar_wire.specs.Grammar.{IsPeer};
+ghost use Rattle.bar_rules.specs.Member.{Member};
+ghost use Rattle.bar_rules.specs.Peer.Admission.{is_row_met};
+ghost use Rattle.bar_rules.specs.Peer.Choices.{wanted_of};
+ghost use Rattle.bar_rules.specs.Peer.Knowledge.{Knowledge, this_round, answer_deadline, table_of};
+ghost use Rattle.bar_store.specs.Holds.{Holds};
+ghost use Rattle.bar_ledger.specs.Recalls.{Recalls};
+ghost use Rattle.bar_push.specs.Chosen.{is_offer_within};
+
+use crate::choosing::answer_to_offer;
+use crate::offer::Offer;
+use bar_bytes::Steps;
+use bar_exchange::{REQUEST_DEADLINE, has_digests, is_window_of, is_within, may_ask};
+use bar_ledger::Ledger;
+use bar_roster::Session;
+use bar_store::Store;
+use bar_terms::offer_ok;
+use bar_window::XKind;
+use std::sync::ledger::Ledger as StepLedger;
+
+/// Whether an offer is valid under the table.
+fn is_valid_offer(store: &Store, cap: u8, offer: &Offer) -> bool
+    ensures { (me : Member) (k : Knowledge) → Holds me k store.now → cap ≡ me.session.cap
+        → IsWindowOf me.session.shape.life offer.now.round offer.now.aged
+        → result ≡ offer_ok me.session.cap me.session.shape.life (table_of k) offer.now.round
+        (members offer.now.young) (members offer.now.aged) }
+{
+    let life = store.life();
+    if !is_window_of(&offer.aged, life, offer.round) {
+        return false;
+    }
+    offer_ok(
+        &offer.young,
+        &offer.aged,
+        offer.round,
+        cap,
+        life,
+        store.table(),
+    )
+}
+
+/// Whether an offer is valid under the table, and each of its updates has a digest there.
+fn is_offer_within(store: &Store, cap: u8, offer: &Offer) -> bool
+    ensures { (me : Member) (k : Knowledge) → Holds me k store.now → cap ≡ me.session.cap
+        → IsWindowOf me.session.shape.life offer.now.round offer.now.aged
+        → result ≡ is_offer_within me k offer.now.round (members offer.now.young) (members offer.now.aged) }
+{
+    if !is_valid_offer(store, cap, offer) {
+        return false;
+    }
+    if !has_digests(store, &offer.young) {
+        return false;
+    }
+    has_digests(store, &offer.aged)
+}
+
+/// Whether something of an offer is wanted.
+fn wants_some(store: &Store, cap: u8, offer: &Offer) -> bool
+    ensures { (me : Member) (k : Knowledge) → Holds me k store.now → cap ≡ me.session.cap → this_round k ≤ offer.now.round + answer_deadline
+        → IsWindowOf me.session.shape.life offer.now.round offer.now.young → IsWindowOf me.session.shape.life offer.now.round offer.now.aged
+        → result ≡ nat_lt 0 (length (wanted_of me k (members offer.now.young))) }
+{
+    let answer = answer_to_offer(store, &offer.young, &offer.aged, cap, offer.round);
+    answer.want.size() > 0
+}
+
+/// The row of a QUERY. The steps along the seeds are counted last, where all else is met.
+pub(crate) fn admits_query<L: StepLedger>(
+    session: &Session,
+    store: &Store,
+    ledger: &Ledger,
+    round: u32,
+    from: u16,
+    seed: &[u8; 32],
+    offer: &Offer,
+    steps: &mut Steps<L>,
+) -> bool
+    ensures row { (me : Member) (k : Knowledge) (to : ℕ) → me.session ≡ session.now → Holds me k store.now → Recalls me k ledger.now
+        → round ≡ this_round k → IsPeer session.now.shape from → IsWindowOf me.session.shape.life offer.now.round offer.now.young
+        → IsWindowOf me.session.shape.life offer.now.round offer.now.aged
+        → result ≡ is_row_met me k from to (Query offer.now.round seed.now (members offer.now.young) (members offer.now.aged)) }
+    ensures cost { steps.new ≤ steps.old + (round + 1) }
+{
+    if !is_within(round, offer.round, REQUEST_DEADLINE) {
+        return false;
+    }
+    if !is_offer_within(store, ledger.cap(), offer) {
+        return false;
+    }
+    if !wants_some(store, ledger.cap(), offer) {
+        return false;
+    }
+    may_ask(
+        session,
+        ledger,
+        round,
+        XKind::Push,
+        from,
+        offer.round,
+        seed,
+        steps,
+    )
+}
