@@ -1,0 +1,150 @@
+-- What an order adds to what is known: what was sent for earlier orders is sent for them still.
+use Rattle.std.proofs.Common.{◌≡◌, ◌∙◌, ◌+◌, ℕ, List, [], ◌∷◌, Option, Some, None, map, refl, ap, arith}
+use Rattle.std.specs.Prelude.{option_map}
+use Rattle.std.specs.List.{AllByRecursion}
+use Rattle.std.specs.Bool.{then_some}
+use Rattle.std.specs.Option.{option_or}
+use Rattle.bar_window.specs.declared.exchange.Exchange.{Exchange}
+use Rattle.bar_window.specs.declared.exchange.Role.{Role}
+use Rattle.bar_window.specs.declared.exchange.Role.TheVariants.{Initiator}
+use Rattle.bar_window.specs.declared.update.UpdateId.{UpdateId}
+use Rattle.bar_wire.specs.Datagram.{Datagram, Body, is_of}
+use Rattle.bar_wire.specs.declared.kind.Kind.{Kind}
+use Rattle.bar_wire.specs.declared.kind.Kind.TheVariants as kinds
+use Rattle.bar_rules.specs.Member.{Member, round_after}
+use Rattle.bar_rules.specs.Peer.Exchanges.{role_of, partner_in, request_kind, answer_kind, committed}
+use Rattle.bar_rules.specs.Peer.Knowledge.{Knowledge, known, this_round}
+use Rattle.bar_rules.specs.Peer.Log.{Log, Said, ticks}
+use Rattle.bar_rules.specs.Peer.Machine.{send_if}
+use Rattle.bar_rules.specs.Peer.Orders.{Order, Ask, Answer, Reveal, GiveCase, AskKey, GiveKey, Resend, Report}
+use Rattle.bar_rules.specs.Peer.Rules.{IsObedient}
+use Rattle.bar_rules.specs.Peer.Run.{Out, say_or_repeat, perform}
+use Rattle.bar_exchange.specs.declared.say.Say.{Say}
+use Rattle.bar_peer.specs.Sending.{send_now, IsTimely, Answers, IsOwn}
+
+-- ---- the log after an order
+
+state_if_said : (P : Log → Type 0) (me : Member) (out : Out) (x : Exchange) (d : Option Datagram) (body : Option Body) → P out.state
+    → ((d : Datagram) → P (Said d ∷ out.state)) → P (say_or_repeat me out x d body).state
+state_if_said P me out x (Some d) body same more = same
+state_if_said P me out x None None same more = same
+state_if_said P me out x None (Some body) same more = more _
+
+state_if_sent : (P : Log → Type 0) (me : Member) (out : Out) (to : ℕ) (body : Option Body) → P out.state → P (send_if me out to body).state
+state_if_sent P me out to None same = same
+state_if_sent P me out to (Some body) same = same
+
+-- it is as before, or has one message more
+pub state_after_order : (P : Log → Type 0) (me : Member) (out : Out) (o : Order) → P out.state → ((d : Datagram) → P (Said d ∷ out.state))
+    → P (perform me out o).state
+state_after_order P me out (Ask x) same more =
+    state_if_said P me out x ((known me out.state).said (request_kind x.kind) x (role_of me x)) _ same more
+state_after_order P me out (Answer x) same more =
+    state_if_said P me out x ((known me out.state).said (answer_kind x.kind) x (role_of me x)) _ same more
+state_after_order P me out (GiveCase x) same more =
+    state_if_said P me out x ((known me out.state).said kinds.Case x (role_of me x)) _ same more
+state_after_order P me out (GiveKey x) same more =
+    state_if_said P me out x ((known me out.state).said kinds.Key x (role_of me x)) _ same more
+state_after_order P me out (Resend kind x) same more =
+    state_if_said P me out x ((known me out.state).said kind x (role_of me x)) _ same more
+state_after_order P me out (Reveal x) same more = state_if_sent P me out (partner_in me x) _ same
+state_after_order P me out (AskKey x) same more = same
+state_after_order P me out (Report q) same more = state_if_sent P me out 0 _ same
+
+-- what stood before an allowed log was allowed
+pub obeys_before : (me : Member) (out : Out) (o : Order) → IsObedient me (perform me out o).state → IsObedient me out.state
+obeys_before me out o =
+    state_after_order (λ log. IsObedient me log → IsObedient me out.state) me out o (λ obeys. obeys) (λ d obeys. obeys.1)
+
+-- ---- what is known then
+
+-- The round is the same, and what was said or revealed stays.
+pub record Grows (old new : Knowledge) : Type 0 where
+  pub time : this_round new ≡ this_round old
+  pub said : (kind : Kind) (x : Exchange) (role : Role) (d : Datagram) → old.said kind x role ≡ Some d → new.said kind x role ≡ Some d
+  pub revealed : (x : Exchange) (a : List ℕ × List UpdateId) → old.revealed x ≡ Some a → new.revealed x ≡ Some a
+
+same_ticks : (n : ℕ) → n + 0 ≡ n
+same_ticks n = omega arith
+
+first_stays : {X : Type 0} (o more : Option X) (v : X) → o ≡ Some v → option_or o more ≡ Some v
+first_stays o more v is = ap (λ o. option_or o more) is
+
+pub grows : (me : Member) (out : Out) (o : Order) → Grows (known me out.state) (known me (perform me out o).state)
+grows me out o =
+    state_after_order (λ log. Grows (known me out.state) (known me log)) me out o
+    (record { time = refl; said = λ kind x role d is. is; revealed = λ x a is. is })
+    (λ d.
+    record {
+      time = ap round_after (same_ticks (ticks out.state));
+      said = λ kind x role e is.
+          first_stays ((known me out.state).said kind x role) (then_some (is_of kind x role d.message) d) e is;
+      revealed = λ x a is.
+          first_stays ((known me out.state).revealed x)
+          (then_some (is_of kinds.Request x Initiator d.message) (committed me (known me out.state).block x)) a is;
+    })
+
+-- ---- what is sent for an order
+
+mapped_stays : {X Y : Type 0} (f : X → Y) (old new : Option X) → ((v : X) → old ≡ Some v → new ≡ Some v) → (y : Y)
+    → option_map f old ≡ Some y → option_map f new ≡ Some y
+mapped_stays f None new stays y is = absurd (cc)
+mapped_stays f (Some v) new stays y is = ap (option_map f) (stays v refl) ∙ is
+
+send_stays_of : (me : Member) (old new : Knowledge) → Grows old new → (kind : Kind) (x : Exchange) (send : ℕ × Datagram)
+    → send_now me old (record { kind = kind; x = x }) ≡ Some send → send_now me new (record { kind = kind; x = x }) ≡ Some send
+send_stays_of me old new g kinds.Divulge x send is =
+    mapped_stays _ _ _ (mapped_stays _ _ _ (mapped_stays _ (old.revealed x) (new.revealed x) (g.revealed x))) send is
+send_stays_of me old new g kinds.KeyReq x send is = is
+send_stays_of me old new g kinds.Manifest x send is = mapped_stays _ _ _ (g.said kinds.Manifest x (role_of me x)) send is
+send_stays_of me old new g kinds.Block x send is = mapped_stays _ _ _ (g.said kinds.Block x (role_of me x)) send is
+send_stays_of me old new g kinds.Request x send is = mapped_stays _ _ _ (g.said kinds.Request x (role_of me x)) send is
+send_stays_of me old new g kinds.Response x send is = mapped_stays _ _ _ (g.said kinds.Response x (role_of me x)) send is
+send_stays_of me old new g kinds.Query x send is = mapped_stays _ _ _ (g.said kinds.Query x (role_of me x)) send is
+send_stays_of me old new g kinds.Reply x send is = mapped_stays _ _ _ (g.said kinds.Reply x (role_of me x)) send is
+send_stays_of me old new g kinds.Case x send is = mapped_stays _ _ _ (g.said kinds.Case x (role_of me x)) send is
+send_stays_of me old new g kinds.Key x send is = mapped_stays _ _ _ (g.said kinds.Key x (role_of me x)) send is
+send_stays_of me old new g kinds.Evidence x send is = mapped_stays _ _ _ (g.said kinds.Evidence x (role_of me x)) send is
+send_stays_of me old new g kinds.Evict x send is = mapped_stays _ _ _ (g.said kinds.Evict x (role_of me x)) send is
+
+pub sends_stay : (me : Member) (old new : Knowledge) → Grows old new → (says : List Say) (sends : List (ℕ × Datagram))
+    → map (send_now me old) says ≡ map (λ send. Some send) sends → map (send_now me new) says ≡ map (λ send. Some send) sends
+sends_stay me old new g [] [] is = refl
+sends_stay me old new g [] (send ∷ sends) is = absurd (cc)
+sends_stay me old new g (say ∷ says) [] is = absurd (cc)
+sends_stay me old new g (say ∷ says) (send ∷ sends) is =
+    let first : send_now me old say ≡ Some send = cc in
+    let rest : map (send_now me old) says ≡ map (λ send. Some send) sends = cc in
+    λ i. send_stays_of me old new g say.kind say.x send first i ∷ sends_stay me old new g says sends rest i
+
+pub timely_still : (me : Member) (old new : Knowledge) → Grows old new → (say : Say) → IsTimely me old say → IsTimely me new say
+timely_still me old new g say timely = omega (arith, g.time, timely)
+
+pub all_timely_still : (me : Member) (old new : Knowledge) → Grows old new → (says : List Say) → AllByRecursion (IsTimely me old) says
+    → AllByRecursion (IsTimely me new) says
+all_timely_still me old new g [] all = tt
+all_timely_still me old new g (say ∷ says) all = (timely_still me old new g say all.0, all_timely_still me old new g says all.1)
+
+-- ---- an order of this member's is so still
+
+answers_still : (me : Member) (old new : Knowledge) → Grows old new → (kind : Kind) (x : Exchange) → Answers me old kind x
+    → Answers me new kind x
+answers_still me old new g kinds.Response x a = record { kind_is = a.kind_is; side = a.side; early = omega (arith, g.time, a.early) }
+answers_still me old new g kinds.Reply x a = record { kind_is = a.kind_is; side = a.side; early = omega (arith, g.time, a.early) }
+answers_still me old new g kinds.Divulge x a = a
+answers_still me old new g kinds.KeyReq x a = a
+answers_still me old new g kinds.Manifest x a = a
+answers_still me old new g kinds.Block x a = a
+answers_still me old new g kinds.Request x a = a
+answers_still me old new g kinds.Query x a = a
+answers_still me old new g kinds.Case x a = a
+answers_still me old new g kinds.Key x a = a
+answers_still me old new g kinds.Evidence x a = a
+answers_still me old new g kinds.Evict x a = a
+
+pub own_still : (me : Member) (old new : Knowledge) → Grows old new → (say : Say) → IsOwn me old say → IsOwn me new say
+own_still me old new g say own = record {
+  ours = own.ours;
+  timely = timely_still me old new g say own.timely;
+  answers = answers_still me old new g say.kind say.x own.answers;
+}

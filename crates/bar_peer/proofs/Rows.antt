@@ -1,0 +1,113 @@
+-- The rows of datagrams of exchanges, and what a met row tells.
+use Rattle.std.proofs.Common.{◌≡◌, ◌≤◌, ℕ, ◌∙◌, Bool, true, false, ◌&&◌, ◌||◌, is_some, List, sym, refl, arith}
+use Rattle.std.specs.Borrow.{Bor}
+use Rattle.std.proofs.lemmas.Bool.{and_parts}
+use Rattle.std.proofs.lemmas.Bool.Decides.{nat_tests}
+use Rattle.bar_window.specs.declared.exchange.Role.{Role}
+use Rattle.bar_window.specs.declared.exchange.Role.TheVariants.{Initiator, Responder}
+use Rattle.bar_window.specs.declared.exchange.XKind.{XKind}
+use Rattle.bar_window.specs.declared.exchange.XKind.TheVariants.{Balanced, Push}
+use Rattle.bar_wire.specs.Datagram.{Body, Manifest, Block, Request, Response, Divulge, Query, Reply, Case, KeyReq, Key, Evidence, Evict, exchange_by}
+use Rattle.bar_wire.specs.declared.kind.Kind.{Kind}
+use Rattle.bar_wire.specs.declared.kind.Kind.TheVariants as kinds
+use Rattle.bar_wire.specs.Views.{plain}
+use Rattle.bar_wire.specs.declared.view.Body.{Body as RawBody}
+use Rattle.bar_wire.specs.declared.view.Body.TheVariants as raw
+use Rattle.bar_rules.specs.Member.{Member}
+use Rattle.bar_rules.specs.Peer.Admission.{is_row_met, may_ask}
+use Rattle.bar_rules.specs.Peer.Agreement.{IsRecent}
+use Rattle.bar_rules.specs.Peer.Exchanges.{request_kind}
+use Rattle.bar_rules.specs.Peer.Knowledge.{Knowledge, is_in_time, deadline}
+use Rattle.bar_balanced.specs.Parts.{is_balanced}
+use Rattle.bar_balanced.specs.Parts as balanced
+use Rattle.bar_push.specs.Parts.{is_push}
+use Rattle.bar_push.specs.Parts as push
+use Rattle.bar_peer.specs.Repeats.{IsInTime, is_of_exchange}
+
+first_of : (row : Bool) → (row || false) ≡ row
+first_of true = refl
+first_of false = refl
+
+by_kind : (round : ℕ) (kind : XKind) (role : Role) (row : Bool)
+    → (is_some (balanced.part_by round kind role) && row || is_some (push.part_by round kind role) && row) ≡ row
+by_kind round Balanced role row = first_of row
+by_kind round Push role row = refl
+
+-- a datagram of an exchange is of a balanced one or of a push
+one_of : (b : Body) (row : Bool) → (is_balanced b && row || is_push b && row) ≡ (is_of_exchange b && row)
+one_of (Manifest r ds) row = refl
+one_of (Block u b) row = refl
+one_of (Request r s c) row = first_of row
+one_of (Response r hb) row = first_of row
+one_of (Divulge r n ha) row = first_of row
+one_of (Query r s y o) row = refl
+one_of (Reply r w g z) row = refl
+one_of (Case c) row = by_kind c.round c.kind c.role row
+one_of (KeyReq r kind role) row = by_kind r kind role row
+one_of (Key g) row = by_kind g.round g.kind g.role row
+one_of (Evidence ds) row = refl
+one_of (Evict r ps) row = refl
+
+pub of_balanced : (b : Body) (row met : Bool) → met ≡ (is_balanced b && row) → met ≡ true → met ≡ (is_of_exchange b && row)
+of_balanced b row met e is = is ∙ (λ i. (sym is ∙ e) i || is_push b && row) ∙ one_of b row
+
+pub of_push : (b : Body) (row none met : Bool) → none ≡ (is_balanced b && row) → none ≡ false → met ≡ (is_push b && row)
+    → met ≡ (is_of_exchange b && row)
+of_push b row none met e is f = f ∙ (λ i. (sym is ∙ e) i || is_push b && row) ∙ one_of b row
+
+-- what is neither told to all nor a block is of an exchange, or no row admits it
+pub of_others : (me : Member) (k : Knowledge) (from to : ℕ) (b : RawBody)
+    → ((round count : ℕ) (digests : Bor (List ℕ)) → b ≡ raw.Manifest round count digests → ⊥)
+    → ((round index : ℕ) (block : Bor (List ℕ)) → b ≡ raw.Block round index block → ⊥)
+    → ((round count : ℕ) (parties : Bor (List ℕ)) → b ≡ raw.Evict round count parties → ⊥)
+    → (is_of_exchange (plain b) && is_row_met me k from to (plain b)) ≡ is_row_met me k from to (plain b)
+of_others me k from to (raw.Manifest r n ds) m b e = absurd (m r n ds refl)
+of_others me k from to (raw.Block r i x) m b e = absurd (b r i x refl)
+of_others me k from to (raw.Evict r n ps) m b e = absurd (e r n ps refl)
+of_others me k from to (raw.Request r s c) m b e = refl
+of_others me k from to (raw.Response r hb) m b e = refl
+of_others me k from to (raw.Divulge r n ha) m b e = refl
+of_others me k from to (raw.Query r s y o) m b e = refl
+of_others me k from to (raw.Reply r w g z) m b e = refl
+of_others me k from to (raw.Case r kind role n z t c) m b e = refl
+of_others me k from to (raw.KeyReq r kind role) m b e = refl
+of_others me k from to (raw.Key r kind role key) m b e = refl
+of_others me k from to (raw.Evidence n ds) m b e = refl
+
+-- ---- what a met row tells of time
+
+in_round : (me : Member) (k : Knowledge) (round : ℕ) (kind : XKind) (role : Role) (from to : ℕ) → IsRecent me k round
+    → IsRecent me k (exchange_by round kind role from to).round
+in_round me k round kind Initiator from to h = h
+in_round me k round kind Responder from to h = h
+
+by_deadline : (me : Member) (k : Knowledge) (kind : Kind) (round : ℕ) → deadline me.session kind ≤ me.session.shape.life
+    → is_in_time me.session k kind round ≡ true → IsRecent me k round
+by_deadline me k kind round few h = grind (arith, nat_tests)
+
+last_of : (a t : Bool) → (a && t) ≡ true → t ≡ true
+last_of a t h = (and_parts a t h).1
+
+may_ask_in_time : (me : Member) (k : Knowledge) (kind : XKind) (from round : ℕ) (seed : List ℕ) → may_ask me k kind from round seed ≡ true
+    → is_in_time me.session k (request_kind kind) round ≡ true
+may_ask_in_time me k kind from round seed h = last_of _ _ (last_of _ _ h)
+
+-- each row of an exchange bounds the round
+pub in_time : (me : Member) (k : Knowledge) (from to : ℕ) (b : Body) → 2 ≤ me.session.shape.life → is_row_met me k from to b ≡ true
+    → IsInTime me k (record { from = from; to = to; body = b })
+in_time me k from to (Manifest r ds) life h = tt
+in_time me k from to (Block u b) life h = tt
+in_time me k from to (Request r s c) life h = by_deadline me k kinds.Request r (omega arith) (may_ask_in_time me k Balanced from r s h)
+in_time me k from to (Response r hb) life h = by_deadline me k kinds.Response r life (last_of _ _ h)
+in_time me k from to (Divulge r n ha) life h = by_deadline me k kinds.Divulge r life (last_of _ _ h)
+in_time me k from to (Query r s y o) life h =
+    by_deadline me k kinds.Query r (omega arith) (may_ask_in_time me k Push from r s (last_of _ _ h))
+in_time me k from to (Reply r w g z) life h = by_deadline me k kinds.Reply r life (last_of _ _ h)
+in_time me k from to (Case c) life h =
+    in_round me k c.round c.kind c.role from to (by_deadline me k kinds.Case c.round life (last_of _ _ h))
+in_time me k from to (KeyReq r kind role) life h =
+    in_round me k r kind role from to (by_deadline me k kinds.KeyReq r (omega arith) (last_of _ _ h))
+in_time me k from to (Key g) life h =
+    in_round me k g.round g.kind g.role from to (by_deadline me k kinds.Key g.round (omega arith) (last_of _ _ h))
+in_time me k from to (Evidence ds) life h = tt
+in_time me k from to (Evict r ps) life h = tt

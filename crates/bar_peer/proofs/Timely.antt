@@ -1,0 +1,93 @@
+-- What is said again at a tick may still be sent again.
+use Rattle.std.proofs.Common.{◌≡◌, ℕ, ◌+◌, Bool, true, not, ◌&&◌, List, [], ◌∷◌, ◌++◌, map, subst, sym}
+use Rattle.std.specs.Prelude.{if◌then◌else◌}
+use Rattle.std.specs.List.{AllByRecursion}
+use Rattle.std.proofs.lemmas.Bool.{and_parts, cond_both, leb-true}
+use Rattle.bar_window.specs.declared.exchange.Exchange.{Exchange}
+use Rattle.bar_window.specs.declared.exchange.Role.{Role}
+use Rattle.bar_window.specs.declared.exchange.Role.TheVariants.{Initiator, Responder}
+use Rattle.bar_window.specs.declared.exchange.XKind.{XKind}
+use Rattle.bar_window.specs.declared.exchange.XKind.TheVariants.{Balanced, Push}
+use Rattle.bar_window.specs.Exchange.{other_role}
+use Rattle.bar_wire.specs.declared.kind.Kind.{Kind}
+use Rattle.bar_wire.specs.declared.kind.Kind.TheVariants as kinds
+use Rattle.bar_rules.specs.Member.{Member}
+use Rattle.bar_rules.specs.Peer.Agreement.{IsRecent, IsRepeatable}
+use Rattle.bar_rules.specs.Peer.Exchanges.{role_of, partner_in, request_kind}
+use Rattle.bar_rules.specs.Peer.Knowledge.{Knowledge, this_round, answer_deadline, is_in_time, has_said_of, has_heard_of}
+use Rattle.bar_rules.specs.Peer.Orders.{Order, Resend, Reveal, AskKey}
+use Rattle.bar_rules.specs.Peer.Ticks.{again, reveals, lacks_answer, lacks_case, lacks_key}
+use Rattle.bar_exchange.specs.Says.{order_again}
+use Rattle.bar_exchange.specs.declared.say.Say.{Say}
+use Rattle.bar_peer.specs.Sending.{IsTimely}
+use Rattle.bar_peer.specs.Ticking.{orders_of_open}
+
+-- what an order sends again may still be sent again
+abbrev IsTimelyOrder : Member → Knowledge → Order → Type 0
+IsTimelyOrder me k (Resend kind x) = IsRepeatable me k kind x.round
+IsTimelyOrder me k (Reveal x) = IsRepeatable me k kinds.Divulge x.round
+IsTimelyOrder me k (AskKey x) = IsRepeatable me k kinds.KeyReq x.round
+IsTimelyOrder me k _ = ⊥
+
+of_order : (me : Member) (k : Knowledge) (kind : Kind) (x : Exchange) → IsTimelyOrder me k (order_again kind x)
+    → IsRepeatable me k kind x.round
+of_order me k kinds.Manifest x h = h
+of_order me k kinds.Block x h = h
+of_order me k kinds.Request x h = h
+of_order me k kinds.Response x h = h
+of_order me k kinds.Divulge x h = h
+of_order me k kinds.Query x h = h
+of_order me k kinds.Reply x h = h
+of_order me k kinds.Case x h = h
+of_order me k kinds.KeyReq x h = h
+of_order me k kinds.Key x h = h
+of_order me k kinds.Evidence x h = h
+of_order me k kinds.Evict x h = h
+
+of_orders : (me : Member) (k : Knowledge) (says : List Say)
+    → AllByRecursion (IsTimelyOrder me k) (map (λ say. order_again say.kind say.x) says) → AllByRecursion (IsTimely me k) says
+of_orders me k [] h = tt
+of_orders me k (say ∷ says) h = (of_order me k say.kind say.x h.0, of_orders me k says h.1)
+
+pub timely_request : (me : Member) (k : Knowledge) (kind : XKind) (round : ℕ) → IsRecent me k round
+    → IsRepeatable me k (request_kind kind) round
+timely_request me k Balanced round h = h
+timely_request me k Push round h = h
+
+timely_case : (me : Member) (k : Knowledge) (x : Exchange) → lacks_case me k x ≡ true → IsRepeatable me k kinds.Case x.round
+timely_case me k x h =
+    let said : Bool = has_said_of k kinds.Case x (role_of me x) in
+    let missing : Bool = not (has_heard_of k kinds.Case x (other_role (role_of me x))) in
+    let timely : Bool = is_in_time me.session k kinds.Case x.round in
+    leb-true (this_round k) (x.round + answer_deadline) (and_parts (said && missing) timely h).1
+
+timely_reveals : (me : Member) (k : Knowledge) (kind : XKind) (role : Role) (x : Exchange) → IsRecent me k x.round
+    → IsRepeatable me k kinds.Case x.round → AllByRecursion (IsTimelyOrder me k) (reveals kind role x ++ Resend kinds.Case x ∷ [])
+timely_reveals me k Balanced Initiator x recent h = (recent, (h, tt))
+timely_reveals me k Balanced Responder x recent h = (h, tt)
+timely_reveals me k Push Initiator x recent h = (h, tt)
+timely_reveals me k Push Responder x recent h = (h, tt)
+
+timely_again : (me : Member) (k : Knowledge) (x : Exchange) → IsRecent me k x.round → AllByRecursion (IsTimelyOrder me k) (again me k x)
+timely_again me k x recent =
+    let All = AllByRecursion (IsTimelyOrder me k) in
+    let key : List Order = if lacks_key me k x then AskKey x ∷ [] else [] in
+    let case : List Order = if lacks_case me k x then reveals x.kind (role_of me x) x ++ Resend kinds.Case x ∷ [] else key in
+    cond_both (lacks_answer me k x) (Resend (request_kind x.kind) x ∷ []) case All
+    (λ _. (timely_request me k x.kind x.round recent, tt))
+    (λ _. cond_both (lacks_case me k x) (reveals x.kind (role_of me x) x ++ Resend kinds.Case x ∷ []) key All
+    (λ h. timely_reveals me k x.kind (role_of me x) x recent (timely_case me k x h))
+    (λ _. cond_both (lacks_key me k x) (AskKey x ∷ []) [] All (λ _. (recent, tt)) (λ _. tt)))
+
+timely_open : (me : Member) (k : Knowledge) (x : Exchange) → IsRecent me k x.round
+    → AllByRecursion (IsTimelyOrder me k) (orders_of_open me k x)
+timely_open me k x recent =
+    cond_both (not (k.is_announced (partner_in me x))) (again me k x) [] (AllByRecursion (IsTimelyOrder me k))
+    (λ _. timely_again me k x recent)
+    (λ _. tt)
+
+-- so it is with what stands for these orders
+pub again_is_timely : (me : Member) (k : Knowledge) (x : Exchange) (says : List Say) → IsRecent me k x.round
+    → map (λ say. order_again say.kind say.x) says ≡ orders_of_open me k x → AllByRecursion (IsTimely me k) says
+again_is_timely me k x says recent is =
+    of_orders me k says (subst (λ os. AllByRecursion (IsTimelyOrder me k) os) (sym is) (timely_open me k x recent))

@@ -1,0 +1,28 @@
+use Rattle.std.proofs.Common.{◌≡◌, ◌∙◌, Some, None, sym, ap}
+use Rattle.std.specs.Prelude.{option_map}
+use Rattle.bar_wire.specs.Datagram.{Message}
+use Rattle.bar_wire.specs.Views.{datagram}
+use Rattle.bar_exchange.specs.Places.{place_in}
+use Rattle.bar_ledger.specs.Lookups.{heard_in}
+use Rattle.bar_peer.specs.Memory.{member_of}
+use Rattle.bar_peer.proofs.Again.{like_in, like_none}
+use Rattle.bar_peer.proofs.memory.Memory.heard_like.Goals as goal
+
+pub returns-in_err-place : goal.returns-in_err-place
+returns-in_err-place c k h in_time =
+    let shape = c.args.self.now.who.session.shape in
+    let m : Message = (datagram shape c.args.view.now).message in
+    let none : c.place_of.result ≡ None = search in
+    like_none c.args.self.now.who.session k m (sym (c.place_of.ensures shape) ∙ ap (option_map place_in) none) ∙ search
+
+pub returns : goal.returns
+returns c k h in_time =
+    let shape = c.args.self.now.who.session.shape in
+    let m : Message = (datagram shape c.args.view.now).message in
+    let place = c.in_ok-place.place in
+    let some : c.place_of.result ≡ Some place = search in
+    like_in (member_of c.args.self.now.who) k c.args.self.now.ledger m (place_in place) h.ledger
+    (sym (c.place_of.ensures shape) ∙ ap (option_map place_in) some)
+    in_time
+    ∙ (λ i. heard_in c.args.self.now.ledger (sym c.kind_of.ensures i) place.x place.role)
+    ∙ sym c.heard_from.ensures

@@ -1,0 +1,72 @@
+use Rattle.std.proofs.Common.{◌≡◌, ◌≤◌, ◌∙◌, ℕ, [], sym, ap, subst, arith, drop}
+use Rattle.bar_wire.specs.Inputs.{plain_input}
+use Rattle.bar_rules.specs.Member.{Member}
+use Rattle.bar_rules.specs.Peer.Log.{Log}
+use Rattle.bar_rules.specs.Peer.Run.{Out, log_after}
+use Rattle.bar_peer.specs.declared.orders.Orders.{Orders}
+use Rattle.bar_peer.specs.Memory.{member_of, Tells}
+use Rattle.bar_peer.specs.Orders.{left_in}
+use Rattle.bar_peer.specs.Sending.{without_reports}
+use Rattle.bar_peer.specs.StandsFor.{contents_left}
+use Rattle.bar_peer.proofs.Stepped.{log-more, over-stands, none-left, obeys-now, then-stands, then-sends, PlaysNow, tick-step, datagram-step}
+use Rattle.bar_peer.proofs.peer.Peer.step.Goals as goal
+use Rattle.bar_peer.proofs.peer.Peer.step.Goals.{then-is_tick, else-is_tick}
+
+room : {most old new : ℕ} → most ≤ old → new ≡ old → most ≤ new
+room most e = omega (arith, most, e)
+
+all-left : (o : Orders) → o.given ≡ 0 → left_in o ≡ o.says.items
+all-left o e = ap (λ (n : ℕ). drop n o.says.items) e
+
+pub returns-then-is_over-clause-stands : goal.returns-then-is_over-clause-stands
+returns-then-is_over-clause-stands g c inputs stood =
+    let m = c.args.self.now.memory in
+    let me : Member = member_of m.who in
+    let is = over-stands m inputs (plain_input c.args.input) (sym c.is_over.ensures ∙ c.if-is_over.true) stood in
+    subst (λ (log : Log). Tells log m) (sym (log-more me [] inputs (plain_input c.args.input) ∙ ap (λ (out : Out). out.state) is)) stood
+
+pub returns-then-is_over-clause-sends : goal.returns-then-is_over-clause-sends
+returns-then-is_over-clause-sends g c inputs stood =
+    let m = c.args.self.now.memory in
+    let is = over-stands m inputs (plain_input c.args.input) (sym c.is_over.ensures ∙ c.if-is_over.true) stood in
+    none-left (member_of m.who) _ (left_in c.args.self.now.orders) _ c.requires.sends (ap (λ (out : Out). without_reports out.sends) is)
+
+pub returns-then-is_over-clause-contents : goal.returns-then-is_over-clause-contents
+returns-then-is_over-clause-contents g c inputs stood =
+    let m = c.args.self.now.memory in
+    let is = over-stands m inputs (plain_input c.args.input) (sym c.is_over.ensures ∙ c.if-is_over.true) stood in
+    c.requires.contents ∙ ap (λ (out : Out). out.contents) (sym is)
+
+pub returns-clause-stands : goal.returns-clause-stands
+returns-clause-stands g c inputs stood =
+    let m = c.args.self.now.memory in
+    let go = sym c.is_over.ensures ∙ c.if-is_over.false in
+    let obeys = obeys-now m inputs (plain_input c.args.input) c.signed_by_rule.ensures go stood in
+    then-stands m c.take_input.new.memory c.take_input.new.orders inputs (plain_input c.args.input) c.take_input.ensures.who go stood
+    (c.take_input.ensures.stands (log_after (member_of m.who) [] inputs) obeys stood c.clear.ensures.0 (room c.args.self.now.room c.clear.ensures.2))
+
+pub returns-clause-sends : goal.returns-clause-sends
+returns-clause-sends g c inputs stood =
+    let m = c.args.self.now.memory in
+    let go = sym c.is_over.ensures ∙ c.if-is_over.false in
+    let obeys = obeys-now m inputs (plain_input c.args.input) c.signed_by_rule.ensures go stood in
+    then-sends m c.take_input.new.memory c.take_input.new.orders inputs (plain_input c.args.input) c.take_input.ensures.who go stood
+    (c.take_input.ensures.stands (log_after (member_of m.who) [] inputs) obeys stood c.clear.ensures.0 (room c.args.self.now.room c.clear.ensures.2))
+    (all-left c.take_input.new.orders (c.take_input.ensures.given ∙ c.clear.ensures.1))
+
+pub returns-clause-contents : goal.returns-clause-contents
+returns-clause-contents g c inputs stood =
+    let m = c.args.self.now.memory in
+    let go = sym c.is_over.ensures ∙ c.if-is_over.false in
+    let obeys = obeys-now m inputs (plain_input c.args.input) c.signed_by_rule.ensures go stood in
+    let stands = c.take_input.ensures.stands (log_after (member_of m.who) [] inputs) obeys stood c.clear.ensures.0 (room c.args.self.now.room c.clear.ensures.2) in
+    elim c.if-is_tick.branch [
+      | then-is_tick w ↦
+          tick-step c.knowledge_is_enough.ensures.entry m c.take_input.new.memory c.take_input.new.orders c.if-is_tick.self inputs (plain_input c.args.input)
+          c.take_input.ensures.who go stood stands (sym c.is_tick-is_tick.ensures ∙ w.if-is_tick.true)
+          (subst (PlaysNow c.take_input.new.memory) (sym w.self-is) w.played_now-self.ensures)
+      | else-is_tick w ↦
+          datagram-step c.knowledge_is_enough.ensures.entry m c.take_input.new.memory c.take_input.new.orders c.if-is_tick.self inputs (plain_input c.args.input)
+          c.take_input.ensures.who go stood stands (sym c.is_tick-is_tick.ensures ∙ w.if-is_tick.false)
+          (ap (contents_left c.take_input.new.memory.store) w.self-is ∙ w.none-self.ensures c.take_input.new.memory.store)
+    ]

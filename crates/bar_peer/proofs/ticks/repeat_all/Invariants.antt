@@ -1,0 +1,27 @@
+use Rattle.std.proofs.Common.{◌≡◌, ◌+◌, ◌*◌, ◌≤◌, ◌++◌, [], List, length}
+use Rattle.std.specs.List.{flat_map}
+use Rattle.bar_window.specs.declared.exchange.Exchange.{Exchange}
+use Rattle.bar_ledger.specs.Memory.{opens_in}
+use Rattle.bar_ledger.specs.Order.{above}
+use Rattle.bar_rules.specs.Peer.Knowledge.{known}
+use Rattle.bar_rules.specs.Peer.Log.{Log}
+use Rattle.bar_rules.specs.Peer.Run.{perform_all}
+use Rattle.bar_rules.specs.Runs.{begun}
+use Rattle.bar_peer.specs.Memory.{member_of, Tells}
+use Rattle.bar_peer.specs.Sending.{Stands}
+use Rattle.bar_peer.specs.Ticking.{orders_of_open, most_orders}
+use Rattle.bar_peer.proofs.ticks.repeat_all.Given as goal
+
+-- the orders of the exchanges so far stand, and the others are left
+abbrev pub invariant-loop : goal.invariant-loop
+invariant-loop l = record {
+  done : List Exchange;
+  split : done ++ above l.after (opens_in l.memory.ledger) ≡ opens_in l.memory.ledger;
+  count : length done ≡ l.counter;
+  few : length l.orders.says.items ≤ length l.initial.orders.says.items + 2 * l.counter;
+  room : l.orders.room ≡ l.initial.orders.room;
+  given : l.orders.given ≡ l.initial.orders.given;
+  stands : (log : Log) → Tells log l.memory → l.initial.orders.says.items ≡ [] → most_orders l.memory.who.session ≤ l.initial.orders.room
+      → Stands (perform_all (member_of l.memory.who) (begun log)
+      (flat_map (orders_of_open (member_of l.memory.who) (known (member_of l.memory.who) log)) done)) l.memory l.orders;
+}

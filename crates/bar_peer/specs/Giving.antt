@@ -1,0 +1,42 @@
+-- What is given out for an order.
+use Rattle.std.specs.Prelude.{◌≡◌, ℕ, ◌<◌, ◌≤◌, ◌^◌, List, [], Option, Some, None, length, take, IfSome}
+use Rattle.std.specs.Bool.{MatchBool}
+use Rattle.bar_lms.specs.Params.{levels}
+use Rattle.bar_wire.specs.Datagram.{Datagram, kind_of, part_of, place_of}
+use Rattle.bar_wire.specs.Grammar.{IsRound}
+use Rattle.bar_wire.specs.Kinds.{is_signed_kind}
+use Rattle.bar_wire.specs.Limits.{seats_a_round}
+use Rattle.bar_rules.specs.Member.{Session, Member}
+use Rattle.bar_rules.specs.Values.{datagram_bytes}
+use Rattle.bar_rules.specs.Peer.Agreement.{IsRecent}
+use Rattle.bar_rules.specs.Peer.Exchanges.{role_of}
+use Rattle.bar_rules.specs.Peer.Knowledge.{Knowledge}
+use Rattle.bar_rules.specs.Peer.Machine.{message_to}
+use Rattle.bar_rules.specs.Peer.Signing.{leaf_for, signed}
+use Rattle.bar_rules.specs.Peer.Writing.{body_now}
+use Rattle.bar_exchange.specs.declared.say.Say.{Say}
+use Rattle.bar_exchange.specs.Writing.{CanWrite}
+
+-- A datagram of an order is signed by what is known now: it is of the order's kind, exchange and side, of a round of the session, and its
+-- leaf is one of the key's.
+pub record IsSignedFor (me : Member) (k : Knowledge) (say : Say) (d : Datagram) : Type 0 where
+  pub kind : kind_of d.message.body ≡ say.kind
+  pub part : part_of d.message.body ≡ Some (say.x.round, say.x.kind, role_of me say.x)
+  pub place : place_of d.message ≡ Some (record { exchange = say.x; role = role_of me say.x })
+  pub round : IsRound me.session.shape say.x.round
+  pub seat : IfSome (k.seat say.x) (λ seat. seat < seats_a_round)
+  pub below : leaf_for k d.message < 2 ^ levels me.session.params.height
+  pub signature : d ≡ signed me k d.message
+
+-- The datagram of an order says what would be written now, which can be written, and it is signed where its kind is.
+pub record IsDue (me : Member) (k : Knowledge) (say : Say) (d : Datagram) : Type 0 where
+  pub body : body_now me k say.kind say.x ≡ Some d.message.body
+  pub message : d.message ≡ message_to me say.x d.message.body
+  pub recent : IsRecent me k say.x.round
+  pub can : CanWrite me k say.kind say.x
+  pub signature : MatchBool (is_signed_kind say.kind) (IsSignedFor me k say d) (d.signature ≡ [])
+
+-- a datagram stands at the front of a buffer, as so many bytes
+abbrev pub IsGiven : Session → Datagram → Option ℕ → List ℕ → Type 0
+IsGiven s d None buf = ⊥
+IsGiven s d (Some n) buf = (take n buf ≡ datagram_bytes s d) × (n ≤ length buf)

@@ -1,0 +1,15 @@
+pub mod Members
+pub mod Evictions
+pub mod Orders
+pub mod Memory
+pub mod Sending
+pub mod Schemes
+pub mod Repeats
+pub mod Ticking
+pub mod Giving
+pub mod StandsFor
+pub mod Opening
+pub mod Steps
+pub mod Hearing
+pub mod Playing
+pub mod Telling

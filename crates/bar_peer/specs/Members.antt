@@ -1,0 +1,7 @@
+-- The peer of a session that secrets are of.
+use Rattle.bar_roster.specs.SessionText.{SessionData}
+use Rattle.bar_seeds.specs.declared.secrets.Secrets.{Secrets}
+use Rattle.bar_rules.specs.Member.{Member}
+
+abbrev pub member_by : SessionData → Secrets → Member
+member_by session secrets = record { session = session; party = secrets.party; secret = secrets.secret }

@@ -1,0 +1,46 @@
+-- What a peer's memory holds of what the peer knows.
+use Rattle.std.specs.Prelude.{◌≡◌, ℕ, option_map}
+use Rattle.bar_store.specs.Holds.{Holds}
+use Rattle.bar_store.specs.Manifests.{manifest_in}
+use Rattle.bar_ledger.specs.Recalls.{Recalls}
+use Rattle.bar_rules.specs.Member.{Member}
+use Rattle.bar_rules.specs.Values.{datagram_bytes}
+use Rattle.bar_rules.specs.Peer.Knowledge.{Knowledge, known}
+use Rattle.bar_rules.specs.Peer.Log.{Log}
+use Rattle.bar_peer.specs.declared.credentials.Credentials.{Credentials}
+use Rattle.bar_peer.specs.declared.memory.Memory.{Memory}
+use Rattle.bar_peer.specs.Evictions.{was_heard, is_named}
+use Rattle.bar_peer.specs.Members.{member_by}
+
+-- the peer
+abbrev pub member_of : Credentials → Member
+member_of who = member_by who.session who.secrets
+
+-- The memory holds what is known. Evidence isn't kept.
+pub record IsMemoryOf (me : Member) (k : Knowledge) (m : Memory) : Type 0 where
+  pub time : k.ticks ≡ m.ticks
+  pub store : Holds me k m.store
+  pub ledger : Recalls me k m.ledger
+  pub manifests : (round : ℕ) → option_map (datagram_bytes me.session) (k.manifest round) ≡ manifest_in m.manifests round
+  pub evictions : (round : ℕ) → k.has_evict round ≡ was_heard m.evictions round
+  pub announced : (party : ℕ) → k.is_announced party ≡ is_named m.evictions party
+
+-- the memory holds what the log tells
+abbrev pub Tells : Log → Memory → Type 0
+Tells log m = IsMemoryOf (member_of m.who) (known (member_of m.who) log) m
+
+-- Nothing but the ledger is changed.
+pub record HasOtherLedger (old new : Memory) : Type 0 where
+  pub who : new.who ≡ old.who
+  pub ticks : new.ticks ≡ old.ticks
+  pub store : new.store ≡ old.store
+  pub manifests : new.manifests ≡ old.manifests
+  pub evictions : new.evictions ≡ old.evictions
+
+-- Nothing but the store is changed.
+pub record HasOtherStore (old new : Memory) : Type 0 where
+  pub who : new.who ≡ old.who
+  pub ticks : new.ticks ≡ old.ticks
+  pub ledger : new.ledger ≡ old.ledger
+  pub manifests : new.manifests ≡ old.manifests
+  pub evictions : new.evictions ≡ old.evictions

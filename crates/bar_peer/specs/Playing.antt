@@ -1,0 +1,20 @@
+-- What is played, by what a store holds.
+use Rattle.std.specs.Prelude.{◌≡◌, ℕ, List, [], ◌∷◌, Option, Some, None}
+use Rattle.std.specs.List.{flat_map, range_with_len}
+use Rattle.std.specs.Option.{option_to_list}
+use Rattle.bar_rules.specs.Peer.Ticks.{content_of}
+use Rattle.bar_store.specs.declared.store.Store.{Store}
+use Rattle.bar_store.specs.Held.{block_in}
+
+-- the content of an update that is held
+abbrev pub content_in : Store → ℕ → ℕ → List (List ℕ)
+content_in s round index = flat_map content_of (option_to_list (block_in s (record { round = round; index = index })))
+
+-- the contents of so many updates of a round, in order
+abbrev pub contents_in : Store → ℕ → ℕ → List (List ℕ)
+contents_in s round per_round = flat_map (content_in s round) (range_with_len 0 per_round)
+
+-- the first of what is left is given out, and the rest is left; and nothing is given out where nothing is left
+abbrev pub PlaysFirst : Option (List ℕ) → List (List ℕ) → List (List ℕ) → Type 0
+PlaysFirst None old new = (old ≡ []) × (new ≡ [])
+PlaysFirst (Some content) old new = old ≡ content ∷ new

@@ -1,0 +1,43 @@
+-- What a peer stands for: a list of inputs, of which its memory holds what its log tells, and what is still to be given out.
+use Rattle.std.specs.Prelude.{◌≡◌, ℕ, ◌-◌, List, [], ◌∷◌, Option, Some, None}
+use Rattle.std.specs.List.{flat_map, range_with_len}
+use Rattle.bar_wire.specs.Datagram.{Datagram}
+use Rattle.bar_wire.specs.Inputs.{Input}
+use Rattle.bar_rules.specs.Member.{Session}
+use Rattle.bar_rules.specs.Peer.Knowledge.{known}
+use Rattle.bar_rules.specs.Peer.Run.{log_after}
+use Rattle.bar_rules.specs.Peer.Ticks.{content_of}
+use Rattle.std.specs.Option.{option_to_list}
+use Rattle.bar_store.specs.declared.store.Store.{Store}
+use Rattle.bar_store.specs.Held.{block_in}
+use Rattle.bar_peer.specs.declared.memory.Memory.{Memory}
+use Rattle.bar_peer.specs.declared.orders.Orders.{Orders}
+use Rattle.bar_peer.specs.declared.playing.Playing.{Playing}
+use Rattle.bar_peer.specs.Memory.{Tells, member_of}
+use Rattle.bar_peer.specs.Orders.{left_in}
+use Rattle.bar_peer.specs.Giving.{IsGiven}
+use Rattle.bar_peer.specs.Sending.{AreFor}
+
+abbrev pub Inputs : Type 0
+Inputs = List Input
+
+-- the memory is that of a peer which took these inputs
+abbrev pub StandsFor : Memory → List Input → Type 0
+StandsFor m inputs = Tells (log_after (member_of m.who) [] inputs) m
+
+-- these are the datagrams that are still to be given out, each with its receiver
+abbrev pub AreLeft : Memory → Orders → List Input → List (ℕ × Datagram) → Type 0
+AreLeft m o inputs sends = AreFor (member_of m.who) (known (member_of m.who) (log_after (member_of m.who) [] inputs)) (left_in o) sends
+
+-- the contents that are still to be given out
+abbrev pub contents_left : Store → Playing → List (List ℕ)
+contents_left s p =
+    flat_map (λ index. flat_map content_of (option_to_list (block_in s (record { round = p.round; index = index }))))
+    (range_with_len p.next (p.end - p.next))
+
+-- The first of what is to be sent is given out, as its receiver and so many bytes of a buffer, and the others are left; and nothing is
+-- given out where nothing is left.
+abbrev pub GivesNext : Session → List (ℕ × Datagram) → Option (ℕ × ℕ) → List ℕ → (List (ℕ × Datagram) → Type 0) → Type 0
+GivesNext s sends None buf Left = (sends ≡ []) × Left []
+GivesNext s sends (Some given) buf Left =
+    (d : Datagram) × (rest : List (ℕ × Datagram)) × (sends ≡ (given.0, d) ∷ rest) × IsGiven s d (Some given.1) buf × Left rest

@@ -1,0 +1,60 @@
+-- The orders at a tick, by line.
+use Rattle.std.specs.Prelude.{◌≡◌, ◌≤◌, ℕ, ◌+◌, ◌*◌, Bool, not, ◌&&◌, ◌==◌, nat_le, List, [], length}
+use Rattle.std.specs.List.{flat_map}
+use Rattle.bar_window.specs.declared.exchange.Exchange.{Exchange}
+use Rattle.bar_window.specs.declared.exchange.XKind.{XKind}
+use Rattle.bar_wire.specs.Limits.{exchanges_a_round}
+use Rattle.bar_rules.specs.Member.{Session, Member, round_after, slot_after}
+use Rattle.bar_rules.specs.Peer.Exchanges.{partner_in}
+use Rattle.bar_rules.specs.Peer.Knowledge.{Knowledge, known}
+use Rattle.bar_rules.specs.Peer.Log.{Log}
+use Rattle.bar_rules.specs.Peer.Orders.{Order}
+use Rattle.bar_rules.specs.Peer.Replies.{orders_when}
+use Rattle.bar_rules.specs.Peer.Rules.{IsObedient}
+use Rattle.bar_rules.specs.Peer.Run.{Out, perform_all}
+use Rattle.bar_rules.specs.Peer.Ticks.{again, asking_partner, new_requests, orders_at_tick}
+use Rattle.bar_rules.specs.Runs.{begun}
+use Rattle.bar_peer.specs.declared.credentials.Credentials.{Credentials}
+use Rattle.bar_peer.specs.declared.memory.Memory.{Memory}
+use Rattle.bar_peer.specs.declared.orders.Orders.{Orders}
+use Rattle.bar_peer.specs.Memory.{member_of, Tells}
+use Rattle.bar_peer.specs.Sending.{Stands, without_reports}
+
+-- what is sent again for an open exchange whose partner isn't announced evicted
+abbrev pub orders_of_open : Member → Knowledge → Exchange → List Order
+orders_of_open me k x = orders_when (not (k.is_announced (partner_in me x))) (again me k x)
+
+-- for each open exchange
+abbrev pub orders_of_opens : Member → Knowledge → List Order
+orders_of_opens me k = flat_map (orders_of_open me k) k.opens
+
+-- at most two for each open exchange, and two for the requests of a round
+abbrev pub most_orders : Session → ℕ
+most_orders s = 2 * (exchanges_a_round * (s.shape.life + 2)) + 2
+
+-- whether it is the first slot of a round of the session
+abbrev pub is_first_slot : Session → ℕ → Bool
+is_first_slot s ticks = (slot_after ticks == 0) && (nat_le 1 (round_after ticks) && nat_le (round_after ticks) s.shape.rounds)
+
+-- The partner of a round is asked for an exchange of a kind, by who was announced evicted before, and what stood stands.
+abbrev pub AsksPartner : Credentials → ℕ → XKind → Memory → Orders → Memory → Orders → Type 0
+AsksPartner who round kind m o n p =
+    let me : Member = member_of who in
+    (out : Out) (before : Knowledge) → ((party : ℕ) → before.is_announced party ≡ (known me out.state).is_announced party)
+    → IsObedient me (perform_all me out (asking_partner me before round kind)).state → Stands out m o
+    → length o.says.items + 1 ≤ o.room → Stands (perform_all me out (asking_partner me before round kind)) n p
+
+-- so are the partners of a round
+abbrev pub AsksPartners : Credentials → ℕ → Memory → Orders → Memory → Orders → Type 0
+AsksPartners who round m o n p =
+    let me : Member = member_of who in
+    (out : Out) → IsObedient me (perform_all me out (new_requests me (known me out.state) round)).state → Stands out m o
+    → length o.says.items + 2 ≤ o.room → Stands (perform_all me out (new_requests me (known me out.state) round)) n p
+
+-- what a tick sends stands, all but the reports of evidence
+abbrev pub Acts : Memory → Orders → Memory → Orders → Type 0
+Acts m o n p =
+    let me : Member = member_of m.who in
+    (log : Log) → let out : Out = perform_all me (begun log) (orders_at_tick me (known me log)) in
+    IsObedient me out.state → Tells log m → o.says.items ≡ [] → most_orders m.who.session ≤ o.room
+    → Stands (record out { sends = without_reports out.sends }) n p

@@ -1,0 +1,54 @@
+//! What a peer asks for at the first slot of a round.
+ghost use Rattle.std.specs.Prelude.{◌≡◌, ◌+◌, ◌≤◌, length};
+ghost use Rattle.bar_rules.specs.Member.{round_after};
+ghost use Rattle.bar_peer.specs.Ticking.{AsksPartner, AsksPartners};
+
+use crate::memory::Memory;
+use crate::orders::Orders;
+use crate::saying::request;
+use bar_exchange::exchange_by;
+use bar_seeds::partner;
+use bar_window::{Role, XKind};
+
+/// Asks the partner of this round, one of the session, for an exchange of a kind, where the partner isn't announced evicted.
+fn ask_partner(memory: &mut Memory, orders: &mut Orders, kind: XKind)
+    requires first { 1 ≤ round_after memory.old.ticks }
+    requires last { round_after memory.old.ticks ≤ memory.old.who.session.shape.rounds }
+    ensures stands { AsksPartner memory.old.who (round_after memory.old.ticks) kind memory.old orders.old memory.new orders.new }
+    ensures length { length orders.new.says.items ≤ length orders.old.says.items + 1 }
+    ensures room { orders.new.room ≡ orders.old.room }
+    ensures given { orders.new.given ≡ orders.old.given }
+    ensures who { memory.new.who ≡ memory.old.who }
+    ensures ticks { memory.new.ticks ≡ memory.old.ticks }
+{
+    let shape = memory.who.session.shape();
+    let me = memory.who.secrets.party;
+    let round = memory.round();
+    let seed = memory.who.chain.seed(round);
+    let to = partner(&shape.id, &seed, kind, me, shape.peers);
+    if memory.evictions.is_named(to) {
+        return;
+    }
+    let x = exchange_by(round, kind, Role::Initiator, me, to);
+    if memory.ask(x) {
+        orders.push(request(x));
+    }
+}
+
+/// Asks the partners of this round, one of the session, for a balanced exchange, and for a push where there are young updates to offer.
+pub fn ask_partners(memory: &mut Memory, orders: &mut Orders)
+    requires first { 1 ≤ round_after memory.old.ticks }
+    requires last { round_after memory.old.ticks ≤ memory.old.who.session.shape.rounds }
+    ensures stands { AsksPartners memory.old.who (round_after memory.old.ticks) memory.old orders.old memory.new orders.new }
+    ensures room { orders.new.room ≡ orders.old.room }
+    ensures given { orders.new.given ≡ orders.old.given }
+    ensures who { memory.new.who ≡ memory.old.who }
+    ensures ticks { memory.new.ticks ≡ memory.old.ticks }
+{
+    let round = memory.round();
+    let young = memory.store.young(round).first(memory.who.session.cap());
+    ask_partner(memory, orders, XKind::Balanced);
+    if young.size() > 0 {
+        ask_partner(memory, orders, XKind::Push);
+    }
+}

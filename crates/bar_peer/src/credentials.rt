@@ -1,0 +1,17 @@
+ghost use Rattle.std.specs.Prelude.{◌≡◌};
+ghost use Rattle.bar_rules.specs.Member.{IsMember};
+ghost use Rattle.bar_peer.specs.Members.{member_by};
+
+use bar_roster::Session;
+use bar_seeds::{Secrets, SeedChain};
+
+/// A peer of a session: the session, and the peer's secrets and seeds, from which the session's key and anchor of this peer come.
+#[derive(Drop)]
+pub struct Credentials {
+    pub session: Session,
+    pub secrets: Secrets,
+    pub chain: SeedChain,
+    ghost same_session: { secrets.id ≡ session.shape.id },
+    ghost same_secrets: { chain ≡ record { secrets = secrets; rounds = session.shape.rounds } },
+    ghost is_member: { IsMember (member_by session secrets) },
+}

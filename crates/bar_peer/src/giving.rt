@@ -1,0 +1,136 @@
+//! What a peer gives out.
+ghost use Rattle.std.specs.Prelude.{◌≡◌, ◌<◌, ◌≤◌, ℕ, List, [], Some, MatchOption, length, take, unwrap_or};
+ghost use Rattle.bar_wire.specs.Datagram.{Datagram};
+ghost use Rattle.bar_wire.specs.Limits.{largest_datagram};
+ghost use Rattle.bar_ledger.specs.Lookups.{seat_of};
+ghost use Rattle.bar_rules.specs.Values.{message_bytes};
+ghost use Rattle.bar_rules.specs.Peer.Agreement.{IsRecent};
+ghost use Rattle.bar_rules.specs.Peer.Knowledge.{Knowledge};
+ghost use Rattle.bar_rules.specs.Peer.Signing.{leaf_for};
+ghost use Rattle.bar_rules.specs.Peer.Writing.{body_now};
+ghost use Rattle.bar_exchange.specs.Writing.{CanWrite, IsWritten, LeavesRest, largest_message};
+ghost use Rattle.bar_peer.specs.Giving.{IsDue, IsGiven, IsSignedFor};
+ghost use Rattle.bar_peer.specs.Memory.{member_of, IsMemoryOf};
+ghost use Rattle.bar_peer.specs.Orders.{left_in};
+ghost use Rattle.bar_peer.specs.StandsFor.{Inputs, StandsFor, AreLeft, GivesNext};
+
+use crate::memory::Memory;
+use crate::peer::Peer;
+use bar_exchange::{Say, Sources, side};
+use bar_laws::leaves::leaf_discipline;
+use bar_laws::memories::logs_are_sound;
+use bar_laws::obedience::signed_by_rule;
+use bar_laws::rewriting::what_was_said_is_written_again;
+use bar_ledger::Ledger;
+use bar_seal::{Scheme, leaf_for};
+use bar_window::{Exchange, Role, XKind};
+use bar_wire::SEATS_A_ROUND;
+
+/// The responder's seat in an exchange, and 0 where it has none.
+fn seat_of(ledger: &Ledger, x: Exchange) -> u8
+    ensures { result ≡ unwrap_or (seat_of ledger.now x) 0 }
+{
+    match ledger.find(x) {
+        Some(entry) => match entry.role {
+            Role::Initiator => 0,
+            Role::Responder => entry.seat,
+        },
+        None => 0,
+    }
+}
+
+impl Memory {
+    /// Writes the message of an order, all before its signature, to the front of a buffer, and answers its length.
+    fn write(&self, say: Say, buf: &mut [u8]) -> Option<usize>
+        requires room { largest_datagram ≤ length buf.old }
+        ensures written { (k : Knowledge) → IsMemoryOf (member_of self.now.who) k self.now
+            → IsRecent (member_of self.now.who) k say.x.round → CanWrite (member_of self.now.who) k say.kind say.x
+            → IsWritten (member_of self.now.who) say.x (body_now (member_of self.now.who) k say.kind say.x) result buf.new }
+        ensures front { LeavesRest buf.old result buf.new }
+    {
+        let sources = Sources {
+            session: &self.who.session,
+            secrets: &self.who.secrets,
+            chain: &self.who.chain,
+            ledger: &self.ledger,
+            store: &self.store,
+        };
+        match say.x.kind {
+            XKind::Balanced => bar_balanced::write(&sources, say.kind, say.x, buf),
+            XKind::Push => bar_push::write(&sources, say.kind, say.x, buf),
+        }
+    }
+
+    /// The leaf that signs the message of an order, or `None` where its round isn't one of the session or its seat isn't one of a round.
+    fn leaf(&self, say: Say) -> Option<u32>
+        ensures { (k : Knowledge) (d : Datagram) → IsMemoryOf (member_of self.now.who) k self.now
+            → IsRecent (member_of self.now.who) k say.x.round → IsSignedFor (member_of self.now.who) k say d
+            → result ≡ Some (leaf_for k d.message) }
+    {
+        let x = say.x;
+        let shape = self.who.session.shape();
+        if x.round == 0 || x.round > shape.rounds {
+            return None;
+        }
+        let seat = seat_of(&self.ledger, x);
+        if u32::from(seat) >= SEATS_A_ROUND {
+            return None;
+        }
+        Some(leaf_for(say.kind, x, side(&self.ledger, x), seat))
+    }
+}
+
+impl<S: Scheme> Peer<S> {
+    /// Signs the message of an order behind it, where its kind is signed, and answers the length of both.
+    fn sign(&self, say: Say, len: usize, buf: &mut [u8]) -> Option<usize>
+        requires room { largest_datagram ≤ length buf.old }
+        requires short { len ≤ largest_message }
+        ensures { (k : Knowledge) (d : Datagram) → IsMemoryOf (member_of self.now.memory.who) k self.now.memory
+            → IsDue (member_of self.now.memory.who) k say d
+            → take len buf.old ≡ message_bytes self.now.memory.who.session d.message
+            → IsGiven self.now.memory.who.session d result buf.new }
+    {
+        if !say.kind.is_signed() {
+            return Some(len);
+        }
+        let leaf = self.memory.leaf(say)?;
+        if leaf >= self.scheme.leaves() {
+            return None;
+        }
+        let (message, rest) = buf.split_at_mut(len);
+        Some(len + self.scheme.sign(leaf, message, rest))
+    }
+
+    /// Writes the datagram of an order to the front of a buffer, and answers its length.
+    fn give(&self, say: Say, buf: &mut [u8]) -> Option<usize>
+        requires room { largest_datagram ≤ length buf.old }
+        ensures { (k : Knowledge) (d : Datagram) → IsMemoryOf (member_of self.now.memory.who) k self.now.memory
+            → IsDue (member_of self.now.memory.who) k say d → IsGiven self.now.memory.who.session d result buf.new }
+    {
+        let len = self.memory.write(say, buf)?;
+        self.sign(say, len, buf)
+    }
+
+    /// Writes the next datagram to the front of a buffer, and answers its receiver and its length, or `None` where none is left.
+    pub fn next_out(&mut self, buf: &mut [u8]) -> Option<(u16, usize)>
+        requires room { largest_datagram ≤ length buf.old }
+        ensures gives { (inputs : Inputs) (sends : List (ℕ × Datagram)) → StandsFor self.old.memory inputs
+            → AreLeft self.old.memory self.old.orders inputs sends
+            → GivesNext self.old.memory.who.session sends result buf.new (AreLeft self.new.memory self.new.orders inputs) }
+        ensures ends { MatchOption result (left_in self.new.orders ≡ [])
+            (λ given. length (left_in self.new.orders) < length (left_in self.old.orders)) }
+        ensures memory { self.new.memory ≡ self.old.memory }
+        ensures playing { self.new.playing ≡ self.old.playing }
+    {
+        leaf_discipline();
+        logs_are_sound();
+        signed_by_rule();
+        what_was_said_is_written_again();
+        let say = self.orders.next()?;
+        let Some(len) = self.give(say, buf) else {
+            self.orders.clear();
+            return None;
+        };
+        Some((self.memory.partner_in(say.x), len))
+    }
+}

@@ -1,0 +1,26 @@
+//! A peer: what it knows, what it sends for each input, and what it plays.
+#![tactic(auto)]
+
+mod admission;
+mod answering;
+mod asking;
+mod credentials;
+mod evictions;
+mod giving;
+mod hearing;
+mod memory;
+mod opening;
+mod orders;
+mod peer;
+mod playing;
+mod repeats;
+mod replying;
+mod saying;
+mod starting;
+mod steps;
+mod taking;
+mod ticks;
+mod told;
+
+pub use credentials::Credentials;
+pub use peer::Peer;

@@ -1,0 +1,55 @@
+ghost use Rattle.std.specs.Prelude.{◌≡◌, ◌+◌, ◌≤◌, length};
+ghost use Rattle.bar_wire.specs.declared.kind.Kind.TheVariants.{Manifest};
+ghost use Rattle.bar_rules.specs.Member.{round_after, last_tick};
+ghost use Rattle.bar_rules.specs.Peer.Sizes.{largest};
+
+use crate::credentials::Credentials;
+use crate::evictions::Evictions;
+use bar_ledger::Ledger;
+use bar_store::{Manifests, Store};
+use bar_window::Exchange;
+
+/// What a peer knows: of the stream, of its exchanges and of evictions. All memory is taken when it is made.
+#[derive(Drop)]
+pub struct Memory {
+    pub who: Credentials,
+    /// How many ticks were taken.
+    pub ticks: u32,
+    pub store: Store,
+    pub manifests: Manifests,
+    pub ledger: Ledger,
+    pub evictions: Evictions,
+    ghost in_time: { ticks ≤ last_tick who.session },
+    ghost table_rounds: { store.table.rounds ≡ who.session.shape.rounds },
+    ghost table_lists: { store.table.per_round ≡ who.session.shape.per_round },
+    ghost store_round: { store.round ≡ round_after ticks },
+    ghost ledger_round: { ledger.round ≡ round_after ticks },
+    ghost manifest_rooms: { length manifests.rooms.items ≡ who.session.shape.rounds + 1 },
+    ghost manifest_size: { manifests.size ≡ largest who.session.shape Manifest },
+    ghost eviction_rounds: { length evictions.rounds.items ≡ who.session.shape.rounds + 1 },
+    ghost eviction_parties: { length evictions.parties.items ≡ who.session.shape.peers + 1 },
+}
+
+impl Memory {
+    ghost use Rattle.std.specs.Prelude.{◌≡◌};
+    ghost use Rattle.bar_rules.specs.Peer.Exchanges.{partner_in};
+    ghost use Rattle.bar_peer.specs.Memory.{member_of};
+
+    /// This round.
+    pub fn round(&self) -> u32
+        ensures { result ≡ round_after self.now.ticks }
+    {
+        (self.ticks + 7) / 8
+    }
+
+    /// This peer's partner in an exchange.
+    pub fn partner_in(&self, x: Exchange) -> u16
+        ensures { result ≡ partner_in (member_of self.now.who) x }
+    {
+        if x.initiator == self.who.secrets.party {
+            x.responder
+        } else {
+            x.initiator
+        }
+    }
+}

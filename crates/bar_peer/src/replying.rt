@@ -1,0 +1,54 @@
+//! What a peer answers to a datagram.
+ghost use Rattle.std.specs.Prelude.{◌≡◌, ◌+◌, ◌≤◌, length};
+ghost use Rattle.std.specs.List.{AllByRecursion};
+ghost use Rattle.bar_rules.specs.Peer.Knowledge.{known};
+ghost use Rattle.bar_rules.specs.Peer.Rules.{IsObedient};
+ghost use Rattle.bar_rules.specs.Peer.Run.{Out, perform, perform_all};
+ghost use Rattle.bar_exchange.specs.Says.{order_by, orders_of_reply, says_in};
+ghost use Rattle.bar_peer.specs.Memory.{member_of};
+ghost use Rattle.bar_peer.specs.Sending.{IsOwn, Stands};
+
+use crate::memory::Memory;
+use crate::orders::Orders;
+use bar_exchange::{Say, Says};
+
+/// Carries out a reply.
+fn reply_once(memory: &mut Memory, orders: &mut Orders, say: Say)
+    ensures stands { (out : Out)
+        → IsObedient (member_of memory.old.who) (perform (member_of memory.old.who) out (order_by say.kind say.x)).state
+        → Stands out memory.old orders.old → IsOwn (member_of memory.old.who) (known (member_of memory.old.who) out.state) say
+        → length orders.old.says.items + 1 ≤ orders.old.room
+        → Stands (perform (member_of memory.old.who) out (order_by say.kind say.x)) memory.new orders.new }
+    ensures length { length orders.new.says.items ≤ length orders.old.says.items + 1 }
+    ensures room { orders.new.room ≡ orders.old.room }
+    ensures given { orders.new.given ≡ orders.old.given }
+    ensures who { memory.new.who ≡ memory.old.who }
+    ensures ticks { memory.new.ticks ≡ memory.old.ticks }
+{
+    if memory.say(say) {
+        orders.push(say);
+    }
+}
+
+/// Carries out replies, in order.
+pub fn reply(memory: &mut Memory, orders: &mut Orders, says: Says)
+    ensures stands { (out : Out)
+        → IsObedient (member_of memory.old.who) (perform_all (member_of memory.old.who) out (orders_of_reply says)).state
+        → Stands out memory.old orders.old
+        → AllByRecursion (IsOwn (member_of memory.old.who) (known (member_of memory.old.who) out.state)) (says_in says)
+        → length orders.old.says.items + 2 ≤ orders.old.room
+        → Stands (perform_all (member_of memory.old.who) out (orders_of_reply says)) memory.new orders.new }
+    ensures room { orders.new.room ≡ orders.old.room }
+    ensures given { orders.new.given ≡ orders.old.given }
+    ensures who { memory.new.who ≡ memory.old.who }
+    ensures ticks { memory.new.ticks ≡ memory.old.ticks }
+{
+    match says {
+        Says::Nothing => {}
+        Says::One(say) => reply_once(memory, orders, say),
+        Says::Two(first, second) => {
+            reply_once(memory, orders, first);
+            reply_once(memory, orders, second);
+        }
+    }
+}

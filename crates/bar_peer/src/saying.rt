@@ -1,0 +1,114 @@
+//! What a peer says.
+ghost use Rattle.std.specs.Prelude.{◌≡◌, is_some};
+ghost use Rattle.bar_window.specs.declared.exchange.Role.TheVariants.{Initiator};
+ghost use Rattle.bar_rules.specs.Peer.Agreement.{IsRecent};
+ghost use Rattle.bar_rules.specs.Peer.Exchanges.{role_of, request_kind};
+ghost use Rattle.bar_rules.specs.Peer.Knowledge.{Knowledge, known, this_round};
+ghost use Rattle.bar_rules.specs.Peer.Orders.{Ask};
+ghost use Rattle.bar_rules.specs.Peer.Rules.{IsObedient};
+ghost use Rattle.bar_rules.specs.Peer.Run.{Out, perform};
+ghost use Rattle.bar_exchange.specs.Says.{order_by};
+ghost use Rattle.bar_peer.specs.Memory.{member_of, IsMemoryOf, Tells};
+ghost use Rattle.bar_peer.specs.Sending.{send_now, IsOwn, IsCarriedOut};
+
+use crate::memory::Memory;
+use bar_exchange::{Say, has_said, knows_commit, knows_offer, say_case, say_key, side};
+use bar_laws::knowing::knowledge_is_enough;
+use bar_laws::memories::logs_are_sound;
+use bar_laws::rooms::exchanges_are_few;
+use bar_window::{Exchange, XKind};
+use bar_wire::Kind;
+
+/// What asks for an exchange.
+pub fn request(x: Exchange) -> Say
+    ensures { result ≡ record { kind = request_kind x.kind; x = x } }
+{
+    let kind = match x.kind {
+        XKind::Balanced => Kind::Request,
+        XKind::Push => Kind::Query,
+    };
+    Say { kind, x }
+}
+
+impl Memory {
+    /// Whether it is known what the initiator of a balanced exchange commits to.
+    fn may_reveal(&self, x: Exchange) -> bool
+        ensures { (k : Knowledge) → IsMemoryOf (member_of self.now.who) k self.now → IsRecent (member_of self.now.who) k x.round
+            → result ≡ is_some (k.revealed x) }
+    {
+        match x.kind {
+            XKind::Balanced => knows_commit(&self.ledger, x),
+            XKind::Push => false,
+        }
+    }
+
+    /// Whether there is a datagram to send again: one of this kind was said in the exchange, or is one that isn't signed.
+    pub fn may_repeat(&self, say: Say) -> bool
+        ensures { (k : Knowledge) → IsMemoryOf (member_of self.now.who) k self.now → IsRecent (member_of self.now.who) k say.x.round
+            → result ≡ is_some (send_now (member_of self.now.who) k say) }
+    {
+        match say.kind {
+            Kind::KeyReq => true,
+            Kind::Divulge => self.may_reveal(say.x),
+            kind => has_said(&self.ledger, say.x, kind, side(&self.ledger, say.x)),
+        }
+    }
+
+    /// Says a reply, for the first time or again, and answers whether there is one to send.
+    pub fn say(&mut self, say: Say) -> bool
+        ensures carried_out { (out : Out)
+            → IsObedient (member_of self.old.who) (perform (member_of self.old.who) out (order_by say.kind say.x)).state
+            → Tells out.state self.old → IsOwn (member_of self.old.who) (known (member_of self.old.who) out.state) say
+            → IsCarriedOut (member_of self.old.who) say out
+            (perform (member_of self.old.who) out (order_by say.kind say.x)) result self.new }
+        ensures who { self.new.who ≡ self.old.who }
+        ensures ticks { self.new.ticks ≡ self.old.ticks }
+    {
+        if self.may_repeat(say) {
+            return true;
+        }
+        knowledge_is_enough();
+        match say.kind {
+            Kind::Response => {
+                bar_balanced::say_response(&mut self.ledger, &self.store, say.x);
+                true
+            }
+            Kind::Reply => {
+                if !knows_offer(&self.ledger, say.x) {
+                    return false;
+                }
+                bar_push::say_reply(&mut self.ledger, &self.store, say.x)
+            }
+            Kind::Case => say_case(&mut self.ledger, say.x),
+            Kind::Key => say_key(&mut self.ledger, say.x),
+            _ => false,
+        }
+    }
+
+    /// Asks a partner for an exchange of this round.
+    pub fn ask(&mut self, x: Exchange) -> bool
+        ensures carried_out { (out : Out)
+            → IsObedient (member_of self.old.who) (perform (member_of self.old.who) out (Ask x)).state
+            → Tells out.state self.old → x.round ≡ this_round (known (member_of self.old.who) out.state)
+            → role_of (member_of self.old.who) x ≡ Initiator
+            → IsCarriedOut (member_of self.old.who) (record { kind = request_kind x.kind; x = x }) out
+            (perform (member_of self.old.who) out (Ask x)) result self.new }
+        ensures who { self.new.who ≡ self.old.who }
+        ensures ticks { self.new.ticks ≡ self.old.ticks }
+    {
+        knowledge_is_enough();
+        logs_are_sound();
+        exchanges_are_few();
+        if self.may_repeat(request(x)) {
+            return true;
+        }
+        match x.kind {
+            XKind::Balanced => {
+                let secrets = self.who.secrets;
+                bar_balanced::say_request(&mut self.ledger, &self.store, &secrets, x);
+            }
+            XKind::Push => bar_push::say_query(&mut self.ledger, &self.store, x),
+        }
+        true
+    }
+}

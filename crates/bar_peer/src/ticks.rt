@@ -1,0 +1,130 @@
+//! What a peer sends at a tick.
+ghost use Rattle.std.specs.Prelude.{◌≡◌, ◌+◌, ◌<◌, ◌≤◌, ◌∷◌, [], length};
+ghost use Rattle.bar_rules.specs.Member.{last_tick};
+ghost use Rattle.bar_rules.specs.Peer.Agreement.{IsRecent};
+ghost use Rattle.bar_rules.specs.Peer.Knowledge.{Knowledge, known};
+ghost use Rattle.bar_rules.specs.Peer.Log.{Log, Ticked};
+ghost use Rattle.bar_rules.specs.Peer.Run.{Out, perform, perform_all};
+ghost use Rattle.bar_rules.specs.Runs.{begun};
+ghost use Rattle.bar_exchange.specs.Says.{order_again, orders_at_tick};
+ghost use Rattle.bar_peer.specs.Memory.{member_of, IsMemoryOf, Tells};
+ghost use Rattle.bar_peer.specs.Ticking.{orders_of_open, orders_of_opens, most_orders, is_first_slot, Acts};
+ghost use Rattle.bar_peer.specs.Sending.{IsTimely, Stands};
+
+use crate::asking::ask_partners;
+use crate::memory::Memory;
+use crate::orders::Orders;
+use bar_exchange::{Say, Says};
+use bar_laws::knowing::knowledge_is_enough;
+use bar_laws::memories::logs_are_sound;
+use bar_window::{Exchange, XKind};
+
+impl Memory {
+    /// Takes a tick: the next slot, and at its first one the next round, for which what can't be asked about any more is given up.
+    pub fn tick(&mut self)
+        requires { self.old.ticks < last_tick self.old.who.session }
+        ensures learns { (log : Log) → Tells log self.old → Tells (Ticked ∷ log) self.new }
+        ensures ticks { self.new.ticks ≡ self.old.ticks + 1 }
+        ensures who { self.new.who ≡ self.old.who }
+    {
+        knowledge_is_enough();
+        self.ticks += 1;
+        let round = (self.ticks + 7) / 8;
+        self.store.forget(round);
+        self.ledger.forget(round);
+    }
+
+    /// Whether this is the first slot of a round of the session.
+    fn is_first_slot(&self) -> bool
+        ensures { result ≡ is_first_slot self.now.who.session self.now.ticks }
+    {
+        let round = self.round();
+        (self.ticks + 7) % 8 == 0 && 1 <= round && round <= self.who.session.shape().rounds
+    }
+
+    /// What is said again of an open exchange: nothing where its partner is announced evicted.
+    fn again(&self, x: Exchange) -> Says
+        ensures { (k : Knowledge) → IsMemoryOf (member_of self.now.who) k self.now
+            → orders_at_tick result ≡ orders_of_open (member_of self.now.who) k x }
+    {
+        if self.evictions.is_named(self.partner_in(x)) {
+            return Says::Nothing;
+        }
+        match x.kind {
+            XKind::Balanced => bar_balanced::again(&self.ledger, self.round(), x),
+            XKind::Push => bar_push::again(&self.ledger, self.round(), x),
+        }
+    }
+}
+
+/// Sends again what was said of a kind, or what isn't signed, where there is such.
+fn repeat(memory: &Memory, orders: &mut Orders, say: Say)
+    ensures stands { (out : Out) → Stands out memory.now orders.old
+        → IsTimely (member_of memory.now.who) (known (member_of memory.now.who) out.state) say
+        → length orders.old.says.items + 1 ≤ orders.old.room
+        → Stands (perform (member_of memory.now.who) out (order_again say.kind say.x)) memory.now orders.new }
+    ensures length { length orders.new.says.items ≤ length orders.old.says.items + 1 }
+    ensures room { orders.new.room ≡ orders.old.room }
+    ensures given { orders.new.given ≡ orders.old.given }
+{
+    if memory.may_repeat(say) {
+        orders.push(say);
+    }
+}
+
+/// Says again what an open exchange lacks, where its partner isn't announced evicted.
+fn repeat_once(memory: &Memory, orders: &mut Orders, x: Exchange)
+    ensures stands { (out : Out) → Stands out memory.now orders.old
+        → IsRecent (member_of memory.now.who) (known (member_of memory.now.who) out.state) x.round
+        → length orders.old.says.items + 2 ≤ orders.old.room
+        → Stands (perform_all (member_of memory.now.who) out
+        (orders_of_open (member_of memory.now.who) (known (member_of memory.now.who) out.state) x)) memory.now orders.new }
+    ensures length { length orders.new.says.items ≤ length orders.old.says.items + 2 }
+    ensures room { orders.new.room ≡ orders.old.room }
+    ensures given { orders.new.given ≡ orders.old.given }
+{
+    match memory.again(x) {
+        Says::Nothing => {}
+        Says::One(say) => repeat(memory, orders, say),
+        Says::Two(first, second) => {
+            repeat(memory, orders, first);
+            repeat(memory, orders, second);
+        }
+    }
+}
+
+/// Says again what the open exchanges lack, in order.
+fn repeat_all(memory: &Memory, orders: &mut Orders)
+    ensures stands { (log : Log) → Tells log memory.now → orders.old.says.items ≡ []
+        → most_orders memory.now.who.session ≤ orders.old.room
+        → Stands (perform_all (member_of memory.now.who) (begun log)
+        (orders_of_opens (member_of memory.now.who) (known (member_of memory.now.who) log))) memory.now orders.new }
+    ensures length { (log : Log) → Tells log memory.now → orders.old.says.items ≡ []
+        → length orders.new.says.items + 2 ≤ most_orders memory.now.who.session }
+    ensures room { orders.new.room ≡ orders.old.room }
+    ensures given { orders.new.given ≡ orders.old.given }
+{
+    let mut after = None;
+    for _ in 0..memory.ledger.len() {
+        let Some(x) = memory.ledger.next_open(after) else {
+            return;
+        };
+        repeat_once(memory, orders, x);
+        after = Some(x);
+    }
+}
+
+/// Sends what a tick asks for: again what the open exchanges lack, and at the first slot of a round of the session its requests.
+pub fn act(memory: &mut Memory, orders: &mut Orders)
+    ensures stands { Acts memory.old orders.old memory.new orders.new }
+    ensures room { orders.new.room ≡ orders.old.room }
+    ensures given { orders.new.given ≡ orders.old.given }
+    ensures who { memory.new.who ≡ memory.old.who }
+    ensures ticks { memory.new.ticks ≡ memory.old.ticks }
+{
+    logs_are_sound();
+    repeat_all(memory, orders);
+    if memory.is_first_slot() {
+        ask_partners(memory, orders);
+    }
+}

@@ -1,0 +1,110 @@
+//! What a peer tells of itself.
+ghost use Rattle.std.specs.Prelude.{◌≡◌, ◌↔◌, [], true, nat_le, IsTrue, option_copied, option_map};
+ghost use Rattle.bar_terms.specs.Windows.{AreAligned};
+ghost use Rattle.bar_ledger.specs.Totals.{AreSound};
+ghost use Rattle.bar_rules.specs.Member.{last_tick};
+ghost use Rattle.bar_rules.specs.Values.{datagram_bytes};
+ghost use Rattle.bar_rules.specs.Peer.Knowledge.{Knowledge, known};
+ghost use Rattle.bar_rules.specs.Peer.Run.{log_after};
+ghost use Rattle.bar_laws.specs.Rewriting.{IsRewritten};
+ghost use Rattle.bar_laws.specs.Soundness.{IsSound};
+ghost use Rattle.bar_peer.specs.Memory.{member_of, IsMemoryOf};
+ghost use Rattle.bar_peer.specs.StandsFor.{Inputs, StandsFor};
+ghost use Rattle.bar_peer.specs.Telling.{AreTotals};
+
+use crate::memory::Memory;
+use crate::peer::Peer;
+use bar_exchange::are_aligned;
+use bar_laws::memories::logs_are_sound;
+use bar_laws::obedience::signed_by_rule;
+use bar_laws::rewriting::what_was_said_is_written_again;
+use bar_ledger::Totals;
+use bar_seal::Scheme;
+use bar_terms::can_promise;
+use bar_window::{Exchange, Terms};
+
+/// Whether the windows of terms are of the same rounds.
+fn have_same_rounds(terms: &Terms) -> bool
+    ensures { IsTrue result ↔ AreAligned terms.now }
+{
+    match terms {
+        Terms::Balanced { ha, hb, .. } => are_aligned(ha, hb),
+        Terms::Push {
+            young,
+            aged,
+            want,
+            give,
+            ..
+        } => are_aligned(aged, young) && are_aligned(want, young) && are_aligned(give, young),
+    }
+}
+
+/// Whether each side can promise something by terms.
+fn are_sound(terms: &Terms, cap: u8) -> bool
+    ensures sound { result ≡ true → AreSound cap terms.now }
+    ensures complete { AreSound cap terms.now → result ≡ true }
+{
+    have_same_rounds(terms) && can_promise(terms, cap)
+}
+
+impl Memory {
+    /// What was promised, received and opened in an exchange, and zeros where it isn't kept.
+    fn totals(&self, x: Exchange) -> Totals
+        ensures { (k : Knowledge) → IsMemoryOf (member_of self.now.who) k self.now → IsSound (member_of self.now.who) k
+            → IsRewritten (member_of self.now.who) k → AreTotals (member_of self.now.who) k x result }
+    {
+        let none = Totals {
+            promised: 0,
+            received: 0,
+            opened: 0,
+        };
+        let ledger = &self.ledger;
+        let Some(entry) = ledger.find(x) else {
+            return none;
+        };
+        if !entry.case_said || !are_sound(&entry.terms, ledger.cap()) {
+            return none;
+        }
+        ledger.totals(x)
+    }
+}
+
+impl<S: Scheme> Peer<S> {
+    /// How many ticks were taken.
+    pub fn ticks(&self) -> u32
+        ensures { (inputs : Inputs) → StandsFor self.now.memory inputs
+            → result ≡ (known (member_of self.now.memory.who) (log_after (member_of self.now.memory.who) [] inputs)).ticks }
+    {
+        self.memory.ticks
+    }
+
+    /// Whether the last tick was taken.
+    pub fn over(&self) -> bool
+        ensures { (inputs : Inputs) → StandsFor self.now.memory inputs → result ≡ nat_le (last_tick self.now.memory.who.session)
+            (known (member_of self.now.memory.who) (log_after (member_of self.now.memory.who) [] inputs)).ticks }
+    {
+        self.memory.is_over()
+    }
+
+    /// The datagram of the manifest of a round, or `None` where none was admitted.
+    pub fn manifest(&self, round: u32) -> Option<&[u8]>
+        ensures { (inputs : Inputs) → StandsFor self.now.memory inputs → option_copied result
+            ≡ option_map (datagram_bytes self.now.memory.who.session)
+            ((known (member_of self.now.memory.who) (log_after (member_of self.now.memory.who) [] inputs)).manifest round) }
+    {
+        self.memory.manifests.get(round)
+    }
+
+    /// How many items this peer promised in an exchange, was promised, and gave a key for. Once the exchange can't be asked about any more
+    /// it tells zeros.
+    pub fn totals(&self, x: Exchange) -> Totals
+        ensures { (inputs : Inputs) → StandsFor self.now.memory inputs
+            → AreTotals (member_of self.now.memory.who)
+            (known (member_of self.now.memory.who) (log_after (member_of self.now.memory.who) [] inputs)) x result }
+    {
+        logs_are_sound();
+        signed_by_rule();
+        what_was_said_is_written_again();
+        self.memory.totals(x)
+    }
+}
