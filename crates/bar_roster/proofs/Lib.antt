@@ -4,3 +4,4 @@ pub mod ShapeLemmas
 pub mod PlainText
 pub mod KeyReadBack
 pub mod KeyLemmas
+pub mod SessionLemmas

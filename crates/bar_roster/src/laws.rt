@@ -1,7 +1,8 @@
 //! What holds of all session and key texts. These functions do nothing: what they ensure is a law.
 
 ghost use Rattle.std.specs.Prelude.{◌≡◌, ℕ, ◌↔◌, Bool, List, Ok, Some, IsTrue};
-ghost use Rattle.bar_roster.specs.SessionText.{SessionData};
+ghost use Rattle.bar_roster.specs.SessionText.{SessionData, session_of};
+ghost use Rattle.bar_roster.specs.Sessions.{IsSession};
 ghost use Rattle.bar_seeds.specs.declared.secrets.Secrets.{Secrets};
 ghost use Rattle.bar_roster.specs.KeyFile.{Fits, IsHeldBy, fits, key_file_of};
 
@@ -14,4 +15,9 @@ pub fn secrets_are_tested()
 pub fn accepted_secrets_are_held()
     ensures { (s : SessionData) (caster fresh : Bool) (bytes : List ℕ) (k : Secrets) → key_file_of s caster fresh bytes ≡ Ok k →
         IsHeldBy s caster k }
+{}
+
+/// An accepted session has its numbers in their ranges, a key for each party, an anchor for each peer, and a leaf for each message.
+pub fn accepted_sessions_are_in_range()
+    ensures { (bytes : List ℕ) (s : SessionData) → session_of bytes ≡ Ok s → IsSession s }
 {}
