@@ -1,8 +1,8 @@
 -- The entries at the front of some bytes, one after another.
-use Rattle.std.proofs.Common.{◌≡◌, ℕ, zero, suc, ◌-◌, ◌<◌, List, [], ◌∷◌, refl, arith}
+use Rattle.std.proofs.Common.{◌≡◌, ℕ, zero, suc, ◌-◌, ◌<◌, ◌≤◌, List, [], ◌∷◌, length, refl, arith}
 use Rattle.bar_wire.specs.Inputs.{Input}
-use Rattle.bar_record.specs.Recording.{NoByte, End, Entry, NoEntry, first_of}
-use Rattle.bar_record.specs.Items.{entries}
+use Rattle.bar_record.specs.Recording.{First, NoByte, End, Entry, NoEntry, first_of}
+use Rattle.bar_record.specs.Items.{entries, entries_by}
 
 -- one entry, and those behind it
 pub entries_entry : (n : ℕ) (bytes rest : List ℕ) (input : Input) → 0 < n → first_of bytes ≡ Entry input rest → entries n bytes ≡ input ∷ entries (n - 1) rest
@@ -29,5 +29,17 @@ entries_no_entry (suc n) bytes is = rw is refl
 pub entries_zero : (bytes : List ℕ) → entries 0 bytes ≡ []
 unfolding entries
 entries_zero bytes = refl
+
+-- no more than so many
+few-by : (n : ℕ) (f : First) → ((rest : List ℕ) → length (entries n rest) ≤ n) → length (entries_by (entries n) f) ≤ suc n
+few-by n NoByte few = omega arith
+few-by n (End rest) few = omega arith
+few-by n NoEntry few = omega arith
+few-by n (Entry input rest) few = let h : length (entries n rest) ≤ n = few rest in omega arith
+
+pub entries_few : (n : ℕ) (bytes : List ℕ) → length (entries n bytes) ≤ n
+unfolding entries
+entries_few zero bytes = omega arith
+entries_few (suc n) bytes = few-by n (first_of bytes) (entries_few n)
 
 pub ruleset steps = (entries_entry, entries_no_byte, entries_end, entries_no_entry, entries_zero)
