@@ -9,6 +9,7 @@ use Rattle.bar_outside.proofs.Contents.{put_at-same, appended-same}
 use Rattle.bar_outside.proofs.ActionLists.{Begun-none, Begun-cons, no-next, part-create}
 use Rattle.bar_roster.specs.KeyText.{key_text_of}
 use Rattle.bar_cli.specs.KeygenPlan.{Keygen, KeygenAccepted, KeyWritten, KeyBegun, key_made, lines_of, keygen_plan}
+use Rattle.bar_cli.proofs.BegunLemmas.{no-part_read}
 use Rattle.bar_cli.proofs.KeygenRows.{KeyCase, few_leaves, no_secret, refused_secret, accepted_secret, key_case, at-leaves, at-refused, refused-leaves, refused-secret}
 
 -- some actions changed no file and printed nothing
@@ -100,12 +101,6 @@ module _ (key text lines : List ℕ) (content : Content) where
           | inr more ↦ inr (rw more.1 (begun-text more.0 more.2))
         ]
       ]
-
-no-part_read : (part : Action) (path : List ℕ) → IsPartOf part (read path) → ⊥
-no-part_read (read p) path h = h
-no-part_read (create p) path h = h
-no-part_read (append p bytes) path h = h
-no-part_read (show bytes) path h = h
 
 -- a read changes nothing
 begun-read : (path : List ℕ) (rest done : List Action) → Begun (read path ∷ rest) done → (done ≡ []) ⊎ ((more : List Action) × (done ≡ read path ∷ more) × Begun rest more)

@@ -1,32 +1,23 @@
 -- The statuses that each command has.
-use Rattle.std.proofs.Common.{◌≡◌, ◌≢◌, ◌⊎◌, ℕ, List, [], false, None, Some, Result, Ok, Err, IfOk, IsTrue, refl, subst, inl, inr, arith}
+use Rattle.std.proofs.Common.{◌≡◌, ◌≢◌, ◌⊎◌, ℕ, List, false, None, Some, Result, Ok, Err, IfOk, IsTrue, refl, sym, ap, ◌∙◌, subst, inl, inr, arith, true≢false}
 use Rattle.bar_outside.specs.Causes.{Rose}
-use Rattle.bar_outside.specs.Disk.{Disk, Content}
+use Rattle.bar_outside.specs.Disk.{Disk}
 use Rattle.bar_outside.specs.Stream.{Stream}
-use Rattle.bar_outside.specs.Plan.{outside, Action, Plan}
+use Rattle.bar_outside.specs.Plan.{outside, Action}
 use Rattle.bar_outside.specs.Faults.{code_of_fault}
 use Rattle.bar_outside.specs.Follows.{Follows}
-use Rattle.bar_outside.specs.Ends.{EndsWith}
 use Rattle.bar_outside.specs.declared.fault.Fault.{Fault}
 use Rattle.bar_outside.specs.declared.fault.Fault.TheVariants.{File, Output, NoMemory as WantOfMemory}
-use Rattle.bar_cli.specs.Line.{Line, replay, keygen, is_status_of}
-use Rattle.bar_cli.specs.Status.{code_of_run, may_print, is_replay_end, is_keygen_end}
+use Rattle.bar_cli.specs.Line.{Line, replay, keygen, is_status_of, may_print}
+use Rattle.bar_cli.specs.Printing.{keygen_may_print}
+use Rattle.bar_cli.specs.Status.{code_of_run, is_replay_end, is_keygen_end}
 use Rattle.bar_cli.specs.declared.status.Status.{Status}
 use Rattle.bar_cli.specs.declared.status.Status.TheVariants.{Done, Usage, FileFailed, SessionRefused, KeyRefused, OutputFailed, InputRefused, SecretRefused, NoMemory}
 use Rattle.bar_cli.specs.ReplayPlan.{ReplayFiles}
 use Rattle.bar_cli.specs.KeygenPlan.{Keygen}
 
-quiet : Stream
-quiet = record { told = false; reliable = false; bytes = []; faults = 0 }
-
 empty : Disk
 empty = record { told = false; reliable = false; content = λ path. None; failed = None; faults = 0 }
-
--- a command that holds over any output doesn't end with 7
-pub never-output : (plan : Content → Plan) (old new : Disk) (status : ℕ) (line : List ℕ) →
-    ((out : Stream) → EndsWith plan (outside old out) (outside new out) status line) → status ≡ 7 → ⊥
-unfolding quiet
-never-output plan old new status line ends e = let h : Rose 0 0 = (ends quiet).ends.output_rose e in absurd (omega arith)
 
 -- an action that holds over any files doesn't fail by them
 pub never-file : {T : Type 0} (plan : List Action) (old new : Stream) (r : Result T Fault) → ((files : Disk) → Follows plan (outside files old) (outside files new) r) → r ≡ Err File → ⊥
@@ -40,26 +31,26 @@ no-refusal Output = λ e. absurd (omega arith)
 no-refusal WantOfMemory = λ e. absurd (omega arith)
 
 -- of the faults only that of the files comes with nothing printed
-pub unprinted-at : (fault : Fault) (P : Type 0) → (fault ≡ File → P) → may_print (code_of_fault fault) ≡ false → P
+pub unprinted-at : (fault : Fault) (P : Type 0) → (fault ≡ File → P) → keygen_may_print (code_of_fault fault) ≡ false → P
 unprinted-at File P h e = h refl
 unprinted-at Output P h e = absurd cc
 unprinted-at WantOfMemory P h e = absurd cc
 
 -- the statuses of a replay
-pub replay-statuses : (names : ReplayFiles) (ended : Result Status Fault) → IfOk ended (λ status. IsTrue (is_replay_end status)) → (code_of_run ended ≡ 7 → ⊥) →
+pub replay-statuses : (names : ReplayFiles) (ended : Result Status Fault) → IfOk ended (λ status. IsTrue (is_replay_end status)) →
     IsTrue (is_status_of (Some (replay names)) (code_of_run ended))
-replay-statuses names (Ok Done) h none = refl
-replay-statuses names (Ok Usage) h none = absurd cc
-replay-statuses names (Ok FileFailed) h none = absurd cc
-replay-statuses names (Ok (SessionRefused fault)) h none = refl
-replay-statuses names (Ok (KeyRefused fault)) h none = refl
-replay-statuses names (Ok OutputFailed) h none = absurd cc
-replay-statuses names (Ok InputRefused) h none = refl
-replay-statuses names (Ok (SecretRefused len)) h none = absurd cc
-replay-statuses names (Ok NoMemory) h none = absurd cc
-replay-statuses names (Err File) h none = refl
-replay-statuses names (Err Output) h none = absurd (none refl)
-replay-statuses names (Err WantOfMemory) h none = refl
+replay-statuses names (Ok Done) h = refl
+replay-statuses names (Ok Usage) h = absurd cc
+replay-statuses names (Ok FileFailed) h = absurd cc
+replay-statuses names (Ok (SessionRefused fault)) h = refl
+replay-statuses names (Ok (KeyRefused fault)) h = refl
+replay-statuses names (Ok OutputFailed) h = absurd cc
+replay-statuses names (Ok InputRefused) h = refl
+replay-statuses names (Ok (SecretRefused len)) h = absurd cc
+replay-statuses names (Ok NoMemory) h = absurd cc
+replay-statuses names (Err File) h = refl
+replay-statuses names (Err Output) h = refl
+replay-statuses names (Err WantOfMemory) h = refl
 
 -- those of `keygen`
 pub keygen-statuses : (asked : Keygen) (ended : Result Status Fault) → IfOk ended (λ status. IsTrue (is_keygen_end status)) →
@@ -87,3 +78,10 @@ or-memory (keygen asked) status result h (inr e) = rw e refl
 pub no-usage : (line : Line) (status : ℕ) → IsTrue (is_status_of (Some line) status) → status ≡ 2 → ⊥
 no-usage (replay names) status h e = let k : IsTrue (is_status_of (Some (replay names)) 2) = subst (λ n. IsTrue (is_status_of (Some (replay names)) n)) e h in cc
 no-usage (keygen asked) status h e = let k : IsTrue (is_status_of (Some (keygen asked)) 2) = subst (λ n. IsTrue (is_status_of (Some (keygen asked)) n)) e h in cc
+
+-- a command whose status may show nothing shows nothing where want of memory comes in place of it
+pub unprinted-by : (line : Line) (status result : ℕ) (P : Type 0) → (may_print (Some line) status ≡ false → P) →
+    (result ≡ status) ⊎ (result ≡ 70) → may_print (Some line) result ≡ false → P
+unprinted-by line status result P h (inl e) none = h (ap (may_print (Some line)) (sym e) ∙ none)
+unprinted-by (replay names) status result P h (inr e) none = absurd (true≢false (sym (ap (may_print (Some (replay names))) e) ∙ none))
+unprinted-by (keygen asked) status result P h (inr e) none = absurd (true≢false (sym (ap (may_print (Some (keygen asked))) e) ∙ none))

@@ -1,5 +1,5 @@
 -- Which words are a line, and what they ask for.
-use Rattle.std.specs.Prelude.{◌==◌, ◌||◌, ◌++◌, ℕ, Bool, List, [], ◌∷◌, Option, None, Some, if◌then◌else◌, length, codes}
+use Rattle.std.specs.Prelude.{◌==◌, ◌||◌, ◌++◌, ℕ, Bool, false, List, [], ◌∷◌, Option, None, Some, if◌then◌else◌, length, codes}
 use Rattle.std.specs.Option.{option_and_then}
 use Rattle.std.specs.Str.{bytes_eq}
 use Rattle.bar_outside.specs.Disk.{Content}
@@ -8,6 +8,7 @@ use Rattle.bar_roster.specs.NumberRanges.{most_rounds}
 use Rattle.bar_cli.specs.Words.{values_of, number_in, id_of, types_of}
 use Rattle.bar_cli.specs.ReplayPlan.{ReplayFiles, replay_plan}
 use Rattle.bar_cli.specs.KeygenPlan.{Keygen, keygen_plan}
+use Rattle.bar_cli.specs.Printing.{replay_may_print, keygen_may_print}
 
 -- one constructor for each command
 pub data Line : Type 0 where
@@ -67,5 +68,11 @@ plan_of (Some (keygen asked)) = keygen_plan asked
 -- the statuses that come at words
 abbrev pub is_status_of : Option Line → ℕ → Bool
 is_status_of None status = status == 2 || status == 70
-is_status_of (Some (replay names)) status = status == 0 || status == 3 || status == 4 || status == 5 || status == 8 || status == 70
+is_status_of (Some (replay names)) status = status == 0 || status == 3 || status == 4 || status == 5 || status == 7 || status == 8 || status == 70
 is_status_of (Some (keygen asked)) status = status == 0 || status == 3 || status == 4 || status == 7 || status == 8 || status == 70
+
+-- the statuses at which a command may have printed something on standard output
+abbrev pub may_print : Option Line → ℕ → Bool
+may_print None status = false
+may_print (Some (replay names)) status = replay_may_print status
+may_print (Some (keygen asked)) status = keygen_may_print status

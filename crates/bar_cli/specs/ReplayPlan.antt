@@ -1,11 +1,13 @@
 -- What `replay` does.
-use Rattle.std.specs.Prelude.{◌≡◌, ◌≢◌, ◌⊎◌, ℕ, List, [], ◌∷◌, ◌++◌, Some, None, Ok, Err, map, take}
-use Rattle.std.specs.List.{flat_map, concat}
+use Rattle.std.specs.Prelude.{◌≡◌, ◌≢◌, ◌⊎◌, ℕ, List, [], ◌∷◌, ◌++◌, Some, None, Ok, Err, take, filter, not, IsTrue}
 use Rattle.std.specs.Option.{ok_or}
+use Rattle.std.specs.List.{concat}
 use Rattle.bar_outside.specs.Disk.{Content, Failure, readable}
 use Rattle.bar_outside.specs.declared.files.CallKind.TheVariants.{Read, Create, Append}
 use Rattle.bar_outside.specs.Plan.{Outside, Action, Plan, reading, accepting, ending, doing}
-use Rattle.bar_outside.specs.Plan.Action.{create, append}
+use Rattle.bar_outside.specs.Plan.Action.{create}
+use Rattle.bar_outside.specs.Ends.{SameFiles, NothingPrinted}
+use Rattle.bar_wire.specs.Datagram.{Datagram}
 use Rattle.bar_wire.specs.Inputs.{Input}
 use Rattle.bar_seeds.specs.declared.secrets.Secrets.{Secrets}
 use Rattle.bar_roster.specs.declared.fault.SessionFault.{SessionFault}
@@ -13,9 +15,13 @@ use Rattle.bar_roster.specs.declared.key_fault.KeyFileFault.{KeyFileFault}
 use Rattle.bar_roster.specs.SessionText.{SessionData}
 use Rattle.bar_roster.specs.KeyFile.{Fits}
 use Rattle.bar_rules.specs.Member.{Member}
-use Rattle.bar_rules.specs.Peer.Listening.{played_by_listener, sends_of_listener}
+use Rattle.bar_peer.specs.Members.{member_by}
+use Rattle.bar_peer.specs.Sending.{is_report}
+use Rattle.bar_rules.specs.Peer.Run.{played_by, sends_of}
 use Rattle.bar_cli.specs.Refusals.{session_refused, key_refused, input_refused}
-use Rattle.bar_cli.specs.Replay.{session_of, recording_of, member_of, contents_of, secrets_of_key}
+use Rattle.bar_cli.specs.Replay.{session_of, recording_of, secrets_of_key}
+use Rattle.bar_cli.specs.Transcript.{transcript}
+use Rattle.bar_cli.specs.Turns.{Turn, turns_from, turns_actions, played_bytes, shown_bytes}
 
 -- the files of a replay
 pub record ReplayFiles : Type 0 where
@@ -25,28 +31,16 @@ pub record ReplayFiles : Type 0 where
   pub played : List ℕ
   pub found : List ℕ
 
--- the contents of one input are appended in order, and so those of all inputs
-abbrev pub turn : List ℕ → List (List ℕ) → List Action
-turn played contents = map (append played) contents
+-- the played file is created, and each turn is done
+abbrev pub replay_actions : ReplayFiles → List Turn → List Action
+replay_actions names turns = create names.played ∷ turns_actions names.played turns
 
-abbrev pub turns : List ℕ → List (List (List ℕ)) → List Action
-turns played contents = flat_map (turn played) contents
-
--- the contents of all inputs in order
-abbrev pub joined : List (List (List ℕ)) → List (List ℕ)
-joined [] = []
-joined (contents ∷ others) = contents ++ joined others
-
--- the bytes that are played
-abbrev pub played_bytes : List (List (List ℕ)) → List ℕ
-played_bytes contents = flat_map concat contents
-
--- the played file is created, and what the inputs play is appended
-abbrev pub replay_actions : ReplayFiles → List (List (List ℕ)) → List Action
-replay_actions names contents = create names.played ∷ turns names.played contents
+-- the turns of a peer over these inputs, from the start
+abbrev pub turns_of : SessionData → Secrets → List Input → List Turn
+turns_of s secrets inputs = turns_from (member_by s secrets) 1 [] inputs
 
 abbrev pub run_plan : ReplayFiles → SessionData → Secrets → List Input → Content → Plan
-run_plan names session secrets inputs = doing (replay_actions names (contents_of session secrets inputs)) 0 []
+run_plan names session secrets inputs = doing (replay_actions names (turns_of session secrets inputs)) 0 []
 
 -- the recording of the key's party is read, and accepted or refused
 abbrev pub recording_plan : ReplayFiles → SessionData → Secrets → Content → Plan
@@ -109,36 +103,64 @@ pub record InputRefused (names : ReplayFiles) (content : Content) (session : Ses
 
 -- the peer whose key it is
 abbrev pub peer_of : (names : ReplayFiles) (content : Content) → Accepted names content → Member
-peer_of names content accepted = member_of accepted.session accepted.secrets
+peer_of names content accepted = member_by accepted.session accepted.secrets
 
--- the bytes that the peer plays over the recording's inputs
-abbrev pub bytes_of : (names : ReplayFiles) (content : Content) → Accepted names content → List ℕ
-bytes_of names content accepted = played_by_listener (peer_of names content accepted) accepted.inputs
+-- the turns of this peer over the recording's inputs
+abbrev pub turns_in : (names : ReplayFiles) (content : Content) → Accepted names content → List Turn
+turns_in names content accepted = turns_of accepted.session accepted.secrets accepted.inputs
 
--- all were accepted, the session holds the public key and the anchor that come from the key file's secret,
--- the played file has exactly what the peer plays over the recording's inputs, and the peer sends nothing
+-- all that the peer sends over the inputs but reports of evidence, which isn't kept: each datagram with its input's number and its receiver
+abbrev pub sent_by : Member → List Input → List (ℕ × ℕ × Datagram)
+sent_by me inputs = filter (λ sent. not (is_report sent.2.message.body)) (sends_of me inputs)
+
+-- the transcript of this peer over the recording's inputs
+abbrev pub transcript_of : (names : ReplayFiles) (content : Content) → Accepted names content → List ℕ
+transcript_of names content accepted = transcript accepted.session (sent_by (peer_of names content accepted) accepted.inputs)
+
+-- All were accepted, the session holds the public key and the anchor that come from the key file's secret, and over the recording's inputs the
+-- played file has exactly what the rules of this peer play, and the transcript exactly what they send, in order, but for reports of evidence.
 pub record Replayed (names : ReplayFiles) (old new : Outside) : Type 0 where
   pub accepted : Accepted names old.files.content
   pub fits : Fits accepted.session accepted.secrets.party accepted.secrets.secret
-  pub played : new.files.content names.played ≡ Some (bytes_of names old.files.content accepted)
-  pub sent : sends_of_listener (peer_of names old.files.content accepted) accepted.inputs ≡ []
+  pub played : new.files.content names.played ≡ Some (played_by (peer_of names old.files.content accepted) accepted.inputs)
+  pub sent : IsTrue old.out.told → new.out.bytes ≡ old.out.bytes ++ transcript_of names old.files.content accepted
   pub others : (path : List ℕ) → path ≢ names.played → new.files.content path ≡ old.files.content path
 
--- all were accepted, and the played file has a front of what the recording's inputs play
+-- all were accepted, and the played file has a front of what the rules of this peer play, and the transcript a front of what they send
 pub record PlayedFront (names : ReplayFiles) (old new : Outside) : Type 0 where
   pub accepted : Accepted names old.files.content
-  pub count : ℕ
-  pub played : new.files.content names.played ≡ Some (take count (bytes_of names old.files.content accepted))
+  pub played_count : ℕ
+  pub shown_count : ℕ
+  pub played :
+      new.files.content names.played ≡ Some (take played_count (played_by (peer_of names old.files.content accepted) accepted.inputs))
+  pub shown : IsTrue old.out.told → new.out.bytes ≡ old.out.bytes ++ take shown_count (transcript_of names old.files.content accepted)
 
--- all were accepted, and the played file has the contents before one of them whole, and a front of this one
-pub record PlayedUpTo (names : ReplayFiles) (old new : Outside) : Type 0 where
+-- no file holds anything else than before, and nothing was printed
+pub record IsUntouched (old new : Outside) : Type 0 where
+  pub files : SameFiles old new
+  pub out : NothingPrinted old new
+
+-- the played file was made and is empty, and nothing was printed
+pub record IsMade (names : ReplayFiles) (old new : Outside) : Type 0 where
+  pub played : new.files.content names.played ≡ Some []
+  pub out : NothingPrinted old new
+
+-- All were accepted, and there is one input such that the played file has all that earlier inputs play and a front of what this one plays,
+-- and the transcript all that earlier inputs send and a front of what this one sends. What is shown of an input comes behind all that it plays.
+-- Where a call of the files failed, nothing is shown of it, and where a write failed, all that it plays stands.
+pub record PlayedUpTo (names : ReplayFiles) (status : ℕ) (old new : Outside) : Type 0 where
   pub accepted : Accepted names old.files.content
-  pub whole : List (List ℕ)
-  pub next : List ℕ
-  pub others : List (List ℕ)
-  pub count : ℕ
-  pub contents : joined (contents_of accepted.session accepted.secrets accepted.inputs) ≡ whole ++ next ∷ others
-  pub played : new.files.content names.played ≡ Some (concat whole ++ take count next)
+  pub earlier : List Turn
+  pub this : Turn
+  pub later : List Turn
+  pub played_count : ℕ
+  pub shown_count : ℕ
+  pub turns : turns_in names old.files.content accepted ≡ earlier ++ this ∷ later
+  pub played : new.files.content names.played ≡ Some (played_bytes earlier ++ take played_count (concat this.contents))
+  pub shown : IsTrue old.out.told → new.out.bytes ≡ old.out.bytes ++ (shown_bytes earlier ++ take shown_count (concat this.lines))
+  pub order : (shown_count ≡ 0) ⊎ (take played_count (concat this.contents) ≡ concat this.contents)
+  pub at_file : status ≡ 3 → shown_count ≡ 0
+  pub at_output : status ≡ 7 → take played_count (concat this.contents) ≡ concat this.contents
 
 -- a call that a replay makes: a read of a file that it reads, or a create or an append of the one that it writes
 abbrev pub IsReplayCall : ReplayFiles → Failure → Type 0

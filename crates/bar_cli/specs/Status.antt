@@ -1,5 +1,5 @@
 -- The exit statuses, and the line of each.
-use Rattle.std.specs.Prelude.{◌==◌, ◌||◌, ℕ, Bool, true, false, List, [], Result, Ok, Err}
+use Rattle.std.specs.Prelude.{ℕ, Bool, true, false, List, [], Result, Ok, Err}
 use Rattle.bar_outside.specs.Plan as plan
 use Rattle.bar_outside.specs.Faults.{code_of_fault, line_of_fault}
 use Rattle.bar_outside.specs.declared.fault.Fault.{Fault}
@@ -39,10 +39,6 @@ code_of_run (Err fault) = code_of_fault fault
 abbrev pub said_by_run : Result Status Fault → List ℕ
 said_by_run (Ok status) = said_at status
 said_by_run (Err fault) = line_of_fault fault
-
--- the statuses at which something may have been printed on standard output
-abbrev pub may_print : ℕ → Bool
-may_print status = status == 0 || status == 7 || status == 70
 
 -- how a replay ends where no fault stops it
 abbrev pub is_replay_end : Status → Bool

@@ -8,7 +8,8 @@ ghost use Rattle.bar_outside.specs.Follows.{Follows};
 ghost use Rattle.bar_outside.specs.Ends.{EndsWith};
 ghost use Rattle.bar_roster.specs.KeyText.{key_text_of};
 ghost use Rattle.bar_cli.specs.KeygenPlan.{HasFewLeaves, anchor_for, anchor_line, key_line, key_made, keygen_plan, lines_of, public_of, secret_of, secret_plan};
-ghost use Rattle.bar_cli.specs.Status.{code_of_run, may_print, said_by_run, is_keygen_end};
+ghost use Rattle.bar_cli.specs.Printing.{keygen_may_print};
+ghost use Rattle.bar_cli.specs.Status.{code_of_run, said_by_run, is_keygen_end};
 ghost use Rattle.bar_cli.specs.Views.{keygen_view};
 
 use crate::keygen_words::KeygenWords;
@@ -40,7 +41,7 @@ pub fn keygen<F: Files, K: Sink>(
         (outside (F.disk files.new) (K.stream out.new)) (code_of_run result) (said_by_run result) }
     ensures answers { IfOk result (λ status. IsTrue (is_keygen_end status)) }
     ensures leaves { (code_of_run result ≡ 4) ↔ HasFewLeaves (keygen_view asked.now) }
-    ensures unprinted { may_print (code_of_run result) ≡ false → K.stream out.new ≡ K.stream out.old }
+    ensures unprinted { keygen_may_print (code_of_run result) ≡ false → K.stream out.new ≡ K.stream out.old }
 {
     match check_leaves(asked.rounds, asked.params.height) {
         Ok(()) => keygen_by_secret(alloc, asked, files, out),
@@ -60,7 +61,7 @@ fn keygen_by_secret<F: Files, K: Sink>(
         (outside (F.disk files.new) (K.stream out.new)) (code_of_run result) (said_by_run result) }
     ensures answers { IfOk result (λ status. IsTrue (is_keygen_end status)) }
     ensures enough { code_of_run result ≢ 4 }
-    ensures unprinted { may_print (code_of_run result) ≡ false → K.stream out.new ≡ K.stream out.old }
+    ensures unprinted { keygen_may_print (code_of_run result) ≡ false → K.stream out.new ≡ K.stream out.old }
 {
     let bytes = read_file(files, asked.secret)?;
     let Some(secret) = secret_of(&bytes) else {

@@ -4,14 +4,14 @@ ghost use Rattle.bar_outside.specs.Causes.{Rose};
 ghost use Rattle.bar_outside.specs.Disk.{Content, readable};
 ghost use Rattle.bar_outside.specs.Follows.{IsReliable};
 ghost use Rattle.bar_outside.specs.Plan.{Outside, is_stop, ending, line_at};
-ghost use Rattle.bar_outside.specs.Ends.{Ends, OfEachEnd, AtEnd, UnlessStopped, SameFiles};
+ghost use Rattle.bar_outside.specs.Ends.{Ends, OfEachEnd, AtEnd, UnlessStopped};
 ghost use Rattle.bar_seeds.specs.declared.secrets.Secrets.{Secrets};
 ghost use Rattle.bar_roster.specs.declared.fault.SessionFault.{SessionFault};
 ghost use Rattle.bar_roster.specs.declared.key_fault.KeyFileFault.{KeyFileFault};
 ghost use Rattle.bar_roster.specs.SessionText.{SessionData};
 ghost use Rattle.bar_cli.specs.Line.{usage};
 ghost use Rattle.bar_cli.specs.Refusals.{session_refused, key_refused, input_refused};
-ghost use Rattle.bar_cli.specs.ReplayPlan.{ReplayFiles, SessionAccepted, SessionRefused, KeyAccepted, KeyRefused, InputRefused, Accepted, Replayed, PlayedFront, PlayedUpTo, IsReplayCall, replay_plan};
+ghost use Rattle.bar_cli.specs.ReplayPlan.{ReplayFiles, SessionAccepted, SessionRefused, KeyAccepted, KeyRefused, InputRefused, Accepted, Replayed, PlayedFront, PlayedUpTo, IsUntouched, IsMade, IsReplayCall, replay_plan};
 
 use bar_roster::laws::accepted_secrets_are_held;
 
@@ -78,11 +78,18 @@ pub fn input_refused_exactly()
         InputRefused names content session secrets bytes → line_at (replay_plan names content) 8 ≡ input_refused }
 {}
 
-/// Where the files tell, 3 says how far the replay came: all files are as they were, or the played file was made and is empty,
-/// or it has the contents before the one that failed, and a front of this one.
-pub fn a_replay_fails_in_order()
-    ensures { (names : ReplayFiles) → AtEnd 3 (replay_plan names) (λ old new.
-        SameFiles old new ⊎ ((new.files.content names.played ≡ Some []) ⊎ PlayedUpTo names old new)) }
+/// 7 comes only where the count of out rose. Where the files tell, all were accepted then, and it comes behind all that an input plays.
+pub fn output_failed_only()
+    ensures rose { (names : ReplayFiles) (old new : Outside) → Ends (replay_plan names) old new 7 → Rose old.out.faults new.out.faults }
+    ensures in_order { (names : ReplayFiles) → AtEnd 7 (replay_plan names) (PlayedUpTo names 7) }
+{}
+
+/// Where the files tell, this is how far a replay came, whatever stopped it: nothing was changed and nothing printed; or the played file was
+/// made and is empty; or there is one input such that the played file and the transcript have all that belongs to earlier inputs and nothing
+/// that belongs to later ones.
+pub fn a_replay_stops_in_order()
+    ensures { (names : ReplayFiles) → OfEachEnd (replay_plan names) (λ old new status.
+        IsUntouched old new ⊎ (IsMade names old new ⊎ PlayedUpTo names status old new)) }
 {}
 
 /// Whatever the status, only the played file is changed.
@@ -91,15 +98,17 @@ pub fn only_played_is_changed()
         path ≢ names.played → new.files.content path ≡ old.files.content path) }
 {}
 
-/// After a refusal, and where the words aren't a line, every file is as it was.
+/// After a refusal, and where the words aren't a line, every file is as it was, and nothing is printed.
 pub fn refusals_change_nothing()
-    ensures usage { OfEachEnd (ending 2 usage) (λ old new status. SameFiles old new) }
-    ensures session { (names : ReplayFiles) → AtEnd 4 (replay_plan names) SameFiles }
-    ensures key { (names : ReplayFiles) → AtEnd 5 (replay_plan names) SameFiles }
-    ensures input { (names : ReplayFiles) → AtEnd 8 (replay_plan names) SameFiles }
+    ensures usage { OfEachEnd (ending 2 usage) (λ old new status. IsUntouched old new) }
+    ensures session { (names : ReplayFiles) → AtEnd 4 (replay_plan names) IsUntouched }
+    ensures key { (names : ReplayFiles) → AtEnd 5 (replay_plan names) IsUntouched }
+    ensures input { (names : ReplayFiles) → AtEnd 8 (replay_plan names) IsUntouched }
 {}
 
-/// Whatever the status, all files are as they were, or the played file has a front of what the recording's inputs play.
+/// Whatever the status, all is as it was, or the played file has a front of what the rules play over the recording's inputs, and the
+/// transcript a front of what they send.
 pub fn a_front_is_played()
-    ensures { (names : ReplayFiles) → OfEachEnd (replay_plan names) (λ old new status. SameFiles old new ⊎ PlayedFront names old new) }
+    ensures { (names : ReplayFiles) → OfEachEnd (replay_plan names) (λ old new status.
+        IsUntouched old new ⊎ PlayedFront names old new) }
 {}

@@ -1,8 +1,6 @@
 //! The commands of the program, over an outside that is handed in.
 #![tactic(auto)]
 
-mod admits;
-mod keeps;
 mod keygen;
 mod keygen_laws;
 #[cfg(test)]
@@ -10,14 +8,11 @@ mod keygen_tests;
 mod keygen_words;
 mod laws;
 mod line;
-mod listener;
-mod manifest;
-mod plays;
+mod playing;
 mod reading;
 mod replay;
 mod run;
 mod status;
-mod takes;
 #[cfg(test)]
 mod tests;
 mod words;
@@ -28,8 +23,8 @@ pub use keygen_laws::{
     output_fails_behind_the_key, refused_keys_change_nothing, secret_refused_exactly,
 };
 pub use laws::{
-    a_front_is_played, a_replay_fails_in_order, done_exactly, done_where_all_is_accepted,
+    a_front_is_played, a_replay_stops_in_order, done_exactly, done_where_all_is_accepted,
     file_failed_only, input_refused_exactly, key_refused_exactly, only_played_is_changed,
-    refusals_change_nothing, session_refused_exactly,
+    output_failed_only, refusals_change_nothing, session_refused_exactly,
 };
 pub use run::bar_run;

@@ -2,9 +2,10 @@
 ghost use Rattle.std.specs.Prelude.{◌≡◌, ◌⊎◌, ◌↔◌, ◌||◌, None, Some, false, map, string_bytes, IsTrue};
 ghost use Rattle.bar_outside.specs.Plan.{outside};
 ghost use Rattle.bar_outside.specs.Ends.{Ends, EndsWith, Says, is_plain};
-ghost use Rattle.bar_cli.specs.Line.{line_of, plan_of, is_status_of};
+ghost use Rattle.bar_cli.specs.Headline.{IsSignedByRule, IsBalanced, GivesKeysToPartners, KeepsItsLeaves};
+ghost use Rattle.bar_cli.specs.Line.{line_of, plan_of, is_status_of, may_print};
 ghost use Rattle.bar_cli.specs.Line as line;
-ghost use Rattle.bar_cli.specs.Status.{code_of, may_print, said_at};
+ghost use Rattle.bar_cli.specs.Status.{code_of, said_at};
 ghost use Rattle.bar_cli.specs.Views.{command_view};
 ghost use Rattle.bar_cli.specs.ReplayPlan.{ReplayFiles, Replayed};
 ghost use Rattle.bar_cli.specs.KeygenPlan.{HasFewLeaves, Keygen, KeyMade};
@@ -13,8 +14,11 @@ use crate::keygen::keygen;
 use crate::line::{Command, command_of};
 use crate::replay::replay;
 use crate::status::{Status, report, status_of};
+use bar_laws::balance::balanced;
+use bar_laws::leaves::leaf_discipline;
+use bar_laws::obedience::signed_by_rule;
 use bar_outside::{Files, Sink};
-use bar_roster::laws::accepted_secrets_are_held;
+use bar_roster::laws::{accepted_secrets_are_held, accepted_sessions_are_in_range};
 use std::alloc::Global;
 
 /// Does what the words say, the first of which names the command, and answers the exit status.
@@ -46,17 +50,29 @@ pub fn bar_run<F: Files, K: Sink>(
     ensures leaves_refused { (asked : Keygen) → line_of (map string_bytes words.now) ≡ Some (line.keygen asked) → HasFewLeaves asked →
         (result ≡ 4) ⊎ (result ≡ 70) }
 
-    // nothing is printed but at 0, 7 and 70
-    ensures unprinted { may_print result ≡ false → K.stream out.new ≡ K.stream out.old }
+    // nothing is printed where the words aren't a line, and none but at the statuses at which the command may print
+    ensures unprinted { may_print (line_of (map string_bytes words.now)) result ≡ false → K.stream out.new ≡ K.stream out.old }
 
-    // nothing is printed but by `keygen`: a listening peer sends nothing
-    ensures silent { ((asked : Keygen) → line_of (map string_bytes words.now) ≡ Some (line.keygen asked) → ⊥) →
-        K.stream out.new ≡ K.stream out.old }
-
-    // a replay that ends with 0 has played what the recording's inputs play
+    // a replay that ends with 0 has played and shown exactly what the rules of its peer play and send over the recording's inputs
     ensures headline { (names : ReplayFiles) → line_of (map string_bytes words.now) ≡ Some (line.replay names) →
         IsTrue (F.disk files.old).told → result ≡ 0 →
         Replayed names (outside (F.disk files.old) (K.stream out.old)) (outside (F.disk files.new) (K.stream out.new)) }
+
+    // whatever the inputs are, the peer signs by its rules, and sends what it signed
+    ensures signed { (names : ReplayFiles) → line_of (map string_bytes words.now) ≡ Some (line.replay names) →
+        IsSignedByRule names (F.disk files.old).content }
+
+    // in each exchange it opens nothing, or as much as it promised and as it was promised
+    ensures balance { (names : ReplayFiles) → line_of (map string_bytes words.now) ≡ Some (line.replay names) →
+        IsBalanced names (F.disk files.old).content }
+
+    // each of its keys goes to the partner of the exchange
+    ensures keys { (names : ReplayFiles) → line_of (map string_bytes words.now) ≡ Some (line.replay names) →
+        GivesKeysToPartners names (F.disk files.old).content }
+
+    // no leaf of its key signs two messages
+    ensures leaves { (names : ReplayFiles) → line_of (map string_bytes words.now) ≡ Some (line.replay names) →
+        KeepsItsLeaves names (F.disk files.old).content }
 
     // a key that was made has its file and its lines
     ensures key_made { (asked : Keygen) → line_of (map string_bytes words.now) ≡ Some (line.keygen asked) →
@@ -64,6 +80,10 @@ pub fn bar_run<F: Files, K: Sink>(
         KeyMade asked (outside (F.disk files.old) (K.stream out.old)) (outside (F.disk files.new) (K.stream out.new)) }
 {
     accepted_secrets_are_held();
+    accepted_sessions_are_in_range();
+    balanced();
+    leaf_discipline();
+    signed_by_rule();
     let Some(command) = command_of(words) else {
         return report(alloc, &Status::Usage, err);
     };
@@ -81,12 +101,11 @@ fn run_command<F: Files, K: Sink>(
     ensures ends { EndsWith (plan_of (Some (command_view command.now)))
         (outside (F.disk files.old) (K.stream out.old)) (outside (F.disk files.new) (K.stream out.new)) (code_of result) (said_at result) }
     ensures statuses { IsTrue (is_status_of (Some (command_view command.now)) (code_of result)) }
-    ensures silent { ((asked : Keygen) → command_view command.now ≡ line.keygen asked → ⊥) → K.stream out.new ≡ K.stream out.old }
     ensures leaves { (asked : Keygen) → command_view command.now ≡ line.keygen asked → (code_of result ≡ 4) ↔ HasFewLeaves asked }
-    ensures unprinted { may_print (code_of result) ≡ false → K.stream out.new ≡ K.stream out.old }
+    ensures unprinted { may_print (Some (command_view command.now)) (code_of result) ≡ false → K.stream out.new ≡ K.stream out.old }
 {
     match command {
-        Command::Replay(names) => status_of(replay(alloc, names, files)),
+        Command::Replay(names) => status_of(replay(alloc, names, files, out)),
         Command::Keygen(asked) => status_of(keygen(alloc, asked, files, out)),
     }
 }

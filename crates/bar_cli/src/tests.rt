@@ -285,20 +285,21 @@ struct Left {
     err: MemSink,
 }
 
-// A run of the line over these files, where these calls of the files and these writes to err fail.
+// A run of the line over these files, where these calls of the files and these writes to out and to err fail.
 fn run(
     alloc: Global,
     session: &str,
     key: &str,
     recording: &[u8],
     fail_files: &[u64],
+    fail_out: &[u64],
     fail_err: &[u64],
 ) -> Result<Left, AllocError> {
     let mut files = MemFiles::make(alloc, fail_files.to_vec(alloc)?);
     files.put("ses", session.as_bytes())?;
     files.put("k", key.as_bytes())?;
     files.put("rec", recording)?;
-    let mut out = MemSink::make(alloc, Vec::new(alloc));
+    let mut out = MemSink::make(alloc, fail_out.to_vec(alloc)?);
     let mut err = MemSink::make(alloc, fail_err.to_vec(alloc)?);
     let all = words(alloc, &LINE)?;
     let status = bar_run(alloc, &all, &mut files, &mut out, &mut err);
@@ -308,6 +309,22 @@ fn run(
         out,
         err,
     })
+}
+
+// How many lines bytes have that begin like this, from a blank on.
+fn lines_like(bytes: &[u8], front: &[u8]) -> usize {
+    bytes
+        .split(|byte| *byte == b'\n')
+        .filter(|line| has_behind_a_blank(line, front))
+        .count()
+}
+
+// Whether bytes stand behind the first blank of a line.
+fn has_behind_a_blank(line: &[u8], front: &[u8]) -> bool {
+    match line.iter().position(|byte| *byte == b' ') {
+        Some(at) => line[at..].starts_with(front),
+        None => false,
+    }
 }
 
 // At the first tick of round 5, which is the 33rd, the blocks of round 1 are played.
@@ -382,18 +399,24 @@ fn streams_are_played(rt: HostRuntime) -> Result<(), Fail> {
     let streams = signed_streams(alloc, SMALL_SIGNATURE)?;
     for (entries, played) in PLAYED {
         let bytes = recording(alloc, &streams, entries)?;
-        let left = run(alloc, SMALL_SESSION, SMALL_KEY, &bytes, &[], &[])?;
+        let left = run(alloc, SMALL_SESSION, SMALL_KEY, &bytes, &[], &[], &[])?;
         assert_eq!(rt; left.status, 0);
         assert_eq!(rt; left.files.get("p").unwrap_or(b"none".as_slice()), played);
         assert_eq!(rt;
             left.files.get("f").unwrap_or(b"none".as_slice()),
             b"none".as_slice()
         );
-        assert_eq!(rt; left.out.bytes(), b"".as_slice());
+        // the request of round 1 is sent at each tick of the rounds 1 and 2
+        let sent = if entries.is_empty() { 0 } else { 16 };
+        assert_eq!(rt; lines_like(left.out.bytes(), REQUEST_OF_1.as_bytes()), sent);
+        assert_eq!(rt; lines_like(left.out.bytes(), b" "), sent);
         assert_eq!(rt; left.err.bytes(), b"".as_slice());
     }
     Ok(())
 }
+
+// What a line says behind its number: the receiver is party 1, and the datagram of party 2 is a REQUEST of round 1.
+const REQUEST_OF_1: &str = " 1 ba4701030011223344556677000200010000000";
 
 #[test]
 fn a_session_of_ten_rounds_plays_hi(rt: HostRuntime) -> Result<(), Fail> {
@@ -401,28 +424,70 @@ fn a_session_of_ten_rounds_plays_hi(rt: HostRuntime) -> Result<(), Fail> {
     let streams = signed_streams(alloc, SIGNATURE)?;
     let entries = [START, Entry::Manifest, Entry::Block, END];
     let bytes = recording(alloc, &streams, &entries)?;
-    let left = run(alloc, SESSION, KEY, &bytes, &[], &[])?;
+    let left = run(alloc, SESSION, KEY, &bytes, &[], &[], &[])?;
     assert_eq!(rt; left.status, 0);
     assert_eq!(rt;
         left.files.get("p").unwrap_or(b"none".as_slice()),
         b"hi".as_slice()
     );
+    for (front, sent) in SENT {
+        assert_eq!(rt; lines_like(left.out.bytes(), front.as_bytes()), sent);
+    }
+    assert!(rt; left.out.bytes().starts_with(b"1 1 ba470103"));
+    let first = left.out.bytes().split(|byte| *byte == b'\n').next();
+    assert_eq!(rt; first.unwrap_or(b"").len(), 4 + 2 * 1536);
     Ok(())
 }
 
-// The session's text and the key file, whether the recording is whole, the failing calls of the files and of err, and the status,
-// what err has and what was played.
-const ENDS: [(&str, &str, bool, &[u64], &[u64], u8, &str, &[u8]); 13] = [
-    (SMALL_SESSION, SPENT_KEY, true, &[], &[], 0, "", b"hi"),
+// How often lines begin so from their first blank on: all to party 1, the requests of rounds 1 to 5, and the query of round 2.
+const SENT: [(&str, usize); 8] = [
+    (" ", 74),
+    (" 1 ba470103001122334455667700020001000000", 58),
+    (" 1 ba47010300112233445566770002000100000001", 16),
+    (" 1 ba47010300112233445566770002000100000002", 16),
+    (" 1 ba47010300112233445566770002000100000003", 16),
+    (" 1 ba47010300112233445566770002000100000004", 9),
+    (" 1 ba47010300112233445566770002000100000005", 1),
+    (" 1 ba47010600112233445566770002000100000002", 16),
+];
+
+// The session's text and the key file, whether the recording is whole, the failing calls of the files, of out and of err, and the status,
+// what err has, what was played, and how many lines were begun.
+const ENDS: [(
+    &str,
+    &str,
+    bool,
+    &[u64],
+    &[u64],
+    &[u64],
+    u8,
+    &str,
+    &[u8],
+    usize,
+); 15] = [
+    (
+        SMALL_SESSION,
+        SPENT_KEY,
+        true,
+        &[],
+        &[],
+        &[],
+        0,
+        "",
+        b"hi",
+        16,
+    ),
     (
         "version = 1",
         SMALL_KEY,
         true,
+        &[],
         &[],
         &[],
         4,
         "bar: session refused: Missing id\n",
         b"none",
+        0,
     ),
     (
         "version",
@@ -430,9 +495,11 @@ const ENDS: [(&str, &str, bool, &[u64], &[u64], u8, &str, &[u8]); 13] = [
         true,
         &[],
         &[],
+        &[],
         4,
         "bar: session refused: NotToml\n",
         b"none",
+        0,
     ),
     (
         SMALL_SESSION,
@@ -440,9 +507,11 @@ const ENDS: [(&str, &str, bool, &[u64], &[u64], u8, &str, &[u8]); 13] = [
         true,
         &[],
         &[],
+        &[],
         5,
         "bar: key refused: NotToml\n",
         b"none",
+        0,
     ),
     (
         SMALL_SESSION,
@@ -450,9 +519,11 @@ const ENDS: [(&str, &str, bool, &[u64], &[u64], u8, &str, &[u8]); 13] = [
         true,
         &[],
         &[],
+        &[],
         5,
         "bar: key refused: BadValue\n",
         b"none",
+        0,
     ),
     (
         SMALL_SESSION,
@@ -460,9 +531,11 @@ const ENDS: [(&str, &str, bool, &[u64], &[u64], u8, &str, &[u8]); 13] = [
         true,
         &[],
         &[],
+        &[],
         5,
         "bar: key refused: NotInRoster\n",
         b"none",
+        0,
     ),
     (
         SMALL_SESSION,
@@ -470,9 +543,11 @@ const ENDS: [(&str, &str, bool, &[u64], &[u64], u8, &str, &[u8]); 13] = [
         false,
         &[],
         &[],
+        &[],
         8,
         "bar: input refused\n",
         b"none",
+        0,
     ),
     (
         SMALL_SESSION,
@@ -480,9 +555,11 @@ const ENDS: [(&str, &str, bool, &[u64], &[u64], u8, &str, &[u8]); 13] = [
         true,
         &[1],
         &[],
+        &[],
         3,
         FAILED,
         b"none",
+        0,
     ),
     (
         SMALL_SESSION,
@@ -490,9 +567,11 @@ const ENDS: [(&str, &str, bool, &[u64], &[u64], u8, &str, &[u8]); 13] = [
         true,
         &[2],
         &[],
+        &[],
         3,
         FAILED,
         b"none",
+        0,
     ),
     (
         SMALL_SESSION,
@@ -500,9 +579,11 @@ const ENDS: [(&str, &str, bool, &[u64], &[u64], u8, &str, &[u8]); 13] = [
         true,
         &[3],
         &[],
+        &[],
         3,
         FAILED,
         b"none",
+        0,
     ),
     (
         SMALL_SESSION,
@@ -510,20 +591,59 @@ const ENDS: [(&str, &str, bool, &[u64], &[u64], u8, &str, &[u8]); 13] = [
         true,
         &[4],
         &[],
+        &[],
         3,
         FAILED,
         b"none",
+        0,
     ),
-    (SMALL_SESSION, SMALL_KEY, true, &[5], &[], 3, FAILED, b"h"),
+    (
+        SMALL_SESSION,
+        SMALL_KEY,
+        true,
+        &[5],
+        &[],
+        &[],
+        3,
+        FAILED,
+        b"h",
+        16,
+    ),
+    (
+        SMALL_SESSION,
+        SMALL_KEY,
+        true,
+        &[],
+        &[1],
+        &[],
+        7,
+        "bar: output failed\n",
+        b"",
+        1,
+    ),
+    (
+        SMALL_SESSION,
+        SMALL_KEY,
+        true,
+        &[],
+        &[16],
+        &[],
+        7,
+        "bar: output failed\n",
+        b"",
+        16,
+    ),
     (
         "version = 2",
         SMALL_KEY,
         true,
         &[],
+        &[],
         &[1],
         4,
         "bar: session refuse",
         b"none",
+        0,
     ),
 ];
 
@@ -539,13 +659,24 @@ fn statuses_and_lines(rt: HostRuntime) -> Result<(), Fail> {
     let streams = signed_streams(alloc, SMALL_SIGNATURE)?;
     let entries = [START, Entry::Manifest, Entry::Block, END];
     let whole = recording(alloc, &streams, &entries)?;
-    for (session, key, is_whole, fail_files, fail_err, status, said, played) in ENDS {
+    for (
+        session,
+        key,
+        is_whole,
+        fail_files,
+        fail_out,
+        fail_err,
+        status,
+        said,
+        played,
+        lines,
+    ) in ENDS {
         let bytes = either(is_whole, &whole, b"BARL");
-        let left = run(alloc, session, key, bytes, fail_files, fail_err)?;
+        let left = run(alloc, session, key, bytes, fail_files, fail_out, fail_err)?;
         assert_eq!(rt; left.status, status);
         assert_eq!(rt; left.err.bytes(), said.as_bytes());
         assert_eq!(rt; left.files.get("p").unwrap_or(b"none".as_slice()), played);
-        assert_eq!(rt; left.out.bytes(), b"".as_slice());
+        assert_eq!(rt; lines_like(left.out.bytes(), b" "), lines);
         assert_eq!(rt; left.files.get("rec").unwrap_or(b"none".as_slice()), bytes);
     }
     Ok(())
@@ -555,7 +686,15 @@ fn statuses_and_lines(rt: HostRuntime) -> Result<(), Fail> {
 #[test]
 fn recordings_of_other_parties_are_refused(rt: HostRuntime) -> Result<(), Fail> {
     let recording = b"BARL\x01\x00\x11\x22\x33\x44\x55\x66\x77\x00\x01\x00";
-    let left = run(rt.alloc(), SMALL_SESSION, SMALL_KEY, recording, &[], &[])?;
+    let left = run(
+        rt.alloc(),
+        SMALL_SESSION,
+        SMALL_KEY,
+        recording,
+        &[],
+        &[],
+        &[],
+    )?;
     assert_eq!(rt; left.status, 8);
     assert_eq!(rt; left.err.bytes(), b"bar: input refused\n".as_slice());
     Ok(())

@@ -15,6 +15,5 @@ pub mod Ticks
 pub mod Machine
 pub mod Writing
 pub mod Run
-pub mod Listening
 pub mod Agreement
 pub mod Sizes

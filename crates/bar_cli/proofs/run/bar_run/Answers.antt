@@ -1,13 +1,19 @@
-use Rattle.std.proofs.Common.{◌||◌, ◌∙◌, ◌≡◌, Option, Some, IsTrue, ap, sym, subst, refl, inl, inr, arith, true≢false}
+use Rattle.std.proofs.Common.{◌||◌, ◌∙◌, ◌≡◌, Option, Some, false, IsTrue, [], sym, subst, refl, inl, inr, arith}
+use Rattle.std.specs.List.{AllByRecursion}
 use Rattle.bar_outside.specs.Plan.{outside}
 use Rattle.bar_outside.specs.Ends.{Ends, Says, is_plain}
 use Rattle.bar_outside.proofs.Ending.{Ends-ending, Ends-or_memory, said}
-use Rattle.bar_cli.specs.Line.{Line, replay, keygen, plan_of, is_status_of, usage}
-use Rattle.bar_cli.specs.Status.{may_print}
+use Rattle.bar_window.specs.declared.exchange.Exchange.{Exchange}
+use Rattle.bar_rules.specs.Peer.Run.{log_after, sends_of}
+use Rattle.bar_laws.specs.Balance.{GoesToPartner, IsEven, totals_of}
+use Rattle.bar_laws.specs.Leaves.{KeepsLeaves}
+use Rattle.bar_laws.specs.Obedience.{IsRuled}
+use Rattle.bar_cli.specs.Line.{Line, replay, keygen, plan_of, is_status_of, may_print, usage}
 use Rattle.bar_cli.specs.Views.{command_view}
+use Rattle.bar_cli.proofs.MemberLemmas.{of-its_run}
 use Rattle.bar_cli.proofs.Rows.{replayed}
 use Rattle.bar_cli.proofs.KeygenRows.{made}
-use Rattle.bar_cli.proofs.StatusLemmas.{or-memory, no-usage}
+use Rattle.bar_cli.proofs.StatusLemmas.{or-memory, no-usage, unprinted-by}
 use Rattle.bar_cli.proofs.run.bar_run.Goals as goal
 
 some-line : {a b : Line} → ◌≡◌ {A = Option Line} (Some a) (Some b) → a ≡ b
@@ -29,9 +35,6 @@ returns-clause-said g c =
     Says (plan_of line (g.F.Files.disk c.args.files.now).content) c.report-2.result (g.K.Sink.stream c.args.err.now) (g.K.Sink.stream c.report-2.new.err)) c.in-Some.ensures
     (λ either. said _ _ _ _ _ _ _ _ c.run_command-status.ensures.ends c.report-2.ensures.said
     (λ two. absurd (no-usage (command_view c.in-Some.command) _ c.run_command-status.ensures.statuses two)) c.report-2.ensures.code either)
-
-pub returns-clause-silent : goal.returns-clause-silent
-returns-clause-silent g c = λ none. c.run_command-status.ensures.silent (λ asked is. none asked (sym c.in-Some.ensures ∙ ap (λ (l : Line). Some l) is))
 
 pub returns-clause-headline : goal.returns-clause-headline
 returns-clause-headline g c = λ names is told zero.
@@ -70,7 +73,47 @@ returns-clause-leaves_refused g c = λ asked is few.
 
 pub returns-clause-unprinted : goal.returns-clause-unprinted
 returns-clause-unprinted g c = λ quiet.
-    elim c.report-2.ensures.code [
-      | inl same ↦ c.run_command-status.ensures.unprinted (ap may_print (sym same) ∙ quiet)
-      | inr seventy ↦ absurd (true≢false (sym (ap may_print seventy) ∙ quiet))
-    ]
+    unprinted-by (command_view c.in-Some.command) _ _ _ c.run_command-status.ensures.unprinted c.report-2.ensures.code
+    (subst (λ (line : Option Line). may_print line c.report-2.result ≡ false) (sym c.in-Some.ensures) quiet)
+
+pub returns-clause-signed : goal.returns-clause-signed
+returns-clause-signed g c = λ names is.
+    of-its_run c.accepted_secrets_are_held.ensures c.accepted_sessions_are_in_range.ensures IsRuled c.signed_by_rule.ensures
+    names (g.F.Files.disk c.args.files.now).content
+
+pub returns-clause-balance : goal.returns-clause-balance
+returns-clause-balance g c = λ names is.
+    of-its_run c.accepted_secrets_are_held.ensures c.accepted_sessions_are_in_range.ensures
+    (λ me inputs. (x : Exchange) → IsEven (totals_of me inputs x)) c.balanced.ensures.opened names (g.F.Files.disk c.args.files.now).content
+
+pub returns-clause-keys : goal.returns-clause-keys
+returns-clause-keys g c = λ names is.
+    of-its_run c.accepted_secrets_are_held.ensures c.accepted_sessions_are_in_range.ensures
+    (λ me inputs. AllByRecursion (GoesToPartner me) (sends_of me inputs)) c.balanced.ensures.partners
+    names (g.F.Files.disk c.args.files.now).content
+
+pub returns-clause-leaves : goal.returns-clause-leaves
+returns-clause-leaves g c = λ names is.
+    of-its_run c.accepted_secrets_are_held.ensures c.accepted_sessions_are_in_range.ensures
+    (λ me inputs. KeepsLeaves me (log_after me [] inputs)) c.leaf_discipline.ensures names (g.F.Files.disk c.args.files.now).content
+
+pub returns-in_default-clause-signed : goal.returns-in_default-clause-signed
+returns-in_default-clause-signed g c = λ names is.
+    of-its_run c.accepted_secrets_are_held.ensures c.accepted_sessions_are_in_range.ensures IsRuled c.signed_by_rule.ensures
+    names (g.F.Files.disk c.args.files.now).content
+
+pub returns-in_default-clause-balance : goal.returns-in_default-clause-balance
+returns-in_default-clause-balance g c = λ names is.
+    of-its_run c.accepted_secrets_are_held.ensures c.accepted_sessions_are_in_range.ensures
+    (λ me inputs. (x : Exchange) → IsEven (totals_of me inputs x)) c.balanced.ensures.opened names (g.F.Files.disk c.args.files.now).content
+
+pub returns-in_default-clause-keys : goal.returns-in_default-clause-keys
+returns-in_default-clause-keys g c = λ names is.
+    of-its_run c.accepted_secrets_are_held.ensures c.accepted_sessions_are_in_range.ensures
+    (λ me inputs. AllByRecursion (GoesToPartner me) (sends_of me inputs)) c.balanced.ensures.partners
+    names (g.F.Files.disk c.args.files.now).content
+
+pub returns-in_default-clause-leaves : goal.returns-in_default-clause-leaves
+returns-in_default-clause-leaves g c = λ names is.
+    of-its_run c.accepted_secrets_are_held.ensures c.accepted_sessions_are_in_range.ensures
+    (λ me inputs. KeepsLeaves me (log_after me [] inputs)) c.leaf_discipline.ensures names (g.F.Files.disk c.args.files.now).content

@@ -4,7 +4,7 @@ use Rattle.bar_cli.specs.Line.{Line, replay, keygen}
 use Rattle.bar_cli.specs.ReplayPlan.{ReplayFiles}
 use Rattle.bar_cli.specs.Status.{code_of_run}
 use Rattle.bar_cli.specs.Views.{names_view, keygen_view, command_view}
-use Rattle.bar_cli.proofs.StatusLemmas.{never-output, replay-statuses, keygen-statuses}
+use Rattle.bar_cli.proofs.StatusLemmas.{replay-statuses, keygen-statuses}
 use Rattle.bar_cli.proofs.run.run_command.Goals as goal
 
 other-line : (names : ReplayFiles) (asked : Keygen) → ◌≡◌ {A = Line} (replay names) (keygen asked) → ⊥
@@ -14,20 +14,23 @@ same-line : (a b : Keygen) → ◌≡◌ {A = Line} (keygen a) (keygen b) → a 
 same-line a b e = cc
 
 pub returns-in-Replay-clause-ends : goal.returns-in-Replay-clause-ends
-returns-in-Replay-clause-ends g c = rw (c.in-Replay.is, c.status_of.ensures.code, c.status_of.ensures.line) (c.replay.ensures.ends (g.K.Sink.stream c.args.out.now))
+returns-in-Replay-clause-ends g c = rw (c.in-Replay.is, c.status_of.ensures.code, c.status_of.ensures.line) c.replay.ensures.ends
 
 pub returns-in-Replay-clause-statuses : goal.returns-in-Replay-clause-statuses
 returns-in-Replay-clause-statuses g c =
-    rw (c.in-Replay.is, c.status_of.ensures.code) (replay-statuses (names_view c.in-Replay.names) c.replay.result c.replay.ensures.answers (never-output _ _ _ _ _ c.replay.ensures.ends))
+    rw (c.in-Replay.is, c.status_of.ensures.code) (replay-statuses (names_view c.in-Replay.names) c.replay.result c.replay.ensures.answers)
+
+pub returns-in-Replay-clause-unprinted : goal.returns-in-Replay-clause-unprinted
+returns-in-Replay-clause-unprinted g c = rw (c.in-Replay.is, c.status_of.ensures.code) c.replay.ensures.unprinted
+
+pub returns-in-Keygen-clause-unprinted : goal.returns-in-Keygen-clause-unprinted
+returns-in-Keygen-clause-unprinted g c = rw (c.in-Keygen.is, c.status_of-in-Keygen.ensures.code) c.keygen.ensures.unprinted
 
 pub returns-in-Keygen-clause-ends : goal.returns-in-Keygen-clause-ends
 returns-in-Keygen-clause-ends g c = rw (c.in-Keygen.is, c.status_of-in-Keygen.ensures.code, c.status_of-in-Keygen.ensures.line) c.keygen.ensures.ends
 
 pub returns-in-Keygen-clause-statuses : goal.returns-in-Keygen-clause-statuses
 returns-in-Keygen-clause-statuses g c = rw (c.in-Keygen.is, c.status_of-in-Keygen.ensures.code) (keygen-statuses (keygen_view c.in-Keygen.asked) c.keygen.result c.keygen.ensures.answers)
-
-pub returns-in-Keygen-clause-silent : goal.returns-in-Keygen-clause-silent
-returns-in-Keygen-clause-silent g c = λ none. absurd (none (keygen_view c.in-Keygen.asked) (ap command_view c.in-Keygen.is))
 
 pub returns-in-Replay-clause-leaves : goal.returns-in-Replay-clause-leaves
 returns-in-Replay-clause-leaves g c = λ asked is. absurd (other-line (names_view c.in-Replay.names) asked (sym (ap command_view c.in-Replay.is) ∙ is))

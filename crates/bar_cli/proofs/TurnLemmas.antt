@@ -1,0 +1,69 @@
+-- The turns of a replay and the rules of its peer: what a run leaves, and what a longer one does.
+use Rattle.std.proofs.Common.{◌≡◌, ℕ, ◌+◌, List, [], ◌∷◌, ◌++◌, Bool, true, false, refl, sym, ap, ◌∙◌, map, filter, not, length, cond, arith}
+use Rattle.std.specs.List.{concat}
+use Rattle.std.proofs.lemmas.Grind.{flat_map-append}
+use Rattle.std.proofs.lemmas.List.Elements.{filter-append}
+use Rattle.bar_wire.specs.Datagram.{Datagram}
+use Rattle.bar_wire.specs.Inputs.{Input}
+use Rattle.bar_rules.specs.Member.{Session, Member}
+use Rattle.bar_rules.specs.Runs.{played_from, sends_from}
+use Rattle.bar_rules.specs.Peer.Log.{Log}
+use Rattle.bar_rules.specs.Peer.Run.{step, log_after}
+use Rattle.bar_peer.specs.Sending.{is_report, without_reports}
+use Rattle.bar_cli.specs.Transcript.{line_of_sent, lines_of_sends, transcript}
+use Rattle.bar_cli.specs.Turns.{Turn, turn_of, turns_from, turn_actions, turns_actions, played_bytes, shown_bytes}
+
+pub turns_actions-append : (played : List ℕ) (xs ys : List Turn) →
+    turns_actions played (xs ++ ys) ≡ turns_actions played xs ++ turns_actions played ys
+turns_actions-append played xs ys = flat_map-append (turn_actions played) xs ys
+
+-- the turns of some inputs, and behind them those of more
+pub turns_from-append : (me : Member) (n : ℕ) (log : Log) (xs ys : List Input) →
+    turns_from me n log (xs ++ ys) ≡ turns_from me n log xs ++ turns_from me (n + length xs) (log_after me log xs) ys
+turns_from-append me n log [] ys = let e : n ≡ n + 0 = omega arith in ap (λ k. turns_from me k log ys) e
+turns_from-append me n log (x ∷ xs) ys =
+    let e : (n + 1) + length xs ≡ n + length (x ∷ xs) = omega arith in
+    ap (λ turns. turn_of me.session n (step me log x) ∷ turns)
+    (turns_from-append me (n + 1) (step me log x).state xs ys
+    ∙ ap (λ k. turns_from me (n + 1) (step me log x).state xs ++ turns_from me k (log_after me (step me log x).state xs) ys) e)
+
+-- the turns have what the rules play
+pub played-turns : (me : Member) (n : ℕ) (log : Log) (inputs : List Input) →
+    played_bytes (turns_from me n log inputs) ≡ played_from (step me) log inputs
+played-turns me n log [] = refl
+played-turns me n log (x ∷ xs) = ap (λ bytes. concat (step me log x).contents ++ bytes) (played-turns me (n + 1) (step me log x).state xs)
+
+-- a send of an input, with the input's number
+abbrev numbered : ℕ → ℕ × Datagram → ℕ × ℕ × Datagram
+numbered n send = (n, send.0, send.1)
+
+-- what is kept of all that is sent
+abbrev is_kept : ℕ × ℕ × Datagram → Bool
+is_kept sent = not (is_report sent.2.message.body)
+
+-- the lines of what one input sends are its transcript
+lines-shown : (s : Session) (n : ℕ) (sends : List (ℕ × Datagram)) →
+    concat (lines_of_sends s n (without_reports sends)) ≡ transcript s (filter is_kept (map (numbered n) sends))
+lines-shown s n [] = refl
+lines-shown s n (x ∷ xs) =
+    by_test (not (is_report x.1.message.body)) (without_reports xs) (filter is_kept (map (numbered n) xs)) (lines-shown s n xs)
+  where
+    by_test : (b : Bool) (kept : List (ℕ × Datagram)) (sent : List (ℕ × ℕ × Datagram)) →
+        concat (lines_of_sends s n kept) ≡ transcript s sent →
+        concat (lines_of_sends s n (cond b (x ∷ kept) kept)) ≡ transcript s (cond b (numbered n x ∷ sent) sent)
+    by_test true kept sent e = ap (λ bytes. line_of_sent s (numbered n x) ++ bytes) e
+    by_test false kept sent e = e
+
+-- the turns show the transcript of what the rules send
+pub shown-turns_from : (me : Member) (n : ℕ) (log : Log) (inputs : List Input) →
+    shown_bytes (turns_from me n log inputs)
+    ≡ transcript me.session (filter (λ sent. not (is_report sent.2.message.body)) (sends_from (step me) log n inputs))
+shown-turns_from me n log [] = refl
+shown-turns_from me n log (x ∷ xs) =
+    let sends : List (ℕ × Datagram) = (step me log x).sends in
+    let others : List (ℕ × ℕ × Datagram) = sends_from (step me) (step me log x).state (n + 1) xs in
+    ap (λ bytes. bytes ++ shown_bytes (turns_from me (n + 1) (step me log x).state xs)) (lines-shown me.session n sends)
+    ∙ ap (λ bytes. transcript me.session (filter is_kept (map (numbered n) sends)) ++ bytes)
+    (shown-turns_from me (n + 1) (step me log x).state xs)
+    ∙ sym (flat_map-append (line_of_sent me.session) (filter is_kept (map (numbered n) sends)) (filter is_kept others))
+    ∙ ap (transcript me.session) (sym (filter-append is_kept (map (numbered n) sends) others))

@@ -1,0 +1,317 @@
+-- What a part of the turns of a replay leaves.
+use Rattle.std.proofs.Common.{Option, ◌≡◌, ◌⊎◌, ◌≤◌, ℕ, ◌+◌, List, [], ◌∷◌, ◌++◌, Some, refl, sym, ap, ◌∙◌, map, length, take, append-nil, append_assoc, inl, inr, subst, min, arith}
+use Rattle.std.proofs.lemmas.List.{take-append-le, take_min}
+use Rattle.std.proofs.lemmas.Grind.{flat_map-append}
+use Rattle.std.proofs.Math.Seq.{take-append-add, take-length}
+use Rattle.std.specs.List.{concat}
+use Rattle.bar_outside.specs.Disk.{Content, appended, created}
+use Rattle.bar_outside.specs.Plan.{Action, Begun, IsFilesNext, IsPartOf, IsShowNext, content_after, shown}
+use Rattle.bar_outside.specs.Plan.Action.{read, create, append, show}
+use Rattle.bar_outside.proofs.Contents.{put_at-same, appended-same}
+use Rattle.bar_outside.proofs.ActionLists.{content_after-append, shown-append, nil-cons, Begun-none, no-next, part-create}
+use Rattle.bar_cli.specs.Turns.{Turn, turn_actions, turns_actions, played_bytes, shown_bytes}
+use Rattle.bar_cli.specs.ReplayPlan.{ReplayFiles, replay_actions}
+use Rattle.bar_cli.proofs.BegunLemmas.{Begun-first, Begun-both, files-next, show-next, IsQuietAt, quiet-none, behind-read}
+use Rattle.bar_cli.proofs.ReplayLemmas.{appends-played, turn-played, shown-appends, shown-turn}
+
+-- a front of what is there is a front of more
+take-more : (k : ℕ) (xs ys : List ℕ) → take (min k (length xs)) (xs ++ ys) ≡ take k xs
+take-more k xs ys = let h : min k (length xs) ≤ length xs = omega arith in rw (take-append-le (min k (length xs)) xs ys h) (take_min k xs)
+
+-- ---- contents alone, and lines alone
+
+-- what was done in part appends and prints nothing
+part-append : (part : Action) (played x held : List ℕ) (content : Content) → content played ≡ Some held → IsPartOf part (append played x) →
+    (k : ℕ) × (content_after (part ∷ []) content played ≡ Some (held ++ take k x)) × (shown (part ∷ []) ≡ [])
+part-append (append path bytes) played x held content there h =
+    (h.1.0, rw (h.0, h.1.1) (appended-same content played (take h.1.0 x) held there), refl)
+part-append (read path) played x held content there h = absurd h
+part-append (create path) played x held content there h = absurd h
+part-append (show bytes) played x held content there h = absurd h
+
+begun-appends : (played held : List ℕ) (contents : List (List ℕ)) (content : Content) (done : List Action) → content played ≡ Some held →
+    Begun (map (append played) contents) done →
+    (k : ℕ) × (content_after done content played ≡ Some (held ++ take k (concat contents))) × (shown done ≡ [])
+begun-appends played held [] content done there b =
+    let e = Begun-none done b in
+    (0, ap (λ xs. content_after xs content played) e ∙ there ∙ ap Some (sym (append-nil held)), ap shown e)
+begun-appends played held (x ∷ xs) content done there b =
+    elim (Begun-first (append played x) (map (append played) xs) done b) [
+      | inl e ↦ (0, ap (λ xs. content_after xs content played) e.0 ∙ there ∙ ap Some (sym (append-nil held)), ap shown e.0)
+      | inr two ↦ elim two [
+        | inl part ↦
+            let p = part-append part.0 played x held content there part.2 in (
+              min p.0 (length x),
+              ap (λ xs. content_after xs content played) part.1 ∙ p.1
+                  ∙ ap (λ bytes. Some (held ++ bytes)) (sym (take-more p.0 x (concat xs))),
+              ap shown part.1 ∙ p.2,
+            )
+        | inr more ↦
+            let there_too = appended-same content played x held there in
+            let p = begun-appends played (held ++ x) xs (appended content played x) more.0 there_too more.2 in (
+              length x + p.0,
+              ap (λ xs. content_after xs content played) more.1 ∙ p.1
+                  ∙ ap Some (append_assoc held x (take p.0 (concat xs))
+                  ∙ ap (λ bytes. held ++ bytes) (sym (take-append-add x (concat xs) p.0))),
+              ap shown more.1 ∙ p.2,
+            )
+      ]
+    ]
+
+part-show : (part : Action) (x : List ℕ) → IsPartOf part (show x) →
+    (k : ℕ) × (shown (part ∷ []) ≡ take k x) × ((c : Content) → content_after (part ∷ []) c ≡ c)
+part-show (show bytes) x h = (h.0, append-nil bytes ∙ h.1, λ c. refl)
+part-show (read path) x h = absurd h
+part-show (create path) x h = absurd h
+part-show (append path bytes) x h = absurd h
+
+begun-shows : (lines : List (List ℕ)) (done : List Action) → Begun (map show lines) done →
+    (k : ℕ) × (shown done ≡ take k (concat lines)) × ((c : Content) → content_after done c ≡ c)
+begun-shows [] done b = let e = Begun-none done b in (0, ap shown e, λ c. ap (λ xs. content_after xs c) e)
+begun-shows (x ∷ xs) done b =
+    elim (Begun-first (show x) (map show xs) done b) [
+      | inl e ↦ (0, ap shown e.0, λ c. ap (λ xs. content_after xs c) e.0)
+      | inr two ↦ elim two [
+        | inl part ↦
+            let p = part-show part.0 x part.2 in (
+              min p.0 (length x),
+              ap shown part.1 ∙ p.1 ∙ sym (take-more p.0 x (concat xs)),
+              λ c. ap (λ xs. content_after xs c) part.1 ∙ p.2 c,
+            )
+        | inr more ↦
+            let p = begun-shows xs more.0 more.2 in (
+              length x + p.0,
+              ap shown more.1 ∙ ap (λ bytes. x ++ bytes) p.1 ∙ sym (take-append-add x (concat xs) p.0),
+              λ c. ap (λ xs. content_after xs c) more.1 ∙ p.2 c,
+            )
+      ]
+    ]
+
+-- among contents no action prints, and among lines none is of the files
+no-show : (played : List ℕ) (contents : List (List ℕ)) (front rest : List Action) →
+    map (append played) contents ≡ front ++ rest → IsShowNext rest → ⊥
+no-show played [] [] rest p h = subst IsShowNext (sym p) h
+no-show played (x ∷ xs) [] rest p h = subst IsShowNext (sym p) h
+no-show played [] (f ∷ fs) rest p h = nil-cons f (fs ++ rest) p
+no-show played (x ∷ xs) (f ∷ fs) rest p h = let q : map (append played) xs ≡ fs ++ rest = cc in no-show played xs fs rest q h
+
+no-file : (lines : List (List ℕ)) (front rest : List Action) → map show lines ≡ front ++ rest → IsFilesNext rest → ⊥
+no-file [] [] rest p h = subst IsFilesNext (sym p) h
+no-file (x ∷ xs) [] rest p h = subst IsFilesNext (sym p) h
+no-file [] (f ∷ fs) rest p h = nil-cons f (fs ++ rest) p
+no-file (x ∷ xs) (f ∷ fs) rest p h = let q : map show xs ≡ fs ++ rest = cc in no-file xs fs rest q h
+
+-- ---- turns
+
+-- A file has what earlier turns play behind what was held, and a front of what this one plays; what was printed is what earlier turns show,
+-- and a front of what this one shows. What is next tells which of this turn's is whole, or was not begun.
+pub record IsUpTo (turns : List Turn) (held : List ℕ) (file : Option (List ℕ)) (bytes : List ℕ) (next : List Action) : Type 0 where
+  pub earlier : List Turn
+  pub this : Turn
+  pub later : List Turn
+  pub played_count : ℕ
+  pub shown_count : ℕ
+  pub is : turns ≡ earlier ++ this ∷ later
+  pub played : file ≡ Some (held ++ (played_bytes earlier ++ take played_count (concat this.contents)))
+  pub printed : bytes ≡ shown_bytes earlier ++ take shown_count (concat this.lines)
+  pub order : (shown_count ≡ 0) ⊎ (take played_count (concat this.contents) ≡ concat this.contents)
+  pub at_file : IsFilesNext next → shown_count ≡ 0
+  pub at_output : IsShowNext next → take played_count (concat this.contents) ≡ concat this.contents
+
+-- some of a turn was done, and its next action is there
+in-turn : (played held : List ℕ) (t : Turn) (later : List Turn) (content : Content) (done : List Action) → content played ≡ Some held →
+    (first : Action) (others more : List Action) (m : Begun (turn_actions played t) done) → m.rest ≡ first ∷ others →
+    IsUpTo (t ∷ later) held (content_after done content played) (shown done) (first ∷ more)
+in-turn played held t later content done there first others more m is =
+    elim (Begun-both (map (append played) t.contents) (map show t.lines) done m) [
+      | inl a ↦
+          let p = begun-appends played held t.contents content done there a.2 in
+          record {
+            earlier = [];
+            this = t;
+            later = later;
+            played_count = p.0;
+            shown_count = 0;
+            is = refl;
+            played = p.1;
+            printed = p.2;
+            order = inl refl;
+            at_file = λ h. refl;
+            at_output = λ h. absurd (no-show played t.contents a.2.front a.2.rest a.2.plan_is
+                (subst IsShowNext (sym a.3) (show-next a.0 (a.1 ++ map show t.lines) a.1
+                (subst IsShowNext (sym is ∙ a.4) (show-next first more others h)))));
+          }
+      | inr a ↦
+          let s = begun-shows t.lines a.0 a.2 in
+          let whole : take (length (concat t.contents)) (concat t.contents) ≡ concat t.contents = take-length (concat t.contents) in
+          record {
+            earlier = [];
+            this = t;
+            later = later;
+            played_count = length (concat t.contents);
+            shown_count = s.0;
+            is = refl;
+            played = ap (λ xs. content_after xs content played) a.1
+                ∙ ap (λ (c : Content). c played)
+                (content_after-append (map (append played) t.contents) a.0 content
+                ∙ s.2 (content_after (map (append played) t.contents) content))
+                ∙ appends-played played held t.contents content there
+                ∙ ap (λ bytes. Some (held ++ bytes)) (sym whole);
+            printed = ap shown a.1
+                ∙ shown-append (map (append played) t.contents) a.0
+                ∙ ap (λ bytes. bytes ++ shown a.0) (shown-appends played t.contents)
+                ∙ s.1;
+            order = inr whole;
+            at_file = λ h. absurd (no-file t.lines a.2.front a.2.rest a.2.plan_is
+                (subst IsFilesNext (sym (a.3 ∙ is)) (files-next first more others h)));
+            at_output = λ h. whole;
+          }
+    ]
+
+one-more : (held x rest front : List ℕ) → (held ++ x) ++ (rest ++ front) ≡ held ++ ((x ++ rest) ++ front)
+one-more held x rest front = append_assoc held x (rest ++ front) ∙ ap (λ bytes. held ++ bytes) (sym (append_assoc x rest front))
+
+-- nothing was to be done, or so far it was done
+abbrev AreUpTo : List Turn → List ℕ → Option (List ℕ) → List Action → List Action → Type 0
+AreUpTo turns held file done next = ((turns ≡ []) × (done ≡ []) × (next ≡ [])) ⊎ IsUpTo turns held file (shown done) next
+
+-- a turn was done, and some of those behind it
+behind-turn : (played held : List ℕ) (t : Turn) (ts : List Turn) (content : Content) (done more next : List Action) →
+    content played ≡ Some held → done ≡ turn_actions played t ++ more →
+    AreUpTo ts (held ++ concat t.contents) (content_after more (content_after (turn_actions played t) content) played) more next →
+    IsUpTo (t ∷ ts) held (content_after done content played) (shown done) next
+behind-turn played held t ts content done more next there is (inl e) =
+    let all : done ≡ turn_actions played t = is ∙ ap (λ xs. turn_actions played t ++ xs) e.1 ∙ append-nil (turn_actions played t) in
+    let whole : take (length (concat t.contents)) (concat t.contents) ≡ concat t.contents = take-length (concat t.contents) in
+    record {
+      earlier = [];
+      this = t;
+      later = ts;
+      played_count = length (concat t.contents);
+      shown_count = length (concat t.lines);
+      is = refl;
+      played = ap (λ xs. content_after xs content played) all ∙ turn-played played held t content there
+          ∙ ap (λ bytes. Some (held ++ bytes)) (sym whole);
+      printed = ap shown all ∙ shown-turn played t ∙ sym (take-length (concat t.lines));
+      order = inr whole;
+      at_file = λ h. absurd (subst IsFilesNext e.2 h);
+      at_output = λ h. whole;
+    }
+behind-turn played held t ts content done more next there is (inr u) = record {
+  earlier = t ∷ u.earlier;
+  this = u.this;
+  later = u.later;
+  played_count = u.played_count;
+  shown_count = u.shown_count;
+  is = ap (λ turns. t ∷ turns) u.is;
+  played = ap (λ xs. content_after xs content played) is
+      ∙ ap (λ (c : Content). c played) (content_after-append (turn_actions played t) more content)
+      ∙ u.played
+      ∙ ap Some (one-more held (concat t.contents) (played_bytes u.earlier) (take u.played_count (concat u.this.contents)));
+  printed = ap shown is
+      ∙ shown-append (turn_actions played t) more
+      ∙ ap (λ bytes. bytes ++ shown more) (shown-turn played t)
+      ∙ ap (λ bytes. concat t.lines ++ bytes) u.printed
+      ∙ sym (append_assoc (concat t.lines) (shown_bytes u.earlier) (take u.shown_count (concat u.this.lines)));
+  order = u.order;
+  at_file = u.at_file;
+  at_output = u.at_output;
+}
+
+-- what was done of all turns
+pub up-to : (played held : List ℕ) (turns : List Turn) (content : Content) (done : List Action) → content played ≡ Some held →
+    (b : Begun (turns_actions played turns) done) → AreUpTo turns held (content_after done content played) done b.rest
+up-to played held [] content done there b = inl (refl, Begun-none done b, no-next done b)
+up-to played held (t ∷ ts) content done there b =
+    elim (Begun-both (turn_actions played t) (turns_actions played ts) done b) [
+      | inl m ↦
+          inr (subst (λ next. IsUpTo (t ∷ ts) held (content_after done content played) (shown done) next) (sym m.4)
+          (in-turn played held t ts content done there m.0 m.1 (m.1 ++ turns_actions played ts) m.2 m.3))
+      | inr m ↦
+          let behind = up-to played (held ++ concat t.contents) ts (content_after (turn_actions played t) content) m.0
+          (turn-played played held t content there) m.2 in
+          inr (subst (λ next. IsUpTo (t ∷ ts) held (content_after done content played) (shown done) next) m.3
+          (behind-turn played held t ts content done m.0 m.2.rest there m.1 behind))
+    ]
+
+-- bytes and a front of more are a front of all
+front-of : (before this later : List ℕ) (k : ℕ) →
+    before ++ take k this ≡ take (length before + min k (length this)) (before ++ (this ++ later))
+front-of before this later k =
+    sym (take-append-add before (this ++ later) (min k (length this)) ∙ ap (λ bytes. before ++ bytes) (take-more k this later))
+
+-- what earlier turns play and a front of what one more plays is a front of what all play, and so it is of what they show
+pub front-played : (turns earlier : List Turn) (this : Turn) (later : List Turn) (count : ℕ) → turns ≡ earlier ++ this ∷ later →
+    (k : ℕ) × (played_bytes earlier ++ take count (concat this.contents) ≡ take k (played_bytes turns))
+front-played turns earlier this later count is =
+    let all : played_bytes turns ≡ played_bytes earlier ++ (concat this.contents ++ played_bytes later) =
+    ap played_bytes is ∙ flat_map-append (λ (turn : Turn). concat turn.contents) earlier (this ∷ later) in
+    let k : ℕ = length (played_bytes earlier) + min count (length (concat this.contents)) in
+    (k, front-of (played_bytes earlier) (concat this.contents) (played_bytes later) count ∙ ap (take k) (sym all))
+
+pub front-shown : (turns earlier : List Turn) (this : Turn) (later : List Turn) (count : ℕ) → turns ≡ earlier ++ this ∷ later →
+    (k : ℕ) × (shown_bytes earlier ++ take count (concat this.lines) ≡ take k (shown_bytes turns))
+front-shown turns earlier this later count is =
+    let all : shown_bytes turns ≡ shown_bytes earlier ++ (concat this.lines ++ shown_bytes later) =
+    ap shown_bytes is ∙ flat_map-append (λ (turn : Turn). concat turn.lines) earlier (this ∷ later) in
+    let k : ℕ = length (shown_bytes earlier) + min count (length (concat this.lines)) in
+    (k, front-of (shown_bytes earlier) (concat this.lines) (shown_bytes later) count ∙ ap (take k) (sym all))
+
+-- ---- a replay
+
+-- a file was made and is empty, nothing was printed, and the next action doesn't print
+pub record IsMadeAt (file : Option (List ℕ)) (bytes : List ℕ) (next : List Action) : Type 0 where
+  pub made : file ≡ Some []
+  pub out : bytes ≡ []
+  pub silent : IsShowNext next → ⊥
+
+-- nothing was done, or the played file was made, or the turns were done so far
+unfoldable pub IsStopped : ReplayFiles → List Turn → Content → Content → List ℕ → List Action → Type 0
+IsStopped names turns content c bytes next =
+    IsQuietAt content c bytes next ⊎ (IsMadeAt (c names.played) bytes next ⊎ IsUpTo turns [] (c names.played) bytes next)
+
+made-one : (played : List ℕ) (content : Content) (done next : List Action) → done ≡ create played ∷ [] → (IsShowNext next → ⊥) →
+    IsMadeAt (content_after done content played) (shown done) next
+made-one played content done next e none = record {
+  made = ap (λ xs. content_after xs content played) e ∙ put_at-same content played [];
+  out = ap shown e;
+  silent = none;
+}
+
+stopped-played : (names : ReplayFiles) (turns : List Turn) (content : Content) (done : List Action)
+    (b : Begun (replay_actions names turns) done) →
+    IsStopped names turns content (content_after done content) (shown done) b.rest
+unfolding IsStopped
+stopped-played names turns content done b =
+    elim (Begun-first (create names.played) (turns_actions names.played turns) done b) [
+      | inl e ↦ inl (quiet-none content done b.rest e.0 (λ h. subst IsShowNext e.1 h))
+      | inr two ↦ elim two [
+        | inl part ↦
+            inr (inl (made-one names.played content done b.rest (part.1 ∙ ap (λ a. a ∷ []) (part-create part.0 names.played part.2))
+            (λ h. subst IsShowNext part.3 h)))
+        | inr m ↦ elim (up-to names.played [] turns (created content names.played) m.0 (put_at-same content names.played []) m.2) [
+          | inl e ↦
+              inr (inl (made-one names.played content done b.rest (m.1 ∙ ap (λ xs. create names.played ∷ xs) e.1)
+              (λ h. subst IsShowNext (sym m.3 ∙ e.2) h)))
+          | inr u ↦
+              inr (inr (subst (λ xs. IsUpTo turns [] (content_after xs content names.played) (shown xs) b.rest) (sym m.1)
+              (subst (λ next. IsUpTo turns [] (content_after m.0 (created content names.played) names.played) (shown m.0) next) m.3 u)))
+        ]
+      ]
+    ]
+
+-- what was done of a replay whose files are all accepted
+pub stopped-run : (names : ReplayFiles) (turns : List Turn) (content : Content) (done : List Action)
+    (b : Begun (read names.session ∷ read names.key ∷ read names.recording ∷ replay_actions names turns) done) →
+    IsStopped names turns content (content_after done content) (shown done) b.rest
+unfolding IsStopped
+stopped-run names turns content done b =
+    let none : (next : List Action) → (IsShowNext next → ⊥) → IsStopped names turns content content [] next =
+    λ next h. inl (quiet-none content [] next refl h) in
+    behind-read names.session (read names.key ∷ read names.recording ∷ replay_actions names turns) done content
+    (IsStopped names turns content)
+    (none _ (λ h. h)) (λ one in_one.
+    behind-read names.key (read names.recording ∷ replay_actions names turns) one content (IsStopped names turns content)
+    (none _ (λ h. h)) (λ two in_two.
+    behind-read names.recording (replay_actions names turns) two content (IsStopped names turns content)
+    (none _ (λ h. h)) (λ three in_three. stopped-played names turns content three in_three) in_two) in_one) b

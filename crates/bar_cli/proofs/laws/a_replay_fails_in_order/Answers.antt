@@ -1,5 +1,0 @@
-use Rattle.bar_cli.proofs.Rows.{stopped-replay}
-use Rattle.bar_cli.proofs.laws.a_replay_fails_in_order.Goals as goal
-
-pub returns : goal.returns
-returns c = stopped-replay
