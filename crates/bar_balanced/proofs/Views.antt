@@ -17,7 +17,7 @@ use Rattle.bar_rules.specs.Peer.Admission.{is_row_met}
 use Rattle.bar_rules.specs.Peer.Knowledge.{Knowledge}
 use Rattle.bar_balanced.specs.Balanced.{is_balanced_row_met}
 use Rattle.bar_balanced.specs.Parts.{is_balanced, part_by, place_by}
-use Rattle.bar_exchange.specs.declared.place.Place.{Place}
+use Rattle.bar_wire.specs.declared.place.Place.{Place}
 
 pub row_of : (me : Member) (k : Knowledge) (from to : ℕ) (a b : Body) (r : Bool) → a ≡ b → is_balanced b ≡ true → r ≡ is_row_met me k from to b
     → r ≡ is_balanced_row_met me k from to a

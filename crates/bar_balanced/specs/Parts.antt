@@ -5,7 +5,7 @@ use Rattle.bar_window.specs.declared.exchange.Role.TheVariants.{Initiator, Respo
 use Rattle.bar_window.specs.declared.exchange.XKind.{XKind}
 use Rattle.bar_window.specs.declared.exchange.XKind.TheVariants.{Balanced, Push}
 use Rattle.bar_wire.specs.Datagram.{Body, Request, Response, Divulge, Case, KeyReq, Key, exchange_by}
-use Rattle.bar_exchange.specs.declared.place.Place.{Place}
+use Rattle.bar_wire.specs.declared.place.Place.{Place}
 
 -- a round and a side, where the exchange is a balanced one
 abbrev pub part_by : ℕ → XKind → Role → Option (ℕ × Role)

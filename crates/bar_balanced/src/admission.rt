@@ -12,11 +12,11 @@ use crate::divulge::admits_divulge;
 use crate::place::place_of;
 use crate::rows::admits_response;
 use bar_bytes::Steps;
-use bar_exchange::{Counts, Place, admits_case, admits_key, admits_key_request};
+use bar_exchange::{Counts, admits_case, admits_key, admits_key_request};
 use bar_ledger::Ledger;
 use bar_roster::Session;
 use bar_store::Store;
-use bar_wire::{Body, View};
+use bar_wire::{Body, Place, View};
 use std::sync::ledger::Ledger as StepLedger;
 
 /// Whether a datagram of a balanced exchange meets the row of its kind in this round. It counts the steps along the seeds of a REQUEST.

@@ -4,9 +4,8 @@ ghost use Rattle.bar_wire.specs.Views.{plain};
 ghost use Rattle.bar_wire.specs.Places.{kind_from, role_from};
 ghost use Rattle.bar_balanced.specs.Parts.{part_by, part_in, place_in};
 
-use bar_exchange::{Place, exchange_by};
 use bar_window::{Role, XKind};
-use bar_wire::{Body, View, role_from};
+use bar_wire::{Body, Place, View, exchange_by, role_from};
 
 /// A round and the side of a code, where the other code is that of balanced exchanges.
 fn part_by(round: u32, xkind: u8, role: u8) -> Option<(u32, Role)>

@@ -2,6 +2,5 @@ pub mod Says
 pub mod Keeping
 pub mod Parts
 pub mod Counts
-pub mod Places
 pub mod Writing
 pub mod Answering

@@ -3,7 +3,6 @@ ghost use Rattle.std.specs.Prelude.{◌≡◌, ◌+◌, ◌≤◌, ◌==◌, ◌
 ghost use Rattle.bar_wire.specs.Grammar.{IsPeer};
 ghost use Rattle.bar_wire.specs.Limits.{seats_a_round};
 ghost use Rattle.bar_rules.specs.Member.{Member};
-ghost use Rattle.bar_rules.specs.Secrets.{is_seed, partner_of};
 ghost use Rattle.bar_rules.specs.Peer.Admission.{may_ask};
 ghost use Rattle.bar_rules.specs.Peer.Knowledge.{Knowledge, this_round};
 ghost use Rattle.bar_ledger.specs.Memory.{asked_in};
@@ -13,7 +12,6 @@ use crate::recall::{REQUEST_DEADLINE, is_within};
 use bar_bytes::Steps;
 use bar_ledger::Ledger;
 use bar_roster::Session;
-use bar_seeds::{partner, seed_ok};
 use bar_window::XKind;
 use std::sync::ledger::Ledger as StepLedger;
 
@@ -22,37 +20,6 @@ fn is_peer(session: &Session, party: u16) -> bool
     ensures { IsTrue result ↔ IsPeer session.now.shape party }
 {
     party >= 1 && party <= session.shape().peers
-}
-
-/// Whether a peer's seed chooses this peer for an exchange of a kind.
-fn chooses(session: &Session, kind: XKind, from: u16, seed: &[u8; 32], me: u16) -> bool
-    requires { IsPeer session.now.shape from }
-    ensures { result ≡ (partner_of session.now seed.now kind from == me) }
-{
-    let shape = session.shape();
-    partner(&shape.id, seed, kind, from, shape.peers) == me
-}
-
-/// Whether it is a peer's seed of a round. It counts a step for each round.
-fn is_seed<L: StepLedger>(
-    session: &Session,
-    from: u16,
-    round: u32,
-    seed: &[u8; 32],
-    steps: &mut Steps<L>,
-) -> bool
-    requires { IsPeer session.now.shape from }
-    ensures exact { result ≡ is_seed session.now from round seed.now }
-    ensures cost { steps.new ≡ steps.old + round }
-{
-    seed_ok(
-        &session.shape().id,
-        session.anchor(from),
-        from,
-        round,
-        seed,
-        steps,
-    )
 }
 
 /// Whether fewer requests of the round and kind were admitted than there are seats.
@@ -89,8 +56,8 @@ pub fn may_ask<L: StepLedger>(
     if !has_seat(ledger, kind, r) {
         return false;
     }
-    if !chooses(session, kind, from, seed, ledger.me()) {
+    if session.partner_of(from, seed, kind) != ledger.me() {
         return false;
     }
-    is_seed(session, from, r, seed, steps)
+    session.is_seed(from, r, seed, steps)
 }

@@ -8,7 +8,6 @@ mod counts;
 mod keep;
 mod known;
 mod marked;
-mod place;
 mod recall;
 mod reply;
 mod rows;
@@ -29,7 +28,6 @@ pub use counts::Counts;
 pub use keep::{keep_later, keep_part, keep_request};
 pub use known::{kept_terms, knows_answer, knows_commit, knows_offer};
 pub use marked::has_said;
-pub use place::{Place, exchange_by, place_of};
 pub use recall::{
     ANSWER_DEADLINE, REQUEST_DEADLINE, has_asked, has_heard, has_said_case, heard_from, is_within,
     side,
@@ -39,7 +37,7 @@ pub use rows::{admits_key, admits_key_request, has_digests};
 pub use say::Say;
 pub use saying::{answer, ask, say_case, say_key};
 pub use says::Says;
-pub use sealing::{junk_count, update_count, write_case};
+pub use sealing::write_case;
 pub use seed::seed_of;
 pub use sources::Sources;
 pub use tick::{lacks_case, lacks_key};

@@ -2,7 +2,6 @@
 ghost use Rattle.std.specs.Prelude.{◌≡◌, ◌≤◌, ◌↔◌, IsTrue, IfSome, true, length, option_map};
 ghost use Rattle.std.specs.List.{All};
 ghost use Rattle.bar_window.specs.Terms.{plain_terms};
-ghost use Rattle.bar_terms.specs.Terms.{can_promise as both_promise, promised_junk, promised_updates};
 ghost use Rattle.bar_terms.specs.Windows.{AreAligned, AreWindowsOf};
 ghost use Rattle.bar_wire.specs.Limits.{largest_datagram};
 ghost use Rattle.bar_wire.specs.declared.kind.Kind.TheVariants as kinds;
@@ -21,7 +20,7 @@ use crate::sources::Sources;
 use crate::writing::write_message;
 use bar_case::seal;
 use bar_store::Store;
-use bar_terms::{Item, can_promise, promise};
+use bar_terms::{Item, can_promise, junk_count, promise, update_count};
 use bar_window::{Exchange, Role, Terms};
 use bar_wire::Body;
 
@@ -70,26 +69,6 @@ fn can_seal(store: &Store, terms: &Terms, role: Role, cap: u8) -> bool
     }
     let promise = promise(terms, role, cap);
     are_held(store, &promise.items[..usize::from(promise.len)])
-}
-
-/// How many pieces of junk a side promises.
-pub fn junk_count(terms: &Terms, role: Role) -> u8
-    ensures { result ≡ promised_junk (plain_terms terms.now) role }
-{
-    match (terms, role) {
-        (Terms::Push { junk, .. }, Role::Responder) => *junk,
-        _ => 0,
-    }
-}
-
-/// How many updates a side promises.
-pub fn update_count(terms: &Terms, role: Role, cap: u8) -> u8
-    requires windows { AreAligned terms.now }
-    requires valid { both_promise cap (plain_terms terms.now) ≡ true }
-    requires cap { cap ≤ 16 }
-    ensures { result ≡ length (promised_updates cap (plain_terms terms.now) role) }
-{
-    promise(terms, role, cap).len - junk_count(terms, role)
 }
 
 /// Writes the message of a CASE, with the blocks that are held now, and answers its length; or answers `None` where the terms aren't

@@ -10,7 +10,7 @@ use Rattle.bar_rules.specs.Member.{Member}
 use Rattle.bar_rules.specs.Peer.Knowledge.{Knowledge}
 use Rattle.bar_rules.specs.Peer.Orders.{Order}
 use Rattle.bar_rules.specs.Peer.Replies.{orders_for}
-use Rattle.bar_exchange.specs.declared.place.Place.{Place as CodePlace}
+use Rattle.bar_wire.specs.declared.place.Place.{Place as CodePlace}
 use Rattle.bar_balanced.specs.Parts.{is_balanced}
 use Rattle.bar_balanced.specs.Parts as balanced
 use Rattle.bar_push.specs.Parts.{is_push}

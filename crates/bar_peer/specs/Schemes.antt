@@ -1,13 +1,8 @@
--- The scheme that signs for a peer, and tells whose signatures are accepted.
-use Rattle.std.specs.Prelude.{◌≡◌, ℕ, ◌^◌, List, Bool}
-use Rattle.bar_lms.specs.Acceptance.{is_accepted_under}
+-- The scheme that signs for a peer.
+use Rattle.std.specs.Prelude.{◌≡◌, ℕ, ◌^◌, List}
 use Rattle.bar_lms.specs.Params.{levels}
-use Rattle.bar_rules.specs.Member.{Session, Member}
+use Rattle.bar_rules.specs.Member.{Member}
 use Rattle.bar_rules.specs.Secrets.{signature_of}
-
--- it accepts what the session's scheme accepts: key, message and signature
-abbrev pub IsVerifierOf : Session → (List ℕ → List ℕ → List ℕ → Bool) → Type 0
-IsVerifierOf s accepts = (key message sig : List ℕ) → accepts key message sig ≡ is_accepted_under s.params key message sig
 
 -- It signs as this member does, with as many leaves and as long signatures as the session's scheme has.
 pub record IsSignerOf (me : Member) (signed : ℕ → List ℕ → List ℕ) (leaves signature_len : ℕ) : Type 0 where

@@ -4,9 +4,9 @@ ghost use Rattle.bar_wire.specs.Views.{datagram, plain, IsView};
 ghost use Rattle.bar_rules.specs.Member.{is_alive, round_after};
 ghost use Rattle.bar_rules.specs.Peer.Admission.{is_for, is_row_met, is_admitted, has_valid_signature};
 ghost use Rattle.bar_rules.specs.Peer.Knowledge.{Knowledge};
+ghost use Rattle.bar_rules.specs.Verifiers.{IsVerifierOf};
 ghost use Rattle.bar_balanced.specs.Balanced.{AreSpelled};
 ghost use Rattle.bar_peer.specs.Memory.{member_of, IsMemoryOf};
-ghost use Rattle.bar_peer.specs.Schemes.{IsVerifierOf};
 ghost use Rattle.bar_peer.specs.Repeats.{is_of_exchange};
 
 use crate::memory::Memory;

@@ -8,9 +8,9 @@ ghost use Rattle.bar_peer.specs.Memory.{member_of, IsMemoryOf};
 ghost use Rattle.bar_peer.specs.Repeats.{IsInTime};
 
 use crate::memory::Memory;
-use bar_exchange::{Says, place_of};
+use bar_exchange::Says;
 use bar_window::XKind;
-use bar_wire::View;
+use bar_wire::{View, place_of};
 
 /// What is said for a datagram that is admitted now or comes again.
 pub fn says_to(memory: &Memory, view: &View<'_>, is_new: bool) -> Says

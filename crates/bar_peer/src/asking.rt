@@ -6,9 +6,9 @@ ghost use Rattle.bar_peer.specs.Ticking.{AsksPartner, AsksPartners};
 use crate::memory::Memory;
 use crate::orders::Orders;
 use crate::saying::request;
-use bar_exchange::exchange_by;
 use bar_seeds::partner;
 use bar_window::{Role, XKind};
+use bar_wire::exchange_by;
 
 /// Asks the partner of this round, one of the session, for an exchange of a kind, where the partner isn't announced evicted.
 fn ask_partner(memory: &mut Memory, orders: &mut Orders, kind: XKind)

@@ -12,12 +12,11 @@ ghost use Rattle.bar_peer.specs.Memory.{member_of, HasOtherLedger, IsMemoryOf, T
 ghost use Rattle.bar_peer.specs.Hearing.{RecallsHeard};
 
 use crate::memory::Memory;
-use bar_exchange::place_of;
 use bar_laws::knowing::knowledge_is_enough;
 use bar_laws::memories::logs_are_sound;
 use bar_laws::rooms::{datagrams_fit_their_rooms, exchanges_are_few};
 use bar_window::{UpdateId, XKind};
-use bar_wire::{Body, View};
+use bar_wire::{Body, View, place_of};
 
 impl Memory {
     /// Keeps the digests of a manifest, and its datagram.

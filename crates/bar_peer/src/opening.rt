@@ -23,11 +23,11 @@ ghost use Rattle.bar_peer.specs.Opening.{block_in_item, block_in_items, items_in
 use crate::memory::Memory;
 use bar_case::laws::good_openings_have_their_digests;
 use bar_case::{Opening, unseal};
-use bar_exchange::{Place, heard_from, is_within, junk_count, place_of, update_count};
+use bar_exchange::{heard_from, is_within};
 use bar_store::Store;
-use bar_terms::{Item, Promise, can_promise, promise};
+use bar_terms::{Item, Promise, can_promise, junk_count, promise, update_count};
 use bar_window::Exchange;
-use bar_wire::{Body, Kind, View, decode, role_from};
+use bar_wire::{Body, Kind, Place, View, decode, place_of, role_from};
 
 /// Holds the block of an item, where it is that of an update of the next round at most that is alive.
 fn hold_item(store: &mut Store, now: u32, item: &Item, block: &[u8; 1024])

@@ -1,6 +1,7 @@
 ghost use Rattle.std.specs.Prelude.{◌≤◌};
+ghost use Rattle.bar_rules.specs.Verifiers.{IsVerifierOf};
 ghost use Rattle.bar_peer.specs.Memory.{member_of};
-ghost use Rattle.bar_peer.specs.Schemes.{IsVerifierOf, IsSignerOf};
+ghost use Rattle.bar_peer.specs.Schemes.{IsSignerOf};
 ghost use Rattle.bar_peer.specs.Ticking.{most_orders};
 
 use crate::memory::Memory;

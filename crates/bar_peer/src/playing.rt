@@ -17,7 +17,7 @@ pub struct Playing {
 }
 
 impl Playing {
-    ghost use Rattle.std.specs.Prelude.{◌≡◌, ◌∷◌, [], List, ℕ, MatchOption};
+    ghost use Rattle.std.specs.Prelude.{◌≡◌, ◌∷◌, ◌↔◌, [], IsTrue, List, ℕ, MatchOption};
     ghost use Rattle.bar_store.specs.declared.store.Store.{Store};
     ghost use Rattle.bar_peer.specs.Playing.{content_in, contents_in};
     ghost use Rattle.bar_peer.specs.StandsFor.{contents_left};
@@ -58,6 +58,17 @@ impl Playing {
             }
         }
         None
+    }
+
+    /// Whether no content is left.
+    pub fn is_over(&self, memory: &Memory) -> bool
+        ensures { IsTrue result ↔ (contents_left memory.now.store self.now ≡ []) }
+    {
+        let mut rest = *self;
+        match rest.next(memory) {
+            Some(_) => false,
+            None => true,
+        }
     }
 }
 

@@ -12,8 +12,8 @@ ghost use Rattle.bar_peer.specs.Memory.{member_of, IsMemoryOf};
 ghost use Rattle.bar_peer.specs.Repeats.{IsInTime};
 
 use crate::memory::Memory;
-use bar_exchange::{heard_from, place_of};
-use bar_wire::{Body, View, bytes_spell_one, kind_of};
+use bar_exchange::heard_from;
+use bar_wire::{Body, View, bytes_spell_one, kind_of, place_of};
 
 impl Memory {
     /// The datagram of the same kind, exchange and side that was admitted.

@@ -4,10 +4,11 @@ ghost use Rattle.bar_wire.specs.Limits.{largest_datagram};
 ghost use Rattle.bar_wire.specs.declared.kind.Kind.TheVariants.{Manifest};
 ghost use Rattle.bar_rules.specs.Member.{IsMember};
 ghost use Rattle.bar_rules.specs.Peer.Sizes.{largest};
+ghost use Rattle.bar_rules.specs.Verifiers.{IsVerifierOf};
 ghost use Rattle.bar_peer.specs.Members.{member_by};
 ghost use Rattle.bar_peer.specs.Memory.{member_of};
 ghost use Rattle.bar_peer.specs.Orders.{left_in};
-ghost use Rattle.bar_peer.specs.Schemes.{IsVerifierOf, IsSignerOf};
+ghost use Rattle.bar_peer.specs.Schemes.{IsSignerOf};
 ghost use Rattle.bar_peer.specs.StandsFor.{StandsFor, contents_left};
 ghost use Rattle.bar_peer.specs.Ticking.{most_orders};
 

@@ -1,18 +1,18 @@
 //! What a peer does at an input.
-ghost use Rattle.std.specs.Prelude.{◌≡◌, ◌≤◌, ◌++◌, ◌∷◌, [], false, nat_le, IsTrue};
+ghost use Rattle.std.specs.Prelude.{◌≡◌, ◌≤◌, ◌++◌, ◌∷◌, ◌↔◌, [], false, nat_le, IsTrue};
 ghost use Rattle.bar_wire.specs.Inputs.{plain_input};
 ghost use Rattle.bar_rules.specs.Member.{last_tick};
 ghost use Rattle.bar_rules.specs.Peer.Knowledge.{known};
 ghost use Rattle.bar_rules.specs.Peer.Log.{Log};
 ghost use Rattle.bar_rules.specs.Peer.Run.{log_after, step};
 ghost use Rattle.bar_rules.specs.Peer.Ticks.{contents_at_tick};
+ghost use Rattle.bar_rules.specs.Verifiers.{IsVerifierOf};
 ghost use Rattle.bar_peer.specs.Memory.{member_of, Tells};
 ghost use Rattle.bar_peer.specs.Orders.{left_in};
 ghost use Rattle.bar_peer.specs.Sending.{without_reports};
 ghost use Rattle.bar_peer.specs.StandsFor.{Inputs, StandsFor, AreLeft, contents_left};
 ghost use Rattle.bar_peer.specs.Steps.{TakesInput, is_tick};
 ghost use Rattle.bar_peer.specs.Ticking.{most_orders};
-ghost use Rattle.bar_peer.specs.Schemes.{IsVerifierOf};
 
 use crate::memory::Memory;
 use crate::orders::Orders;
@@ -87,9 +87,9 @@ impl Memory {
 impl<S: Scheme> Peer<S> {
     /// Whether all that the last input gave is given out.
     pub fn idle(&self) -> bool
-        ensures { IsTrue result → (left_in self.now.orders ≡ []) × (contents_left self.now.memory.store self.now.playing ≡ []) }
+        ensures { IsTrue result ↔ ((left_in self.now.orders ≡ []) × (contents_left self.now.memory.store self.now.playing ≡ [])) }
     {
-        self.orders.is_empty() && self.playing.next == self.playing.end
+        self.orders.is_empty() && self.playing.is_over(&self.memory)
     }
 
     /// Takes an input, once all that the one before gave is given out. After its last tick a peer ignores every input. It takes no memory,

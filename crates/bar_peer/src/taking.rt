@@ -5,8 +5,8 @@ ghost use Rattle.bar_rules.specs.Member.{last_tick, round_after};
 ghost use Rattle.bar_rules.specs.Peer.Log.{Log};
 ghost use Rattle.bar_rules.specs.Peer.Rules.{IsObedient};
 ghost use Rattle.bar_rules.specs.Peer.Run.{answered_to};
+ghost use Rattle.bar_rules.specs.Verifiers.{IsVerifierOf};
 ghost use Rattle.bar_peer.specs.Memory.{member_of, Tells};
-ghost use Rattle.bar_peer.specs.Schemes.{IsVerifierOf};
 ghost use Rattle.bar_peer.specs.Sending.{Stands};
 ghost use Rattle.bar_peer.specs.Steps.{TakesTick, TakesDatagram};
 

@@ -8,7 +8,7 @@ use Rattle.bar_wire.specs.Datagram.{Body, exchange_by}
 use Rattle.bar_rules.specs.Member.{Member}
 use Rattle.bar_rules.specs.Peer.Admission.{is_row_met}
 use Rattle.bar_rules.specs.Peer.Knowledge.{Knowledge}
-use Rattle.bar_exchange.specs.declared.place.Place.{Place}
+use Rattle.bar_wire.specs.declared.place.Place.{Place}
 use Rattle.bar_push.specs.Parts.{is_push, part_by, place_by}
 use Rattle.bar_push.specs.Push.{is_push_row_met}
 use Rattle.std.specs.Borrow.{Bor}

@@ -12,12 +12,12 @@ use crate::asking::admits_query;
 use crate::offer::Offer;
 use crate::place::place_of;
 use bar_bytes::Steps;
-use bar_exchange::{Counts, Place, admits_case, admits_key, admits_key_request};
+use bar_exchange::{Counts, admits_case, admits_key, admits_key_request};
 use bar_ledger::Ledger;
 use bar_roster::Session;
 use bar_store::Store;
 use bar_terms::PushAnswer;
-use bar_wire::{Body, View};
+use bar_wire::{Body, Place, View};
 use std::sync::ledger::Ledger as StepLedger;
 
 /// Whether a datagram of a push meets the row of its kind in this round. It counts the steps along the seeds of a QUERY.

@@ -1,6 +1,7 @@
 //! The texts of a session and of a key.
 #![tactic(auto)]
 
+mod choices;
 mod fault;
 mod fields;
 mod key_fault;

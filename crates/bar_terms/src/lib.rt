@@ -9,10 +9,10 @@ mod table;
 mod valid;
 
 pub use items::{Item, Promise};
-pub use promised::{balanced_count, promise};
+pub use promised::{balanced_count, junk_count, promise, update_count};
 pub use push::{PushAnswer, push_answer};
 pub use table::{Digest, Table};
-pub use valid::{can_promise, offer_ok, terms_ok, within};
+pub use valid::{can_promise, offer_ok, terms_fit, terms_ok, within};
 
 #[cfg(test)]
 mod tests;

@@ -3,7 +3,7 @@ ghost use Rattle.std.specs.List.{range_with_len};
 ghost use Rattle.bar_window.specs.Window.{members, IsAligned};
 ghost use Rattle.bar_window.specs.Terms.{plain_terms};
 ghost use Rattle.bar_terms.specs.Windows.{AreAligned};
-ghost use Rattle.bar_terms.specs.Terms.{trade_count, can_promise};
+ghost use Rattle.bar_terms.specs.Terms.{trade_count, can_promise, promised_junk, promised_updates};
 ghost use Rattle.bar_terms.specs.Terms.{promise as promise_items};
 ghost use Rattle.bar_terms.specs.declared.items.Item.TheVariants.{Update, Junk};
 
@@ -79,4 +79,24 @@ pub fn promise(terms: &Terms, role: Role, cap: u8) -> Promise
             Role::Responder => with_junk(of_updates(give), *junk),
         },
     }
+}
+
+/// How many pieces of junk a side promises.
+pub fn junk_count(terms: &Terms, role: Role) -> u8
+    ensures { result ≡ promised_junk (plain_terms terms.now) role }
+{
+    match (terms, role) {
+        (Terms::Push { junk, .. }, Role::Responder) => *junk,
+        _ => 0,
+    }
+}
+
+/// How many updates a side promises.
+pub fn update_count(terms: &Terms, role: Role, cap: u8) -> u8
+    requires windows { AreAligned terms.now }
+    requires valid { can_promise cap (plain_terms terms.now) ≡ true }
+    requires cap { cap ≤ 16 }
+    ensures { result ≡ length (promised_updates cap (plain_terms terms.now) role) }
+{
+    promise(terms, role, cap).len - junk_count(terms, role)
 }

@@ -7,6 +7,7 @@ pub mod Ranges
 pub mod Places
 pub mod Faults
 pub mod Views
+pub mod Sides
 pub mod Evidence
 pub mod Inputs
 pub mod Words

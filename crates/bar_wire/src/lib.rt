@@ -12,6 +12,7 @@ mod kind;
 mod laws;
 mod lengths;
 mod limits;
+mod place;
 mod ranges;
 mod reading;
 mod shape;
@@ -30,6 +31,7 @@ pub use laws::{
     the_datagram_is_spelled, the_test_tells_a_datagram,
 };
 pub use limits::{EVERYONE, LARGEST_CONTENT, LARGEST_DATAGRAM, LEAVES_A_ROUND, SEATS_A_ROUND};
+pub use place::{Place, exchange_by, place_of};
 pub use reading::decode;
 pub use shape::Shape;
 pub use view::{Body, View};

@@ -5,7 +5,7 @@ use Rattle.bar_rules.specs.Member.{round_after}
 use Rattle.bar_wire.specs.Datagram.{place_by, part_of}
 use Rattle.bar_balanced.specs.Parts.{is_balanced}
 use Rattle.bar_push.specs.Parts.{is_push}
-use Rattle.bar_exchange.specs.Places.{place_in}
+use Rattle.bar_wire.specs.Sides.{place_in}
 use Rattle.bar_peer.specs.Memory.{member_of}
 use Rattle.bar_peer.proofs.Replied.{no_place, no_orders, is-balanced, is-push, under-test}
 use Rattle.bar_peer.proofs.answering.says_to.Goals as goal

@@ -13,7 +13,7 @@ use Rattle.bar_wire.specs.declared.kind.Kind.TheVariants as kinds
 use Rattle.bar_wire.specs.declared.view.Body.{Body as RawBody}
 use Rattle.bar_rules.specs.Member.{Session}
 use Rattle.bar_push.specs.Parts.{place_in}
-use Rattle.bar_exchange.specs.declared.place.Place.{Place}
+use Rattle.bar_wire.specs.declared.place.Place.{Place}
 use Rattle.bar_exchange.proofs.Terms.{windows_of}
 use Rattle.bar_push.proofs.Views.{row_of, stands, stands_by}
 use Rattle.bar_push.proofs.admission.admit.Goals as goal

@@ -6,7 +6,7 @@ use Rattle.bar_wire.specs.Datagram.{part_of}
 use Rattle.bar_wire.specs.Datagram as wire
 use Rattle.bar_wire.specs.Views.{plain, AreWindows}
 use Rattle.bar_wire.specs.declared.view.Body.{Body as RawBody}
-use Rattle.bar_exchange.specs.declared.place.Place.{Place}
+use Rattle.bar_wire.specs.declared.place.Place.{Place}
 use Rattle.bar_push.specs.Parts.{place_in}
 use Rattle.bar_push.proofs.Views.{stands, none_pushed}
 use Rattle.bar_push.proofs.keeping.keep.Goals as goal

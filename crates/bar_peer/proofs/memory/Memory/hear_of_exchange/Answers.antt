@@ -3,7 +3,7 @@ use Rattle.std.specs.Prelude.{option_map}
 use Rattle.bar_wire.specs.Datagram.{Datagram, Place, part_of, place_of}
 use Rattle.bar_wire.specs.Views.{datagram, plain}
 use Rattle.bar_rules.specs.Member.{Member}
-use Rattle.bar_exchange.specs.Places.{place_in}
+use Rattle.bar_wire.specs.Sides.{place_in}
 use Rattle.bar_peer.specs.Memory.{member_of}
 use Rattle.bar_peer.proofs.Heard.{unplaced, placed_kind, balanced_by, push_by, unseated}
 use Rattle.bar_peer.proofs.memory.Memory.hear_of_exchange.Goals as goal

@@ -2,7 +2,7 @@ use Rattle.std.proofs.Common.{◌≡◌, ◌∙◌, Some, None, sym, ap}
 use Rattle.std.specs.Prelude.{option_map}
 use Rattle.bar_wire.specs.Datagram.{Message}
 use Rattle.bar_wire.specs.Views.{datagram}
-use Rattle.bar_exchange.specs.Places.{place_in}
+use Rattle.bar_wire.specs.Sides.{place_in}
 use Rattle.bar_ledger.specs.Lookups.{heard_in}
 use Rattle.bar_peer.specs.Memory.{member_of}
 use Rattle.bar_peer.proofs.Again.{like_in, like_none}

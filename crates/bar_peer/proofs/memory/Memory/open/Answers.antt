@@ -7,7 +7,7 @@ use Rattle.bar_wire.specs.Places.{kind_from, role_from}
 use Rattle.bar_wire.specs.Views.{datagram, plain}
 use Rattle.bar_rules.specs.Member.{Member, round_after}
 use Rattle.bar_rules.specs.Peer.Knowledge.{this_round}
-use Rattle.bar_exchange.specs.Places.{place_in}
+use Rattle.bar_wire.specs.Sides.{place_in}
 use Rattle.bar_store.specs.Held.{block_in}
 use Rattle.bar_peer.specs.Memory.{member_of}
 use Rattle.bar_peer.specs.Opening.{block_in_items}

@@ -1,7 +1,7 @@
 use Rattle.std.proofs.Common.{arith}
 use Rattle.bar_window.specs.Terms.{plain_terms}
 use Rattle.bar_terms.proofs.Equal.{length_promise}
-use Rattle.bar_exchange.proofs.sealing.update_count.Goals as goal
+use Rattle.bar_terms.proofs.promised.update_count.Goals as goal
 
 pub overflow_sub-result : goal.overflow_sub-result
 overflow_sub-result c =

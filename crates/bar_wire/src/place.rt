@@ -3,10 +3,11 @@ ghost use Rattle.std.specs.Prelude.{◌≡◌, option_map};
 ghost use Rattle.bar_wire.specs.Datagram.{exchange_by, part_of, place_of};
 ghost use Rattle.bar_wire.specs.Views.{datagram, plain};
 ghost use Rattle.bar_wire.specs.declared.shape.Shape.{Shape};
-ghost use Rattle.bar_exchange.specs.Places.{place_in};
+ghost use Rattle.bar_wire.specs.Sides.{place_in};
 
+use crate::exchange::{kind_from, role_from};
+use crate::view::{Body, View};
 use bar_window::{Exchange, Role, XKind};
-use bar_wire::{Body, View, kind_from, role_from};
 
 /// An exchange, and the side of it that a datagram's sender is on.
 #[derive(Clone, Copy, Debug)]

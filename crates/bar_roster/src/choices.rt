@@ -1,0 +1,46 @@
+//! The seeds of a session's peers, and the partners that these choose.
+ghost use Rattle.std.specs.Prelude.{◌≡◌, ◌+◌, ◌-◌, ◌≤◌, [], unwrap_or, slice_get};
+ghost use Rattle.bar_seeds.specs.Partners.{partner_of};
+ghost use Rattle.bar_seeds.specs.Seeds.{is_seed};
+
+use crate::session::Session;
+use bar_bytes::Steps;
+use bar_seeds::{partner, seed_ok};
+use bar_window::XKind;
+use std::sync::ledger::Ledger;
+
+impl Session {
+    /// Whether it is a peer's seed of a round. It counts a step for each round.
+    pub fn is_seed<L: Ledger>(
+        &self,
+        peer: u16,
+        round: u32,
+        seed: &[u8; 32],
+        steps: &mut Steps<L>,
+    ) -> bool
+        requires low { 1 ≤ peer }
+        requires high { peer ≤ self.now.shape.peers }
+        ensures exact { result ≡
+            is_seed self.now.shape.id (unwrap_or (slice_get self.now.anchors (peer - 1)) []) peer round seed.now }
+        ensures cost { steps.new ≡ steps.old + round }
+    {
+        seed_ok(
+            &self.shape().id,
+            self.anchor(peer),
+            peer,
+            round,
+            seed,
+            steps,
+        )
+    }
+
+    /// The partner that a seed chooses for a peer and a kind of exchange.
+    pub fn partner_of(&self, peer: u16, seed: &[u8; 32], kind: XKind) -> u16
+        requires low { 1 ≤ peer }
+        requires high { peer ≤ self.now.shape.peers }
+        ensures { result ≡ partner_of self.now.shape.id self.now.shape.peers seed.now kind peer }
+    {
+        let shape = self.shape();
+        partner(&shape.id, seed, kind, peer, shape.peers)
+    }
+}
