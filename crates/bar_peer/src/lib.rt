@@ -9,6 +9,7 @@ mod evictions;
 mod giving;
 mod hearing;
 mod memory;
+mod of_key;
 mod opening;
 mod orders;
 mod peer;
@@ -24,3 +25,6 @@ mod told;
 
 pub use credentials::Credentials;
 pub use peer::Peer;
+
+#[cfg(test)]
+mod tests;

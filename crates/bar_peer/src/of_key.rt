@@ -1,0 +1,36 @@
+//! The peer of a key file.
+ghost use Rattle.std.specs.Prelude.{◌≡◌, [], false, IfOk};
+ghost use Rattle.bar_roster.specs.KeyFile.{IsKeyFileOf};
+ghost use Rattle.bar_peer.specs.Members.{member_by};
+ghost use Rattle.bar_peer.specs.Memory.{member_of};
+ghost use Rattle.bar_peer.specs.Orders.{left_in};
+ghost use Rattle.bar_peer.specs.StandsFor.{StandsFor, contents_left};
+
+use crate::peer::Peer;
+use bar_roster::{KeyFile, Session};
+use bar_seal::LmsScheme;
+use std::alloc::{AllocError, Global};
+
+impl Peer<LmsScheme> {
+    /// The peer of a session that a key file is of. It took no input yet.
+    pub fn of_key_file(
+        alloc: Global,
+        session: Session,
+        key: KeyFile,
+    ) -> Result<Peer<LmsScheme>, AllocError>
+        requires { IsKeyFileOf session false key }
+        ensures stands { IfOk result (λ p. StandsFor p.memory []) }
+        ensures sends { IfOk result (λ p. left_in p.orders ≡ []) }
+        ensures contents { IfOk result (λ p. contents_left p.memory.store p.playing ≡ []) }
+        ensures member { IfOk result (λ p. member_of p.memory.who ≡ member_by session key.secrets) }
+    {
+        let _shape = session.shape();
+        Peer::start(
+            alloc,
+            session,
+            key.secrets,
+            key.chain,
+            LmsScheme::new(key.signer),
+        )
+    }
+}
