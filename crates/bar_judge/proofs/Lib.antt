@@ -1,0 +1,7 @@
+mod Windows
+mod Messages
+mod Openings
+pub mod TableLists
+pub mod TableReading
+pub mod TableWriting
+pub mod TableSizes

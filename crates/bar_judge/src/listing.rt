@@ -1,0 +1,72 @@
+//! The list that an entry of a table file gives.
+ghost use Rattle.std.specs.Prelude.{◌≡◌, ◌+◌, ◌%◌, ◌≤◌, IfSome, true, option_map, length};
+ghost use Rattle.bar_wire.specs.Datagram.{is_signed};
+ghost use Rattle.bar_wire.specs.Views.{datagram, plain, AreWhole, IsView};
+ghost use Rattle.bar_rules.specs.Values.{is_signed_by};
+ghost use Rattle.bar_rules.specs.Verifiers.{IsVerifierOf};
+ghost use Rattle.bar_judge.specs.TableFile.{list_after, list_in};
+ghost use Rattle.bar_judge.specs.TableViews.{plain_list, HasPlace};
+
+use bar_bytes::Steps;
+use bar_roster::Session;
+use bar_seal::Verifier;
+use bar_wire::{Body, View, decode};
+use std::sync::ledger::Ledger;
+
+/// The round and the digests of a MANIFEST.
+fn list_in<'a>(body: &Body<'a>) -> Option<(u32, &'a [u8])>
+    requires { AreWhole body.now }
+    ensures value { option_map plain_list result ≡ list_in (plain body.now) }
+    ensures whole { IfSome result (λ list. length list.1.now % 32 ≡ 0) }
+{
+    match *body {
+        Body::Manifest { round, digests, .. } => Some((round, digests)),
+        _ => None,
+    }
+}
+
+/// Whether the signature of a signed datagram is accepted under its sender's key. It counts each hash.
+fn is_signed<V: Verifier, L: Ledger>(
+    session: &Session,
+    verifier: &V,
+    bytes: &[u8],
+    view: &View<'_>,
+    steps: &mut Steps<L>,
+) -> bool
+    requires view { IsView session.now.shape bytes.now view.now }
+    requires verifier { IsVerifierOf session.now (V.is_accepted verifier.now) }
+    requires signed { is_signed (plain view.now.body) ≡ true }
+    ensures exact { result ≡ is_signed_by session.now (datagram session.now.shape view.now) }
+    ensures cost { steps.new ≤ steps.old + V.most_steps verifier.now }
+{
+    let Some(sig) = view.sig else { unreachable!() };
+    verifier.accepts(session.key(view.from), view.message, sig, steps)
+}
+
+/// The round and the digests of bytes that spell a MANIFEST of a round after the last one, with an accepted signature. It counts each hash.
+pub(crate) fn list_after<'a, V: Verifier, L: Ledger>(
+    session: &Session,
+    verifier: &V,
+    last: u32,
+    bytes: &'a [u8],
+    steps: &mut Steps<L>,
+) -> Option<(u32, &'a [u8])>
+    requires { IsVerifierOf session.now (V.is_accepted verifier.now) }
+    ensures value { option_map plain_list result ≡ list_after session.now last bytes.now }
+    ensures place { IfSome result (HasPlace session.now.shape last) }
+    ensures cost { steps.new ≤ steps.old + V.most_steps verifier.now }
+    ensures none { session.now.shape.rounds ≤ last → steps.new ≡ steps.old }
+{
+    let shape = session.shape();
+    let Ok(view) = decode(bytes, &shape) else {
+        return None;
+    };
+    let list = list_in(&view.body)?;
+    if list.0 <= last {
+        return None;
+    }
+    if !is_signed(session, verifier, bytes, &view, steps) {
+        return None;
+    }
+    Some(list)
+}
