@@ -174,7 +174,7 @@ Begun-cons first plan done b = by_front first plan done b.front b.part b.rest b.
 pub nil-cons : (x : Action) (xs : List Action) → ◌≡◌ {A = List Action} [] (x ∷ xs) → ⊥
 nil-cons x xs e = cc
 
-no-part-read : (part : Action) (path : List ℕ) → IsPartOf part (read path) → ⊥
+pub no-part-read : (part : Action) (path : List ℕ) → IsPartOf part (read path) → ⊥
 no-part-read (read p) path h = h
 no-part-read (create p) path h = h
 no-part-read (append p bytes) path h = h

@@ -26,7 +26,7 @@ output-memory e = cc
 nothing-done : (old : Outside) → IsLater old old
 nothing-done old = record { told = refl; reliable = refl; out_told = refl; out_reliable = refl; faults = omega arith; out_faults = omega arith }
 
-no_stop : (stop : ℕ) → is_stop stop ≡ true → (status : ℕ) → is_stop status ≡ false → status ≡ stop → ⊥
+pub no_stop : (stop : ℕ) → is_stop stop ≡ true → (status : ℕ) → is_stop status ≡ false → status ≡ stop → ⊥
 no_stop stop t status f e = let h : is_stop stop ≡ false = subst (λ s. is_stop s ≡ false) e f in cc
 
 -- nothing more is done

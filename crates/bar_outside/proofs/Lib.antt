@@ -3,3 +3,4 @@ pub mod ActionLists
 pub mod Following
 pub mod Ending
 pub mod Untouched
+pub mod Stages

@@ -8,3 +8,4 @@ pub mod Faults
 pub mod Plan
 pub mod Follows
 pub mod Ends
+pub mod Stages

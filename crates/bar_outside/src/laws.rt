@@ -4,6 +4,7 @@ ghost use Rattle.bar_outside.specs.Causes.{Rose};
 ghost use Rattle.bar_outside.specs.Disk.{Content};
 ghost use Rattle.bar_outside.specs.Plan.{Plan, Touches, is_stop};
 ghost use Rattle.bar_outside.specs.Ends.{Carried, OfEachEnd};
+ghost use Rattle.bar_outside.specs.Stages.{EndsThere, NamesFirst, ReadsFirst, ShowsThere, Went};
 
 /// Whatever the status, a file that no action of the plan creates or adds to is as it was.
 pub fn others_stay()
@@ -22,4 +23,15 @@ pub fn done_without_faults()
     ensures { (plan : Content → Plan) → OfEachEnd plan (λ old new status.
         (Rose old.files.faults new.files.faults → ⊥) → (Rose old.out.faults new.out.faults → ⊥) →
         Carried (plan old.files.content) old new status ⊎ (status ≡ 70)) }
+{}
+
+/// What was done tells how far each part of a plan came: from these the statuses of a command follow, part by part.
+pub fn plans_go_in_order()
+    // how a command ended says how far its plan came
+    ensures went { (plan : Content → Plan) → OfEachEnd plan (λ old new status. Went (plan old.files.content) old new status) }
+    ensures reads { ReadsFirst }
+    ensures ends { EndsThere }
+    ensures shows { ShowsThere }
+    // which calls it makes
+    ensures names { NamesFirst }
 {}

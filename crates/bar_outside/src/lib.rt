@@ -16,7 +16,7 @@ mod tests;
 pub use actions::{append_file, create_file, read_file, show_bytes};
 pub use fault::Fault;
 pub use files::{CallKind, FileFault, Files, LARGEST_FILE};
-pub use laws::{carried_or_stopped, done_without_faults, others_stay};
+pub use laws::{carried_or_stopped, done_without_faults, others_stay, plans_go_in_order};
 pub use mem_files::MemFiles;
 pub use mem_sink::MemSink;
 pub use sink::{Sink, SinkFault};
