@@ -2,11 +2,12 @@
 use Rattle.std.proofs.Common.{◌≡◌, ◌⊎◌, ℕ, List, [], ◌∷◌, ◌++◌, Some, Err, refl, sym, ap, ◌∙◌, subst, IsTrue, inl, inr, take, length, append-nil}
 use Rattle.std.proofs.Math.Seq.{take-length}
 use Rattle.bar_outside.specs.Disk.{Content, created}
-use Rattle.bar_outside.specs.Plan.{Outside, Plan, Ran, Begun, Reached, IsPartOf, IsPartOfNext, IsFilesNext, IsShowNext, content_after, content_by, shown, shown_by, Action}
+use Rattle.bar_outside.specs.Plan.{Outside, Plan, Ran, Begun, Reached, IsPartOf, IsPartOfNext, IsFilesNext, IsShowNext, content_after, shown, Action}
 use Rattle.bar_outside.specs.Plan.Action.{read, create, append, show}
 use Rattle.bar_outside.specs.Ends.{Ends}
 use Rattle.bar_outside.proofs.Contents.{put_at-same, appended-same}
 use Rattle.bar_outside.proofs.ActionLists.{Begun-none, Begun-cons, no-next, part-create}
+use Rattle.bar_outside.proofs.Stages.{begun-shown}
 use Rattle.bar_roster.specs.KeyText.{key_text_of}
 use Rattle.bar_cli.specs.KeygenPlan.{Keygen, KeygenAccepted, KeyWritten, KeyBegun, key_made, lines_of, keygen_plan}
 use Rattle.bar_cli.proofs.BegunLemmas.{no-part_read}
@@ -200,28 +201,6 @@ no-output done b prints = subst IsShowNext (no-next done b) prints
 
 no-output_behind : (path : List ℕ) (done : List Action) (b : Begun (read path ∷ []) done) → IsShowNext b.rest → ⊥
 no-output_behind path done b prints = let m = behind-files (read path) [] done b tt prints in no-output m.0 m.2 m.3
-
-part-shown : (lines : List ℕ) (part : Action) → IsPartOf part (show lines) → (k : ℕ) × (shown_by part ≡ take k lines) × ((c : Content) → content_by part c ≡ c)
-part-shown lines (show bytes) h = (h.0, h.1, λ c. refl)
-part-shown lines (read path) h = absurd h
-part-shown lines (create path) h = absurd h
-part-shown lines (append path bytes) h = absurd h
-
--- what was done of printing
-begun-shown : (lines : List ℕ) (done : List Action) → Begun (show lines ∷ []) done →
-    (k : ℕ) × (shown done ≡ take k lines) × ((c : Content) → content_after done c ≡ c)
-begun-shown lines done b =
-    elim (Begun-cons (show lines) [] done b) [
-      | inl e ↦ (0, ap shown e, λ c. ap (λ xs. content_after xs c) e)
-      | inr rest ↦ elim rest [
-        | inl part ↦
-            let p = part-shown lines part.0 part.2 in
-            (p.0, ap shown part.1 ∙ append-nil (shown_by part.0) ∙ p.1, λ c. ap (λ xs. content_after xs c) part.1 ∙ p.2 c)
-        | inr more ↦
-            let e : done ≡ show lines ∷ [] = more.1 ∙ ap (λ xs. show lines ∷ xs) (Begun-none more.0 more.2) in
-            (length lines, ap shown e ∙ append-nil lines ∙ sym (take-length lines), λ c. ap (λ xs. content_after xs c) e)
-      ]
-    ]
 
 -- where the output failed, the whole text was written
 behind-text : (path key text lines : List ℕ) (content : Content) (done : List Action) (b : Begun (read path ∷ create key ∷ append key text ∷ show lines ∷ []) done) →

@@ -7,6 +7,8 @@ pub mod StatusLemmas
 pub mod ReplayCases
 pub mod MemberLemmas
 pub mod Rows
+pub mod EvidenceLemmas
+pub mod JudgeRows
 pub mod KeygenLemmas
 pub mod KeygenRows
 pub mod KeygenFronts

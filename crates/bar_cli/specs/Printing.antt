@@ -8,3 +8,7 @@ replay_may_print status = status == 0 || status == 3 || status == 7 || status ==
 -- `keygen` prints at its end
 abbrev pub keygen_may_print : ℕ → Bool
 keygen_may_print status = status == 0 || status == 7 || status == 70
+
+-- `judge` prints its verdict
+abbrev pub judge_may_print : ℕ → Bool
+judge_may_print status = status == 0 || status == 1 || status == 7 || status == 70

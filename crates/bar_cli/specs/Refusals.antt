@@ -16,6 +16,14 @@ key_refused fault = codes "bar: key refused: " ++ (key_fault_text fault ++ codes
 abbrev pub input_refused : List ℕ
 input_refused = codes "bar: input refused" ++ 10 ∷ []
 
+-- a table is refused at this place
+abbrev pub table_refused : ℕ → List ℕ
+table_refused at = codes "bar: input refused: table at " ++ (decimal at ++ codes "\n")
+
+-- an evidence file is refused
+abbrev pub evidence_refused : List ℕ
+evidence_refused = codes "bar: input refused: evidence" ++ 10 ∷ []
+
 -- a secret of so many bytes is refused
 abbrev pub secret_refused : ℕ → List ℕ
 secret_refused len = codes "bar: input refused: secret length " ++ (decimal len ++ codes "\n")

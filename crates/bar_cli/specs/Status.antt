@@ -4,12 +4,13 @@ use Rattle.bar_outside.specs.Plan as plan
 use Rattle.bar_outside.specs.Faults.{code_of_fault, line_of_fault}
 use Rattle.bar_outside.specs.declared.fault.Fault.{Fault}
 use Rattle.bar_cli.specs.declared.status.Status.{Status}
-use Rattle.bar_cli.specs.declared.status.Status.TheVariants.{Done, Usage, FileFailed, SessionRefused, KeyRefused, OutputFailed, InputRefused, SecretRefused, NoMemory}
+use Rattle.bar_cli.specs.declared.status.Status.TheVariants.{Done, NoFault, Usage, FileFailed, SessionRefused, KeyRefused, OutputFailed, InputRefused, SecretRefused, TableRefused, EvidenceRefused, NoMemory}
 use Rattle.bar_cli.specs.Line.{usage}
-use Rattle.bar_cli.specs.Refusals.{session_refused, key_refused, input_refused, secret_refused}
+use Rattle.bar_cli.specs.Refusals.{session_refused, key_refused, input_refused, secret_refused, table_refused, evidence_refused}
 
 abbrev pub code_of : Status → ℕ
 code_of Done = 0
+code_of NoFault = 1
 code_of Usage = 2
 code_of FileFailed = 3
 code_of (SessionRefused fault) = 4
@@ -17,11 +18,14 @@ code_of (KeyRefused fault) = 5
 code_of OutputFailed = 7
 code_of InputRefused = 8
 code_of (SecretRefused len) = 8
+code_of (TableRefused at) = 8
+code_of EvidenceRefused = 8
 code_of NoMemory = 70
 
 -- the line that is printed at a status
 abbrev pub said_at : Status → List ℕ
 said_at Done = []
+said_at NoFault = []
 said_at Usage = usage
 said_at FileFailed = plan.file_failed
 said_at (SessionRefused fault) = session_refused fault
@@ -29,6 +33,8 @@ said_at (KeyRefused fault) = key_refused fault
 said_at OutputFailed = plan.output_failed
 said_at InputRefused = input_refused
 said_at (SecretRefused len) = secret_refused len
+said_at (TableRefused at) = table_refused at
+said_at EvidenceRefused = evidence_refused
 said_at NoMemory = plan.no_memory
 
 -- the status and the line of a command that a fault may stop
@@ -50,6 +56,9 @@ is_replay_end Usage = false
 is_replay_end FileFailed = false
 is_replay_end OutputFailed = false
 is_replay_end (SecretRefused len) = false
+is_replay_end NoFault = false
+is_replay_end (TableRefused at) = false
+is_replay_end EvidenceRefused = false
 is_replay_end NoMemory = false
 
 -- how `keygen` ends where no fault stops it
@@ -59,7 +68,25 @@ is_keygen_end (SessionRefused fault) = true
 is_keygen_end (SecretRefused len) = true
 is_keygen_end (KeyRefused fault) = false
 is_keygen_end InputRefused = false
+is_keygen_end NoFault = false
+is_keygen_end (TableRefused at) = false
+is_keygen_end EvidenceRefused = false
 is_keygen_end Usage = false
 is_keygen_end FileFailed = false
 is_keygen_end OutputFailed = false
 is_keygen_end NoMemory = false
+
+-- how `judge` ends where no fault stops it
+abbrev pub is_judge_end : Status → Bool
+is_judge_end Done = true
+is_judge_end NoFault = true
+is_judge_end (SessionRefused fault) = true
+is_judge_end (TableRefused at) = true
+is_judge_end EvidenceRefused = true
+is_judge_end (KeyRefused fault) = false
+is_judge_end InputRefused = false
+is_judge_end (SecretRefused len) = false
+is_judge_end Usage = false
+is_judge_end FileFailed = false
+is_judge_end OutputFailed = false
+is_judge_end NoMemory = false

@@ -1,11 +1,13 @@
 -- What a command in the code stands for.
 use Rattle.bar_cli.specs.declared.line.ReplayNames.{ReplayNames}
 use Rattle.bar_cli.specs.declared.keygen_words.KeygenWords.{KeygenWords}
+use Rattle.bar_cli.specs.declared.judge_names.JudgeNames.{JudgeNames}
 use Rattle.bar_cli.specs.declared.line.Command.{Command}
-use Rattle.bar_cli.specs.declared.line.Command.TheVariants.{Replay, Keygen}
+use Rattle.bar_cli.specs.declared.line.Command.TheVariants.{Replay, Keygen, Judge}
 use Rattle.bar_cli.specs.ReplayPlan.{ReplayFiles}
 use Rattle.bar_cli.specs.KeygenPlan as plan
-use Rattle.bar_cli.specs.Line.{Line, replay, keygen}
+use Rattle.bar_cli.specs.JudgePlan.{JudgeFiles}
+use Rattle.bar_cli.specs.Line.{Line, replay, keygen, judge}
 
 abbrev pub names_view : ReplayNames → ReplayFiles
 names_view names =
@@ -28,12 +30,19 @@ keygen_view asked =
       key = asked.key.now;
     }
 
+abbrev pub judge_view : JudgeNames → JudgeFiles
+judge_view names = record { session = names.session.now; table = names.table.now; evidence = names.evidence.now }
+
 abbrev pub replay_view : ReplayNames → Line
 replay_view names = replay (names_view names)
 
 abbrev pub asked_view : KeygenWords → Line
 asked_view asked = keygen (keygen_view asked)
 
+abbrev pub judged_view : JudgeNames → Line
+judged_view names = judge (judge_view names)
+
 abbrev pub command_view : Command → Line
 command_view (Replay names) = replay_view names
 command_view (Keygen asked) = asked_view asked
+command_view (Judge names) = judged_view names

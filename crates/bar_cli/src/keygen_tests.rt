@@ -195,9 +195,11 @@ fn statuses_and_lines_of_keys(rt: HostRuntime) -> Result<(), Fail> {
     Ok(())
 }
 
-const NO_LINES: [&str; 24] = [
+const NO_LINES: [&str; 26] = [
     "",
-    "judge --session s --table t --evidence e",
+    "judges --session s --table t --evidence e",
+    "judge --session s --table t",
+    "judge --session s --table t --table t",
     // an option of a replay is missing, stands twice, or there is a word too many
     "replay --recording r --session s --found f --played p",
     "replay --recording r --session s --found f --played p --key k --key k",

@@ -1,6 +1,12 @@
 //! The commands of the program, over an outside that is handed in.
 #![tactic(auto)]
 
+mod judge;
+mod judge_laws;
+mod judge_names;
+#[cfg(test)]
+mod judge_tests;
+mod judging;
 mod keygen;
 mod keygen_laws;
 #[cfg(test)]
@@ -17,6 +23,11 @@ mod status;
 mod tests;
 mod words;
 
+pub use judge_laws::{
+    a_bad_session_is_refused, a_bad_table_or_evidence_is_refused,
+    a_front_of_the_verdict_is_printed, a_judge_changes_nothing, a_judge_fails_only,
+    the_verdict_is_printed, the_verdict_is_printed_where_all_is_accepted,
+};
 pub use keygen_laws::{
     a_front_of_the_key_is_made, key_made_exactly, key_made_where_all_is_accepted,
     keygen_failed_only, leaves_refused_exactly, only_the_key_is_changed,

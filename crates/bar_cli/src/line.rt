@@ -1,9 +1,10 @@
 //! The words of the command line.
 ghost use Rattle.std.specs.Prelude.{◌≡◌, map, string_bytes};
 ghost use Rattle.std.specs.Option.{option_map};
-ghost use Rattle.bar_cli.specs.Line.{keygen_line, line_of, replay_line};
-ghost use Rattle.bar_cli.specs.Views.{asked_view, command_view, replay_view};
+ghost use Rattle.bar_cli.specs.Line.{judge_line, keygen_line, line_of, replay_line};
+ghost use Rattle.bar_cli.specs.Views.{asked_view, command_view, judged_view, replay_view};
 
+use crate::judge_names::JudgeNames;
 use crate::keygen_words::KeygenWords;
 use crate::words::{id_of, number_in, option_value, types_of};
 use bar_roster::MOST_ROUNDS;
@@ -23,6 +24,7 @@ pub struct ReplayNames<'a> {
 pub enum Command<'a> {
     Replay(ReplayNames<'a>),
     Keygen(KeygenWords<'a>),
+    Judge(JudgeNames<'a>),
 }
 
 /// The command that the words ask for, if they are a line. The first word names it.
@@ -33,6 +35,7 @@ pub fn command_of(words: &[String]) -> Option<Command<'_>>
     match name.as_str() {
         "replay" => Some(Command::Replay(replay_words(options)?)),
         "keygen" => Some(Command::Keygen(keygen_words(options)?)),
+        "judge" => Some(Command::Judge(judge_words(options)?)),
         _ => None,
     }
 }
@@ -83,5 +86,22 @@ fn keygen_words(words: &[String]) -> Option<KeygenWords<'_>>
         params,
         secret,
         key,
+    })
+}
+
+// The options of `judge`, each once and in any order.
+fn judge_words(words: &[String]) -> Option<JudgeNames<'_>>
+    ensures { option_map judged_view result ≡ judge_line (map string_bytes words.now) }
+{
+    if words.len() != 6 {
+        return None;
+    }
+    let session = option_value(words, "--session")?;
+    let table = option_value(words, "--table")?;
+    let evidence = option_value(words, "--evidence")?;
+    Some(JudgeNames {
+        session,
+        table,
+        evidence,
     })
 }

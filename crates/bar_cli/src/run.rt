@@ -1,7 +1,7 @@
 //! The top call.
 ghost use Rattle.std.specs.Prelude.{◌≡◌, ◌⊎◌, ◌↔◌, ◌||◌, None, Some, false, map, string_bytes, IsTrue};
 ghost use Rattle.bar_outside.specs.Plan.{outside};
-ghost use Rattle.bar_outside.specs.Ends.{Ends, EndsWith, Says, is_plain};
+ghost use Rattle.bar_outside.specs.Ends.{Ends, EndsWith, SameFiles, Says, is_plain};
 ghost use Rattle.bar_cli.specs.Headline.{IsSignedByRule, IsBalanced, GivesKeysToPartners, KeepsItsLeaves};
 ghost use Rattle.bar_cli.specs.Line.{line_of, plan_of, is_status_of, may_print};
 ghost use Rattle.bar_cli.specs.Line as line;
@@ -9,7 +9,9 @@ ghost use Rattle.bar_cli.specs.Status.{code_of, said_at};
 ghost use Rattle.bar_cli.specs.Views.{command_view};
 ghost use Rattle.bar_cli.specs.ReplayPlan.{ReplayFiles, Replayed};
 ghost use Rattle.bar_cli.specs.KeygenPlan.{HasFewLeaves, Keygen, KeyMade};
+ghost use Rattle.bar_cli.specs.JudgePlan.{HasJudged, JudgeFiles};
 
+use crate::judge::judge;
 use crate::keygen::keygen;
 use crate::line::{Command, command_of};
 use crate::replay::replay;
@@ -17,7 +19,7 @@ use crate::status::{Status, report, status_of};
 use bar_laws::balance::balanced;
 use bar_laws::leaves::leaf_discipline;
 use bar_laws::obedience::signed_by_rule;
-use bar_outside::{Files, Sink};
+use bar_outside::{Files, Sink, plans_go_in_order};
 use bar_roster::laws::{accepted_secrets_are_held, accepted_sessions_are_in_range};
 use std::alloc::Global;
 
@@ -78,11 +80,22 @@ pub fn bar_run<F: Files, K: Sink>(
     ensures key_made { (asked : Keygen) → line_of (map string_bytes words.now) ≡ Some (line.keygen asked) →
         IsTrue (F.disk files.old).told → result ≡ 0 →
         KeyMade asked (outside (F.disk files.old) (K.stream out.old)) (outside (F.disk files.new) (K.stream out.new)) }
+
+    // a judge that ends with 0 or 1 has printed the line of the rules' verdict on its files, which says a fault at 0 and none at 1
+    ensures judged { (names : JudgeFiles) → line_of (map string_bytes words.now) ≡ Some (line.judge names) →
+        IsTrue (F.disk files.old).told → (result ≡ 0) ⊎ (result ≡ 1) →
+        HasJudged names result (outside (F.disk files.old) (K.stream out.old)) (outside (F.disk files.new) (K.stream out.new)) }
+
+    // whatever its status, a judge changes no file
+    ensures only_reads { (names : JudgeFiles) → line_of (map string_bytes words.now) ≡ Some (line.judge names) →
+        IsTrue (F.disk files.old).told →
+        SameFiles (outside (F.disk files.old) (K.stream out.old)) (outside (F.disk files.new) (K.stream out.new)) }
 {
     accepted_secrets_are_held();
     accepted_sessions_are_in_range();
     balanced();
     leaf_discipline();
+    plans_go_in_order();
     signed_by_rule();
     let Some(command) = command_of(words) else {
         return report(alloc, &Status::Usage, err);
@@ -107,5 +120,6 @@ fn run_command<F: Files, K: Sink>(
     match command {
         Command::Replay(names) => status_of(replay(alloc, names, files, out)),
         Command::Keygen(asked) => status_of(keygen(alloc, asked, files, out)),
+        Command::Judge(names) => status_of(judge(alloc, names, files, out)),
     }
 }

@@ -1,7 +1,7 @@
 //! How the program ends, and what it says of it.
 ghost use Rattle.std.specs.Prelude.{◌≡◌, ◌⊎◌, ℕ, List, IfOk, Err, string_bytes};
 ghost use Rattle.bar_outside.specs.Ends.{Prints};
-ghost use Rattle.bar_cli.specs.Refusals.{session_refused, key_refused, secret_refused};
+ghost use Rattle.bar_cli.specs.Refusals.{session_refused, key_refused, secret_refused, table_refused};
 ghost use Rattle.bar_cli.specs.Status.{code_of, said_at, code_of_run, said_by_run};
 
 use bar_outside::{Fault, Sink, SinkFault};
@@ -16,6 +16,8 @@ const NO_MEMORY: u8 = 70;
 pub enum Status {
     /// The command was done.
     Done,
+    /// The judge finds no fault.
+    NoFault,
     /// The words aren't a line.
     Usage,
     FileFailed,
@@ -27,6 +29,9 @@ pub enum Status {
     InputRefused,
     /// The secret has so many bytes.
     SecretRefused(usize),
+    /// The table has a bad entry at this place.
+    TableRefused(u64),
+    EvidenceRefused,
     NoMemory,
 }
 
@@ -37,6 +42,7 @@ impl Status {
     {
         match self {
             Status::Done => 0,
+            Status::NoFault => 1,
             Status::Usage => 2,
             Status::FileFailed => 3,
             Status::SessionRefused(_) => 4,
@@ -44,6 +50,8 @@ impl Status {
             Status::OutputFailed => 7,
             Status::InputRefused => 8,
             Status::SecretRefused(_) => 8,
+            Status::TableRefused(_) => 8,
+            Status::EvidenceRefused => 8,
             Status::NoMemory => NO_MEMORY,
         }
     }
@@ -115,6 +123,12 @@ fn secret_refusal(alloc: Global, len: usize) -> Result<String, AllocError>
     format!(in alloc; "bar: input refused: secret length {len}\n")
 }
 
+fn table_refusal(alloc: Global, at: u64) -> Result<String, AllocError>
+    ensures { IfOk result (λ line. string_bytes line ≡ table_refused at) }
+{
+    format!(in alloc; "bar: input refused: table at {at}\n")
+}
+
 /// Prints the line of the status. A failed write changes nothing; want of memory makes it 70.
 pub fn report<K: Sink>(alloc: Global, status: &Status, err: &mut K) -> u8
     ensures code { (result ≡ code_of status.now) ⊎ (result ≡ 70) }
@@ -123,6 +137,7 @@ pub fn report<K: Sink>(alloc: Global, status: &Status, err: &mut K) -> u8
     let code = status.code();
     match status {
         Status::Done => code,
+        Status::NoFault => code,
         Status::Usage => print_line(b"bar: usage\n", code, err),
         Status::FileFailed => print_line(b"bar: file failed\n", code, err),
         Status::SessionRefused(fault) => print_text(session_refusal(alloc, fault), code, err),
@@ -130,6 +145,8 @@ pub fn report<K: Sink>(alloc: Global, status: &Status, err: &mut K) -> u8
         Status::OutputFailed => print_line(b"bar: output failed\n", code, err),
         Status::InputRefused => print_line(b"bar: input refused\n", code, err),
         Status::SecretRefused(len) => print_text(secret_refusal(alloc, *len), code, err),
+        Status::TableRefused(at) => print_text(table_refusal(alloc, *at), code, err),
+        Status::EvidenceRefused => print_line(b"bar: input refused: evidence\n", code, err),
         Status::NoMemory => print_line(b"bar: no memory\n", code, err),
     }
 }

@@ -1,6 +1,6 @@
-use Rattle.std.proofs.Common.{◌||◌, ◌∙◌, ◌≡◌, Option, Some, false, IsTrue, [], sym, subst, refl, inl, inr, arith}
+use Rattle.std.proofs.Common.{◌||◌, ◌∙◌, ◌≡◌, ◌⊎◌, ℕ, Option, Some, false, IsTrue, [], sym, subst, refl, inl, inr, arith}
 use Rattle.std.specs.List.{AllByRecursion}
-use Rattle.bar_outside.specs.Plan.{outside}
+use Rattle.bar_outside.specs.Plan.{Outside, outside}
 use Rattle.bar_outside.specs.Ends.{Ends, Says, is_plain}
 use Rattle.bar_outside.proofs.Ending.{Ends-ending, Ends-or_memory, said}
 use Rattle.bar_window.specs.declared.exchange.Exchange.{Exchange}
@@ -8,16 +8,23 @@ use Rattle.bar_rules.specs.Peer.Run.{log_after, sends_of}
 use Rattle.bar_laws.specs.Balance.{GoesToPartner, IsEven, totals_of}
 use Rattle.bar_laws.specs.Leaves.{KeepsLeaves}
 use Rattle.bar_laws.specs.Obedience.{IsRuled}
-use Rattle.bar_cli.specs.Line.{Line, replay, keygen, plan_of, is_status_of, may_print, usage}
+use Rattle.bar_cli.specs.JudgePlan.{judge_plan}
+use Rattle.bar_cli.specs.Line.{Line, replay, keygen, judge, plan_of, is_status_of, may_print, usage}
 use Rattle.bar_cli.specs.Views.{command_view}
 use Rattle.bar_cli.proofs.MemberLemmas.{of-its_run}
 use Rattle.bar_cli.proofs.Rows.{replayed}
+use Rattle.bar_cli.proofs.JudgeRows.{judged_so, outcome, same_files}
 use Rattle.bar_cli.proofs.KeygenRows.{made}
 use Rattle.bar_cli.proofs.StatusLemmas.{or-memory, no-usage, unprinted-by}
 use Rattle.bar_cli.proofs.run.bar_run.Goals as goal
 
 some-line : {a b : Line} → ◌≡◌ {A = Option Line} (Some a) (Some b) → a ≡ b
 some-line e = cc
+
+-- how the command of these words ended
+ends-as : (a b : Option Line) (line : Line) (old new : Outside) (status result : ℕ) → a ≡ b → b ≡ Some line → (result ≡ status) ⊎ (result ≡ 70) →
+    Ends (plan_of a) old new status → Ends (plan_of (Some line)) old new result
+ends-as a b line old new status result e f code h = subst (λ l. Ends (plan_of l) old new result) (e ∙ f) (Ends-or_memory _ _ _ _ _ code h)
 
 pub returns-clause-statuses : goal.returns-clause-statuses
 returns-clause-statuses g c =
@@ -117,3 +124,17 @@ pub returns-in_default-clause-leaves : goal.returns-in_default-clause-leaves
 returns-in_default-clause-leaves g c = λ names is.
     of-its_run c.accepted_secrets_are_held.ensures c.accepted_sessions_are_in_range.ensures
     (λ me inputs. KeepsLeaves me (log_after me [] inputs)) c.leaf_discipline.ensures names (g.F.Files.disk c.args.files.now).content
+
+pub returns-clause-judged : goal.returns-clause-judged
+returns-clause-judged g c = λ names is told which.
+    let law = c.plans_go_in_order.ensures in
+    let ends = ends-as _ _ (judge names) _ _ _ _ c.in-Some.ensures is c.report-2.ensures.code c.run_command-status.ensures.ends.ends in
+    judged_so names _ _ c.report-2.result which
+    (outcome law.reads law.ends law.shows names _ _ _ (law.went (judge_plan names) _ _ _ ends told))
+
+pub returns-clause-only_reads : goal.returns-clause-only_reads
+returns-clause-only_reads g c = λ names is told.
+    let law = c.plans_go_in_order.ensures in
+    let ends = ends-as _ _ (judge names) _ _ _ _ c.in-Some.ensures is c.report-2.ensures.code c.run_command-status.ensures.ends.ends in
+    same_files names _ _ c.report-2.result
+    (outcome law.reads law.ends law.shows names _ _ _ (law.went (judge_plan names) _ _ _ ends told))

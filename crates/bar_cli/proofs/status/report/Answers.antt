@@ -1,4 +1,4 @@
-use Rattle.bar_cli.specs.Refusals.{session_refused, key_refused, secret_refused}
+use Rattle.bar_cli.specs.Refusals.{session_refused, key_refused, secret_refused, table_refused}
 use Rattle.bar_cli.proofs.status.report.Goals as goal
 
 pub returns-in-SessionRefused-clause-said : goal.returns-in-SessionRefused-clause-said
@@ -9,3 +9,9 @@ returns-in-KeyRefused-clause-said g c = rw c.in-KeyRefused.is (c.print_text-in-K
 
 pub returns-in-SecretRefused-clause-said : goal.returns-in-SecretRefused-clause-said
 returns-in-SecretRefused-clause-said g c = rw c.in-SecretRefused.is (c.print_text-in-SecretRefused.ensures.said (secret_refused c.in-SecretRefused.len) c.secret_refusal.ensures)
+
+pub returns-in-TableRefused-clause-said : goal.returns-in-TableRefused-clause-said
+returns-in-TableRefused-clause-said g c = rw c.in-TableRefused.is (c.print_text-in-TableRefused.ensures.said (table_refused c.in-TableRefused.at) c.table_refusal.ensures)
+
+pub returns-in-EvidenceRefused-clause-said : goal.returns-in-EvidenceRefused-clause-said
+returns-in-EvidenceRefused-clause-said g c = rw c.in-EvidenceRefused.is c.print_line-in-EvidenceRefused.ensures.said
