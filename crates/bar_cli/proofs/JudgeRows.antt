@@ -1,5 +1,5 @@
 -- The rows of the status table, from how `judge` ended.
-use Rattle.std.proofs.Common.{◌≡◌, ◌⊎◌, ℕ, List, [], Option, Some, None, Result, Ok, Err, false, true, refl, sym, ap, ◌∙◌, subst, IsSomeAnd, inl, inr, true≢false}
+use Rattle.std.proofs.Common.{◌≡◌, ◌⊎◌, ℕ, List, [], Option, Some, None, Result, Ok, Err, false, true, refl, sym, ap, ◌∙◌, subst, IsSomeAnd, inl, inr}
 use Rattle.bar_outside.specs.Disk.{Content, Failure, readable}
 use Rattle.bar_outside.specs.Plan.{Outside, Plan, Names, ending, is_stop}
 use Rattle.bar_outside.specs.Ends.{SameFiles, NothingPrinted}
@@ -12,7 +12,7 @@ use Rattle.bar_cli.specs.Judging.{lists_of, evidence_of, verdict_of, verdict_lin
 use Rattle.bar_cli.specs.JudgePlan.{JudgeFiles, HasSession, HasTable, JudgeAccepted, HasBadSession, HasBadTable, HasBadEvidence, HasJudged, Judged, JudgedFront, IsJudgeCall, by_datagrams, by_lists, by_session, judge_plan, verdict_in}
 use Rattle.bar_cli.specs.Refusals.{session_refused, table_refused, evidence_refused}
 use Rattle.bar_cli.specs.Replay.{session_of}
-use Rattle.bar_cli.proofs.EndLemmas.{differ}
+use Rattle.bar_cli.proofs.EndLemmas.{differ, go-on}
 
 -- what comes behind each read
 
@@ -108,9 +108,6 @@ module _ (reads : ReadsFirst) (ends : EndsThere) (shows : ShowsThere) (names : J
       ]
 
 -- ---- the rows
-
-go-on : (status : ℕ) → is_stop status ≡ false → is_stop status ≡ true → ⊥
-go-on status go stop = true≢false (sym stop ∙ go)
 
 -- a verdict of this status was printed
 pub judged : (names : JudgeFiles) (old new : Outside) (status : ℕ) → is_stop status ≡ false → (IsRefused names old.files.content status → ⊥) →

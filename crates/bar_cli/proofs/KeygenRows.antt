@@ -1,78 +1,93 @@
 -- The rows of the status table, from how `keygen` ended.
-use Rattle.std.proofs.Common.{◌≡◌, ◌≢◌, ◌==◌, ℕ, List, [], ◌∷◌, ◌++◌, Bool, true, false, Option, Some, None, Result, Ok, Err, refl, ap, ◌∙◌, subst, IsTrue, IsSomeAnd, inl, inr, length, append-nil, cond}
-use Rattle.std.proofs.lemmas.Bool.{eqb-true}
+use Rattle.std.proofs.Common.{◌≡◌, ◌≢◌, ◌⊎◌, ◌==◌, ℕ, List, [], ◌∷◌, ◌++◌, Bool, true, false, Option, Some, None, Result, Ok, Err, refl, ap, ◌∙◌, subst, IsSomeAnd, inl, inr, length, append-nil, cond}
+use Rattle.std.proofs.lemmas.Bool.{cases_Bool, eqb-true}
 use Rattle.bar_outside.specs.Disk.{Content, Failure, readable, created}
-use Rattle.bar_outside.specs.Plan.{Outside, Plan, Ran, Names, Touches, content_after, accepting, read_then, before, ending, file_failed}
-use Rattle.bar_outside.specs.Plan.Action.{read, create, append, show}
-use Rattle.bar_outside.specs.Ends.{Ends, Carried}
+use Rattle.bar_outside.specs.Plan.{Outside, Plan, Names, Touches, content_after, accepting, ending, is_stop}
+use Rattle.bar_outside.specs.Plan.Action.{create, append, show}
+use Rattle.bar_outside.specs.Stages.{Went, IsUnchanged, ReadsFirst, EndsThere, NamesFirst}
 use Rattle.bar_outside.proofs.Contents.{put_at-same, put_at-other, appended-same, appended-other}
+use Rattle.bar_outside.proofs.Untouched.{untouched-reached}
 use Rattle.bar_roster.specs.declared.fault.SessionFault.{SessionFault}
 use Rattle.bar_roster.specs.KeyText.{key_text_of}
 use Rattle.bar_roster.specs.SessionText.{enough_leaves}
 use Rattle.bar_cli.specs.Refusals.{session_refused, secret_refused}
-use Rattle.bar_cli.specs.KeygenPlan.{Keygen, KeygenAccepted, KeyMade, HasFewLeaves, IsKeygenCall, secret_of, key_made, lines_of, keygen_actions, making_plan, secret_plan, keygen_plan, SecretRefused}
-use Rattle.bar_cli.proofs.EndLemmas.{differ}
+use Rattle.bar_cli.specs.KeygenPlan.{Keygen, KeygenAccepted, KeyMade, HasEnoughLeaves, HasFewLeaves, IsKeygenCall, secret_of, key_made, lines_of, keygen_actions, making_plan, secret_plan, keygen_plan, SecretRefused}
+use Rattle.bar_cli.proofs.EndLemmas.{differ, go-on}
 
-abbrev unread : List ℕ → Plan
-unread path = record { actions = read path ∷ []; status = 3; line = file_failed }
+-- what comes behind the count of leaves, and behind the read
 
--- the plan, in each of its four cases
-pub data KeyCase (asked : Keygen) (content : Content) : Type 0 where
-  few_leaves : (fault : SessionFault) → enough_leaves asked.rounds asked.params.height ≡ Err fault → keygen_plan asked content ≡ ending 4 (session_refused fault) content → KeyCase asked content
-  no_secret : enough_leaves asked.rounds asked.params.height ≡ Ok tt → readable content asked.secret ≡ None → keygen_plan asked content ≡ unread asked.secret → KeyCase asked content
-  refused_secret : (bytes : List ℕ) → enough_leaves asked.rounds asked.params.height ≡ Ok tt → readable content asked.secret ≡ Some bytes → length bytes ≢ 32 →
-      keygen_plan asked content ≡ before (read asked.secret) (ending 8 (secret_refused (length bytes)) content) → KeyCase asked content
-  accepted_secret : (a : KeygenAccepted asked content) → keygen_plan asked content ≡ before (read asked.secret) (making_plan asked a.secret content) → KeyCase asked content
+abbrev by-secret : Keygen → Result (List ℕ) ℕ → Content → Plan
+by-secret asked secret = accepting secret (making_plan asked) (λ len. ending 8 (secret_refused len))
 
-module _ (asked : Keygen) (content : Content) where
-  pub at-leaves : (r : Result (Unit {0}) SessionFault) → enough_leaves asked.rounds asked.params.height ≡ r →
-      keygen_plan asked content ≡ accepting r (λ _. secret_plan asked) (λ fault. ending 4 (session_refused fault)) content
-  at-leaves r e = ap (λ x. accepting x (λ _. secret_plan asked) (λ fault. ending 4 (session_refused fault)) content) e
+abbrev with-secret : Keygen → List ℕ → Content → Plan
+with-secret asked bytes = by-secret asked (secret_of bytes)
 
-  abbrev secret_then : List ℕ → Content → Plan
-  secret_then bytes = accepting (secret_of bytes) (making_plan asked) (λ len. ending 8 (secret_refused len))
+abbrev by-leaves : Keygen → Result (Unit {0}) SessionFault → Content → Plan
+by-leaves asked leaves = accepting leaves (λ _. secret_plan asked) (λ fault. ending 4 (session_refused fault))
 
-  pub at-secret : (o : Option (List ℕ)) → enough_leaves asked.rounds asked.params.height ≡ Ok tt → readable content asked.secret ≡ o →
-      keygen_plan asked content ≡ read_then asked.secret secret_then content o
-  at-secret o e f = at-leaves (Ok tt) e ∙ ap (read_then asked.secret secret_then content) f
+-- ---- a secret is of 32 bytes
 
-  pub at-bytes : (bytes : List ℕ) (b : Bool) → enough_leaves asked.rounds asked.params.height ≡ Ok tt → readable content asked.secret ≡ Some bytes → (length bytes == 32) ≡ b →
-      keygen_plan asked content
-      ≡ before (read asked.secret) (accepting (cond b (Ok bytes) (Err (length bytes))) (making_plan asked) (λ len. ending 8 (secret_refused len)) content)
-  at-bytes bytes b e f g =
-      at-secret (Some bytes) e f
-      ∙ ap (λ x. before (read asked.secret) (accepting (cond x (Ok bytes) (Err (length bytes))) (making_plan asked) (λ len. ending 8 (secret_refused len)) content)) g
+by-length : (bytes : List ℕ) → (length bytes ≡ 32) ⊎ (length bytes ≢ 32)
+by-length bytes =
+    elim (cases_Bool (length bytes == 32)) [ inl same ↦ inl (eqb-true (length bytes) 32 same) | inr other ↦ inr (differ (length bytes) 32 other) ]
 
-  case-bytes : (bytes : List ℕ) (b : Bool) → enough_leaves asked.rounds asked.params.height ≡ Ok tt → readable content asked.secret ≡ Some bytes → (length bytes == 32) ≡ b → KeyCase asked content
-  case-bytes bytes false e f g = refused_secret bytes e f (λ same. differ-same bytes same g) (at-bytes bytes false e f g)
-    where
-      differ-same : (bytes : List ℕ) → length bytes ≡ 32 → (length bytes == 32) ≡ false → ⊥
-      differ-same bytes same test = differ (length bytes) 32 test same
-  case-bytes bytes true e f g = accepted_secret (record { secret = bytes; leaves = e; read = f; long = eqb-true (length bytes) 32 g }) (at-bytes bytes true e f g)
+taken : (bytes : List ℕ) → length bytes ≡ 32 → secret_of bytes ≡ Ok bytes
+taken bytes long =
+    let same : (length bytes == 32) ≡ true = rw long refl in
+    ap (λ (b : Bool). cond {A = Result (List ℕ) ℕ} b (Ok bytes) (Err (length bytes))) same
 
-  case-secret : (o : Option (List ℕ)) → enough_leaves asked.rounds asked.params.height ≡ Ok tt → readable content asked.secret ≡ o → KeyCase asked content
-  case-secret None e f = no_secret e f (at-secret None e f)
-  case-secret (Some bytes) e f = case-bytes bytes (length bytes == 32) e f refl
+untaken : (bytes : List ℕ) → length bytes ≢ 32 → secret_of bytes ≡ Err (length bytes)
+untaken bytes other =
+    let differs : (length bytes == 32) ≡ false =
+    elim (cases_Bool (length bytes == 32)) [ inl same ↦ absurd (other (eqb-true (length bytes) 32 same)) | inr differs ↦ differs ] in
+    ap (λ (b : Bool). cond {A = Result (List ℕ) ℕ} b (Ok bytes) (Err (length bytes))) differs
 
-  case-leaves : (r : Result (Unit {0}) SessionFault) → enough_leaves asked.rounds asked.params.height ≡ r → KeyCase asked content
-  case-leaves (Err fault) e = few_leaves fault e (at-leaves (Err fault) e)
-  case-leaves (Ok tt) e = case-secret (readable content asked.secret) e refl
+-- ---- how far it came
 
-  pub key_case : KeyCase asked content
-  key_case = case-leaves (enough_leaves asked.rounds asked.params.height) refl
+-- there are too few leaves, or the secret was refused
+abbrev pub IsRefused : Keygen → Content → ℕ → Type 0
+IsRefused asked content status =
+    ((status ≡ 4) × HasFewLeaves asked) ⊎ ((status ≡ 8) × ((bytes : List ℕ) × SecretRefused asked content bytes))
 
-  -- the plan where all is accepted
-  pub at-accepted : (a : KeygenAccepted asked content) → keygen_plan asked content ≡ before (read asked.secret) (making_plan asked a.secret content)
-  at-accepted a = at-bytes a.secret true a.leaves a.read (rw a.long refl)
+-- nothing was changed or printed, for a stop or a refusal; or both were accepted, and the making of the key went so
+abbrev pub Outcome : Keygen → Outside → Outside → ℕ → Type 0
+Outcome asked old new status =
+    (IsUnchanged status old new × ((is_stop status ≡ true) ⊎ IsRefused asked old.files.content status))
+    ⊎ ((a : KeygenAccepted asked old.files.content) × Went (making_plan asked a.secret old.files.content) old new status)
 
-  -- and where the secret has another length
-  pub at-refused : (bytes : List ℕ) → enough_leaves asked.rounds asked.params.height ≡ Ok tt → readable content asked.secret ≡ Some bytes → length bytes ≢ 32 →
-      keygen_plan asked content ≡ before (read asked.secret) (ending 8 (secret_refused (length bytes)) content)
-  at-refused bytes e f other = at-bytes bytes false e f (not_same (length bytes == 32) refl)
-    where
-      not_same : (b : Bool) → (length bytes == 32) ≡ b → (length bytes == 32) ≡ false
-      not_same true g = absurd (other (eqb-true (length bytes) 32 g))
-      not_same false g = g
+module _ (reads : ReadsFirst) (ends : EndsThere) (asked : Keygen) (old new : Outside) (status : ℕ) where
+  refused : (final : ℕ) (line : List ℕ) → Went (ending final line old.files.content) old new status →
+      (status ≡ final → IsRefused asked old.files.content status) → Outcome asked old new status
+  refused final line w why =
+      let e = ends final line old new status w in inl (e.0, elim e.1 [ inl same ↦ inr (why same) | inr stop ↦ inl stop ])
+
+  outcome-secret : (bytes : List ℕ) → HasEnoughLeaves asked → readable old.files.content asked.secret ≡ Some bytes →
+      Went (with-secret asked bytes old.files.content) old new status → Outcome asked old new status
+  outcome-secret bytes e r w =
+      elim (by-length bytes) [
+        | inl long ↦
+            inr (
+              record { secret = bytes; leaves = e; read = r; long = long },
+              subst (λ x. Went (by-secret asked x old.files.content) old new status) (taken bytes long) w,
+            )
+        | inr other ↦
+            refused 8 (secret_refused (length bytes)) (subst (λ x. Went (by-secret asked x old.files.content) old new status) (untaken bytes other) w)
+            (λ k. inr (k, (bytes, record { leaves = e; read = r; other_length = other })))
+      ]
+
+  outcome-leaves : (r : Result (Unit {0}) SessionFault) → enough_leaves asked.rounds asked.params.height ≡ r →
+      Went (by-leaves asked r old.files.content) old new status → Outcome asked old new status
+  outcome-leaves (Err fault) e w = refused 4 (session_refused fault) w (λ k. inl (k, (fault, e)))
+  outcome-leaves (Ok tt) e w =
+      elim (reads asked.secret (with-secret asked) old new status w) [
+        | inl same ↦ inl (same.0, inl same.1)
+        | inr on ↦ outcome-secret on.bytes e on.read on.rest
+      ]
+
+  pub outcome : Went (keygen_plan asked old.files.content) old new status → Outcome asked old new status
+  outcome w = outcome-leaves (enough_leaves asked.rounds asked.params.height) refl w
+
+-- ---- the rows
 
 -- what the actions leave
 written : (key text lines : List ℕ) (content : Content) → content_after (create key ∷ append key text ∷ show lines ∷ []) content key ≡ Some text
@@ -81,83 +96,64 @@ written key text lines content = appended-same (created content key) key text []
 unwritten : (key text lines : List ℕ) (content : Content) (path : List ℕ) → path ≢ key → content_after (create key ∷ append key text ∷ show lines ∷ []) content path ≡ content path
 unwritten key text lines content path differs = appended-other (created content key) key text path differs ∙ put_at-other content key [] path differs
 
--- a key that was made, from how the command ended
-pub made : (asked : Keygen) (old new : Outside) → Ends (keygen_plan asked) old new 0 → IsTrue old.files.told → KeyMade asked old new
-made asked old new ends told = by_case (key_case asked old.files.content) (ends.carried told refl)
-  where
-    by_case : KeyCase asked old.files.content → Carried (keygen_plan asked old.files.content) old new 0 → KeyMade asked old new
-    by_case (few_leaves fault e plan) c = absurd (differ 0 4 refl (c.is ∙ ap (λ (p : Plan). p.status) plan))
-    by_case (no_secret e f plan) c = absurd (differ 0 3 refl (c.is ∙ ap (λ (p : Plan). p.status) plan))
-    by_case (refused_secret bytes e f other plan) c = absurd (differ 0 8 refl (c.is ∙ ap (λ (p : Plan). p.status) plan))
-    by_case (accepted_secret a plan) c =
-        let ran = subst (λ (p : Plan). Ran p.actions old new) plan c.ran in
-        let text : List ℕ = key_text_of (key_made asked a.secret) in
-        let lines : List ℕ = lines_of asked a.secret in
-        record {
-          accepted = a;
-          written = ap (λ holds. holds asked.key) ran.files ∙ written asked.key text lines old.files.content;
-          printed = λ tells. ran.out tells ∙ ap (λ xs. old.out.bytes ++ xs) (append-nil lines);
-          others = λ path differs. ap (λ holds. holds path) ran.files ∙ unwritten asked.key text lines old.files.content path differs;
-        }
+module _ (asked : Keygen) (old new : Outside) where
+  -- at 0 the key was made
+  pub made : Outcome asked old new 0 → KeyMade asked old new
+  made (inl r) = absurd (elim r.1 [
+    | inl stop ↦ go-on 0 refl stop
+    | inr why ↦ elim why [ inl k ↦ differ 0 4 refl k.0 | inr k ↦ differ 0 8 refl k.0 ]
+  ])
+  made (inr p) =
+      let a = p.0 in
+      let ran = (p.1.carried refl).ran in
+      let text : List ℕ = key_text_of (key_made asked a.secret) in
+      let lines : List ℕ = lines_of asked a.secret in
+      record {
+        accepted = a;
+        written = ap (λ (holds : Content). holds asked.key) ran.files ∙ written asked.key text lines old.files.content;
+        printed = λ tells. ran.out tells ∙ ap (λ xs. old.out.bytes ++ xs) (append-nil lines);
+        others = λ path differs. ap (λ (holds : Content). holds path) ran.files ∙ unwritten asked.key text lines old.files.content path differs;
+      }
 
--- 4 comes only where there are too few leaves
-pub refused-leaves : (asked : Keygen) (old new : Outside) → Ends (keygen_plan asked) old new 4 → IsTrue old.files.told → HasFewLeaves asked
-refused-leaves asked old new ends told = by_case (key_case asked old.files.content) (ends.carried told refl)
-  where
-    by_case : KeyCase asked old.files.content → Carried (keygen_plan asked old.files.content) old new 4 → HasFewLeaves asked
-    by_case (few_leaves fault e plan) c = (fault, e)
-    by_case (no_secret e f plan) c = absurd (differ 4 3 refl (c.is ∙ ap (λ (p : Plan). p.status) plan))
-    by_case (refused_secret bytes e f other plan) c = absurd (differ 4 8 refl (c.is ∙ ap (λ (p : Plan). p.status) plan))
-    by_case (accepted_secret a plan) c = absurd (differ 4 0 refl (c.is ∙ ap (λ (p : Plan). p.status) plan))
+  -- at a refusal nothing was changed or printed
+  pub refused_so : (status : ℕ) → (status == 0) ≡ false → is_stop status ≡ false → Outcome asked old new status →
+      IsUnchanged status old new × IsRefused asked old.files.content status
+  refused_so status other go (inl r) = (r.0, elim r.1 [ inl stop ↦ absurd (go-on status go stop) | inr why ↦ why ])
+  refused_so status other go (inr p) = absurd (differ status 0 other (p.1.carried go).is)
 
--- 8 comes only where the secret has another length
-pub refused-secret : (asked : Keygen) (old new : Outside) → Ends (keygen_plan asked) old new 8 → IsTrue old.files.told →
-    (bytes : List ℕ) × SecretRefused asked old.files.content bytes
-refused-secret asked old new ends told = by_case (key_case asked old.files.content) (ends.carried told refl)
-  where
-    by_case : KeyCase asked old.files.content → Carried (keygen_plan asked old.files.content) old new 8 →
-        (bytes : List ℕ) × SecretRefused asked old.files.content bytes
-    by_case (few_leaves fault e plan) c = absurd (differ 8 4 refl (c.is ∙ ap (λ (p : Plan). p.status) plan))
-    by_case (no_secret e f plan) c = absurd (differ 8 3 refl (c.is ∙ ap (λ (p : Plan). p.status) plan))
-    by_case (refused_secret bytes e f other plan) c = (bytes, record { leaves = e; read = f; other_length = other })
-    by_case (accepted_secret a plan) c = absurd (differ 8 0 refl (c.is ∙ ap (λ (p : Plan). p.status) plan))
+  pub refused-leaves : Outcome asked old new 4 → HasFewLeaves asked
+  refused-leaves o = elim (refused_so 4 refl refl o).1 [ inl k ↦ k.1 | inr k ↦ absurd (differ 4 8 refl k.0) ]
 
--- what is named, touched and begun of the plan
-
-named-read : (asked : Keygen) (call : Failure) → Names (read asked.secret ∷ []) call → IsKeygenCall asked call
-named-read asked call (inl e) = inl e
-named-read asked call (inr h) = absurd h
-
-named-all : (asked : Keygen) (secret : List ℕ) (call : Failure) → Names (read asked.secret ∷ keygen_actions asked secret) call → IsKeygenCall asked call
-named-all asked secret call (inl e) = inl e
-named-all asked secret call (inr (inl e)) = inr (inl e)
-named-all asked secret call (inr (inr (inl e))) = inr (inr e)
-named-all asked secret call (inr (inr (inr h))) = absurd h
-
-named : (asked : Keygen) (content : Content) (call : Failure) → Names (keygen_plan asked content).actions call → IsKeygenCall asked call
-named asked content call h = by_case (key_case asked content)
-  where
-    by_case : KeyCase asked content → IsKeygenCall asked call
-    by_case (few_leaves fault e plan) = absurd (subst (λ (p : Plan). Names p.actions call) plan h)
-    by_case (no_secret e f plan) = named-read asked call (subst (λ (p : Plan). Names p.actions call) plan h)
-    by_case (refused_secret bytes e f other plan) = named-read asked call (subst (λ (p : Plan). Names p.actions call) plan h)
-    by_case (accepted_secret a plan) = named-all asked a.secret call (subst (λ (p : Plan). Names p.actions call) plan h)
-
-pub named-some : (asked : Keygen) (content : Content) (o : Option Failure) → IsSomeAnd o (Names (keygen_plan asked content).actions) → IsSomeAnd o (IsKeygenCall asked)
-named-some asked content (Some call) h = named asked content call h
-named-some asked content None h = h
+  pub refused-secret : Outcome asked old new 8 → (bytes : List ℕ) × SecretRefused asked old.files.content bytes
+  refused-secret o = elim (refused_so 8 refl refl o).1 [ inl k ↦ absurd (differ 8 4 refl k.0) | inr k ↦ k.1 ]
 
 touched-all : (asked : Keygen) (secret path : List ℕ) → Touches (keygen_actions asked secret) path → path ≡ asked.key
 touched-all asked secret path (inl e) = e
 touched-all asked secret path (inr (inl e)) = e
 touched-all asked secret path (inr (inr h)) = absurd h
 
--- the plan touches the key file alone
-pub touched : (asked : Keygen) (content : Content) (path : List ℕ) → Touches (keygen_plan asked content).actions path → path ≡ asked.key
-touched asked content path h = by_case (key_case asked content)
-  where
-    by_case : KeyCase asked content → path ≡ asked.key
-    by_case (few_leaves fault e plan) = absurd (subst (λ (p : Plan). Touches p.actions path) plan h)
-    by_case (no_secret e f plan) = absurd (subst (λ (p : Plan). Touches p.actions path) plan h)
-    by_case (refused_secret bytes e f other plan) = absurd (subst (λ (p : Plan). Touches p.actions path) plan h)
-    by_case (accepted_secret a plan) = touched-all asked a.secret path (subst (λ (p : Plan). Touches p.actions path) plan h)
+-- whatever the status, no file but the key file was changed
+pub other-untouched : (asked : Keygen) (old new : Outside) (status : ℕ) (path : List ℕ) → (path ≡ asked.key → ⊥) → Outcome asked old new status →
+    new.files.content path ≡ old.files.content path
+other-untouched asked old new status path differs (inl r) = ap (λ (holds : Content). holds path) r.0.files
+other-untouched asked old new status path differs (inr p) =
+    untouched-reached (keygen_actions asked p.0.secret) path old new status p.1.part (λ h. differs (touched-all asked p.0.secret path h))
+
+-- ---- the calls
+
+module _ (first : NamesFirst) (asked : Keygen) (content : Content) (call : Failure) where
+  call-secret : (r : Result (List ℕ) ℕ) → Names (by-secret asked r content).actions call → IsKeygenCall asked call
+  call-secret (Err len) h = absurd h
+  call-secret (Ok secret) (inl e) = inr (inl e)
+  call-secret (Ok secret) (inr (inl e)) = inr (inr e)
+  call-secret (Ok secret) (inr (inr h)) = absurd h
+
+  call-leaves : (r : Result (Unit {0}) SessionFault) → Names (by-leaves asked r content).actions call → IsKeygenCall asked call
+  call-leaves (Err fault) h = absurd h
+  call-leaves (Ok tt) h =
+      elim (first asked.secret (with-secret asked) content call h) [ inl e ↦ inl e | inr m ↦ call-secret (secret_of m.0) m.2 ]
+
+pub named-some : (first : NamesFirst) (asked : Keygen) (content : Content) (o : Option Failure) →
+    IsSomeAnd o (Names (keygen_plan asked content).actions) → IsSomeAnd o (IsKeygenCall asked)
+named-some first asked content (Some call) h = call-leaves first asked content call (enough_leaves asked.rounds asked.params.height) h
+named-some first asked content None h = h

@@ -1,10 +1,8 @@
 pub mod TurnLemmas
 pub mod ReplayLemmas
-pub mod BegunLemmas
 pub mod UpToLemmas
 pub mod EndLemmas
 pub mod StatusLemmas
-pub mod ReplayCases
 pub mod MemberLemmas
 pub mod Rows
 pub mod EvidenceLemmas

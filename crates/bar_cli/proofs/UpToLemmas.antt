@@ -1,17 +1,17 @@
--- What a part of the turns of a replay leaves.
+-- What a part of some turns leaves.
 use Rattle.std.proofs.Common.{Option, ◌≡◌, ◌⊎◌, ◌≤◌, ℕ, ◌+◌, List, [], ◌∷◌, ◌++◌, Some, refl, sym, ap, ◌∙◌, map, length, take, append-nil, append_assoc, inl, inr, subst, min, arith}
 use Rattle.std.proofs.lemmas.List.{take-append-le, take_min}
 use Rattle.std.proofs.lemmas.Grind.{flat_map-append}
 use Rattle.std.proofs.Math.Seq.{take-append-add, take-length}
 use Rattle.std.specs.List.{concat}
 use Rattle.bar_outside.specs.Disk.{Content, appended, created}
-use Rattle.bar_outside.specs.Plan.{Action, Begun, IsFilesNext, IsPartOf, IsShowNext, content_after, shown}
+use Rattle.bar_outside.specs.Plan.{Outside, Action, Begun, Reached, IsFilesNext, IsPartOf, IsShowNext, content_after, shown}
 use Rattle.bar_outside.specs.Plan.Action.{read, create, append, show}
+use Rattle.bar_outside.specs.Stages.{IsUnchanged}
 use Rattle.bar_outside.proofs.Contents.{put_at-same, appended-same}
-use Rattle.bar_outside.proofs.ActionLists.{content_after-append, shown-append, nil-cons, Begun-none, no-next, part-create}
+use Rattle.bar_outside.proofs.ActionLists.{content_after-append, shown-append, nil-cons, Begun-first, Begun-both, Begun-none, files-next, show-next, no-next, part-create}
+use Rattle.bar_outside.proofs.Stages.{part-shown}
 use Rattle.bar_cli.specs.Turns.{Turn, turn_actions, turns_actions, played_bytes, shown_bytes}
-use Rattle.bar_cli.specs.ReplayPlan.{ReplayFiles, replay_actions}
-use Rattle.bar_cli.proofs.BegunLemmas.{Begun-first, Begun-both, files-next, show-next, IsQuietAt, quiet-none, behind-read}
 use Rattle.bar_cli.proofs.ReplayLemmas.{appends-played, turn-played, shown-appends, shown-turn}
 
 -- a front of what is there is a front of more
@@ -58,13 +58,6 @@ begun-appends played held (x ∷ xs) content done there b =
       ]
     ]
 
-part-show : (part : Action) (x : List ℕ) → IsPartOf part (show x) →
-    (k : ℕ) × (shown (part ∷ []) ≡ take k x) × ((c : Content) → content_after (part ∷ []) c ≡ c)
-part-show (show bytes) x h = (h.0, append-nil bytes ∙ h.1, λ c. refl)
-part-show (read path) x h = absurd h
-part-show (create path) x h = absurd h
-part-show (append path bytes) x h = absurd h
-
 begun-shows : (lines : List (List ℕ)) (done : List Action) → Begun (map show lines) done →
     (k : ℕ) × (shown done ≡ take k (concat lines)) × ((c : Content) → content_after done c ≡ c)
 begun-shows [] done b = let e = Begun-none done b in (0, ap shown e, λ c. ap (λ xs. content_after xs c) e)
@@ -73,7 +66,7 @@ begun-shows (x ∷ xs) done b =
       | inl e ↦ (0, ap shown e.0, λ c. ap (λ xs. content_after xs c) e.0)
       | inr two ↦ elim two [
         | inl part ↦
-            let p = part-show part.0 x part.2 in (
+            let p = part-shown x part.0 part.2 in (
               min p.0 (length x),
               ap shown part.1 ∙ p.1 ∙ sym (take-more p.0 x (concat xs)),
               λ c. ap (λ xs. content_after xs c) part.1 ∙ p.2 c,
@@ -257,7 +250,26 @@ front-shown turns earlier this later count is =
     let k : ℕ = length (shown_bytes earlier) + min count (length (concat this.lines)) in
     (k, front-of (shown_bytes earlier) (concat this.lines) (shown_bytes later) count ∙ ap (take k) (sym all))
 
--- ---- a replay
+-- ---- a file that is created, and turns behind it
+
+-- the files are as they were, nothing was printed, and the next action doesn't print
+pub record IsQuietAt (content c : Content) (bytes : List ℕ) (next : List Action) : Type 0 where
+  pub files : c ≡ content
+  pub out : bytes ≡ []
+  pub silent : IsShowNext next → ⊥
+
+pub quiet-none : (content : Content) (done next : List Action) → done ≡ [] → (IsShowNext next → ⊥) →
+    IsQuietAt content (content_after done content) (shown done) next
+quiet-none content done next e none = record { files = ap (λ xs. content_after xs content) e; out = ap shown e; silent = none }
+
+-- so nothing was changed or printed
+pub unchanged-by : (plan : List Action) (status : ℕ) (old new : Outside) (d : Reached plan status old new) →
+    IsQuietAt old.files.content (content_after d.done old.files.content) (shown d.done) d.begun.rest → IsUnchanged status old new
+unchanged-by plan status old new d quiet = record {
+  files = d.ran.files ∙ quiet.files;
+  out = λ tells. d.ran.out tells ∙ ap (λ bytes. old.out.bytes ++ bytes) quiet.out ∙ append-nil old.out.bytes;
+  no_output = λ e. quiet.silent (d.at_output e);
+}
 
 -- a file was made and is empty, nothing was printed, and the next action doesn't print
 pub record IsMadeAt (file : Option (List ℕ)) (bytes : List ℕ) (next : List Action) : Type 0 where
@@ -265,10 +277,10 @@ pub record IsMadeAt (file : Option (List ℕ)) (bytes : List ℕ) (next : List A
   pub out : bytes ≡ []
   pub silent : IsShowNext next → ⊥
 
--- nothing was done, or the played file was made, or the turns were done so far
-unfoldable pub IsStopped : ReplayFiles → List Turn → Content → Content → List ℕ → List Action → Type 0
-IsStopped names turns content c bytes next =
-    IsQuietAt content c bytes next ⊎ (IsMadeAt (c names.played) bytes next ⊎ IsUpTo turns [] (c names.played) bytes next)
+-- nothing was done, or the file was made, or the turns were done so far
+unfoldable pub IsStopped : List ℕ → List Turn → Content → Content → List ℕ → List Action → Type 0
+IsStopped played turns content c bytes next =
+    IsQuietAt content c bytes next ⊎ (IsMadeAt (c played) bytes next ⊎ IsUpTo turns [] (c played) bytes next)
 
 made-one : (played : List ℕ) (content : Content) (done next : List Action) → done ≡ create played ∷ [] → (IsShowNext next → ⊥) →
     IsMadeAt (content_after done content played) (shown done) next
@@ -278,40 +290,25 @@ made-one played content done next e none = record {
   silent = none;
 }
 
-stopped-played : (names : ReplayFiles) (turns : List Turn) (content : Content) (done : List Action)
-    (b : Begun (replay_actions names turns) done) →
-    IsStopped names turns content (content_after done content) (shown done) b.rest
+-- what was done of both
+pub stopped-played : (played : List ℕ) (turns : List Turn) (content : Content) (done : List Action)
+    (b : Begun (create played ∷ turns_actions played turns) done) →
+    IsStopped played turns content (content_after done content) (shown done) b.rest
 unfolding IsStopped
-stopped-played names turns content done b =
-    elim (Begun-first (create names.played) (turns_actions names.played turns) done b) [
+stopped-played played turns content done b =
+    elim (Begun-first (create played) (turns_actions played turns) done b) [
       | inl e ↦ inl (quiet-none content done b.rest e.0 (λ h. subst IsShowNext e.1 h))
       | inr two ↦ elim two [
         | inl part ↦
-            inr (inl (made-one names.played content done b.rest (part.1 ∙ ap (λ a. a ∷ []) (part-create part.0 names.played part.2))
+            inr (inl (made-one played content done b.rest (part.1 ∙ ap (λ a. a ∷ []) (part-create part.0 played part.2))
             (λ h. subst IsShowNext part.3 h)))
-        | inr m ↦ elim (up-to names.played [] turns (created content names.played) m.0 (put_at-same content names.played []) m.2) [
+        | inr m ↦ elim (up-to played [] turns (created content played) m.0 (put_at-same content played []) m.2) [
           | inl e ↦
-              inr (inl (made-one names.played content done b.rest (m.1 ∙ ap (λ xs. create names.played ∷ xs) e.1)
+              inr (inl (made-one played content done b.rest (m.1 ∙ ap (λ xs. create played ∷ xs) e.1)
               (λ h. subst IsShowNext (sym m.3 ∙ e.2) h)))
           | inr u ↦
-              inr (inr (subst (λ xs. IsUpTo turns [] (content_after xs content names.played) (shown xs) b.rest) (sym m.1)
-              (subst (λ next. IsUpTo turns [] (content_after m.0 (created content names.played) names.played) (shown m.0) next) m.3 u)))
+              inr (inr (subst (λ xs. IsUpTo turns [] (content_after xs content played) (shown xs) b.rest) (sym m.1)
+              (subst (λ next. IsUpTo turns [] (content_after m.0 (created content played) played) (shown m.0) next) m.3 u)))
         ]
       ]
     ]
-
--- what was done of a replay whose files are all accepted
-pub stopped-run : (names : ReplayFiles) (turns : List Turn) (content : Content) (done : List Action)
-    (b : Begun (read names.session ∷ read names.key ∷ read names.recording ∷ replay_actions names turns) done) →
-    IsStopped names turns content (content_after done content) (shown done) b.rest
-unfolding IsStopped
-stopped-run names turns content done b =
-    let none : (next : List Action) → (IsShowNext next → ⊥) → IsStopped names turns content content [] next =
-    λ next h. inl (quiet-none content [] next refl h) in
-    behind-read names.session (read names.key ∷ read names.recording ∷ replay_actions names turns) done content
-    (IsStopped names turns content)
-    (none _ (λ h. h)) (λ one in_one.
-    behind-read names.key (read names.recording ∷ replay_actions names turns) one content (IsStopped names turns content)
-    (none _ (λ h. h)) (λ two in_two.
-    behind-read names.recording (replay_actions names turns) two content (IsStopped names turns content)
-    (none _ (λ h. h)) (λ three in_three. stopped-played names turns content three in_three) in_two) in_one) b

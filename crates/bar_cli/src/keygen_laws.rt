@@ -10,13 +10,17 @@ ghost use Rattle.bar_roster.specs.SessionText.{enough_leaves};
 ghost use Rattle.bar_cli.specs.Refusals.{session_refused, secret_refused};
 ghost use Rattle.bar_cli.specs.KeygenPlan.{Keygen, KeygenAccepted, KeyMade, KeyWritten, KeyBegun, HasEnoughLeaves, HasFewLeaves, SecretRefused, IsKeygenCall, keygen_plan};
 
+use bar_outside::plans_go_in_order;
+
 /// 0 comes exactly where there are enough leaves and the secret is accepted, but for a fault or want of memory; then the key was made.
 pub fn key_made_exactly()
     ensures only { (asked : Keygen) → AtEnd 0 (keygen_plan asked) (KeyMade asked) }
     ensures then { (asked : Keygen) → OfEachEnd (keygen_plan asked) (λ old new status.
         KeygenAccepted asked old.files.content → UnlessStopped 0 status) }
     ensures line { (asked : Keygen) (content : Content) → KeygenAccepted asked content → line_at (keygen_plan asked content) 0 ≡ [] }
-{}
+{
+    plans_go_in_order();
+}
 
 /// Where all is accepted and no count rose, the status is 0, but for want of memory. So it is where nothing fails by itself.
 pub fn key_made_where_all_is_accepted()
@@ -35,12 +39,16 @@ pub fn keygen_failed_only()
     ensures output { (asked : Keygen) (old new : Outside) → Ends (keygen_plan asked) old new 7 → Rose old.out.faults new.out.faults }
     ensures no_secret { (asked : Keygen) → OfEachEnd (keygen_plan asked) (λ old new status.
         HasEnoughLeaves asked → readable old.files.content asked.secret ≡ None → is_stop status ≡ true) }
-{}
+{
+    plans_go_in_order();
+}
 
 /// 7 comes only behind the key file: where the files tell, it has its whole text, and a front of the lines was printed.
 pub fn output_fails_behind_the_key()
     ensures { (asked : Keygen) → AtEnd 7 (keygen_plan asked) (KeyWritten asked) }
-{}
+{
+    plans_go_in_order();
+}
 
 /// 4 comes exactly where there are too few leaves, but for want of memory; its line has both numbers.
 /// That it comes only there is said where the files tell; `bar_run` says it whatever they tell.
@@ -50,7 +58,9 @@ pub fn leaves_refused_exactly()
         UnlessStopped 4 status }
     ensures line { (asked : Keygen) (content : Content) (fault : SessionFault) →
         enough_leaves asked.rounds asked.params.height ≡ Err fault → line_at (keygen_plan asked content) 4 ≡ session_refused fault }
-{}
+{
+    plans_go_in_order();
+}
 
 /// 8 comes exactly where there are enough leaves and the secret is there and hasn't 32 bytes, but for a fault or want of memory; its
 /// line has the length.
@@ -61,13 +71,17 @@ pub fn secret_refused_exactly()
         SecretRefused asked old.files.content bytes → UnlessStopped 8 status) }
     ensures line { (asked : Keygen) (content : Content) (bytes : List ℕ) → SecretRefused asked content bytes →
         line_at (keygen_plan asked content) 8 ≡ secret_refused (length bytes) }
-{}
+{
+    plans_go_in_order();
+}
 
 /// Whatever the status, only the key file is changed.
 pub fn only_the_key_is_changed()
     ensures { (asked : Keygen) (path : List ℕ) → OfEachEnd (keygen_plan asked) (λ old new status.
         path ≢ asked.key → new.files.content path ≡ old.files.content path) }
-{}
+{
+    plans_go_in_order();
+}
 
 /// After a refusal every file is as it was, and nothing was printed.
 pub fn refused_keys_change_nothing()
@@ -75,11 +89,15 @@ pub fn refused_keys_change_nothing()
     ensures leaves_printed { (asked : Keygen) → AtEnd 4 (keygen_plan asked) NothingPrinted }
     ensures secret { (asked : Keygen) → AtEnd 8 (keygen_plan asked) SameFiles }
     ensures secret_printed { (asked : Keygen) → AtEnd 8 (keygen_plan asked) NothingPrinted }
-{}
+{
+    plans_go_in_order();
+}
 
 /// Whatever the status, all files are as they were and nothing was printed, or all was accepted, the key file has a front of its text,
 /// and a front of the lines was printed.
 pub fn a_front_of_the_key_is_made()
     ensures { (asked : Keygen) → OfEachEnd (keygen_plan asked) (λ old new status.
         (SameFiles old new × NothingPrinted old new) ⊎ KeyBegun asked old new) }
-{}
+{
+    plans_go_in_order();
+}

@@ -13,6 +13,7 @@ ghost use Rattle.bar_cli.specs.Line.{usage};
 ghost use Rattle.bar_cli.specs.Refusals.{session_refused, key_refused, input_refused};
 ghost use Rattle.bar_cli.specs.ReplayPlan.{ReplayFiles, SessionAccepted, SessionRefused, KeyAccepted, KeyRefused, InputRefused, Accepted, Replayed, PlayedFront, PlayedUpTo, IsUntouched, IsMade, IsReplayCall, replay_plan};
 
+use bar_outside::plans_go_in_order;
 use bar_roster::laws::accepted_secrets_are_held;
 
 /// 0 comes exactly where all files are accepted, but for a fault or want of memory; then all inputs were played.
@@ -23,6 +24,7 @@ pub fn done_exactly()
     ensures line { (names : ReplayFiles) (content : Content) → Accepted names content → line_at (replay_plan names content) 0 ≡ [] }
 {
     accepted_secrets_are_held();
+    plans_go_in_order();
 }
 
 /// Where all files are accepted and no count rose, the status is 0, but for want of memory. So it is where nothing fails by itself.
@@ -45,7 +47,9 @@ pub fn file_failed_only()
         SessionAccepted names old.files.content session → readable old.files.content names.key ≡ None → is_stop status ≡ true) }
     ensures no_recording { (names : ReplayFiles) (session : SessionData) (k : Secrets) → OfEachEnd (replay_plan names) (λ old new status.
         KeyAccepted names old.files.content session k → readable old.files.content names.recording ≡ None → is_stop status ≡ true) }
-{}
+{
+    plans_go_in_order();
+}
 
 /// 4 comes exactly where the session is there and refused, but for a fault or want of memory; its line has the first fault.
 pub fn session_refused_exactly()
@@ -55,7 +59,9 @@ pub fn session_refused_exactly()
         SessionRefused names old.files.content text fault → UnlessStopped 4 status) }
     ensures line { (names : ReplayFiles) (content : Content) (text : List ℕ) (fault : SessionFault) →
         SessionRefused names content text fault → line_at (replay_plan names content) 4 ≡ session_refused fault }
-{}
+{
+    plans_go_in_order();
+}
 
 /// 5 comes exactly where the session is accepted, and the key file is there and refused, but for a fault or want of memory; its line has
 /// the first fault.
@@ -66,7 +72,9 @@ pub fn key_refused_exactly()
         OfEachEnd (replay_plan names) (λ old new status. KeyRefused names old.files.content session bytes fault → UnlessStopped 5 status) }
     ensures line { (names : ReplayFiles) (content : Content) (session : SessionData) (bytes : List ℕ) (fault : KeyFileFault) →
         KeyRefused names content session bytes fault → line_at (replay_plan names content) 5 ≡ key_refused fault }
-{}
+{
+    plans_go_in_order();
+}
 
 /// 8 comes exactly where the session and the key are accepted, and the recording is there and refused, but for a fault or want of memory.
 pub fn input_refused_exactly()
@@ -76,13 +84,17 @@ pub fn input_refused_exactly()
         OfEachEnd (replay_plan names) (λ old new status. InputRefused names old.files.content session k bytes → UnlessStopped 8 status) }
     ensures line { (names : ReplayFiles) (content : Content) (session : SessionData) (secrets : Secrets) (bytes : List ℕ) →
         InputRefused names content session secrets bytes → line_at (replay_plan names content) 8 ≡ input_refused }
-{}
+{
+    plans_go_in_order();
+}
 
 /// 7 comes only where the count of out rose. Where the files tell, all were accepted then, and it comes behind all that an input plays.
 pub fn output_failed_only()
     ensures rose { (names : ReplayFiles) (old new : Outside) → Ends (replay_plan names) old new 7 → Rose old.out.faults new.out.faults }
     ensures in_order { (names : ReplayFiles) → AtEnd 7 (replay_plan names) (PlayedUpTo names 7) }
-{}
+{
+    plans_go_in_order();
+}
 
 /// Where the files tell, this is how far a replay came, whatever stopped it: nothing was changed and nothing printed; or the played file was
 /// made and is empty; or there is one input such that the played file and the transcript have all that belongs to earlier inputs and nothing
@@ -90,13 +102,17 @@ pub fn output_failed_only()
 pub fn a_replay_stops_in_order()
     ensures { (names : ReplayFiles) → OfEachEnd (replay_plan names) (λ old new status.
         IsUntouched old new ⊎ (IsMade names old new ⊎ PlayedUpTo names status old new)) }
-{}
+{
+    plans_go_in_order();
+}
 
 /// Whatever the status, only the played file is changed.
 pub fn only_played_is_changed()
     ensures { (names : ReplayFiles) (path : List ℕ) → OfEachEnd (replay_plan names) (λ old new status.
         path ≢ names.played → new.files.content path ≡ old.files.content path) }
-{}
+{
+    plans_go_in_order();
+}
 
 /// After a refusal, and where the words aren't a line, every file is as it was, and nothing is printed.
 pub fn refusals_change_nothing()
@@ -104,11 +120,15 @@ pub fn refusals_change_nothing()
     ensures session { (names : ReplayFiles) → AtEnd 4 (replay_plan names) IsUntouched }
     ensures key { (names : ReplayFiles) → AtEnd 5 (replay_plan names) IsUntouched }
     ensures input { (names : ReplayFiles) → AtEnd 8 (replay_plan names) IsUntouched }
-{}
+{
+    plans_go_in_order();
+}
 
 /// Whatever the status, all is as it was, or the played file has a front of what the rules play over the recording's inputs, and the
 /// transcript a front of what they send.
 pub fn a_front_is_played()
     ensures { (names : ReplayFiles) → OfEachEnd (replay_plan names) (λ old new status.
         IsUntouched old new ⊎ PlayedFront names old new) }
-{}
+{
+    plans_go_in_order();
+}

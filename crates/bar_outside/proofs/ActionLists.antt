@@ -1,6 +1,6 @@
 -- Laws of lists of actions.
 use Rattle.std.proofs.Common.{◌≡◌, ℕ, List, [], ◌∷◌, ◌++◌, refl, sym, ap, ◌∙◌, subst, append_assoc, append-nil, IsTrue, ◌⊎◌, inl, inr, arith}
-use Rattle.bar_outside.specs.Disk.{Content, Failure, created}
+use Rattle.bar_outside.specs.Disk.{Content, Failure}
 use Rattle.bar_outside.specs.Plan.{Outside, Action, Ran, Begun, Reached, Names, CanRun, IsFilesNext, IsShowNext, IsPartOf, IsPartOfNext, content_after, content_by, shown, shown_by}
 use Rattle.bar_outside.specs.Plan.Action.{read, create, append, show}
 
@@ -156,20 +156,79 @@ CanRun-rest (append path bytes ∷ others) rest content h = CanRun-rest others r
 CanRun-rest (show bytes ∷ others) rest content h = CanRun-rest others rest content h
 
 -- what was done of a plan: nothing, a part of its first action, or the first action and then some of the rest
-pub Begun-cons : (first : Action) (plan done : List Action) (b : Begun (first ∷ plan) done) →
-    (done ≡ []) ⊎ (((part : Action) × (done ≡ part ∷ []) × IsPartOf part first) ⊎ ((more : List Action) × (done ≡ first ∷ more) × (m : Begun plan more) × (m.rest ≡ b.rest)))
-Begun-cons first plan done b = by_front first plan done b.front b.part b.rest b.plan_is b.done_is b.part_is
+pub Begun-first : (first : Action) (plan done : List Action) (b : Begun (first ∷ plan) done) →
+    ((done ≡ []) × (b.rest ≡ first ∷ plan))
+    ⊎ (((part : Action) × (done ≡ part ∷ []) × IsPartOf part first × (b.rest ≡ first ∷ plan))
+    ⊎ ((more : List Action) × (done ≡ first ∷ more) × (m : Begun plan more) × (m.rest ≡ b.rest)))
+Begun-first first plan done b = by_front first plan done b.front b.part b.rest b.plan_is b.done_is b.part_is
   where
-    by_front : (first : Action) (plan done front part rest : List Action) → first ∷ plan ≡ front ++ rest → done ≡ front ++ part → IsPartOfNext part rest →
-        (done ≡ []) ⊎ (((part : Action) × (done ≡ part ∷ []) × IsPartOf part first) ⊎ ((more : List Action) × (done ≡ first ∷ more) × (m : Begun plan more) × (m.rest ≡ rest)))
-    by_front first plan done [] [] rest p d h = inl d
+    by_front : (first : Action) (plan done front part rest : List Action) → first ∷ plan ≡ front ++ rest →
+        done ≡ front ++ part → IsPartOfNext part rest →
+        ((done ≡ []) × (rest ≡ first ∷ plan))
+        ⊎ (((part : Action) × (done ≡ part ∷ []) × IsPartOf part first × (rest ≡ first ∷ plan))
+        ⊎ ((more : List Action) × (done ≡ first ∷ more) × (m : Begun plan more) × (m.rest ≡ rest)))
+    by_front first plan done [] [] rest p d h = inl (d, sym p)
     by_front first plan done [] (x ∷ []) [] p d h = absurd h
-    by_front first plan done [] (x ∷ []) (y ∷ ys) p d h = let e : first ≡ y = cc in inr (inl (x, d, rw e h))
+    by_front first plan done [] (x ∷ []) (y ∷ ys) p d h = let e : first ≡ y = cc in inr (inl (x, d, rw e h, sym p))
     by_front first plan done [] (x ∷ z ∷ zs) rest p d h = absurd h
     by_front first plan done (x ∷ xs) part rest p d h =
         let e : first ≡ x = cc in
         let q : plan ≡ xs ++ rest = cc in
         inr (inr (xs ++ part, rw e d, record { front = xs; part = part; rest = rest; plan_is = q; done_is = refl; part_is = h }, refl))
+
+part-shorter : (x : Action) (xs ys part : List Action) → IsPartOfNext part (x ∷ (xs ++ ys)) → IsPartOfNext part (x ∷ xs)
+part-shorter x xs ys [] h = tt
+part-shorter x xs ys (a ∷ []) h = h
+part-shorter x xs ys (a ∷ b ∷ c) h = absurd h
+
+-- what was done of two plans in order: some of the first, which has the next action too; or all of it, and some of the second
+pub Begun-both : (xs ys done : List Action) (b : Begun (xs ++ ys) done) →
+    ((first : Action) × (others : List Action) × (m : Begun xs done) × (m.rest ≡ first ∷ others) × (b.rest ≡ first ∷ (others ++ ys)))
+    ⊎ ((more : List Action) × (done ≡ xs ++ more) × (m : Begun ys more) × (m.rest ≡ b.rest))
+Begun-both xs ys done b = by_front xs ys done b.front b.part b.rest b.plan_is b.done_is b.part_is
+  where
+    by_front : (xs ys done front part rest : List Action) → xs ++ ys ≡ front ++ rest → done ≡ front ++ part → IsPartOfNext part rest →
+        ((first : Action) × (others : List Action) × (m : Begun xs done) × (m.rest ≡ first ∷ others) × (rest ≡ first ∷ (others ++ ys)))
+        ⊎ ((more : List Action) × (done ≡ xs ++ more) × (m : Begun ys more) × (m.rest ≡ rest))
+    by_front [] ys done front part rest p d h =
+        inr (done, refl, record { front = front; part = part; rest = rest; plan_is = p; done_is = d; part_is = h }, refl)
+    by_front (x ∷ xs) ys done [] part rest p d h =
+        let short = part-shorter x xs ys part (subst (IsPartOfNext part) (sym p) h) in
+        inl (x, xs, record { front = []; part = part; rest = x ∷ xs; plan_is = refl; done_is = d; part_is = short }, refl, sym p)
+    by_front (x ∷ xs) ys done (f ∷ fs) part rest p d h =
+        let e : f ≡ x = cc in
+        let q : xs ++ ys ≡ fs ++ rest = cc in
+        let all : done ≡ x ∷ (fs ++ part) = d ∙ ap (λ a. a ∷ (fs ++ part)) e in
+        elim (by_front xs ys (fs ++ part) fs part rest q refl h) [
+          | inl m ↦ inl (
+            m.0,
+            m.1,
+            record {
+              front = x ∷ m.2.front;
+              part = m.2.part;
+              rest = m.2.rest;
+              plan_is = ap (λ l. x ∷ l) m.2.plan_is;
+              done_is = all ∙ ap (λ l. x ∷ l) m.2.done_is;
+              part_is = m.2.part_is;
+            },
+            m.3,
+            m.4,
+          )
+          | inr m ↦ inr (m.0, all ∙ ap (λ l. x ∷ l) m.1, m.2, m.3)
+        ]
+
+-- whether the next action prints or is one of the files shows at that action
+pub files-next : (a : Action) (xs ys : List Action) → IsFilesNext (a ∷ xs) → IsFilesNext (a ∷ ys)
+files-next (read path) xs ys h = tt
+files-next (create path) xs ys h = tt
+files-next (append path bytes) xs ys h = tt
+files-next (show bytes) xs ys h = absurd h
+
+pub show-next : (a : Action) (xs ys : List Action) → IsShowNext (a ∷ xs) → IsShowNext (a ∷ ys)
+show-next (read path) xs ys h = absurd h
+show-next (create path) xs ys h = absurd h
+show-next (append path bytes) xs ys h = absurd h
+show-next (show bytes) xs ys h = tt
 
 pub nil-cons : (x : Action) (xs : List Action) → ◌≡◌ {A = List Action} [] (x ∷ xs) → ⊥
 nil-cons x xs e = cc
@@ -205,28 +264,3 @@ Begun-none done b = by_front done b.front b.part b.rest b.plan_is b.done_is b.pa
     by_front done [] (x ∷ []) (y ∷ ys) p d h = absurd (nil-cons y ys p)
     by_front done [] (x ∷ z ∷ zs) rest p d h = absurd h
     by_front done (x ∷ xs) part rest p d h = absurd (nil-cons x (xs ++ rest) p)
-
--- a read leaves the files as they were
-pub Begun-read : (path : List ℕ) (plan done : List Action) (content : Content) (b : Begun (read path ∷ plan) done) →
-    (content_after done content ≡ content)
-    ⊎ ((more : List Action) × (m : Begun plan more) × (content_after done content ≡ content_after more content) × (m.rest ≡ b.rest))
-Begun-read path plan done content b =
-    elim (Begun-cons (read path) plan done b) [
-      | inl e ↦ inl (ap (λ xs. content_after xs content) e)
-      | inr rest ↦ elim rest [
-        | inl part ↦ absurd (no-part-read part.0 path part.2)
-        | inr more ↦ inr (more.0, more.2, ap (λ xs. content_after xs content) more.1, more.3)
-      ]
-    ]
-
--- a create leaves an empty file, or the files as they were
-pub Begun-create : (path : List ℕ) (plan done : List Action) (content : Content) → Begun (create path ∷ plan) done →
-    (content_after done content ≡ content) ⊎ ((more : List Action) × Begun plan more × (content_after done content ≡ content_after more (created content path)))
-Begun-create path plan done content b =
-    elim (Begun-cons (create path) plan done b) [
-      | inl e ↦ inl (ap (λ xs. content_after xs content) e)
-      | inr rest ↦ elim rest [
-        | inl part ↦ inr ([], Begun-nothing plan, ap (λ xs. content_after xs content) (part.1 ∙ ap (λ a. a ∷ []) (part-create part.0 path part.2)))
-        | inr more ↦ inr (more.0, more.2, ap (λ xs. content_after xs content) more.1)
-      ]
-    ]

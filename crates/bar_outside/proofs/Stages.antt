@@ -8,7 +8,7 @@ use Rattle.bar_outside.specs.Plan.{Outside, Action, Plan, Ran, Reached, Begun, I
 use Rattle.bar_outside.specs.Plan.Action.{read, create, append, show}
 use Rattle.bar_outside.specs.Ends.{UnlessStopped}
 use Rattle.bar_outside.specs.Stages.{Went, IsUnchanged, WentOn, ReadsFirst, EndsThere, ShowsThere, NamesFirst}
-use Rattle.bar_outside.proofs.ActionLists.{Begun-cons, Begun-none, Reached-whole, no-next, no-part-read}
+use Rattle.bar_outside.proofs.ActionLists.{Begun-first, Begun-none, Reached-whole, no-next, no-part-read}
 use Rattle.bar_outside.proofs.Ending.{no_stop}
 
 -- nothing was done
@@ -87,7 +87,8 @@ pub ends_there : EndsThere
 ends_there final line old new status w =
     (undone-none status old new w.part, unless_stopped (ending final line old.files.content) old new status w)
 
-part-shown : (line : List ℕ) (part : Action) → IsPartOf part (show line) →
+-- a part of printing a line prints a front of it
+pub part-shown : (line : List ℕ) (part : Action) → IsPartOf part (show line) →
     (k : ℕ) × (shown (part ∷ []) ≡ take k line) × ((c : Content) → content_after (part ∷ []) c ≡ c)
 part-shown line (show bytes) h = (h.0, append-nil bytes ∙ h.1, λ c. refl)
 part-shown line (read path) h = absurd h
@@ -95,11 +96,11 @@ part-shown line (create path) h = absurd h
 part-shown line (append path bytes) h = absurd h
 
 -- what was done of printing a line
-pub begun-shown : (line : List ℕ) (done : List Action) → Begun (show line ∷ []) done →
+begun-shown : (line : List ℕ) (done : List Action) → Begun (show line ∷ []) done →
     (k : ℕ) × (shown done ≡ take k line) × ((c : Content) → content_after done c ≡ c)
 begun-shown line done b =
-    elim (Begun-cons (show line) [] done b) [
-      | inl e ↦ (0, ap shown e, λ c. ap (λ xs. content_after xs c) e)
+    elim (Begun-first (show line) [] done b) [
+      | inl e ↦ (0, ap shown e.0, λ c. ap (λ xs. content_after xs c) e.0)
       | inr rest ↦ elim rest [
         | inl part ↦
             let p = part-shown line part.0 part.2 in (p.0, ap shown part.1 ∙ p.1, λ c. ap (λ xs. content_after xs c) part.1 ∙ p.2 c)

@@ -1,7 +1,7 @@
 -- Laws of how a command ends.
 use Rattle.std.proofs.Common.{◌≡◌, ◌⊎◌, ℕ, List, [], ◌∷◌, ◌++◌, refl, sym, ap, ◌∙◌, subst, IsTrue, inl, inr}
 use Rattle.bar_outside.specs.Disk.{Content}
-use Rattle.bar_outside.specs.Plan.{Outside, Action, Plan, Begun, IsPartOf, IsPartOfNext, Touches, content_after, content_by}
+use Rattle.bar_outside.specs.Plan.{Outside, Action, Plan, Begun, Reached, IsPartOf, IsPartOfNext, Touches, content_after, content_by}
 use Rattle.bar_outside.specs.Plan.Action.{read, create, append, show}
 use Rattle.bar_outside.specs.Ends.{Ends}
 use Rattle.bar_outside.proofs.Contents.{put_at-other, appended-other}
@@ -69,8 +69,13 @@ Touches-begun plan done path b t =
       | inr c ↦ Touches-right b.front b.rest path (Touches-part b.part b.rest path b.part_is c)
     ])
 
+-- what the plan doesn't touch is as it was, however far it came
+pub untouched-reached : (plan : List Action) (path : List ℕ) (old new : Outside) (status : ℕ) → Reached plan status old new → (Touches plan path → ⊥) →
+    new.files.content path ≡ old.files.content path
+untouched-reached plan path old new status r none =
+    ap (λ c. c path) r.ran.files ∙ content-untouched r.done old.files.content path (λ t. none (Touches-begun plan r.done path r.begun t))
+
 pub untouched : (plan : Content → Plan) (path : List ℕ) (old new : Outside) (status : ℕ) → Ends plan old new status → IsTrue old.files.told →
     (Touches (plan old.files.content).actions path → ⊥) → new.files.content path ≡ old.files.content path
 untouched plan path old new status ends told none =
-    let p = ends.part told in
-    ap (λ c. c path) p.ran.files ∙ content-untouched p.done old.files.content path (λ t. none (Touches-begun (plan old.files.content).actions p.done path p.begun t))
+    untouched-reached (plan old.files.content).actions path old new status (ends.part told) none

@@ -1,5 +1,9 @@
+use Rattle.bar_cli.specs.KeygenPlan.{keygen_plan}
 use Rattle.bar_cli.proofs.KeygenFronts.{a_front}
+use Rattle.bar_cli.proofs.KeygenRows.{outcome}
 use Rattle.bar_cli.proofs.keygen_laws.a_front_of_the_key_is_made.Goals as goal
 
 pub returns : goal.returns
-returns c = a_front
+returns c = λ asked old new status ends told.
+    let law = c.plans_go_in_order.ensures in
+    a_front asked old new status (outcome law.reads law.ends asked old new status (law.went (keygen_plan asked) old new status ends told))

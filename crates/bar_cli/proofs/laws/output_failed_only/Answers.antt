@@ -1,9 +1,8 @@
-use Rattle.std.proofs.Common.{refl}
-use Rattle.bar_cli.proofs.Rows.{failed-output}
+use Rattle.bar_cli.specs.ReplayPlan.{replay_plan}
+use Rattle.bar_cli.proofs.Rows.{failed-output, outcome}
 use Rattle.bar_cli.proofs.laws.output_failed_only.Goals as goal
 
-pub returns-clause-rose : goal.returns-clause-rose
-returns-clause-rose c = λ names old new ends. ends.output_rose refl
-
 pub returns-clause-in_order : goal.returns-clause-in_order
-returns-clause-in_order c = failed-output
+returns-clause-in_order c = λ names old new ends told.
+    let law = c.plans_go_in_order.ensures in
+    failed-output names old new (outcome law.reads law.ends names old new 7 (law.went (replay_plan names) old new 7 ends told))

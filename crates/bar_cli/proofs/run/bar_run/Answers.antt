@@ -9,12 +9,14 @@ use Rattle.bar_laws.specs.Balance.{GoesToPartner, IsEven, totals_of}
 use Rattle.bar_laws.specs.Leaves.{KeepsLeaves}
 use Rattle.bar_laws.specs.Obedience.{IsRuled}
 use Rattle.bar_cli.specs.JudgePlan.{judge_plan}
+use Rattle.bar_cli.specs.KeygenPlan.{keygen_plan}
 use Rattle.bar_cli.specs.Line.{Line, replay, keygen, judge, plan_of, is_status_of, may_print, usage}
+use Rattle.bar_cli.specs.ReplayPlan.{replay_plan}
 use Rattle.bar_cli.specs.Views.{command_view}
 use Rattle.bar_cli.proofs.MemberLemmas.{of-its_run}
-use Rattle.bar_cli.proofs.Rows.{replayed}
+use Rattle.bar_cli.proofs.Rows as replaying
 use Rattle.bar_cli.proofs.JudgeRows.{judged_so, outcome, same_files}
-use Rattle.bar_cli.proofs.KeygenRows.{made}
+use Rattle.bar_cli.proofs.KeygenRows as making
 use Rattle.bar_cli.proofs.StatusLemmas.{or-memory, no-usage, unprinted-by}
 use Rattle.bar_cli.proofs.run.bar_run.Goals as goal
 
@@ -45,19 +47,17 @@ returns-clause-said g c =
 
 pub returns-clause-headline : goal.returns-clause-headline
 returns-clause-headline g c = λ names is told zero.
-    let ends : Ends (plan_of (Some (replay names))) (outside (g.F.Files.disk c.args.files.now) (g.K.Sink.stream c.args.out.now)) (outside (g.F.Files.disk c.run_command-status.new.files) (g.K.Sink.stream c.run_command-status.new.out)) c.report-2.result =
-    subst (λ (line : Option Line). Ends (plan_of line) (outside (g.F.Files.disk c.args.files.now) (g.K.Sink.stream c.args.out.now)) (outside (g.F.Files.disk c.run_command-status.new.files) (g.K.Sink.stream c.run_command-status.new.out)) c.report-2.result) is
-    (subst (λ (line : Option Line). Ends (plan_of line) (outside (g.F.Files.disk c.args.files.now) (g.K.Sink.stream c.args.out.now)) (outside (g.F.Files.disk c.run_command-status.new.files) (g.K.Sink.stream c.run_command-status.new.out)) c.report-2.result) c.in-Some.ensures
-    (Ends-or_memory _ _ _ _ _ c.report-2.ensures.code c.run_command-status.ensures.ends.ends)) in
-    replayed c.accepted_secrets_are_held.ensures names _ _ (rw zero at ends) told
+    let law = c.plans_go_in_order.ensures in
+    let ends = ends-as _ _ (replay names) _ _ _ _ c.in-Some.ensures is c.report-2.ensures.code c.run_command-status.ensures.ends.ends in
+    replaying.replayed names _ _ c.accepted_secrets_are_held.ensures
+    (replaying.outcome law.reads law.ends names _ _ 0 (law.went (replay_plan names) _ _ 0 (rw zero at ends) told))
 
 pub returns-clause-key_made : goal.returns-clause-key_made
 returns-clause-key_made g c = λ asked is told zero.
-    let ends : Ends (plan_of (Some (keygen asked))) (outside (g.F.Files.disk c.args.files.now) (g.K.Sink.stream c.args.out.now)) (outside (g.F.Files.disk c.run_command-status.new.files) (g.K.Sink.stream c.run_command-status.new.out)) c.report-2.result =
-    subst (λ (line : Option Line). Ends (plan_of line) (outside (g.F.Files.disk c.args.files.now) (g.K.Sink.stream c.args.out.now)) (outside (g.F.Files.disk c.run_command-status.new.files) (g.K.Sink.stream c.run_command-status.new.out)) c.report-2.result) is
-    (subst (λ (line : Option Line). Ends (plan_of line) (outside (g.F.Files.disk c.args.files.now) (g.K.Sink.stream c.args.out.now)) (outside (g.F.Files.disk c.run_command-status.new.files) (g.K.Sink.stream c.run_command-status.new.out)) c.report-2.result) c.in-Some.ensures
-    (Ends-or_memory _ _ _ _ _ c.report-2.ensures.code c.run_command-status.ensures.ends.ends)) in
-    made asked _ _ (rw zero at ends) told
+    let law = c.plans_go_in_order.ensures in
+    let ends = ends-as _ _ (keygen asked) _ _ _ _ c.in-Some.ensures is c.report-2.ensures.code c.run_command-status.ensures.ends.ends in
+    making.made asked _ _
+    (making.outcome law.reads law.ends asked _ _ 0 (law.went (keygen_plan asked) _ _ 0 (rw zero at ends) told))
 
 pub returns-in_default-clause-ends : goal.returns-in_default-clause-ends
 returns-in_default-clause-ends g c =
