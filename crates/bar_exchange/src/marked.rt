@@ -1,23 +1,10 @@
 //! What this peer said of an exchange.
 ghost use Rattle.std.specs.Prelude.{◌≡◌};
-ghost use Rattle.bar_rules.specs.Peer.Exchanges.{opening_kind};
 ghost use Rattle.bar_ledger.specs.Lookups.{is_said, said_in};
 
-use bar_ledger::{Entry, Ledger};
-use bar_window::{Exchange, Role, XKind};
+use bar_ledger::{Entry, Ledger, opening_kind};
+use bar_window::{Exchange, Role};
 use bar_wire::Kind;
-
-/// The kind of a side's first signed datagram.
-fn opening_kind(kind: XKind, role: Role) -> Kind
-    ensures { result ≡ opening_kind kind role }
-{
-    match (kind, role) {
-        (XKind::Balanced, Role::Initiator) => Kind::Request,
-        (XKind::Balanced, Role::Responder) => Kind::Response,
-        (XKind::Push, Role::Initiator) => Kind::Query,
-        (XKind::Push, Role::Responder) => Kind::Reply,
-    }
-}
 
 /// Whether an entry has the mark of a kind.
 fn is_said(kind: Kind, entry: &Entry) -> bool

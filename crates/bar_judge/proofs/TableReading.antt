@@ -9,7 +9,8 @@ use Rattle.bar_terms.specs.Table.{Lists, digests_of}
 use Rattle.bar_rules.specs.Member.{Session}
 use Rattle.bar_judge.specs.declared.table_fault.TableFault.{TableFault}
 use Rattle.bar_judge.specs.declared.table_fault.TableFault.TheVariants.{BadEntry}
-use Rattle.bar_judge.specs.TableFile.{First, NoByte, Entry, NoEntry, RoundList, entry_bytes, sized_first, first_of, before, lists_by, lists_from, list_after, table_of, HasLists}
+use Rattle.bar_wire.specs.Grammar.{entry as entry_bytes}
+use Rattle.bar_judge.specs.TableFile.{First, NoByte, Entry, NoEntry, RoundList, sized_first, first_of, before, lists_by, lists_from, list_after, table_of, HasLists}
 use Rattle.bar_judge.proofs.TableLists.{digests_added}
 
 -- lists before those of a reading

@@ -26,7 +26,7 @@ chains_few W2 = omega arith
 chains_few W4 = omega arith
 chains_few W8 = omega arith
 
-signature_short : (p : Params) → signature_len p ≤ 9004
+pub signature_short : (p : Params) → signature_len p ≤ 9004
 signature_short p = let levels = level_facts p.height in omega (arith, chains_few p.ots, levels.most)
 
 -- what is known of the lengths of a body with a list

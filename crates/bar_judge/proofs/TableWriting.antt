@@ -9,7 +9,8 @@ use Rattle.bar_bytes.proofs.Lengths.{length_u16}
 use Rattle.bar_wire.proofs.Steps.{raw_back}
 use Rattle.bar_terms.specs.Table.{Lists}
 use Rattle.bar_rules.specs.Member.{Session}
-use Rattle.bar_judge.specs.TableFile.{NoByte, Entry, RoundList, entry_bytes, table_bytes, sized_first, first_of, before, lists_by, lists_from, lists_of, list_after}
+use Rattle.bar_wire.specs.Grammar.{entry as entry_bytes}
+use Rattle.bar_judge.specs.TableFile.{NoByte, Entry, RoundList, table_bytes, sized_first, first_of, before, lists_by, lists_from, lists_of, list_after}
 use Rattle.bar_judge.proofs.TableReading.{lists_step}
 
 -- two bytes are a length

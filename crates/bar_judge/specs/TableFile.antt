@@ -1,9 +1,10 @@
 -- Table files: the manifests of a broadcaster, in rising order of rounds.
-use Rattle.std.specs.Prelude.{◌≡◌, ℕ, zero, suc, ◌+◌, nat_le, nat_lt, List, [], ◌∷◌, ◌++◌, length, take, drop, Option, Some, None, option_and_then, option_map, Result, Ok, Err, if◌then◌else◌}
+use Rattle.std.specs.Prelude.{◌≡◌, ℕ, zero, suc, ◌+◌, nat_le, nat_lt, List, [], ◌∷◌, length, take, drop, Option, Some, None, option_and_then, option_map, Result, Ok, Err, if◌then◌else◌}
 use Rattle.std.specs.List.{flat_map}
-use Rattle.bar_bytes.specs.Bytes.{u16_bytes, first_u16}
+use Rattle.bar_bytes.specs.Bytes.{first_u16}
 use Rattle.bar_terms.specs.Table.{Table, Lists, digests_of}
 use Rattle.bar_wire.specs.Datagram.{Datagram, Body, Manifest}
+use Rattle.bar_wire.specs.Grammar.{entry as entry_bytes}
 use Rattle.bar_rules.specs.Member.{Session}
 use Rattle.bar_rules.specs.Values.{datagram_of, is_signed_by}
 use Rattle.bar_judge.specs.declared.table_fault.TableFault.{TableFault}
@@ -11,11 +12,7 @@ use Rattle.bar_judge.specs.declared.table_fault.TableFault.TheVariants.{BadEntry
 
 -- ---- writing
 
--- the entry of a MANIFEST: its length in two bytes, and its bytes
-abbrev pub entry_bytes : List ℕ → List ℕ
-entry_bytes manifest = u16_bytes (length manifest) ++ manifest
-
--- the file of some MANIFESTs
+-- the file of some MANIFESTs: of each its length in two bytes, and its bytes
 abbrev pub table_bytes : List (List ℕ) → List ℕ
 table_bytes manifests = flat_map entry_bytes manifests
 

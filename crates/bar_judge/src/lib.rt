@@ -23,6 +23,7 @@ mod writing;
 pub use fault::Fault;
 pub use finding::found;
 pub use judging::verdict;
+pub use pair::{is_accepted, is_peer_kind};
 pub use reading::read_table;
 pub use table_fault::TableFault;
 pub use verdicts::Verdict;

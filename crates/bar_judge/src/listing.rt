@@ -7,6 +7,7 @@ ghost use Rattle.bar_rules.specs.Verifiers.{IsVerifierOf};
 ghost use Rattle.bar_judge.specs.TableFile.{list_after, list_in};
 ghost use Rattle.bar_judge.specs.TableViews.{plain_list, HasPlace};
 
+use crate::pair::is_accepted;
 use bar_bytes::Steps;
 use bar_roster::Session;
 use bar_seal::Verifier;
@@ -23,24 +24,6 @@ fn list_in<'a>(body: &Body<'a>) -> Option<(u32, &'a [u8])>
         Body::Manifest { round, digests, .. } => Some((round, digests)),
         _ => None,
     }
-}
-
-/// Whether the signature of a signed datagram is accepted under its sender's key. It counts each hash.
-fn is_signed<V: Verifier, L: Ledger>(
-    session: &Session,
-    verifier: &V,
-    bytes: &[u8],
-    view: &View<'_>,
-    steps: &mut Steps<L>,
-) -> bool
-    requires view { IsView session.now.shape bytes.now view.now }
-    requires verifier { IsVerifierOf session.now (V.is_accepted verifier.now) }
-    requires signed { is_signed (plain view.now.body) ≡ true }
-    ensures exact { result ≡ is_signed_by session.now (datagram session.now.shape view.now) }
-    ensures cost { steps.new ≤ steps.old + V.most_steps verifier.now }
-{
-    let Some(sig) = view.sig else { unreachable!() };
-    verifier.accepts(session.key(view.from), view.message, sig, steps)
 }
 
 /// The round and the digests of bytes that spell a MANIFEST of a round after the last one, with an accepted signature. It counts each hash.
@@ -65,7 +48,7 @@ pub(crate) fn list_after<'a, V: Verifier, L: Ledger>(
     if list.0 <= last {
         return None;
     }
-    if !is_signed(session, verifier, bytes, &view, steps) {
+    if !is_accepted(session, verifier, &view, steps) {
         return None;
     }
     Some(list)

@@ -3,6 +3,7 @@ ghost use Rattle.std.specs.Prelude.{◌≡◌, ◌+◌, ◌*◌, ◌≤◌, ◌�
 ghost use Rattle.std.specs.List.{list_all};
 ghost use Rattle.bar_terms.specs.Table.{digests_of};
 ghost use Rattle.bar_wire.specs.Bodies.{is_peer_kind};
+ghost use Rattle.bar_wire.specs.Datagram.{is_signed};
 ghost use Rattle.bar_wire.specs.Evidence.{datagrams_of};
 ghost use Rattle.bar_wire.specs.Places.{datagram_of};
 ghost use Rattle.bar_wire.specs.Views.{datagram, plain};
@@ -31,8 +32,8 @@ pub(crate) struct Pair<'a> {
     pub two: Option<View<'a>>,
 }
 
-/// Whether peers sign the kind of a body.
-fn is_peer_kind(body: &Body<'_>) -> bool
+/// Whether a body is of a kind that peers sign.
+pub fn is_peer_kind(body: &Body<'_>) -> bool
     ensures { result ≡ is_peer_kind (plain body.now) }
 {
     matches!(
@@ -46,8 +47,8 @@ fn is_peer_kind(body: &Body<'_>) -> bool
     )
 }
 
-/// Whether the signature is accepted under the sender's key. It counts each hash.
-fn is_accepted<V: Verifier, L: Ledger>(
+/// Whether the signature of a signed datagram is accepted under its sender's key. It counts each hash.
+pub fn is_accepted<V: Verifier, L: Ledger>(
     session: &Session,
     verifier: &V,
     view: &View<'_>,
@@ -55,7 +56,7 @@ fn is_accepted<V: Verifier, L: Ledger>(
 ) -> bool
     requires verifier { IsVerifierOf session.now (V.is_accepted verifier.now) }
     requires read { IsRead session.now.shape view.now }
-    requires signed { is_peer_kind (plain view.now.body) ≡ true }
+    requires signed { is_signed (plain view.now.body) ≡ true }
     ensures exact { result ≡ is_signed_by session.now (datagram session.now.shape view.now) }
     ensures cost { steps.new ≤ steps.old + V.most_steps verifier.now }
 {

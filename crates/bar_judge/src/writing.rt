@@ -1,13 +1,13 @@
 //! Writing a table file.
 ghost use Rattle.std.specs.Prelude.{◌≡◌, ◌≤◌, ◌++◌, length, OnOk, OnErr};
-ghost use Rattle.bar_judge.specs.TableFile.{entry_bytes};
+ghost use Rattle.bar_wire.specs.Grammar.{entry};
 
 use std::alloc::AllocError;
 
 /// Appends the entry of a MANIFEST to a table file. Where memory is refused, the file stays as it was.
 pub fn add_entry(out: &mut Vec<u8>, manifest: &[u8]) -> Result<(), AllocError>
     requires { length manifest.now ≤ 65535 }
-    ensures ok { OnOk result (out.new.items ≡ out.old.items ++ entry_bytes manifest.now) }
+    ensures ok { OnOk result (out.new.items ≡ out.old.items ++ entry manifest.now) }
     ensures err { OnErr result (out.new.items ≡ out.old.items) }
 {
     let len = (manifest.len() as u16).to_be_bytes();

@@ -34,7 +34,7 @@ fn precedes(x: Exchange, y: Exchange) -> bool
 }
 
 /// The kind of a side's first signed datagram.
-fn opening_kind(kind: XKind, role: Role) -> Kind
+pub fn opening_kind(kind: XKind, role: Role) -> Kind
     ensures { result ≡ opening_kind kind role }
 {
     match (kind, role) {

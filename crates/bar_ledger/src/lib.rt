@@ -9,6 +9,7 @@ mod slot;
 mod totals;
 
 pub use entry::Entry;
+pub use exchanges::opening_kind;
 pub use ledger::Ledger;
 pub use totals::Totals;
 

@@ -264,3 +264,38 @@ Begun-none done b = by_front done b.front b.part b.rest b.plan_is b.done_is b.pa
     by_front done [] (x ∷ []) (y ∷ ys) p d h = absurd (nil-cons y ys p)
     by_front done [] (x ∷ z ∷ zs) rest p d h = absurd h
     by_front done (x ∷ xs) part rest p d h = absurd (nil-cons x (xs ++ rest) p)
+
+-- a call of two plans in order is one of the first or of the second
+pub Names-split : (xs ys : List Action) (call : Failure) → Names (xs ++ ys) call → Names xs call ⊎ Names ys call
+Names-split [] ys call h = inr h
+Names-split (read path ∷ others) ys call (inl e) = inl (inl e)
+Names-split (read path ∷ others) ys call (inr h) = elim (Names-split others ys call h) [ inl a ↦ inl (inr a) | inr b ↦ inr b ]
+Names-split (create path ∷ others) ys call (inl e) = inl (inl e)
+Names-split (create path ∷ others) ys call (inr h) = elim (Names-split others ys call h) [ inl a ↦ inl (inr a) | inr b ↦ inr b ]
+Names-split (append path bytes ∷ others) ys call (inl e) = inl (inl e)
+Names-split (append path bytes ∷ others) ys call (inr h) = elim (Names-split others ys call h) [ inl a ↦ inl (inr a) | inr b ↦ inr b ]
+Names-split (show bytes ∷ others) ys call h = Names-split others ys call h
+
+pub CanRun-append : (xs ys : List Action) (content : Content) → CanRun xs content → CanRun ys (content_after xs content) → CanRun (xs ++ ys) content
+CanRun-append [] ys content h k = k
+CanRun-append (read path ∷ others) ys content h k = CanRun-append others ys content h k
+CanRun-append (create path ∷ others) ys content h k = CanRun-append others ys (content_by (create path) content) h k
+CanRun-append (append path bytes ∷ others) ys content h k = (h.0, CanRun-append others ys (content_by (append path bytes) content) h.1 k)
+CanRun-append (show bytes ∷ others) ys content h k = CanRun-append others ys content h k
+
+-- how far two plans in order came: within the first; or behind it, and so far in the second
+pub Reached-both : (xs ys : List Action) (status : ℕ) (old new : Outside) (d : Reached (xs ++ ys) status old new) →
+    Reached xs status old new
+    ⊎ ((more : List Action) × (d.done ≡ xs ++ more) × (m : Begun ys more) × (m.rest ≡ d.begun.rest))
+Reached-both xs ys status old new d =
+    elim (Begun-both xs ys d.done d.begun) [
+      | inl m ↦
+          inl (record {
+            done = d.done;
+            begun = m.2;
+            ran = d.ran;
+            at_file = λ e. subst IsFilesNext (sym m.3) (files-next m.0 (m.1 ++ ys) m.1 (subst IsFilesNext m.4 (d.at_file e)));
+            at_output = λ e. subst IsShowNext (sym m.3) (show-next m.0 (m.1 ++ ys) m.1 (subst IsShowNext m.4 (d.at_output e)));
+          })
+      | inr m ↦ inr m
+    ]

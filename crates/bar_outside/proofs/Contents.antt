@@ -1,6 +1,5 @@
 -- What files in memory hold after a change of their map.
-use Rattle.std.proofs.Common.{◌≡◌, ℕ, List, [], ◌++◌, ◌≢◌, Bool, true, false, Option, None, Some, IsSome, refl, sym, ◌∙◌, ap, cond, append-nil, Vec, String, Result, Ok, Err, OnOk, OnErr, take}
-use Rattle.std.specs.declared.alloc.AllocError.{AllocError}
+use Rattle.std.proofs.Common.{◌≡◌, ℕ, List, ◌++◌, ◌≢◌, Bool, true, false, Option, None, Some, IsSome, refl, sym, ◌∙◌, ap, cond, Vec, String}
 use Rattle.std.specs.Option.{option_map}
 use Rattle.std.specs.Map.{update}
 use Rattle.std.specs.Str.{bytes_eq}
@@ -39,11 +38,6 @@ option_map-same : {A : Type 0} (f : A → A) (o : Option A) → ((a : A) → f a
 option_map-same f None h = refl
 option_map-same f (Some a) h = ap Some (h a)
 
--- nothing is added to a file
-pub appended-nothing : (content : Content) (bs : List ℕ) → appended content bs [] ≡ content
-unfolding appended
-appended-nothing content bs = update-same content bs _ (sym (option_map-same (λ held. held ++ []) (content bs) append-nil))
-
 -- bytes are added to a file that is there
 pub appended-there : (content : Content) (bs held : List ℕ) (piece : List ℕ) → content bs ≡ Some held → update bytes_eq content bs (Some (held ++ piece)) ≡ appended content bs piece
 unfolding appended
@@ -67,13 +61,6 @@ unfolding put_at
 content_of-put name bs old new now held h e items =
     content_of-updates (string_bytes name) old new (Some now) h ∙ ap (λ xs. update bytes_eq (content_of old) (string_bytes name) (Some xs)) items
     ∙ ap (λ path. update bytes_eq (content_of old) path (Some held)) e
-
--- a part was added, or nothing
-pub appended-part : (r : Result Bool AllocError) (old new : Content) (path bytes : List ℕ) (m : ℕ) →
-    OnOk r (new ≡ appended old path (take m bytes)) → OnErr r (new ≡ appended old path []) →
-    (k : ℕ) × (new ≡ appended old path (take k bytes))
-appended-part (Ok there) old new path bytes m ok err = (m, ok)
-appended-part (Err e) old new path bytes m ok err = (0, err)
 
 at-name : (content : Content) (path : List ℕ) (w : Option (List ℕ)) → update bytes_eq content path w path ≡ w
 at-name content path w = let same = (bytes_eq-Decides path path).1 refl in rw same

@@ -1,8 +1,7 @@
 -- Functions that do lists of actions, one after another.
-use Rattle.std.proofs.Common.{◌≡◌, ◌≤◌, ℕ, List, [], ◌∷◌, ◌++◌, Bool, true, false, ◌⊎◌, append-nil, Option, Some, None, refl, sym, ap, ◌∙◌, subst, IsTrue, IsSome, IsNone, IsSomeAnd, Vec, Result, Ok, Err, IsErrOf, inl, inr, arith, take}
-use Rattle.std.specs.declared.alloc.Global.{Global}
+use Rattle.std.proofs.Common.{◌≡◌, ◌≤◌, ℕ, List, [], ◌∷◌, ◌++◌, Bool, true, false, ◌⊎◌, append-nil, Option, Some, None, refl, sym, ap, ◌∙◌, subst, IsTrue, IsSome, IsNone, IsSomeAnd, Result, Ok, Err, IsErrOf, inl, inr, arith, take}
 use Rattle.bar_outside.specs.Causes.{Rose}
-use Rattle.bar_outside.specs.Disk.{Disk, Failure, Reads, Appends, Creates, created, appended}
+use Rattle.bar_outside.specs.Disk.{Disk, Failure, Appends, Creates, created, appended}
 use Rattle.bar_outside.specs.Stream.{Stream, Writes}
 use Rattle.bar_outside.specs.declared.files.FileFault.{FileFault}
 use Rattle.bar_outside.specs.declared.files.FileFault.TheVariants as file
@@ -12,7 +11,7 @@ use Rattle.bar_outside.specs.declared.fault.Fault.{Fault}
 use Rattle.bar_outside.specs.declared.fault.Fault.TheVariants.{File, Output, NoMemory}
 use Rattle.bar_outside.specs.Faults.{fault_of_file, fault_of_sink, code_of_fault}
 use Rattle.bar_outside.specs.Plan.{Outside, outside, Action, Ran, Reached, Names, CanRun}
-use Rattle.bar_outside.specs.Plan.Action.{read, create, append, show}
+use Rattle.bar_outside.specs.Plan.Action.{create, append, show}
 use Rattle.bar_outside.specs.Follows.{IsLater, IsReliable, FilesFailed, Follows}
 use Rattle.bar_outside.proofs.ActionLists.{Ran-append, Reached-behind, Reached-longer, Reached-nothing, Names-longer, Names-behind, CanRun-front, CanRun-rest}
 
@@ -93,6 +92,17 @@ nothing_shown out = sym (append-nil out.bytes)
 pub Ran-nothing : (old : Outside) → Ran [] old old
 Ran-nothing old = record { files = refl; out = λ tells. nothing_shown old.out }
 
+-- no action was to be done
+pub nothing_done : (old : Outside) → Follows {T = Unit {0}} [] old old (Ok tt)
+nothing_done old = record {
+  later = record { told = refl; reliable = refl; out_told = refl; out_reliable = refl; faults = omega arith; out_faults = omega arith };
+  file = λ e. cc;
+  output = λ e. cc;
+  done = λ told. Ran-nothing old;
+  part = λ told. tt;
+  complete = λ reliable can. tt;
+}
+
 pub later-files : (old new : Disk) (out : Stream) → new.told ≡ old.told → new.reliable ≡ old.reliable → old.faults ≤ new.faults → IsLater (outside old out) (outside new out)
 later-files old new out told reliable faults = record {
   told = told;
@@ -167,18 +177,6 @@ failed_append path bytes old new out file.NoMemory a = record {
   complete = λ reliable can. refl;
 }
 
--- an append that was done
-pub done_append : {S T : Type 0} (path bytes : List ℕ) (old new : Disk) (out : Stream) (x : S) (y : T) →
-    Appends {T = S} path bytes old new (Ok x) → Follows {T = T} (append path bytes ∷ []) (outside old out) (outside new out) (Ok y)
-done_append path bytes old new out x y a = record {
-  later = later-files old new out a.call.told a.call.reliable a.call.cause.later;
-  file = λ e. cc;
-  output = λ e. cc;
-  done = λ told. record { files = a.added told; out = λ tells. nothing_shown out };
-  part = λ told. tt;
-  complete = λ reliable can. tt;
-}
-
 reached-create : (path : List ℕ) (status : ℕ) (old new : Disk) (out : Stream) → (status ≡ 7 → ⊥) → (new.content ≡ old.content) ⊎ (new.content ≡ created old.content path) →
     Reached (create path ∷ []) status (outside old out) (outside new out)
 reached-create path status old new out no_output (inl same) =
@@ -209,18 +207,6 @@ failed_create path old new out file.NoMemory a = record {
   done = λ told. tt;
   part = λ told. reached-create path 70 old new out (λ e. absurd (omega arith)) (a.fault told);
   complete = λ reliable can. refl;
-}
-
--- a create that was done
-pub done_create : {S T : Type 0} (path : List ℕ) (old new : Disk) (out : Stream) (x : S) (y : T) →
-    Creates {T = S} path old new (Ok x) → Follows {T = T} (create path ∷ []) (outside old out) (outside new out) (Ok y)
-done_create path old new out x y a = record {
-  later = later-files old new out a.call.told a.call.reliable a.call.cause.later;
-  file = λ e. cc;
-  output = λ e. cc;
-  done = λ told. record { files = a.made told; out = λ tells. nothing_shown out };
-  part = λ told. tt;
-  complete = λ reliable can. tt;
 }
 
 pub true-not_false : true ≡ false → ⊥
@@ -258,28 +244,4 @@ failed_write piece files old new sink.NoMemory a = record {
   done = λ told. tt;
   part = λ told. reached-write piece 70 files old new (λ e. absurd (omega arith)) a.fault old.told refl;
   complete = λ reliable can. refl;
-}
-
--- a write that was done
-pub done_write : {S T : Type 0} (piece : List ℕ) (files : Disk) (old new : Stream) (x : S) (y : T) →
-    Writes {T = S} piece old new (Ok x) → Follows {T = T} (show piece ∷ []) (outside files old) (outside files new) (Ok y)
-done_write piece files old new x y a = record {
-  later = later-out files old new a.told a.reliable a.cause.later;
-  file = λ e. cc;
-  output = λ e. cc;
-  done = λ told. record { files = refl; out = λ tells. a.added tells ∙ ap (λ bytes. old.bytes ++ bytes) (sym (append-nil piece)) };
-  part = λ told. tt;
-  complete = λ reliable can. tt;
-}
-
--- a read that was done
-pub done_read : {T : Type 0} (path : List ℕ) (old new : Disk) (out : Stream) (bytes : Vec ℕ Global) (y : T) →
-    Reads path old new (Ok bytes) → Follows {T = T} (read path ∷ []) (outside old out) (outside new out) (Ok y)
-done_read path old new out bytes y a = record {
-  later = later-files old new out a.call.told a.call.reliable a.call.cause.later;
-  file = λ e. cc;
-  output = λ e. cc;
-  done = λ told. record { files = a.same; out = λ tells. nothing_shown out };
-  part = λ told. tt;
-  complete = λ reliable can. tt;
 }

@@ -4,3 +4,4 @@ pub mod Following
 pub mod Ending
 pub mod Untouched
 pub mod Stages
+pub mod Appends

@@ -6,7 +6,7 @@ use Rattle.bar_outside.specs.Plan.Action.{read, create, append, show}
 use Rattle.bar_outside.specs.Ends.{Ends}
 use Rattle.bar_outside.proofs.Contents.{put_at-other, appended-other}
 
-content-untouched : (acts : List Action) (content : Content) (path : List ℕ) → (Touches acts path → ⊥) → content_after acts content path ≡ content path
+pub content-untouched : (acts : List Action) (content : Content) (path : List ℕ) → (Touches acts path → ⊥) → content_after acts content path ≡ content path
 content-untouched [] content path h = refl
 content-untouched (read name ∷ others) content path h = content-untouched others content path h
 content-untouched (show bytes ∷ others) content path h = content-untouched others content path h
@@ -15,7 +15,7 @@ content-untouched (create name ∷ others) content path h =
 content-untouched (append name bytes ∷ others) content path h =
     content-untouched others (content_by (append name bytes) content) path (λ t. h (inr t)) ∙ appended-other content name bytes path (λ e. h (inl e))
 
-Touches-split : (xs ys : List Action) (path : List ℕ) → Touches (xs ++ ys) path → Touches xs path ⊎ Touches ys path
+pub Touches-split : (xs ys : List Action) (path : List ℕ) → Touches (xs ++ ys) path → Touches xs path ⊎ Touches ys path
 Touches-split [] ys path t = inr t
 Touches-split (read name ∷ others) ys path t = Touches-split others ys path t
 Touches-split (show bytes ∷ others) ys path t = Touches-split others ys path t
@@ -61,7 +61,7 @@ Touches-part (a ∷ []) [] path h t = absurd h
 Touches-part (a ∷ []) (b ∷ rest) path h t = Touches-one a b rest path h t
 Touches-part (a ∷ b ∷ more) rest path h t = absurd h
 
-Touches-begun : (plan done : List Action) (path : List ℕ) → Begun plan done → Touches done path → Touches plan path
+pub Touches-begun : (plan done : List Action) (path : List ℕ) → Begun plan done → Touches done path → Touches plan path
 Touches-begun plan done path b t =
     subst (λ xs. Touches xs path) (sym b.plan_is)
     (elim (Touches-split b.front b.part path (subst (λ xs. Touches xs path) b.done_is t)) [
