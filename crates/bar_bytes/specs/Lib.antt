@@ -5,3 +5,5 @@ pub mod Putting
 pub mod Written
 pub use Rattle.sha2.specs.Sha256
 pub mod Room
+pub mod Sized
+pub mod Rooms

@@ -23,7 +23,7 @@ impl Model for Room {
 }
 
 impl Room {
-    ghost use Rattle.std.specs.Prelude.{◌≡◌, ◌≤◌, length, Some, None, IfOk, option_copied};
+    ghost use Rattle.std.specs.Prelude.{◌≡◌, ◌+◌, ◌≤◌, ◌++◌, length, Some, None, IfOk, IfSome, option_copied, option_map};
 
     /// An empty room for strings of at most `size` bytes.
     pub fn make(alloc: Global, size: usize) -> Result<Room, AllocError>
@@ -47,6 +47,18 @@ impl Room {
             unreachable!()
         };
         self.is_kept = true;
+    }
+
+    /// Keeps more bytes behind those that are kept, where some are.
+    pub fn add(&mut self, bytes: &[u8])
+        requires { IfSome self.old.kept (λ kept. length kept + length bytes.now ≤ self.old.size) }
+        ensures { self.new ≡ record { size = self.old.size; kept = option_map (λ kept. kept ++ bytes.now) self.old.kept } }
+    {
+        if self.is_kept {
+            let Ok(()) = self.bytes.extend_from_slice(bytes) else {
+                unreachable!()
+            };
+        }
     }
 
     /// Keeps nothing.

@@ -1,6 +1,6 @@
 //! Worked values, and each public call once.
 
-use crate::{Full, Reader, Room, Short, Tagged, Writer};
+use crate::{Full, Reader, Room, Rooms, Short, Tagged, Writer};
 use std::test::Fail;
 
 const BYTES: [u8; 20] = [
@@ -68,5 +68,17 @@ fn a_room_keeps_what_came_last(rt: HostRuntime) -> Result<(), Fail> {
     assert_eq!(rt; room.kept(), Some(b"two".as_slice()));
     room.empty();
     assert_eq!(rt; room.kept(), None);
+    Ok(())
+}
+
+#[test]
+fn a_room_of_many_keeps_what_came_for_it(rt: HostRuntime) -> Result<(), Fail> {
+    let mut rooms = Rooms::make(rt.alloc(), 4, 6)?;
+    rooms.keep(3, b"came");
+    rooms.add(3, b"in");
+    rooms.add(2, b"late");
+    assert_eq!(rt; rooms.get(3), Some(b"camein".as_slice()));
+    assert_eq!(rt; rooms.get(2), None);
+    assert_eq!(rt; rooms.get(4), None);
     Ok(())
 }

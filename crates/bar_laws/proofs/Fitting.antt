@@ -12,3 +12,4 @@ pub use Rattle.bar_laws.proofs.Fitting.CasterAdds.{IsOwnMessage, IsBegun, IsOwnB
 pub use Rattle.bar_laws.proofs.Fitting.PeerFits.{said-fits, step-fits}
 pub use Rattle.bar_laws.proofs.Fitting.SignedAccepted.{said-accepted}
 pub use Rattle.bar_laws.proofs.Fitting.Largest.{heard-largest}
+pub use Rattle.bar_laws.proofs.Fitting.EvidenceFits.{evidence-fits-room}

@@ -28,7 +28,7 @@ pub use Rattle.bar_laws.proofs.Logs.LaterLogs.{WasHeard, first_heard-was, first_
 pub use Rattle.bar_laws.proofs.Logs.Spoken.{spoken_in, heard-spoken, first_on-own, WasSpoken, first_on-was}
 pub use Rattle.bar_laws.proofs.Logs.LaterTerms.{terms_of-later, said-later}
 pub use Rattle.bar_laws.proofs.Logs.EvenBriefcases.{IsCaseOf, is_of-case, said-case, some-same, IsKeyOf, is_of-key, IsBalanced, balance}
-pub use Rattle.bar_laws.proofs.Logs.Tables.{digest-extends, admitted-row, table-later, extends_trans, all-filter, held-known, within-extends, known-digest-extends}
+pub use Rattle.bar_laws.proofs.Logs.Tables.{digest-extends, admitted-row, admitted-signed, table-later, extends_trans, all-filter, held-known, within-extends, known-digest-extends}
 pub use Rattle.bar_laws.proofs.Logs.OneIdentity.{parts-of, part-round, same_exchange_refl, same_role_refl, eqb_refl, once-whole, is_whole, said-found}
 pub use Rattle.bar_laws.proofs.Logs.Valid.{all-take, all-filtered, spoken-reply, IsGoodAnswer, terms-valid, IsValid, updates_from-rounds}
 pub use Rattle.bar_laws.proofs.Logs.Unique.{SaidIn, said-in, was-said, unique, never_bad_terms, agrees-before, never_twice, same_bytes_refl}

@@ -1,10 +1,14 @@
--- How many bytes the datagrams have that a peer admits.
-use Rattle.std.specs.Prelude.{◌≤◌, length, Contains}
+-- How many bytes the datagrams have that a peer admits, and the evidence that it keeps.
+use Rattle.std.specs.Prelude.{◌≡◌, ◌+◌, ◌≤◌, ℕ, List, Some, length, Contains}
 use Rattle.bar_wire.specs.Datagram.{Datagram, kind_of}
+use Rattle.bar_wire.specs.Evidence.{evidence_bytes}
+use Rattle.bar_wire.specs.Grammar.{AreDatagramsInRange}
+use Rattle.bar_wire.specs.Limits.{largest_datagram}
+use Rattle.bar_roster.specs.Sessions.{IsSession}
 use Rattle.bar_rules.specs.Member.{Member}
-use Rattle.bar_rules.specs.Peer.Log.{Log, Heard}
+use Rattle.bar_rules.specs.Peer.Log.{Log, Heard, kept}
 use Rattle.bar_rules.specs.Peer.Rules.{IsObedient}
-use Rattle.bar_rules.specs.Peer.Sizes.{largest}
+use Rattle.bar_rules.specs.Peer.Sizes.{header_len, largest, most_evidence}
 use Rattle.bar_rules.specs.Values.{datagram_bytes}
 use Rattle.bar_laws.specs.Always.{InEachLog}
 
@@ -20,3 +24,16 @@ RunFitsRooms = InEachLog FitRooms
 -- so it is of each log that keeps the rules, whether or not a run leaves it
 abbrev pub LogFitsRooms : Type 0
 LogFitsRooms = (me : Member) (log : Log) → IsObedient me log → FitRooms me log
+
+-- Evidence that is kept is one or two datagrams, each of a length that a datagram may have. It has no more bytes than its room, and fits a
+-- datagram behind a header.
+pub record FitsItsRoom (me : Member) (evidence : List (List ℕ)) : Type 0 where
+  pub range : AreDatagramsInRange evidence
+  pub short : length (evidence_bytes evidence) ≤ most_evidence me.session.shape
+  pub sendable : header_len + length (evidence_bytes evidence) ≤ largest_datagram
+
+-- so it is of each log that keeps the rules
+abbrev pub LogKeepsShortEvidence : Type 0
+LogKeepsShortEvidence =
+    (me : Member) (log : Log) (party : ℕ) (evidence : List (List ℕ)) → IsSession me.session → IsObedient me log
+    → kept log party ≡ Some evidence → FitsItsRoom me evidence

@@ -15,6 +15,7 @@ use Rattle.bar_wire.specs.declared.kind.Kind.{Kind}
 use Rattle.bar_wire.specs.declared.kind.Kind.TheVariants as kinds
 use Rattle.bar_rules.specs.Member.{Member}
 use Rattle.bar_rules.specs.Values.{counts_ok}
+use Rattle.bar_rules.specs.Peer.Admission.{has_valid_signature}
 use Rattle.bar_rules.specs.Peer.Exchanges.{role_of, request_kind}
 use Rattle.bar_rules.specs.Peer.Knowledge.{Knowledge, known, this_round, has_heard_of, has_said_of, case_heard_of}
 use Rattle.bar_rules.specs.Peer.Log.{Log}
@@ -34,12 +35,14 @@ pub record IsTheirs (me : Member) (k : Knowledge) (x : Exchange) (c : Briefcase)
   pub terms : terms_of me k x ≡ Some c.terms
   pub counts : counts_ok me.session c ≡ true
 
--- What was heard has a spelling, and was sent to this member. What was heard or said of a kind, exchange and side is of them. The
+-- What was heard has a spelling, was sent to this member, and its signature was accepted where its kind bears one. What was heard or said of a kind, exchange and side is of them. The
 -- manifests are of rounds up to the next. Who has a seat asked for it, and there are two. Where a CASE was said, its blocks are held. Where
 -- one was heard from the other side, it is as this side expects.
 pub record IsSound (me : Member) (k : Knowledge) : Type 0 where
   pub spelled : (kind : Kind) (x : Exchange) (role : Role) (d : Datagram) → k.heard kind x role ≡ Some d → IsDatagram me.session.shape d
   pub heard : (kind : Kind) (x : Exchange) (role : Role) (d : Datagram) → k.heard kind x role ≡ Some d → is_of kind x role d.message ≡ true
+  pub accepted :
+      (kind : Kind) (x : Exchange) (role : Role) (d : Datagram) → k.heard kind x role ≡ Some d → has_valid_signature me.session d ≡ true
   pub received : (kind : Kind) (x : Exchange) (role : Role) (d : Datagram) → k.heard kind x role ≡ Some d → d.message.to ≡ me.party
   pub said : (kind : Kind) (x : Exchange) (role : Role) (d : Datagram) → k.said kind x role ≡ Some d → is_of kind x role d.message ≡ true
   pub manifests : (round : ℕ) (d : Datagram) → k.manifest round ≡ Some d → is_manifest_of round d.message.body ≡ true

@@ -1,7 +1,7 @@
 //! Few exchanges, in rooms that are large enough.
 
 ghost use Rattle.bar_laws.specs.Rooms.{RunHasRooms, LogHasRooms, RunKeepsFew, LogKeepsFew, RunLeavesRoom, LogLeavesRoom};
-ghost use Rattle.bar_laws.specs.Sizes.{RunFitsRooms, LogFitsRooms};
+ghost use Rattle.bar_laws.specs.Sizes.{RunFitsRooms, LogFitsRooms, LogKeepsShortEvidence};
 
 /// Whatever datagrams and ticks come, each exchange of which a peer has admitted or signed anything has one of six rooms in its round, and no
 /// two exchanges of a round have the same. So of each round it keeps six exchanges at most; and six for each of the rounds that may still be
@@ -23,4 +23,9 @@ pub fn datagrams_fit_their_rooms()
     ensures run { RunFitsRooms }
     // in each log that keeps the rules
     ensures obedient { LogFitsRooms }
+{}
+
+/// In each log that keeps the rules, evidence that is kept fits the room of its party, and can be sent.
+pub fn evidence_fits_its_room()
+    ensures { LogKeepsShortEvidence }
 {}

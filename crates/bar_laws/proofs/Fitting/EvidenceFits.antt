@@ -8,15 +8,24 @@ use Rattle.bar_rules.specs.Peer.Rules.{IsObedient, Allows}
 use Rattle.bar_rules.specs.Values.{datagram_of, is_signed_by, unsigned}
 use Rattle.bar_rules.specs.Judge.Verdict.{NotShown, Malformed, NotSigned, Fault, verdict, verdict_on, judged, fault_of, all_read, sender_of, are_of_one_peer}
 use Rattle.bar_terms.specs.Table.{Table}
-use Rattle.bar_wire.specs.Datagram.{Datagram, Evidence}
-use Rattle.bar_wire.specs.Grammar.{IsDatagram, IsEntryInRange}
-use Rattle.std.proofs.Common.{◌≡◌, ℕ, ◌<◌, ◌≤◌, ◌^◌, Bool, true, false, List, [], ◌∷◌, length, refl, sym, ap, ◌&&◌, subst, eqb, arith, not}
-use Rattle.std.specs.Prelude.{Option, Some, None, option_and_then, option_map, if◌then◌else◌}
+use Rattle.bar_wire.specs.Datagram.{Datagram, Body, Request, Response, Query, Reply, Case, Key, Evidence, kind_of}
+use Rattle.bar_wire.specs.Grammar.{IsDatagram, IsEntryInRange, entry}
+use Rattle.bar_wire.specs.Places.{window_len}
+use Rattle.bar_wire.specs.declared.kind.Kind.TheVariants as kinds
+use Rattle.bar_wire.specs.declared.shape.Shape.{Shape}
+use Rattle.bar_rules.specs.Peer.Sizes.{largest, most_evidence}
+use Rattle.bar_wire.specs.Evidence.{evidence_bytes}
+use Rattle.bar_bytes.specs.Bytes.{u16_bytes}
+use Rattle.bar_laws.specs.Sizes.{FitsItsRoom}
+use Rattle.std.proofs.Common.{◌≡◌, ℕ, ◌+◌, ◌*◌, ◌<◌, ◌≤◌, ◌^◌, Bool, true, false, List, [], ◌∷◌, length, refl, sym, ap, ◌&&◌, subst, eqb, arith, not, length-append}
+use Rattle.std.specs.Prelude.{Option, Some, None, max, option_and_then, option_map, if◌then◌else◌}
 use Rattle.std.specs.Bool.{then_some}
-use Rattle.std.specs.List.{AllByRecursion, list_all}
+use Rattle.std.specs.List.{AllByRecursion, flat_map, list_all}
+use Rattle.std.proofs.Math.Nat.{le-max_left, max-le, mul-le-mul_left}
 use Rattle.std.proofs.lemmas.Bool.{and_parts}
 use Rattle.bar_laws.proofs.Logs.{no-value, IsFind, find-of, allowed-at, read-fits, spells}
-use Rattle.bar_laws.proofs.Fitting.MessageLengths.{spelling-short}
+use Rattle.bar_laws.proofs.Fitting.MessageLengths.{length-u16, signature-short, spelling-short}
+use Rattle.bar_laws.proofs.Fitting.Largest.{fits-largest}
 
 -- ---- what a verdict reads
 
@@ -75,7 +84,7 @@ in-packets : (bs : List (List ℕ)) → AllByRecursion IsEntryInRange bs → All
 in-packets [] a = tt
 in-packets (b ∷ bs) a = (omega (arith, a.0.1), in-packets bs a.1)
 
--- ---- the report
+-- ---- what is kept
 
 kept-named : (me : Member) (log : Log) (q : ℕ) (evidence : List (List ℕ)) → IsObedient me log → kept log q ≡ Some evidence → IsReadable me.session evidence
 kept-named me log q evidence h e = at (find-of (λ before e. kept_in q e) log evidence e)
@@ -90,6 +99,67 @@ kept-named me log q evidence h e = at (find-of (λ before e. kept_in q e) log ev
 
     at : IsFind (λ before e. kept_in q e) log evidence → IsReadable me.session evidence
     at w = by w.before w.entry (allowed-at me log w.before w.entry w.place h).0 w.found
+
+-- ---- the room
+
+-- the most bytes of a kind that peers sign are those of a CASE
+kind-largest : (s : Shape) (b : Body) → is_peer_kind b ≡ true → largest s (kind_of b) ≤ largest s kinds.Case
+kind-largest s (Request r seed c) peer = omega arith
+kind-largest s (Response r hb) peer = let m = le-max_left (32 + 2 * window_len s) (4 * window_len s + 1) in omega (arith, m)
+kind-largest s (Query r seed y o) peer = let m = le-max_left (32 + 2 * window_len s) (4 * window_len s + 1) in omega (arith, m)
+kind-largest s (Reply r w g z) peer = let m = le-max_left (32 + 2 * window_len s) (4 * window_len s + 1) in omega (arith, m)
+kind-largest s (Case c) peer = omega arith
+kind-largest s (Key k) peer = omega arith
+kind-largest s _ peer = cc
+
+entry-length : (b : List ℕ) → length (entry b) ≡ 2 + length b
+entry-length b = omega (arith, length-append (u16_bytes (length b)) b, length-u16 (length b))
+
+-- the entries of datagrams of kinds that peers sign
+entries-room : (s : Session) (bs : List (List ℕ)) (ds : List Datagram) (q : ℕ) → all_read s bs ≡ Some ds → list_all (λ d. is_peer_kind d.message.body && eqb d.message.from q) ds ≡ true
+    → length (flat_map entry bs) ≤ (2 + largest s.shape kinds.Case) * length bs
+entries-room s [] ds q e peer = omega arith
+entries-room s (b ∷ bs) ds q e peer = go (datagram_of s b) (all_read s bs) refl refl e (λ cs. entries-room s bs cs q)
+  where
+    go : (o : Option Datagram) (p : Option (List Datagram)) → datagram_of s b ≡ o → all_read s bs ≡ p → option_and_then (λ d. option_map (λ cs. d ∷ cs) p) o ≡ Some ds
+        → ((cs : List Datagram) → all_read s bs ≡ Some cs → list_all (λ d. is_peer_kind d.message.body && eqb d.message.from q) cs ≡ true
+        → length (flat_map entry bs) ≤ (2 + largest s.shape kinds.Case) * length bs)
+        → length (flat_map entry (b ∷ bs)) ≤ (2 + largest s.shape kinds.Case) * length (b ∷ bs)
+    go None p f g e k = cc
+    go (Some d) None f g e k = cc
+    go (Some d) (Some cs) f g e k =
+        let same : d ∷ cs ≡ ds = cc in
+        let h = and_parts _ _ (subst (λ z. list_all (λ d. is_peer_kind d.message.body && eqb d.message.from q) z ≡ true) (sym same) peer) in
+        let rest : length (flat_map entry bs) ≤ (2 + largest s.shape kinds.Case) * length bs = k cs g h.1 in
+        let one : length b ≤ largest s.shape kinds.Case =
+        omega (arith, ap length (spells s b d f), fits-largest s.shape d (read-fits s b d f), kind-largest s.shape d.message.body (and_parts _ _ h.0).0)
+        in
+        omega (arith, length-append (entry b) (flat_map entry bs), entry-length b, one, rest)
+
+-- the largest CASE of a session has few bytes
+case-few : (s : Session) → IsSession s → largest s.shape kinds.Case ≤ 30021
+case-few s is =
+    let short : s.shape.sig_len ≤ 9004 = omega (arith, is.signatures, signature-short s.params) in
+    let window : window_len s.shape ≤ 128 = let few : s.shape.life ≤ 16 = s.shape.shaped.few in omega (arith, few) in
+    let terms : max (32 + 2 * window_len s.shape) (4 * window_len s.shape + 1) ≤ 513 = max-le (omega (arith, window)) (omega (arith, window)) in
+    omega (arith, terms, short)
+
+pub evidence-fits-room : (me : Member) (log : Log) (q : ℕ) (evidence : List (List ℕ)) → IsSession me.session → IsObedient me log → kept log q ≡ Some evidence → FitsItsRoom me evidence
+evidence-fits-room me log q evidence is h e =
+    let r : IsReadable me.session evidence = kept-named me log q evidence h e in
+    let short : AreShort evidence r.datagrams = read-short me.session evidence r.datagrams (sender_of r.datagrams) is r.read r.one_peer in
+    let all = entries-room me.session evidence r.datagrams (sender_of r.datagrams) r.read r.one_peer in
+    let few : length evidence ≤ 2 = omega (arith, r.few, short.many) in
+    let room : length (evidence_bytes evidence) ≤ most_evidence me.session.shape =
+    simp length-append (omega (arith, all, few, mul-le-mul_left (2 + largest me.session.shape kinds.Case) few))
+    in
+    record {
+      range = (omega (arith, r.some, short.many), few, short.each);
+      short = room;
+      sendable = omega (arith, room, case-few me.session is);
+    }
+
+-- ---- the report
 
 pub evidence-fits : (me : Member) (log : Log) (q : ℕ) (evidence : List (List ℕ)) → IsMember me → IsObedient me log → kept log q ≡ Some evidence
     → IsDatagram me.session.shape (unsigned (record { from = me.party; to = 0; body = Evidence evidence }))

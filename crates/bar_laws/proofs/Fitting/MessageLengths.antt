@@ -45,7 +45,7 @@ levels-few H5 = omega arith
 levels-few H10 = omega arith
 levels-few H15 = omega arith
 
-signature-short : (p : Params) → signature_len p ≤ 9004
+pub signature-short : (p : Params) → signature_len p ≤ 9004
 signature-short p = omega (arith, chains-few p.ots, levels-few p.height)
 
 -- a session's life is of at most sixteen rounds

@@ -3,7 +3,7 @@ use Rattle.bar_wire.specs.Bodies.{digests_in, is_manifest_of}
 use Rattle.bar_case.specs.Opened.{AreTold, opened_blocks}
 use Rattle.bar_case.specs.declared.findings.Opening.{Opening}
 use Rattle.bar_case.specs.declared.findings.Opening.TheVariants.{Good, Bad, Unknown}
-use Rattle.bar_rules.specs.Peer.Admission.{is_admitted, is_for, is_row_met, has_digest}
+use Rattle.bar_rules.specs.Peer.Admission.{is_admitted, is_for, is_row_met, has_digest, has_valid_signature}
 use Rattle.bar_rules.specs.Peer.Holdings.{block_in, block_from, block_opened, block_of, is_held, history, case_heard_from}
 use Rattle.bar_rules.specs.Peer.Knowledge.{known}
 use Rattle.bar_rules.specs.Peer.Log.{Log, Entry, Heard, heard_in, if_passes, manifest, table, round_now}
@@ -144,6 +144,10 @@ admitted-row me before d e = (and_parts _ _ e).1
 pub admitted-for : (me : Member) (before : Log) (d : Datagram) → is_admitted me (known me before) d ≡ true → is_for me d.message ≡ true
 unfolding is_admitted
 admitted-for me before d e = (and_parts _ _ (and_parts _ _ (and_parts _ _ (and_parts _ _ e).0).0).0).0
+
+pub admitted-signed : (me : Member) (before : Log) (d : Datagram) → is_admitted me (known me before) d ≡ true → has_valid_signature me.session d ≡ true
+unfolding is_admitted
+admitted-signed me before d e = (and_parts _ _ (and_parts _ _ (and_parts _ _ e).0).0).1
 
 -- each held block is the one that the table has the digest of
 pub held-known : (me : Member) (log : Log) (u : UpdateId) (block : List ℕ) → IsObedient me log → block_of me.session log u ≡ Some block → IsBlockOf (table log) u block

@@ -22,7 +22,7 @@ use Rattle.std.specs.Prelude.{Option, Some, None, is_some}
 use Rattle.std.proofs.lemmas.Bool.{and_parts, both_ways, eqb-true, leb-true}
 use Rattle.std.proofs.lemmas.List.Sums.{AllPass-from_list_all}
 use Rattle.bar_laws.specs.Soundness.{CanGive, IsTheirs, LogIsSound}
-use Rattle.bar_laws.proofs.Logs.{allowed-at, later-entry, round-later, first_heard-was, first_said-was, said-rule, some-is, some-same, said-case, terms_promise, was-heard-fits, admitted-row, sender-on, is_of-part, was-heard-own}
+use Rattle.bar_laws.proofs.Logs.{allowed-at, later-entry, round-later, first_heard-was, first_said-was, said-rule, some-is, some-same, said-case, terms_promise, was-heard-fits, admitted-row, admitted-signed, sender-on, is_of-part, was-heard-own}
 use Rattle.bar_laws.proofs.Judging.{promise-held}
 use Rattle.bar_laws.proofs.Runs.{seat-heard, seat-few, heard-case, HeardCase}
 
@@ -93,6 +93,9 @@ pub sound : LogIsSound
 sound me log h = record {
   spelled = λ kind x role d e. was-heard-fits me log d (first_heard-was (is_of kind x role) log d e).0 h;
   heard = λ kind x role d e. (first_heard-was (is_of kind x role) log d e).1;
+  accepted = λ kind x role d e.
+      let was = first_heard-was (is_of kind x role) log d e in
+      admitted-signed me was.0.before d (allowed-at me log was.0.before (Heard d) was.0.place h).0.0;
   received = λ kind x role d e.
       let was = first_heard-was (is_of kind x role) log d e in
       (was-heard-own me log d (x.round, x.kind, role) was.0 h (is_of-part kind x role d.message was.1)).to;

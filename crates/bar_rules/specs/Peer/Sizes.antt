@@ -28,3 +28,7 @@ most_fields s kinds.Evict = 5 + 2 * s.peers
 
 abbrev pub largest : Shape → Kind → ℕ
 largest s kind = header_len + most_fields s kind + signature_len s kind
+
+-- the most bytes of evidence: a count, and two datagrams of kinds that peers sign behind their lengths, of which a CASE is the largest
+abbrev pub most_evidence : Shape → ℕ
+most_evidence s = 1 + 2 * (2 + largest s kinds.Case)
