@@ -1,0 +1,5 @@
+pub mod Ranges
+pub mod Writing
+pub mod Lists
+pub mod Names
+pub mod Holding

@@ -1,0 +1,61 @@
+//! The files of the evidence.
+ghost use Rattle.std.specs.Prelude.{◌≡◌, ◌∷◌, [], IfOk, string_bytes};
+ghost use Rattle.bar_bytes.specs.Rooms.{kept_in};
+ghost use Rattle.bar_outside.specs.Plan.{outside};
+ghost use Rattle.bar_outside.specs.Follows.{Follows};
+ghost use Rattle.bar_outside.specs.Stream.{Stream};
+ghost use Rattle.bar_findings.specs.Findings.{evidence_name, file_of, files_of, finding_actions, findings_actions};
+
+use bar_bytes::Rooms;
+use bar_outside::{Fault, Files, append_file, create_file};
+use std::alloc::{AllocError, Global};
+
+/// Creates a file for the evidence against each of so many parties, where there is some, in increasing order.
+pub fn write_evidence<F: Files>(
+    alloc: Global,
+    evidence: &Rooms,
+    parties: u16,
+    found: &str,
+    files: &mut F,
+) -> Result<(), Fault>
+    ensures { (out : Stream) → Follows (findings_actions (files_of found.now (kept_in evidence.now) parties))
+        (outside (F.disk files.old) out) (outside (F.disk files.new) out) result }
+{
+    for before in 0..parties {
+        write_party(alloc, evidence, before + 1, found, files)?;
+    }
+    Ok(())
+}
+
+/// Creates the file of the evidence against a party, where there is some.
+fn write_party<F: Files>(
+    alloc: Global,
+    evidence: &Rooms,
+    party: u16,
+    found: &str,
+    files: &mut F,
+) -> Result<(), Fault>
+    ensures { (out : Stream) → Follows (findings_actions (file_of (evidence_name found.now party) (kept_in evidence.now party)))
+        (outside (F.disk files.old) out) (outside (F.disk files.new) out) result }
+{
+    match evidence.get(usize::from(party)) {
+        Some(bytes) => write_file(files, evidence_name(alloc, found, party)?.as_str(), bytes),
+        None => Ok(()),
+    }
+}
+
+/// The name of the file of the evidence against a party.
+fn evidence_name(alloc: Global, found: &str, party: u16) -> Result<String, AllocError>
+    ensures { IfOk result (λ name. string_bytes name ≡ evidence_name found.now party) }
+{
+    format!(in alloc; "{found}.{party}")
+}
+
+/// Creates a file with these bytes.
+fn write_file<F: Files>(files: &mut F, name: &str, bytes: &[u8]) -> Result<(), Fault>
+    ensures { (out : Stream) → Follows (finding_actions (record { name = name.now; pieces = bytes.now ∷ [] }))
+        (outside (F.disk files.old) out) (outside (F.disk files.new) out) result }
+{
+    create_file(files, name)?;
+    append_file(files, name, bytes)
+}

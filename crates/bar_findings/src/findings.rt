@@ -1,0 +1,31 @@
+//! All that a party found.
+ghost use Rattle.bar_bytes.specs.Rooms.{kept_in};
+ghost use Rattle.bar_outside.specs.Plan.{outside};
+ghost use Rattle.bar_outside.specs.Follows.{Follows};
+ghost use Rattle.bar_outside.specs.Stream.{Stream};
+ghost use Rattle.bar_findings.specs.Findings.{AreShort, findings_actions, findings_of};
+
+use crate::evidence::write_evidence;
+use crate::table::write_table;
+use bar_bytes::Rooms;
+use bar_outside::{Fault, Files};
+use std::alloc::Global;
+
+/// Writes what a party found: the manifests of so many rounds, by round, and then the evidence against so many parties, by party. The word
+/// `found` begins the name of each file.
+pub fn write_findings<F: Files>(
+    alloc: Global,
+    manifests: &Rooms,
+    rounds: u32,
+    evidence: &Rooms,
+    parties: u16,
+    found: &str,
+    files: &mut F,
+) -> Result<(), Fault>
+    ensures { (out : Stream) → AreShort (kept_in manifests.now)
+        → Follows (findings_actions (findings_of found.now (kept_in manifests.now) rounds (kept_in evidence.now) parties))
+        (outside (F.disk files.old) out) (outside (F.disk files.new) out) result }
+{
+    write_table(alloc, manifests, rounds, found, files)?;
+    write_evidence(alloc, evidence, parties, found, files)
+}

@@ -1,0 +1,10 @@
+//! What a party found, written to files: the manifests that it admitted, and the evidence that it keeps.
+#![tactic(auto)]
+
+mod evidence;
+mod findings;
+mod table;
+#[cfg(test)]
+mod tests;
+
+pub use findings::write_findings;

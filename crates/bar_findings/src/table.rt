@@ -1,0 +1,92 @@
+//! The file of the manifests.
+ghost use Rattle.std.specs.Prelude.{◌≡◌, ◌∷◌, ◌^◌, ◌<◌, [], IfOk, length, map, string_bytes};
+ghost use Rattle.std.specs.Option.{option_to_list};
+ghost use Rattle.bar_bytes.specs.Rooms.{kept_in};
+ghost use Rattle.bar_outside.specs.Plan.{outside};
+ghost use Rattle.bar_outside.specs.Plan.Action.{append};
+ghost use Rattle.bar_outside.specs.Follows.{Follows};
+ghost use Rattle.bar_outside.specs.Stream.{Stream};
+ghost use Rattle.bar_wire.specs.Grammar.{entry as entry_bytes};
+ghost use Rattle.bar_findings.specs.Findings.{AreShort, finding_actions, in_order, table_name, table_of};
+
+use bar_bytes::Rooms;
+use bar_judge::add_entry;
+use bar_outside::{Fault, Files, append_file, create_file};
+use std::alloc::{AllocError, Global};
+
+/// The name of the file of the manifests.
+fn table_name(alloc: Global, found: &str) -> Result<String, AllocError>
+    ensures { IfOk result (λ name. string_bytes name ≡ table_name found.now) }
+{
+    format!(in alloc; "{found}.table")
+}
+
+/// Creates the file of the manifests of so many rounds, with an entry for each.
+pub fn write_table<F: Files>(
+    alloc: Global,
+    manifests: &Rooms,
+    rounds: u32,
+    found: &str,
+    files: &mut F,
+) -> Result<(), Fault>
+    ensures { (out : Stream) → AreShort (kept_in manifests.now)
+        → Follows (finding_actions (table_of found.now (kept_in manifests.now) rounds))
+        (outside (F.disk files.old) out) (outside (F.disk files.new) out) result }
+{
+    let name = table_name(alloc, found)?;
+    create_file(files, name.as_str())?;
+    append_entries(alloc, manifests, rounds, name.as_str(), files)
+}
+
+/// Appends the entries of the manifests of so many rounds, in increasing order.
+fn append_entries<F: Files>(
+    alloc: Global,
+    manifests: &Rooms,
+    rounds: u32,
+    name: &str,
+    files: &mut F,
+) -> Result<(), Fault>
+    ensures { (out : Stream) → AreShort (kept_in manifests.now)
+        → Follows (map (append name.now) (map entry_bytes (in_order (kept_in manifests.now) rounds)))
+        (outside (F.disk files.old) out) (outside (F.disk files.new) out) result }
+{
+    for before in 0..rounds {
+        append_entry(alloc, manifests, before as usize + 1, name, files)?;
+    }
+    Ok(())
+}
+
+/// Appends the entry of the manifest of a round, where there is one.
+fn append_entry<F: Files>(
+    alloc: Global,
+    manifests: &Rooms,
+    round: usize,
+    name: &str,
+    files: &mut F,
+) -> Result<(), Fault>
+    ensures { (out : Stream) → AreShort (kept_in manifests.now)
+        → Follows (map (append name.now) (map entry_bytes (option_to_list (kept_in manifests.now round))))
+        (outside (F.disk files.old) out) (outside (F.disk files.new) out) result }
+{
+    match manifests.get(round) {
+        Some(manifest) => append_manifest(alloc, manifest, name, files),
+        None => Ok(()),
+    }
+}
+
+/// Appends the entry of a manifest.
+fn append_manifest<F: Files>(
+    alloc: Global,
+    manifest: &[u8],
+    name: &str,
+    files: &mut F,
+) -> Result<(), Fault>
+    ensures { (out : Stream) → length manifest.now < 2 ^ 16 → Follows (append name.now (entry_bytes manifest.now) ∷ [])
+        (outside (F.disk files.old) out) (outside (F.disk files.new) out) result }
+{
+    // No manifest is longer than the two bytes of its length can say.
+    let len = manifest.len().min(usize::from(u16::MAX));
+    let mut bytes = Vec::new(alloc);
+    add_entry(&mut bytes, &manifest[..len])?;
+    append_file(files, name, &bytes)
+}
