@@ -4,6 +4,7 @@ pub mod UpToLemmas
 pub mod EndLemmas
 pub mod StatusLemmas
 pub mod MemberLemmas
+pub mod ManifestLemmas
 pub mod Rows
 pub mod EvidenceLemmas
 pub mod JudgeRows
@@ -11,4 +12,5 @@ pub mod KeygenLemmas
 pub mod KeygenRows
 pub mod KeygenFronts
 pub mod PlayedSoFar
+pub mod WrittenOut
 pub mod PlayingLemmas

@@ -1,5 +1,6 @@
 -- The peer of accepted files is a member of its session, and so what holds of each peer holds of it.
-use Rattle.std.proofs.Common.{◌≡◌, ◌≤◌, ◌<◌, ℕ, List, Bool, false, Ok, arith}
+use Rattle.std.proofs.Common.{◌≡◌, ◌∙◌, ◌≤◌, ◌<◌, ℕ, List, [], Bool, true, false, Ok, Option, Some, None, is_some, refl, sym, ap, arith}
+use Rattle.std.proofs.lemmas.Bool.{false≢true}
 use Rattle.bar_outside.specs.Disk.{Content}
 use Rattle.bar_wire.specs.Inputs.{Input}
 use Rattle.bar_seeds.specs.declared.secrets.Secrets.{Secrets}
@@ -8,8 +9,14 @@ use Rattle.bar_roster.specs.Sessions.{IsSession}
 use Rattle.bar_roster.specs.SessionText.{SessionData}
 use Rattle.bar_roster.specs.SessionText as text
 use Rattle.bar_rules.specs.Member.{Member, IsMember}
+use Rattle.bar_window.specs.declared.exchange.Exchange.{Exchange}
+use Rattle.bar_wire.specs.Datagram.{Datagram}
+use Rattle.bar_rules.specs.Peer.Exchanges.{partner_in}
+use Rattle.bar_rules.specs.Peer.Log.{Log, kept}
+use Rattle.bar_rules.specs.Peer.Run.{log_after}
 use Rattle.bar_laws.specs.Always.{OfEachPeer}
-use Rattle.bar_cli.specs.Headline.{OfItsRun}
+use Rattle.bar_laws.specs.Evidence.{BadKeysLeaveEvidence, KeptEvidenceIsShown, OpensBadly}
+use Rattle.bar_cli.specs.Headline.{OfItsRun, HasProof}
 use Rattle.bar_cli.specs.Replay.{session_of, secrets_of_key}
 use Rattle.bar_cli.specs.ReplayPlan.{ReplayFiles, Accepted, peer_of}
 
@@ -26,7 +33,7 @@ pub held-here : AreHeld → (s : SessionData) (bytes : List ℕ) (k : Secrets) �
 unfolding secrets_of_key
 held-here held s bytes k is = held s false false bytes k is
 
-in-range_here : AreInRange → (bytes : List ℕ) (s : SessionData) → session_of bytes ≡ Ok s → IsSession s
+pub in-range_here : AreInRange → (bytes : List ℕ) (s : SessionData) → session_of bytes ≡ Ok s → IsSession s
 unfolding session_of
 in-range_here ranged bytes s is = ranged bytes s is
 
@@ -44,5 +51,19 @@ is-member held ranged names content a =
 
 pub of-its_run : AreHeld → AreInRange → (P : Member → List Input → Type 0) → OfEachPeer P →
     (names : ReplayFiles) (content : Content) → OfItsRun names content P
-of-its_run held ranged P always names content = λ accepted.
-    always (peer_of names content accepted) (is-member held ranged names content accepted) accepted.inputs
+of-its_run held ranged P always names content = λ accepted inputs later front.
+    always (peer_of names content accepted) (is-member held ranged names content accepted) inputs
+
+-- where a key opens badly evidence is kept, and what is kept is shown
+pub proves-bad_keys : BadKeysLeaveEvidence → KeptEvidenceIsShown → (me : Member) (inputs : List Input) (x : Exchange) (key : Datagram) →
+    OpensBadly me (log_after me [] inputs) x key → HasProof me (log_after me [] inputs) (partner_in me x)
+proves-bad_keys caught shown me inputs x key bad = from-kept (kept log (partner_in me x)) refl (caught me inputs x key bad)
+  where
+    log : Log
+    log = log_after me [] inputs
+
+    from-kept : (o : Option (List (List ℕ))) → kept log (partner_in me x) ≡ o → is_some (kept log (partner_in me x)) ≡ true →
+        HasProof me log (partner_in me x)
+    from-kept None is some = absurd (false≢true (sym (ap (λ o. is_some o) is) ∙ some))
+    from-kept (Some evidence) is some =
+        record { evidence = evidence; held = is; shown = λ wider extends. shown me inputs (partner_in me x) evidence wider is extends }

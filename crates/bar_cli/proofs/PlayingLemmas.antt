@@ -1,11 +1,11 @@
 -- What an input plays and sends is written out, action by action.
-use Rattle.std.proofs.Common.{◌≡◌, ℕ, List, map, take, min, length, [], ◌∷◌, ◌++◌, Option, Some, None, Result, Ok, Err, refl, sym, ap, ◌∙◌, subst, append-nil, append_assoc, arith}
+use Rattle.std.proofs.Common.{◌≡◌, ℕ, List, map, take, min, length, [], ◌∷◌, ◌++◌, Option, Some, None, Result, Ok, Err, refl, sym, ap, ◌∙◌, subst, append-nil, append_assoc}
 use Rattle.std.proofs.lemmas.List.{take_min}
 use Rattle.bar_outside.specs.declared.fault.Fault.{Fault}
 use Rattle.bar_outside.specs.Plan.{Outside, Action}
 use Rattle.bar_outside.specs.Plan.Action.{append, show}
 use Rattle.bar_outside.specs.Follows.{Follows}
-use Rattle.bar_outside.proofs.Following.{Ran-nothing, followed, stopped}
+use Rattle.bar_outside.proofs.Following.{followed, nothing_done, stopped}
 use Rattle.bar_wire.specs.Datagram.{Datagram}
 use Rattle.bar_rules.specs.Member.{Session}
 use Rattle.bar_rules.specs.Values.{datagram_bytes}
@@ -24,18 +24,7 @@ pub record Underway (plan rest : List Action) (old now : Outside) : Type 0 where
 
 -- no action was done yet
 pub none-done : (plan : List Action) (old : Outside) → Underway plan plan old old
-none-done plan old = record {
-  done = [];
-  split = refl;
-  follows = record {
-    later = record { told = refl; reliable = refl; out_told = refl; out_reliable = refl; faults = omega arith; out_faults = omega arith };
-    file = λ e. cc;
-    output = λ e. cc;
-    done = λ told. Ran-nothing old;
-    part = λ told. tt;
-    complete = λ reliable can. tt;
-  };
-}
+none-done plan old = record { done = []; split = refl; follows = nothing_done old }
 
 -- one action more was done
 pub one-done : (plan rest more : List Action) (action : Action) (old mid new : Outside) →

@@ -1,27 +1,25 @@
 -- What the turns of a replay leave.
 use Rattle.std.proofs.Common.{Option, None, Ok, Err, option_map, ◌≡◌, ◌≢◌, ℕ, List, [], ◌∷◌, ◌++◌, Some, refl, sym, ap, ◌∙◌, map, append-nil, append_assoc, IsSome, subst}
-use Rattle.std.specs.List.{concat}
+use Rattle.std.specs.List.{AllByRecursion, concat}
 use Rattle.std.specs.Option.{ok_or}
 use Rattle.bar_wire.specs.Inputs.{Input}
 use Rattle.bar_record.specs.Inputs.{inputs_left}
 use Rattle.bar_record.specs.declared.items.Items.{Items}
-use Rattle.bar_outside.specs.Disk.{Content, appended, created}
+use Rattle.bar_outside.specs.Disk.{Content, created}
 use Rattle.bar_outside.specs.Plan.{Action, CanRun, content_after, shown}
 use Rattle.bar_outside.specs.Plan.Action.{append, show}
-use Rattle.bar_outside.proofs.Contents.{put_at-same, put_at-other, put_at-there, appended-same, appended-other, appended-stays}
-use Rattle.bar_outside.proofs.ActionLists.{content_after-append, shown-append}
+use Rattle.bar_outside.proofs.Contents.{put_at-same, put_at-other, put_at-there}
+use Rattle.bar_outside.proofs.ActionLists.{CanRun-append, content_after-append, shown-append}
+use Rattle.bar_outside.proofs.Appends.{appends-other, appends-same, can-appends, shown-appends}
 use Rattle.bar_cli.specs.Turns.{Turn, turn_actions, turns_actions, played_bytes, shown_bytes}
-use Rattle.bar_cli.specs.ReplayPlan.{ReplayFiles, replay_actions}
+use Rattle.bar_findings.specs.Findings.{Finding, findings_actions}
+use Rattle.bar_findings.proofs.Holding.{AreWritten, all-written, can-write, shown-findings, unwritten}
+use Rattle.bar_findings.proofs.Names.{AreDistinct}
+use Rattle.bar_cli.specs.ReplayPlan.{ReplayFiles, playing_actions, replay_actions}
 
 can-shows : (lines : List (List ℕ)) (rest : List Action) (content : Content) → CanRun rest content → CanRun (map show lines ++ rest) content
 can-shows [] rest content h = h
 can-shows (x ∷ xs) rest content h = can-shows xs rest content h
-
-can-appends : (played : List ℕ) (contents : List (List ℕ)) (rest : List Action) (content : Content) → IsSome (content played) →
-    ((c : Content) → IsSome (c played) → CanRun rest c) → CanRun (map (append played) contents ++ rest) content
-can-appends played [] rest content there h = h content there
-can-appends played (x ∷ xs) rest content there h =
-    (there, can-appends played xs rest (appended content played x) (appended-stays content played x there) h)
 
 can-turns : (played : List ℕ) (turns : List Turn) (content : Content) → IsSome (content played) →
     CanRun (turns_actions played turns) content
@@ -31,21 +29,18 @@ can-turns played (t ∷ ts) content there =
     (can-appends played t.contents (map show t.lines ++ turns_actions played ts) content there
     (λ c held. can-shows t.lines (turns_actions played ts) c (can-turns played ts c held)))
 
--- a replay appends to a file that it created
-pub can-replay : (names : ReplayFiles) (turns : List Turn) (content : Content) → CanRun (replay_actions names turns) content
-can-replay names turns content = can-turns names.played turns (created content names.played) (put_at-there content names.played [])
+-- a replay appends to files that it created
+pub can-replay : (names : ReplayFiles) (turns : List Turn) (findings : List Finding) (content : Content) →
+    CanRun (replay_actions names turns findings) content
+can-replay names turns findings content =
+    CanRun-append (playing_actions names.played turns) (findings_actions findings) content
+    (can-turns names.played turns (created content names.played) (put_at-there content names.played []))
+    (can-write findings (content_after (playing_actions names.played turns) content))
 
 -- what is shown changes no file
 shows-leave : (lines : List (List ℕ)) (content : Content) → content_after (map show lines) content ≡ content
 shows-leave [] content = refl
 shows-leave (x ∷ xs) content = shows-leave xs content
-
-pub appends-played : (played held : List ℕ) (contents : List (List ℕ)) (content : Content) → content played ≡ Some held →
-    content_after (map (append played) contents) content played ≡ Some (held ++ concat contents)
-appends-played played held [] content h = h ∙ ap Some (sym (append-nil held))
-appends-played played held (x ∷ xs) content h =
-    appends-played played (held ++ x) xs (appended content played x) (appended-same content played x held h)
-    ∙ ap Some (append_assoc held x (concat xs))
 
 turn-leaves : (played : List ℕ) (t : Turn) (content : Content) →
     content_after (turn_actions played t) content ≡ content_after (map (append played) t.contents) content
@@ -56,7 +51,7 @@ turn-leaves played t content =
 pub turn-played : (played held : List ℕ) (t : Turn) (content : Content) → content played ≡ Some held →
     content_after (turn_actions played t) content played ≡ Some (held ++ concat t.contents)
 turn-played played held t content h =
-    ap (λ (c : Content). c played) (turn-leaves played t content) ∙ appends-played played held t.contents content h
+    ap (λ (c : Content). c played) (turn-leaves played t content) ∙ appends-same played held t.contents content h
 
 turns-played : (played held : List ℕ) (turns : List Turn) (content : Content) → content played ≡ Some held →
     content_after (turns_actions played turns) content played ≡ Some (held ++ played_bytes turns)
@@ -67,12 +62,6 @@ turns-played played held (t ∷ ts) content h =
     (turn-played played held t content h)
     ∙ ap Some (append_assoc held (concat t.contents) (played_bytes ts))
 
-appends-other : (played : List ℕ) (contents : List (List ℕ)) (content : Content) (q : List ℕ) → q ≢ played →
-    content_after (map (append played) contents) content q ≡ content q
-appends-other played [] content q differs = refl
-appends-other played (x ∷ xs) content q differs =
-    appends-other played xs (appended content played x) q differs ∙ appended-other content played x q differs
-
 turns-other : (played : List ℕ) (turns : List Turn) (content : Content) (q : List ℕ) → q ≢ played →
     content_after (turns_actions played turns) content q ≡ content q
 turns-other played [] content q differs = refl
@@ -82,21 +71,38 @@ turns-other played (t ∷ ts) content q differs =
     ∙ ap (λ (c : Content). c q) (turn-leaves played t content)
     ∙ appends-other played t.contents content q differs
 
--- what the played file has after a replay, and what the others have
-pub final-played : (names : ReplayFiles) (turns : List Turn) (content : Content) →
-    content_after (replay_actions names turns) content names.played ≡ Some (played_bytes turns)
-final-played names turns content =
-    turns-played names.played [] turns (created content names.played) (put_at-same content names.played [])
+-- what the played file has after all turns, and what the others have
+pub all-played : (played : List ℕ) (turns : List Turn) (content : Content) →
+    content_after (playing_actions played turns) content played ≡ Some (played_bytes turns)
+all-played played turns content = turns-played played [] turns (created content played) (put_at-same content played [])
 
-pub final-other : (names : ReplayFiles) (turns : List Turn) (content : Content) (q : List ℕ) → q ≢ names.played →
-    content_after (replay_actions names turns) content q ≡ content q
-final-other names turns content q differs =
-    turns-other names.played turns (created content names.played) q differs ∙ put_at-other content names.played [] q differs
+pub others-unplayed : (played : List ℕ) (turns : List Turn) (content : Content) (q : List ℕ) → q ≢ played →
+    content_after (playing_actions played turns) content q ≡ content q
+others-unplayed played turns content q differs =
+    turns-other played turns (created content played) q differs ∙ put_at-other content played [] q differs
 
--- what is appended isn't shown
-pub shown-appends : (played : List ℕ) (contents : List (List ℕ)) → shown (map (append played) contents) ≡ []
-shown-appends played [] = refl
-shown-appends played (x ∷ xs) = shown-appends played xs
+-- and so after a replay, which writes what was found in files of other names
+pub final-played : (names : ReplayFiles) (turns : List Turn) (findings : List Finding) (content : Content) →
+    AllByRecursion (λ f. f.name ≢ names.played) findings →
+    content_after (replay_actions names turns findings) content names.played ≡ Some (played_bytes turns)
+final-played names turns findings content differ =
+    ap (λ (c : Content). c names.played) (content_after-append (playing_actions names.played turns) (findings_actions findings) content)
+    ∙ unwritten findings (content_after (playing_actions names.played turns) content) names.played differ
+    ∙ all-played names.played turns content
+
+pub final-other : (names : ReplayFiles) (turns : List Turn) (findings : List Finding) (content : Content) (q : List ℕ) → q ≢ names.played →
+    AllByRecursion (λ f. f.name ≢ q) findings → content_after (replay_actions names turns findings) content q ≡ content q
+final-other names turns findings content q differs differ =
+    ap (λ (c : Content). c q) (content_after-append (playing_actions names.played turns) (findings_actions findings) content)
+    ∙ unwritten findings (content_after (playing_actions names.played turns) content) q differ
+    ∙ others-unplayed names.played turns content q differs
+
+-- what was found stands whole
+pub final-found : (names : ReplayFiles) (turns : List Turn) (findings : List Finding) (content : Content) → AreDistinct findings →
+    AreWritten findings (content_after (replay_actions names turns findings) content)
+final-found names turns findings content distinct =
+    subst (AreWritten findings) (sym (content_after-append (playing_actions names.played turns) (findings_actions findings) content))
+    (all-written findings (content_after (playing_actions names.played turns) content) distinct)
 
 shown-shows : (lines : List (List ℕ)) → shown (map show lines) ≡ concat lines
 shown-shows [] = refl
@@ -115,9 +121,17 @@ shown-turns played (t ∷ ts) =
     ∙ ap (λ bytes. bytes ++ shown (turns_actions played ts)) (shown-turn played t)
     ∙ ap (λ bytes. concat t.lines ++ bytes) (shown-turns played ts)
 
--- what a replay shows
-pub shown-replay : (names : ReplayFiles) (turns : List Turn) → shown (replay_actions names turns) ≡ shown_bytes turns
-shown-replay names turns = shown-turns names.played turns
+-- what is shown of all turns, and of a replay
+pub shown-playing : (played : List ℕ) (turns : List Turn) → shown (playing_actions played turns) ≡ shown_bytes turns
+shown-playing played turns = shown-turns played turns
+
+pub shown-replay : (names : ReplayFiles) (turns : List Turn) (findings : List Finding) →
+    shown (replay_actions names turns findings) ≡ shown_bytes turns
+shown-replay names turns findings =
+    shown-append (playing_actions names.played turns) (findings_actions findings)
+    ∙ ap (λ bytes. shown (playing_actions names.played turns) ++ bytes) (shown-findings findings)
+    ∙ append-nil (shown (playing_actions names.played turns))
+    ∙ shown-playing names.played turns
 
 -- what was read stands for these inputs, and so it is accepted
 pub found : (result : Option Items) (items : Items) (meant : Option (List Input)) → result ≡ Some items → option_map inputs_left result ≡ meant →

@@ -1,15 +1,13 @@
 -- The turns of a replay and the rules of its peer: what a run leaves, and what a longer one does.
-use Rattle.std.proofs.Common.{◌≡◌, ℕ, ◌+◌, List, [], ◌∷◌, ◌++◌, Bool, true, false, refl, sym, ap, ◌∙◌, map, filter, not, length, cond, arith}
+use Rattle.std.proofs.Common.{◌≡◌, ℕ, ◌+◌, List, [], ◌∷◌, ◌++◌, refl, sym, ap, ◌∙◌, map, length, arith}
 use Rattle.std.specs.List.{concat}
 use Rattle.std.proofs.lemmas.Grind.{flat_map-append}
-use Rattle.std.proofs.lemmas.List.Elements.{filter-append}
 use Rattle.bar_wire.specs.Datagram.{Datagram}
 use Rattle.bar_wire.specs.Inputs.{Input}
 use Rattle.bar_rules.specs.Member.{Session, Member}
 use Rattle.bar_rules.specs.Runs.{played_from, sends_from}
 use Rattle.bar_rules.specs.Peer.Log.{Log}
 use Rattle.bar_rules.specs.Peer.Run.{step, log_after}
-use Rattle.bar_peer.specs.Sending.{is_report, without_reports}
 use Rattle.bar_cli.specs.Transcript.{line_of_sent, lines_of_sends, transcript}
 use Rattle.bar_cli.specs.Turns.{Turn, turn_of, turns_from, turn_actions, turns_actions, played_bytes, shown_bytes}
 
@@ -37,33 +35,19 @@ played-turns me n log (x ∷ xs) = ap (λ bytes. concat (step me log x).contents
 abbrev numbered : ℕ → ℕ × Datagram → ℕ × ℕ × Datagram
 numbered n send = (n, send.0, send.1)
 
--- what is kept of all that is sent
-abbrev is_kept : ℕ × ℕ × Datagram → Bool
-is_kept sent = not (is_report sent.2.message.body)
-
 -- the lines of what one input sends are its transcript
 lines-shown : (s : Session) (n : ℕ) (sends : List (ℕ × Datagram)) →
-    concat (lines_of_sends s n (without_reports sends)) ≡ transcript s (filter is_kept (map (numbered n) sends))
+    concat (lines_of_sends s n sends) ≡ transcript s (map (numbered n) sends)
 lines-shown s n [] = refl
-lines-shown s n (x ∷ xs) =
-    by_test (not (is_report x.1.message.body)) (without_reports xs) (filter is_kept (map (numbered n) xs)) (lines-shown s n xs)
-  where
-    by_test : (b : Bool) (kept : List (ℕ × Datagram)) (sent : List (ℕ × ℕ × Datagram)) →
-        concat (lines_of_sends s n kept) ≡ transcript s sent →
-        concat (lines_of_sends s n (cond b (x ∷ kept) kept)) ≡ transcript s (cond b (numbered n x ∷ sent) sent)
-    by_test true kept sent e = ap (λ bytes. line_of_sent s (numbered n x) ++ bytes) e
-    by_test false kept sent e = e
+lines-shown s n (x ∷ xs) = ap (λ bytes. line_of_sent s (numbered n x) ++ bytes) (lines-shown s n xs)
 
 -- the turns show the transcript of what the rules send
 pub shown-turns_from : (me : Member) (n : ℕ) (log : Log) (inputs : List Input) →
-    shown_bytes (turns_from me n log inputs)
-    ≡ transcript me.session (filter (λ sent. not (is_report sent.2.message.body)) (sends_from (step me) log n inputs))
+    shown_bytes (turns_from me n log inputs) ≡ transcript me.session (sends_from (step me) log n inputs)
 shown-turns_from me n log [] = refl
 shown-turns_from me n log (x ∷ xs) =
     let sends : List (ℕ × Datagram) = (step me log x).sends in
     let others : List (ℕ × ℕ × Datagram) = sends_from (step me) (step me log x).state (n + 1) xs in
     ap (λ bytes. bytes ++ shown_bytes (turns_from me (n + 1) (step me log x).state xs)) (lines-shown me.session n sends)
-    ∙ ap (λ bytes. transcript me.session (filter is_kept (map (numbered n) sends)) ++ bytes)
-    (shown-turns_from me (n + 1) (step me log x).state xs)
-    ∙ sym (flat_map-append (line_of_sent me.session) (filter is_kept (map (numbered n) sends)) (filter is_kept others))
-    ∙ ap (transcript me.session) (sym (filter-append is_kept (map (numbered n) sends) others))
+    ∙ ap (λ bytes. transcript me.session (map (numbered n) sends) ++ bytes) (shown-turns_from me (n + 1) (step me log x).state xs)
+    ∙ sym (flat_map-append (line_of_sent me.session) (map (numbered n) sends) others)

@@ -1,62 +1,18 @@
 -- What a part of some turns leaves.
-use Rattle.std.proofs.Common.{Option, ◌≡◌, ◌⊎◌, ◌≤◌, ℕ, ◌+◌, List, [], ◌∷◌, ◌++◌, Some, refl, sym, ap, ◌∙◌, map, length, take, append-nil, append_assoc, inl, inr, subst, min, arith}
-use Rattle.std.proofs.lemmas.List.{take-append-le, take_min}
+use Rattle.std.proofs.Common.{Option, ◌≡◌, ◌⊎◌, ℕ, ◌+◌, List, [], ◌∷◌, ◌++◌, Some, refl, sym, ap, ◌∙◌, map, length, take, append-nil, append_assoc, inl, inr, subst, min}
 use Rattle.std.proofs.lemmas.Grind.{flat_map-append}
 use Rattle.std.proofs.Math.Seq.{take-append-add, take-length}
 use Rattle.std.specs.List.{concat}
-use Rattle.bar_outside.specs.Disk.{Content, appended, created}
-use Rattle.bar_outside.specs.Plan.{Outside, Action, Begun, Reached, IsFilesNext, IsPartOf, IsShowNext, content_after, shown}
-use Rattle.bar_outside.specs.Plan.Action.{read, create, append, show}
+use Rattle.bar_outside.specs.Disk.{Content, created}
+use Rattle.bar_outside.specs.Plan.{Outside, Action, Begun, Reached, IsFilesNext, IsShowNext, content_after, shown}
+use Rattle.bar_outside.specs.Plan.Action.{create, append, show}
 use Rattle.bar_outside.specs.Stages.{IsUnchanged}
-use Rattle.bar_outside.proofs.Contents.{put_at-same, appended-same}
+use Rattle.bar_outside.proofs.Contents.{put_at-same}
 use Rattle.bar_outside.proofs.ActionLists.{content_after-append, shown-append, nil-cons, Begun-first, Begun-both, Begun-none, files-next, show-next, no-next, part-create}
 use Rattle.bar_outside.proofs.Stages.{part-shown}
 use Rattle.bar_cli.specs.Turns.{Turn, turn_actions, turns_actions, played_bytes, shown_bytes}
-use Rattle.bar_cli.proofs.ReplayLemmas.{appends-played, turn-played, shown-appends, shown-turn}
-
--- a front of what is there is a front of more
-take-more : (k : ℕ) (xs ys : List ℕ) → take (min k (length xs)) (xs ++ ys) ≡ take k xs
-take-more k xs ys = let h : min k (length xs) ≤ length xs = omega arith in rw (take-append-le (min k (length xs)) xs ys h) (take_min k xs)
-
--- ---- contents alone, and lines alone
-
--- what was done in part appends and prints nothing
-part-append : (part : Action) (played x held : List ℕ) (content : Content) → content played ≡ Some held → IsPartOf part (append played x) →
-    (k : ℕ) × (content_after (part ∷ []) content played ≡ Some (held ++ take k x)) × (shown (part ∷ []) ≡ [])
-part-append (append path bytes) played x held content there h =
-    (h.1.0, rw (h.0, h.1.1) (appended-same content played (take h.1.0 x) held there), refl)
-part-append (read path) played x held content there h = absurd h
-part-append (create path) played x held content there h = absurd h
-part-append (show bytes) played x held content there h = absurd h
-
-begun-appends : (played held : List ℕ) (contents : List (List ℕ)) (content : Content) (done : List Action) → content played ≡ Some held →
-    Begun (map (append played) contents) done →
-    (k : ℕ) × (content_after done content played ≡ Some (held ++ take k (concat contents))) × (shown done ≡ [])
-begun-appends played held [] content done there b =
-    let e = Begun-none done b in
-    (0, ap (λ xs. content_after xs content played) e ∙ there ∙ ap Some (sym (append-nil held)), ap shown e)
-begun-appends played held (x ∷ xs) content done there b =
-    elim (Begun-first (append played x) (map (append played) xs) done b) [
-      | inl e ↦ (0, ap (λ xs. content_after xs content played) e.0 ∙ there ∙ ap Some (sym (append-nil held)), ap shown e.0)
-      | inr two ↦ elim two [
-        | inl part ↦
-            let p = part-append part.0 played x held content there part.2 in (
-              min p.0 (length x),
-              ap (λ xs. content_after xs content played) part.1 ∙ p.1
-                  ∙ ap (λ bytes. Some (held ++ bytes)) (sym (take-more p.0 x (concat xs))),
-              ap shown part.1 ∙ p.2,
-            )
-        | inr more ↦
-            let there_too = appended-same content played x held there in
-            let p = begun-appends played (held ++ x) xs (appended content played x) more.0 there_too more.2 in (
-              length x + p.0,
-              ap (λ xs. content_after xs content played) more.1 ∙ p.1
-                  ∙ ap Some (append_assoc held x (take p.0 (concat xs))
-                  ∙ ap (λ bytes. held ++ bytes) (sym (take-append-add x (concat xs) p.0))),
-              ap shown more.1 ∙ p.2,
-            )
-      ]
-    ]
+use Rattle.bar_outside.proofs.Appends.{appends-same, begun-appends, no-show, shown-appends, take-more}
+use Rattle.bar_cli.proofs.ReplayLemmas.{turn-played, shown-turn}
 
 begun-shows : (lines : List (List ℕ)) (done : List Action) → Begun (map show lines) done →
     (k : ℕ) × (shown done ≡ take k (concat lines)) × ((c : Content) → content_after done c ≡ c)
@@ -80,14 +36,7 @@ begun-shows (x ∷ xs) done b =
       ]
     ]
 
--- among contents no action prints, and among lines none is of the files
-no-show : (played : List ℕ) (contents : List (List ℕ)) (front rest : List Action) →
-    map (append played) contents ≡ front ++ rest → IsShowNext rest → ⊥
-no-show played [] [] rest p h = subst IsShowNext (sym p) h
-no-show played (x ∷ xs) [] rest p h = subst IsShowNext (sym p) h
-no-show played [] (f ∷ fs) rest p h = nil-cons f (fs ++ rest) p
-no-show played (x ∷ xs) (f ∷ fs) rest p h = let q : map (append played) xs ≡ fs ++ rest = cc in no-show played xs fs rest q h
-
+-- among lines no action is of the files
 no-file : (lines : List (List ℕ)) (front rest : List Action) → map show lines ≡ front ++ rest → IsFilesNext rest → ⊥
 no-file [] [] rest p h = subst IsFilesNext (sym p) h
 no-file (x ∷ xs) [] rest p h = subst IsFilesNext (sym p) h
@@ -148,7 +97,7 @@ in-turn played held t later content done there first others more m is =
                 ∙ ap (λ (c : Content). c played)
                 (content_after-append (map (append played) t.contents) a.0 content
                 ∙ s.2 (content_after (map (append played) t.contents) content))
-                ∙ appends-played played held t.contents content there
+                ∙ appends-same played held t.contents content there
                 ∙ ap (λ bytes. Some (held ++ bytes)) (sym whole);
             printed = ap shown a.1
                 ∙ shown-append (map (append played) t.contents) a.0

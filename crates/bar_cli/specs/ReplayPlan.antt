@@ -1,13 +1,12 @@
 -- What `replay` does.
-use Rattle.std.specs.Prelude.{◌≡◌, ◌≢◌, ◌⊎◌, ℕ, List, [], ◌∷◌, ◌++◌, Some, None, Ok, Err, take, filter, not, IsTrue}
+use Rattle.std.specs.Prelude.{◌≡◌, ◌≢◌, ◌⊎◌, ◌≤◌, ℕ, List, [], ◌∷◌, ◌++◌, Some, None, Ok, Err, IfSome, take, IsTrue}
 use Rattle.std.specs.Option.{ok_or}
-use Rattle.std.specs.List.{concat}
+use Rattle.std.specs.List.{AllByRecursion, concat}
 use Rattle.bar_outside.specs.Disk.{Content, Failure, readable}
-use Rattle.bar_outside.specs.declared.files.CallKind.TheVariants.{Read, Create, Append}
+use Rattle.bar_outside.specs.declared.files.CallKind.TheVariants.{Read}
 use Rattle.bar_outside.specs.Plan.{Outside, Action, Plan, reading, accepting, ending, doing}
 use Rattle.bar_outside.specs.Plan.Action.{create}
 use Rattle.bar_outside.specs.Ends.{SameFiles, NothingPrinted}
-use Rattle.bar_wire.specs.Datagram.{Datagram}
 use Rattle.bar_wire.specs.Inputs.{Input}
 use Rattle.bar_seeds.specs.declared.secrets.Secrets.{Secrets}
 use Rattle.bar_roster.specs.declared.fault.SessionFault.{SessionFault}
@@ -16,9 +15,11 @@ use Rattle.bar_roster.specs.SessionText.{SessionData}
 use Rattle.bar_roster.specs.KeyFile.{Fits}
 use Rattle.bar_rules.specs.Member.{Member}
 use Rattle.bar_peer.specs.Members.{member_by}
-use Rattle.bar_peer.specs.Sending.{is_report}
 use Rattle.bar_rules.specs.Peer.Run.{played_by, sends_of}
+use Rattle.bar_judge.specs.TableFile.{table_bytes}
+use Rattle.bar_findings.specs.Findings.{Finding, IsFindingName, IsWriteTo, IsWrittenUpTo, evidence_name, findings_actions, in_order, table_name}
 use Rattle.bar_cli.specs.Refusals.{session_refused, key_refused, input_refused}
+use Rattle.bar_cli.specs.Found.{evidence_of, found_by, manifest_of}
 use Rattle.bar_cli.specs.Replay.{session_of, recording_of, secrets_of_key}
 use Rattle.bar_cli.specs.Transcript.{transcript}
 use Rattle.bar_cli.specs.Turns.{Turn, turns_from, turns_actions, played_bytes, shown_bytes}
@@ -32,15 +33,20 @@ pub record ReplayFiles : Type 0 where
   pub found : List ℕ
 
 -- the played file is created, and each turn is done
-abbrev pub replay_actions : ReplayFiles → List Turn → List Action
-replay_actions names turns = create names.played ∷ turns_actions names.played turns
+abbrev pub playing_actions : List ℕ → List Turn → List Action
+playing_actions played turns = create played ∷ turns_actions played turns
+
+-- and then what was found is written
+abbrev pub replay_actions : ReplayFiles → List Turn → List Finding → List Action
+replay_actions names turns findings = playing_actions names.played turns ++ findings_actions findings
 
 -- the turns of a peer over these inputs, from the start
 abbrev pub turns_of : SessionData → Secrets → List Input → List Turn
 turns_of s secrets inputs = turns_from (member_by s secrets) 1 [] inputs
 
 abbrev pub run_plan : ReplayFiles → SessionData → Secrets → List Input → Content → Plan
-run_plan names session secrets inputs = doing (replay_actions names (turns_of session secrets inputs)) 0 []
+run_plan names session secrets inputs =
+    doing (replay_actions names (turns_of session secrets inputs) (found_by names.found (member_by session secrets) inputs)) 0 []
 
 -- the recording of the key's party is read, and accepted or refused
 abbrev pub recording_plan : ReplayFiles → SessionData → Secrets → Content → Plan
@@ -109,29 +115,43 @@ peer_of names content accepted = member_by accepted.session accepted.secrets
 abbrev pub turns_in : (names : ReplayFiles) (content : Content) → Accepted names content → List Turn
 turns_in names content accepted = turns_of accepted.session accepted.secrets accepted.inputs
 
--- all that the peer sends over the inputs but reports of evidence, which isn't kept: each datagram with its input's number and its receiver
-abbrev pub sent_by : Member → List Input → List (ℕ × ℕ × Datagram)
-sent_by me inputs = filter (λ sent. not (is_report sent.2.message.body)) (sends_of me inputs)
-
 -- the transcript of this peer over the recording's inputs
 abbrev pub transcript_of : (names : ReplayFiles) (content : Content) → Accepted names content → List ℕ
-transcript_of names content accepted = transcript accepted.session (sent_by (peer_of names content accepted) accepted.inputs)
+transcript_of names content accepted = transcript accepted.session (sends_of (peer_of names content accepted) accepted.inputs)
 
--- All were accepted, the session holds the public key and the anchor that come from the key file's secret, and over the recording's inputs the
--- played file has exactly what the rules of this peer play, and the transcript exactly what they send, in order, but for reports of evidence.
+-- what this peer found over the recording's inputs
+abbrev pub found_in : (names : ReplayFiles) (content : Content) → Accepted names content → List Finding
+found_in names content accepted = found_by names.found (peer_of names content accepted) accepted.inputs
+
+-- the played file is none of the files of what was found
+pub record HasOwnNames (names : ReplayFiles) : Type 0 where
+  pub table : names.played ≢ table_name names.found
+  pub evidence : (party : ℕ) → names.played ≢ evidence_name names.found party
+
+-- All were accepted, the session holds the public key and the anchor that come from the key file's secret, and over the recording's inputs
+-- the played file has exactly what the rules of this peer play, and the transcript exactly what they send, in order. The table file has
+-- exactly the manifests that the peer admitted, by round, and each party that it keeps evidence against has a file with exactly this
+-- evidence. No other file is changed.
 pub record Replayed (names : ReplayFiles) (old new : Outside) : Type 0 where
   pub accepted : Accepted names old.files.content
   pub fits : Fits accepted.session accepted.secrets.party accepted.secrets.secret
-  pub played : new.files.content names.played ≡ Some (played_by (peer_of names old.files.content accepted) accepted.inputs)
+  pub played : HasOwnNames names →
+      new.files.content names.played ≡ Some (played_by (peer_of names old.files.content accepted) accepted.inputs)
   pub sent : IsTrue old.out.told → new.out.bytes ≡ old.out.bytes ++ transcript_of names old.files.content accepted
-  pub others : (path : List ℕ) → path ≢ names.played → new.files.content path ≡ old.files.content path
+  pub table : new.files.content (table_name names.found) ≡
+      Some (table_bytes (in_order (manifest_of (peer_of names old.files.content accepted) accepted.inputs) accepted.session.shape.rounds))
+  pub evidence : (party : ℕ) → 1 ≤ party → party ≤ accepted.session.shape.peers →
+      IfSome (evidence_of (peer_of names old.files.content accepted) accepted.inputs party)
+      (λ kept. new.files.content (evidence_name names.found party) ≡ Some kept)
+  pub others : (path : List ℕ) → path ≢ names.played → AllByRecursion (λ f. f.name ≢ path) (found_in names old.files.content accepted) →
+      new.files.content path ≡ old.files.content path
 
 -- all were accepted, and the played file has a front of what the rules of this peer play, and the transcript a front of what they send
 pub record PlayedFront (names : ReplayFiles) (old new : Outside) : Type 0 where
   pub accepted : Accepted names old.files.content
   pub played_count : ℕ
   pub shown_count : ℕ
-  pub played :
+  pub played : HasOwnNames names →
       new.files.content names.played ≡ Some (take played_count (played_by (peer_of names old.files.content accepted) accepted.inputs))
   pub shown : IsTrue old.out.told → new.out.bytes ≡ old.out.bytes ++ take shown_count (transcript_of names old.files.content accepted)
 
@@ -140,14 +160,20 @@ pub record IsUntouched (old new : Outside) : Type 0 where
   pub files : SameFiles old new
   pub out : NothingPrinted old new
 
--- the played file was made and is empty, and nothing was printed
+-- no file but the played one was changed
+abbrev pub OthersAreSame : ReplayFiles → Outside → Outside → Type 0
+OthersAreSame names old new = (path : List ℕ) → path ≢ names.played → new.files.content path ≡ old.files.content path
+
+-- the played file was made and is empty, no other was changed, and nothing was printed
 pub record IsMade (names : ReplayFiles) (old new : Outside) : Type 0 where
   pub played : new.files.content names.played ≡ Some []
   pub out : NothingPrinted old new
+  pub others : OthersAreSame names old new
 
 -- All were accepted, and there is one input such that the played file has all that earlier inputs play and a front of what this one plays,
 -- and the transcript all that earlier inputs send and a front of what this one sends. What is shown of an input comes behind all that it plays.
--- Where a call of the files failed, nothing is shown of it, and where a write failed, all that it plays stands.
+-- Where a call of the files failed, nothing is shown of it, and where a write failed, all that it plays stands. Nothing that was found is
+-- written yet.
 pub record PlayedUpTo (names : ReplayFiles) (status : ℕ) (old new : Outside) : Type 0 where
   pub accepted : Accepted names old.files.content
   pub earlier : List Turn
@@ -161,10 +187,21 @@ pub record PlayedUpTo (names : ReplayFiles) (status : ℕ) (old new : Outside) :
   pub order : (shown_count ≡ 0) ⊎ (take played_count (concat this.contents) ≡ concat this.contents)
   pub at_file : status ≡ 3 → shown_count ≡ 0
   pub at_output : status ≡ 7 → take played_count (concat this.contents) ≡ concat this.contents
+  pub others : OthersAreSame names old new
 
--- a call that a replay makes: a read of a file that it reads, or a create or an append of the one that it writes
+-- All were accepted, all that the inputs play and send stands, and what was found behind them is written so far: the earlier files whole, a
+-- front of one, and the later ones as they were. No write failed.
+pub record FoundUpTo (names : ReplayFiles) (status : ℕ) (old new : Outside) : Type 0 where
+  pub accepted : Accepted names old.files.content
+  pub played : HasOwnNames names →
+      new.files.content names.played ≡ Some (played_by (peer_of names old.files.content accepted) accepted.inputs)
+  pub sent : IsTrue old.out.told → new.out.bytes ≡ old.out.bytes ++ transcript_of names old.files.content accepted
+  pub found : HasOwnNames names → IsWrittenUpTo (found_in names old.files.content accepted) old.files.content new.files.content
+  pub no_output : status ≢ 7
+
+-- a call that a replay makes: a read of a file that it reads, or a create or an append of the played one, or of one of what was found
 abbrev pub IsReplayCall : ReplayFiles → Failure → Type 0
 IsReplayCall names call =
     ((call ≡ record { kind = Read; path = names.session })
     ⊎ ((call ≡ record { kind = Read; path = names.key }) ⊎ (call ≡ record { kind = Read; path = names.recording })))
-    ⊎ ((call ≡ record { kind = Create; path = names.played }) ⊎ (call ≡ record { kind = Append; path = names.played }))
+    ⊎ (IsWriteTo names.played call ⊎ ((path : List ℕ) × IsFindingName names.found path × IsWriteTo path call))

@@ -7,7 +7,6 @@ use Rattle.bar_wire.specs.Inputs.{Input}
 use Rattle.bar_rules.specs.Member.{Session, Member}
 use Rattle.bar_rules.specs.Peer.Log.{Log}
 use Rattle.bar_rules.specs.Peer.Run.{Out, step}
-use Rattle.bar_peer.specs.Sending.{without_reports}
 use Rattle.bar_cli.specs.Transcript.{lines_of_sends}
 
 -- the contents that an input plays, and the lines of the datagrams that it sends
@@ -15,9 +14,9 @@ pub record Turn : Type 0 where
   pub contents : List (List ℕ)
   pub lines : List (List ℕ)
 
--- what the input of a number leaves, but for reports of evidence, which isn't kept
+-- what the input of a number leaves
 abbrev pub turn_of : Session → ℕ → Out → Turn
-turn_of s number out = record { contents = out.contents; lines = lines_of_sends s number (without_reports out.sends) }
+turn_of s number out = record { contents = out.contents; lines = lines_of_sends s number out.sends }
 
 -- so of all inputs, by the rules of a peer
 abbrev pub turns_from : Member → ℕ → Log → List Input → List Turn

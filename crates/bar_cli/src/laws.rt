@@ -9,14 +9,16 @@ ghost use Rattle.bar_seeds.specs.declared.secrets.Secrets.{Secrets};
 ghost use Rattle.bar_roster.specs.declared.fault.SessionFault.{SessionFault};
 ghost use Rattle.bar_roster.specs.declared.key_fault.KeyFileFault.{KeyFileFault};
 ghost use Rattle.bar_roster.specs.SessionText.{SessionData};
+ghost use Rattle.bar_findings.specs.Findings.{IsFindingName};
 ghost use Rattle.bar_cli.specs.Line.{usage};
 ghost use Rattle.bar_cli.specs.Refusals.{session_refused, key_refused, input_refused};
-ghost use Rattle.bar_cli.specs.ReplayPlan.{ReplayFiles, SessionAccepted, SessionRefused, KeyAccepted, KeyRefused, InputRefused, Accepted, Replayed, PlayedFront, PlayedUpTo, IsUntouched, IsMade, IsReplayCall, replay_plan};
+ghost use Rattle.bar_cli.specs.ReplayPlan.{ReplayFiles, SessionAccepted, SessionRefused, KeyAccepted, KeyRefused, InputRefused, Accepted, Replayed, PlayedFront, PlayedUpTo, FoundUpTo, IsUntouched, IsMade, IsReplayCall, replay_plan};
 
 use bar_outside::plans_go_in_order;
-use bar_roster::laws::accepted_secrets_are_held;
+use bar_roster::laws::{accepted_secrets_are_held, accepted_sessions_are_in_range};
 
-/// 0 comes exactly where all files are accepted, but for a fault or want of memory; then all inputs were played.
+/// 0 comes exactly where all files are accepted, but for a fault or want of memory; then all inputs were played, and what was found behind
+/// them is written.
 pub fn done_exactly()
     ensures only { (names : ReplayFiles) → AtEnd 0 (replay_plan names) (Replayed names) }
     ensures then { (names : ReplayFiles) → OfEachEnd (replay_plan names) (λ old new status.
@@ -24,6 +26,7 @@ pub fn done_exactly()
     ensures line { (names : ReplayFiles) (content : Content) → Accepted names content → line_at (replay_plan names content) 0 ≡ [] }
 {
     accepted_secrets_are_held();
+    accepted_sessions_are_in_range();
     plans_go_in_order();
 }
 
@@ -88,28 +91,31 @@ pub fn input_refused_exactly()
     plans_go_in_order();
 }
 
-/// 7 comes only where the count of out rose. Where the files tell, all were accepted then, and it comes behind all that an input plays.
+/// 7 comes only where the count of out rose. Where the files tell, all were accepted then, and it comes behind all that an input plays, and
+/// before anything that was found is written.
 pub fn output_failed_only()
     ensures rose { (names : ReplayFiles) (old new : Outside) → Ends (replay_plan names) old new 7 → Rose old.out.faults new.out.faults }
     ensures in_order { (names : ReplayFiles) → AtEnd 7 (replay_plan names) (PlayedUpTo names 7) }
 {
+    accepted_sessions_are_in_range();
     plans_go_in_order();
 }
 
 /// Where the files tell, this is how far a replay came, whatever stopped it: nothing was changed and nothing printed; or the played file was
 /// made and is empty; or there is one input such that the played file and the transcript have all that belongs to earlier inputs and nothing
-/// that belongs to later ones.
+/// that belongs to later ones; or all that belongs to the inputs stands, and what was found behind them is written so far, in order.
 pub fn a_replay_stops_in_order()
     ensures { (names : ReplayFiles) → OfEachEnd (replay_plan names) (λ old new status.
-        IsUntouched old new ⊎ (IsMade names old new ⊎ PlayedUpTo names status old new)) }
+        IsUntouched old new ⊎ (IsMade names old new ⊎ (PlayedUpTo names status old new ⊎ FoundUpTo names status old new))) }
 {
+    accepted_sessions_are_in_range();
     plans_go_in_order();
 }
 
-/// Whatever the status, only the played file is changed.
-pub fn only_played_is_changed()
+/// Whatever the status, only the played file is changed, and those of what was found.
+pub fn only_its_files_are_changed()
     ensures { (names : ReplayFiles) (path : List ℕ) → OfEachEnd (replay_plan names) (λ old new status.
-        path ≢ names.played → new.files.content path ≡ old.files.content path) }
+        path ≢ names.played → (IsFindingName names.found path → ⊥) → new.files.content path ≡ old.files.content path) }
 {
     plans_go_in_order();
 }
@@ -130,5 +136,6 @@ pub fn a_front_is_played()
     ensures { (names : ReplayFiles) → OfEachEnd (replay_plan names) (λ old new status.
         IsUntouched old new ⊎ PlayedFront names old new) }
 {
+    accepted_sessions_are_in_range();
     plans_go_in_order();
 }

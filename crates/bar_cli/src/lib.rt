@@ -1,6 +1,7 @@
 //! The commands of the program, over an outside that is handed in.
 #![tactic(auto)]
 
+mod found;
 mod judge;
 mod judge_laws;
 mod judge_names;
@@ -35,7 +36,7 @@ pub use keygen_laws::{
 };
 pub use laws::{
     a_front_is_played, a_replay_stops_in_order, done_exactly, done_where_all_is_accepted,
-    file_failed_only, input_refused_exactly, key_refused_exactly, only_played_is_changed,
+    file_failed_only, input_refused_exactly, key_refused_exactly, only_its_files_are_changed,
     output_failed_only, refusals_change_nothing, session_refused_exactly,
 };
 pub use run::bar_run;

@@ -2,7 +2,7 @@
 ghost use Rattle.std.specs.Prelude.{◌≡◌, ◌⊎◌, ◌↔◌, ◌||◌, None, Some, false, map, string_bytes, IsTrue};
 ghost use Rattle.bar_outside.specs.Plan.{outside};
 ghost use Rattle.bar_outside.specs.Ends.{Ends, EndsWith, SameFiles, Says, is_plain};
-ghost use Rattle.bar_cli.specs.Headline.{IsSignedByRule, IsBalanced, GivesKeysToPartners, KeepsItsLeaves};
+ghost use Rattle.bar_cli.specs.Headline.{SendsByTheRules, IsSignedByRule, OpensWhatIsPromised, GivesKeysToPartners, LeavesEvidence, IsNeverFramed, KeepsItsLeaves};
 ghost use Rattle.bar_cli.specs.Line.{line_of, plan_of, is_status_of, may_print};
 ghost use Rattle.bar_cli.specs.Line as line;
 ghost use Rattle.bar_cli.specs.Status.{code_of, said_at};
@@ -17,6 +17,8 @@ use crate::line::{Command, command_of};
 use crate::replay::replay;
 use crate::status::{Status, report, status_of};
 use bar_laws::balance::balanced;
+use bar_laws::evidence::{bad_keys_leave_evidence, kept_evidence_is_shown};
+use bar_laws::framing::no_framing;
 use bar_laws::leaves::leaf_discipline;
 use bar_laws::obedience::signed_by_rule;
 use bar_outside::{Files, Sink, plans_go_in_order};
@@ -55,22 +57,36 @@ pub fn bar_run<F: Files, K: Sink>(
     // nothing is printed where the words aren't a line, and none but at the statuses at which the command may print
     ensures unprinted { may_print (line_of (map string_bytes words.now)) result ≡ false → K.stream out.new ≡ K.stream out.old }
 
-    // a replay that ends with 0 has played and shown exactly what the rules of its peer play and send over the recording's inputs
+    // a replay that ends with 0 has played and shown exactly what the rules of its peer play and send over the recording's inputs, and
+    // written what the peer found
     ensures headline { (names : ReplayFiles) → line_of (map string_bytes words.now) ≡ Some (line.replay names) →
         IsTrue (F.disk files.old).told → result ≡ 0 →
         Replayed names (outside (F.disk files.old) (K.stream out.old)) (outside (F.disk files.new) (K.stream out.new)) }
 
-    // whatever the inputs are, the peer signs by its rules, and sends what it signed
+    // so it sends exactly the datagrams of the rules
+    ensures sends { (names : ReplayFiles) → line_of (map string_bytes words.now) ≡ Some (line.replay names) →
+        IsTrue (F.disk files.old).told → result ≡ 0 →
+        SendsByTheRules names (outside (F.disk files.old) (K.stream out.old)) (outside (F.disk files.new) (K.stream out.new)) }
+
+    // whatever the inputs are, at each moment, the peer signs by its rules, and sends what it signed
     ensures signed { (names : ReplayFiles) → line_of (map string_bytes words.now) ≡ Some (line.replay names) →
         IsSignedByRule names (F.disk files.old).content }
 
     // in each exchange it opens nothing, or as much as it promised and as it was promised
     ensures balance { (names : ReplayFiles) → line_of (map string_bytes words.now) ≡ Some (line.replay names) →
-        IsBalanced names (F.disk files.old).content }
+        OpensWhatIsPromised names (F.disk files.old).content }
 
     // each of its keys goes to the partner of the exchange
     ensures keys { (names : ReplayFiles) → line_of (map string_bytes words.now) ≡ Some (line.replay names) →
         GivesKeysToPartners names (F.disk files.old).content }
+
+    // an admitted key that opens the partner's briefcase badly leaves evidence against the partner that the broadcaster accepts
+    ensures evidence { (names : ReplayFiles) → line_of (map string_bytes words.now) ≡ Some (line.replay names) →
+        LeavesEvidence names (F.disk files.old).content }
+
+    // no evidence of what it signed is accepted against it
+    ensures unframed { (names : ReplayFiles) → line_of (map string_bytes words.now) ≡ Some (line.replay names) →
+        IsNeverFramed names (F.disk files.old).content }
 
     // no leaf of its key signs two messages
     ensures leaves { (names : ReplayFiles) → line_of (map string_bytes words.now) ≡ Some (line.replay names) →
@@ -93,8 +109,11 @@ pub fn bar_run<F: Files, K: Sink>(
 {
     accepted_secrets_are_held();
     accepted_sessions_are_in_range();
+    bad_keys_leave_evidence();
     balanced();
+    kept_evidence_is_shown();
     leaf_discipline();
+    no_framing();
     plans_go_in_order();
     signed_by_rule();
     let Some(command) = command_of(words) else {

@@ -402,10 +402,8 @@ fn streams_are_played(rt: HostRuntime) -> Result<(), Fail> {
         let left = run(alloc, SMALL_SESSION, SMALL_KEY, &bytes, &[], &[], &[])?;
         assert_eq!(rt; left.status, 0);
         assert_eq!(rt; left.files.get("p").unwrap_or(b"none".as_slice()), played);
-        assert_eq!(rt;
-            left.files.get("f").unwrap_or(b"none".as_slice()),
-            b"none".as_slice()
-        );
+        assert_eq!(rt; left.files.get("f.table").is_some(), true);
+        assert_eq!(rt; left.files.get("f.1").is_none(), true);
         // the request of round 1 is sent at each tick of the rounds 1 and 2
         let sent = if entries.is_empty() { 0 } else { 16 };
         assert_eq!(rt; lines_like(left.out.bytes(), REQUEST_OF_1.as_bytes()), sent);
@@ -464,7 +462,7 @@ const ENDS: [(
     &str,
     &[u8],
     usize,
-); 15] = [
+); 17] = [
     (
         SMALL_SESSION,
         SPENT_KEY,
@@ -613,6 +611,30 @@ const ENDS: [(
         SMALL_SESSION,
         SMALL_KEY,
         true,
+        &[6],
+        &[],
+        &[],
+        3,
+        FAILED,
+        b"hi",
+        16,
+    ),
+    (
+        SMALL_SESSION,
+        SMALL_KEY,
+        true,
+        &[7],
+        &[],
+        &[],
+        3,
+        FAILED,
+        b"hi",
+        16,
+    ),
+    (
+        SMALL_SESSION,
+        SMALL_KEY,
+        true,
         &[],
         &[1],
         &[],
@@ -651,6 +673,26 @@ const FAILED: &str = "bar: file failed\n";
 
 fn either<'a>(first: bool, one: &'a [u8], other: &'a [u8]) -> &'a [u8] {
     if first { one } else { other }
+}
+
+// The table file has the manifest that was admitted, behind its length, and no evidence is kept.
+#[test]
+fn what_was_found_is_written(rt: HostRuntime) -> Result<(), Fail> {
+    let alloc = rt.alloc();
+    let streams = signed_streams(alloc, SMALL_SIGNATURE)?;
+    let bytes = recording(alloc, &streams, &[START, Entry::Manifest, Entry::Other])?;
+    let left = run(alloc, SMALL_SESSION, SMALL_KEY, &bytes, &[], &[], &[])?;
+    assert_eq!(rt; left.status, 0);
+    let len = u16::try_from(streams.manifest.len()).unwrap_or(0);
+    let mut table = len.to_be_bytes().to_vec(alloc)?;
+    table.extend_from_slice(&streams.manifest)?;
+    assert_eq!(rt;
+        left.files.get("f.table").unwrap_or(b"none".as_slice()),
+        table.as_slice()
+    );
+    assert_eq!(rt; left.files.get("f.1").is_none(), true);
+    assert_eq!(rt; left.files.get("f.2").is_none(), true);
+    Ok(())
 }
 
 #[test]

@@ -1,23 +1,36 @@
--- What admits a datagram, and what refuses it.
-use Rattle.std.proofs.Common.{◌≡◌, ◌∙◌, Bool, true, false, ◌&&◌, not, sym, refl}
-use Rattle.bar_wire.specs.Datagram.{Datagram}
-use Rattle.bar_rules.specs.Member.{Member}
+-- What admits a datagram, what refuses it, and at which evidence is looked for.
+use Rattle.std.proofs.Common.{◌≡◌, ◌≤◌, ◌∙◌, ◌+◌, ◌==◌, is_some, nat_le, ℕ, Bool, true, false, Some, None, ◌&&◌, ◌||◌, not, sym, ap, refl}
+use Rattle.std.specs.Prelude.{if◌then◌else◌}
+use Rattle.std.proofs.lemmas.Bool.{and_parts, false≢true}
+use Rattle.std.proofs.lemmas.Option.{same_Some}
+use Rattle.bar_window.specs.declared.exchange.Role.{Role}
+use Rattle.bar_window.specs.declared.exchange.Role.TheVariants.{Initiator, Responder}
+use Rattle.bar_window.specs.declared.exchange.XKind.{XKind}
+use Rattle.bar_window.specs.declared.exchange.XKind.TheVariants.{Balanced, Push}
+use Rattle.bar_wire.specs.Bodies.{is_peer_kind}
+use Rattle.bar_wire.specs.Datagram.{Message, Datagram, Place, place_by, place_of, Body, Manifest, Block, Request, Response, Divulge, Query, Reply, Case, KeyReq, Key, Evidence, Evict, is_signed, round_of}
+use Rattle.bar_rules.specs.Member.{Session, Member}
+use Rattle.bar_rules.specs.Values.{is_signed_by}
 use Rattle.bar_rules.specs.Peer.Admission.{is_admitted, is_for, is_heard_again, is_row_met, has_valid_signature}
-use Rattle.bar_rules.specs.Peer.Knowledge.{Knowledge}
+use Rattle.bar_rules.specs.Peer.Evidence.{is_tried}
+use Rattle.bar_rules.specs.Peer.Knowledge.{Knowledge, this_round}
+use Rattle.bar_peer.specs.Repeats.{IsInTime}
+use Rattle.bar_peer.specs.Trying.{may_admit, may_show}
+use Rattle.bar_peer.proofs.Rows.{in_time}
+use Rattle.bar_peer.proofs.Stale.{in-time-by}
 
-last_false : (a : Bool) → false ≡ (a && false)
+pub last_false : (a : Bool) → false ≡ (a && false)
 last_false true = refl
 last_false false = refl
 
-last_true : (a : Bool) → a ≡ (a && true)
+pub last_true : (a : Bool) → a ≡ (a && true)
 last_true true = refl
 last_true false = refl
 
+-- ---- what may admit it, but for its signature
+
 abbrev is_named : Knowledge → Datagram → Bool
 is_named k d = k.is_announced d.message.from
-
-abbrev is_signed : Member → Datagram → Bool
-is_signed me d = has_valid_signature me.session d
 
 abbrev is_again : Knowledge → Datagram → Bool
 is_again k d = is_heard_again k d.message
@@ -25,33 +38,144 @@ is_again k d = is_heard_again k d.message
 abbrev is_met : Member → Knowledge → Datagram → Bool
 is_met me k d = is_row_met me k d.message.from d.message.to d.message.body
 
-pub refused_elsewhere : (me : Member) (k : Knowledge) (d : Datagram) → is_for me d.message ≡ false → false ≡ is_admitted me k d
-unfolding is_admitted
-refused_elsewhere me k d is = λ i. sym is i && not (is_named k d) && is_signed me d && not (is_again k d) && is_met me k d
+pub refused_elsewhere : (me : Member) (k : Knowledge) (d : Datagram) → is_for me d.message ≡ false → false ≡ may_admit me k d
+refused_elsewhere me k d is = λ i. sym is i && not (is_named k d) && not (is_again k d) && is_met me k d
 
-pub refused_evicted : (me : Member) (k : Knowledge) (d : Datagram) → is_named k d ≡ true → false ≡ is_admitted me k d
-unfolding is_admitted
+pub refused_evicted : (me : Member) (k : Knowledge) (d : Datagram) → is_named k d ≡ true → false ≡ may_admit me k d
 refused_evicted me k d is =
-    (λ i. last_false (is_for me d.message) i && is_signed me d && not (is_again k d) && is_met me k d)
-    ∙ (λ i. is_for me d.message && not (sym is i) && is_signed me d && not (is_again k d) && is_met me k d)
+    (λ i. last_false (is_for me d.message) i && not (is_again k d) && is_met me k d)
+    ∙ (λ i. is_for me d.message && not (sym is i) && not (is_again k d) && is_met me k d)
 
-pub refused_again : (me : Member) (k : Knowledge) (d : Datagram) → is_again k d ≡ true → false ≡ is_admitted me k d
-unfolding is_admitted
-refused_again me k d is =
-    (λ i. last_false (is_for me d.message && not (is_named k d) && is_signed me d) i && is_met me k d)
-    ∙ (λ i. is_for me d.message && not (is_named k d) && is_signed me d && not (sym is i) && is_met me k d)
-
-pub refused_by_row : (me : Member) (k : Knowledge) (d : Datagram) → is_met me k d ≡ false → false ≡ is_admitted me k d
-unfolding is_admitted
+pub refused_by_row : (me : Member) (k : Knowledge) (d : Datagram) → is_met me k d ≡ false → false ≡ may_admit me k d
 refused_by_row me k d is =
-    last_false (is_for me d.message && not (is_named k d) && is_signed me d && not (is_again k d))
-    ∙ (λ i. is_for me d.message && not (is_named k d) && is_signed me d && not (is_again k d) && sym is i)
+    last_false (is_for me d.message && not (is_named k d) && not (is_again k d))
+    ∙ (λ i. is_for me d.message && not (is_named k d) && not (is_again k d) && sym is i)
 
--- the signature decides, where all else is met
-pub admitted_by_signature : (me : Member) (k : Knowledge) (d : Datagram) → is_for me d.message ≡ true → is_named k d ≡ false
-    → is_again k d ≡ false → is_met me k d ≡ true → is_signed me d ≡ is_admitted me k d
+-- what was admitted under its name decides, where all else is met
+pub admitted_if_new : (me : Member) (k : Knowledge) (d : Datagram) → is_for me d.message ≡ true → is_named k d ≡ false
+    → is_met me k d ≡ true → not (is_again k d) ≡ may_admit me k d
+admitted_if_new me k d ours free met =
+    last_true (not (is_again k d)) ∙ (λ i. sym ours i && not (sym free i) && not (is_again k d) && sym met i)
+
+-- a datagram of a kind that peers sign is of an exchange, of its round
+pub peer_placed : (m : Message) → is_peer_kind m.body ≡ true → place_of m ≡ None → ⊥
+peer_placed m e none = go m.body e none
+  where
+    go : (b : Body) → is_peer_kind b ≡ true → place_of (record { from = m.from; to = m.to; body = b }) ≡ None → ⊥
+    go (Request r s c) e none = cc
+    go (Response r hb) e none = cc
+    go (Query r s y o) e none = cc
+    go (Reply r w g z) e none = cc
+    go (Case c) e none = cc
+    go (Key g) e none = cc
+    go (Manifest r ds) e none = false≢true e
+    go (Block u b) e none = false≢true e
+    go (Divulge r n ha) e none = false≢true e
+    go (KeyReq r kind role) e none = false≢true e
+    go (Evidence ds) e none = false≢true e
+    go (Evict r ps) e none = false≢true e
+
+round_by : (r : ℕ) (kind : XKind) (role : Role) (from to : ℕ) (p : Place) → Some (place_by from to (r, kind, role)) ≡ Some p
+    → p.exchange.round ≡ r
+round_by r kind Initiator from to p e = ap (λ (p : Place). p.exchange.round) (sym (same_Some _ p e))
+round_by r kind Responder from to p e = ap (λ (p : Place). p.exchange.round) (sym (same_Some _ p e))
+
+pub peer_round : (m : Message) (p : Place) → is_peer_kind m.body ≡ true → place_of m ≡ Some p → p.exchange.round ≡ round_of m.body
+peer_round m p e at = go m.body e at
+  where
+    go : (b : Body) → is_peer_kind b ≡ true → place_of (record { from = m.from; to = m.to; body = b }) ≡ Some p → p.exchange.round ≡ round_of b
+    go (Request r s c) e at = round_by r Balanced Initiator m.from m.to p at
+    go (Response r hb) e at = round_by r Balanced Responder m.from m.to p at
+    go (Query r s y o) e at = round_by r Push Initiator m.from m.to p at
+    go (Reply r w g z) e at = round_by r Push Responder m.from m.to p at
+    go (Case c) e at = round_by c.round c.kind c.role m.from m.to p at
+    go (Key g) e at = round_by g.round g.kind g.role m.from m.to p at
+    go (Manifest r ds) e at = absurd (false≢true e)
+    go (Block u b) e at = absurd (false≢true e)
+    go (Divulge r n ha) e at = absurd (false≢true e)
+    go (KeyReq r kind role) e at = absurd (false≢true e)
+    go (Evidence ds) e at = absurd (false≢true e)
+    go (Evict r ps) e at = absurd (false≢true e)
+
+-- its round decides, where all else is met
+pub shown_if_recent : (me : Member) (k : Knowledge) (d : Datagram) → is_peer_kind d.message.body ≡ true → (d.message.to == me.party) ≡ true
+    → is_named k d ≡ false → is_some (k.evidence d.message.from) ≡ false
+    → nat_le (this_round k) (round_of d.message.body + me.session.shape.life) ≡ may_show me k d
+shown_if_recent me k d peer mine free none =
+    λ i. sym peer i && sym mine i && not (sym free i) && not (sym none i)
+    && nat_le (this_round k) (round_of d.message.body + me.session.shape.life)
+
+-- ---- with its signature
+
+signature_last : (a b v c m : Bool) → (a && b && v && c && m) ≡ (a && b && c && m && v)
+signature_last a b true c m = (λ i. sym (last_true (a && b)) i && c && m) ∙ last_true (a && b && c && m)
+signature_last a b false c m = (λ i. sym (last_false (a && b)) i && c && m) ∙ last_false (a && b && c && m)
+
+pub admitted_by_signature : (me : Member) (k : Knowledge) (d : Datagram)
+    → is_admitted me k d ≡ (may_admit me k d && has_valid_signature me.session d)
 unfolding is_admitted
-admitted_by_signature me k d ours free new met =
-    last_true (is_signed me d)
-    ∙ last_true (is_signed me d && true)
-    ∙ (λ i. sym ours i && not (sym free i) && is_signed me d && not (sym new i) && sym met i)
+admitted_by_signature me k d =
+    signature_last (is_for me d.message) (not (is_named k d)) (has_valid_signature me.session d) (not (is_again k d)) (is_met me k d)
+
+pub tried_by_signature : (me : Member) (k : Knowledge) (d : Datagram) → is_tried me k d ≡ (may_show me k d && is_signed_by me.session d)
+tried_by_signature me k d =
+    signature_last (is_peer_kind d.message.body && (d.message.to == me.party)) (not (is_named k d)) (is_signed_by me.session d)
+    (not (is_some (k.evidence d.message.from)))
+    (nat_le (this_round k) (round_of d.message.body + me.session.shape.life))
+
+-- a kind that peers sign is a signed one
+pub peer_kind_signed : (b : Body) → is_peer_kind b ≡ true → is_signed b ≡ true
+peer_kind_signed (Request r s c) e = refl
+peer_kind_signed (Response r hb) e = refl
+peer_kind_signed (Query r s y o) e = refl
+peer_kind_signed (Reply r w g z) e = refl
+peer_kind_signed (Case c) e = refl
+peer_kind_signed (Key g) e = refl
+peer_kind_signed (Manifest r ds) e = absurd (false≢true e)
+peer_kind_signed (Block u b) e = absurd (false≢true e)
+peer_kind_signed (Divulge r n ha) e = absurd (false≢true e)
+peer_kind_signed (KeyReq r kind role) e = absurd (false≢true e)
+peer_kind_signed (Evidence ds) e = absurd (false≢true e)
+peer_kind_signed (Evict r ps) e = absurd (false≢true e)
+
+pub valid_of_peer : (s : Session) (d : Datagram) → is_peer_kind d.message.body ≡ true → has_valid_signature s d ≡ is_signed_by s d
+valid_of_peer s d e = ap (λ b. if b then is_signed_by s d else true) (peer_kind_signed d.message.body e)
+
+-- ---- where one of them is missing
+
+pub unadmitted : (me : Member) (k : Knowledge) (d : Datagram) → may_admit me k d ≡ false → false ≡ is_admitted me k d
+unadmitted me k d is = sym (admitted_by_signature me k d ∙ (λ i. is i && has_valid_signature me.session d))
+
+pub untried : (me : Member) (k : Knowledge) (d : Datagram) → may_show me k d ≡ false → false ≡ is_tried me k d
+untried me k d is = sym (tried_by_signature me k d ∙ (λ i. is i && is_signed_by me.session d))
+
+-- what may show evidence is of a kind that peers sign, and of an exchange that may still be asked about
+pub shows_peer_kind : (me : Member) (k : Knowledge) (d : Datagram) → may_show me k d ≡ true → is_peer_kind d.message.body ≡ true
+shows_peer_kind me k d e = (and_parts _ _ (and_parts _ _ (and_parts _ _ (and_parts _ _ e).0).0).0).0
+
+pub shows_in_time : (me : Member) (k : Knowledge) (d : Datagram) → may_show me k d ≡ true → IsInTime me k d.message
+shows_in_time me k d e = in-time-by me k d.message.from d.message.to d.message.body (and_parts _ _ e).1
+
+pub admits_in_time : (me : Member) (k : Knowledge) (d : Datagram) → 2 ≤ me.session.shape.life → may_admit me k d ≡ true → IsInTime me k d.message
+admits_in_time me k d life e = in_time me k d.message.from d.message.to d.message.body life (and_parts _ _ e).1
+
+pub shows_signed : (me : Member) (k : Knowledge) (d : Datagram) → may_show me k d ≡ true → has_valid_signature me.session d ≡ is_signed_by me.session d
+shows_signed me k d e = valid_of_peer me.session d (shows_peer_kind me k d e)
+
+-- ---- what was weighed
+
+pub none_asked : (a b : Bool) → (a || b) ≡ false → (a ≡ false) × (b ≡ false)
+none_asked false b e = (refl, e)
+none_asked true b e = absurd (false≢true (sym e))
+
+-- whether it is admitted and tried is told, by what may be and by whether the signature is accepted
+pub weighed_admitted : (me : Member) (k : Knowledge) (d : Datagram) (may valid : Bool) → may ≡ may_admit me k d
+    → (may ≡ true → valid ≡ has_valid_signature me.session d) → (may && valid) ≡ is_admitted me k d
+weighed_admitted me k d true valid is told = (λ i. is i && told refl i) ∙ sym (admitted_by_signature me k d)
+weighed_admitted me k d false valid is told = unadmitted me k d (sym is)
+
+pub weighed_tried : (me : Member) (k : Knowledge) (d : Datagram) (may valid : Bool) → may ≡ may_show me k d
+    → (may ≡ true → valid ≡ has_valid_signature me.session d) → (may && valid) ≡ is_tried me k d
+weighed_tried me k d true valid is told =
+    (λ i. is i && (told refl ∙ shows_signed me k d (sym is)) i) ∙ sym (tried_by_signature me k d)
+weighed_tried me k d false valid is told = untried me k d (sym is)

@@ -1,6 +1,6 @@
 -- What a peer does with a datagram, once it is read.
 use Rattle.std.proofs.Common.{◌≡◌, ◌≤◌, ◌+◌, ℕ, ◌∙◌, Bool, true, false, List, [], ◌∷◌, length, Option, Some, None, refl, sym, ap, subst, arith, inl, inr}
-use Rattle.std.specs.Prelude.{map, nat_le, IfSome, if◌then◌else◌}
+use Rattle.std.specs.Prelude.{nat_le, IfSome, if◌then◌else◌}
 use Rattle.std.specs.List.{AllByRecursion}
 use Rattle.std.proofs.lemmas.Bool.{cases_Bool, false≢true, eqb-true}
 use Rattle.std.specs.Bool.{then_some}
@@ -27,12 +27,13 @@ use Rattle.bar_peer.specs.declared.memory.Memory.{Memory}
 use Rattle.bar_peer.specs.declared.orders.Orders.{Orders}
 use Rattle.bar_peer.specs.Memory.{Tells, IsMemoryOf, member_of}
 use Rattle.bar_peer.specs.Repeats.{IsInTime, is_of_exchange}
-use Rattle.bar_peer.specs.Sending.{Stands, IsOwn, IsTimely, send_now}
+use Rattle.bar_peer.specs.Sending.{Stands, IsOwn}
 use Rattle.bar_peer.proofs.Keys.{admitted_row, admitted_for}
 use Rattle.bar_peer.proofs.Rows.{in_time as row_in_time}
 use Rattle.bar_peer.proofs.Again.{SpellOne}
 use Rattle.bar_peer.proofs.Stale.{in-time-by, stale-orders, repeated-is}
 use Rattle.bar_peer.proofs.Before.{perform_all-before}
+use Rattle.bar_peer.proofs.Sent.{none_stand}
 use Rattle.bar_peer.proofs.DueReplies.{IsDue, says-due, orders-due, row-deadline}
 
 -- ---- obedience before
@@ -63,24 +64,15 @@ answered-again me log d e = ap (answered-by me log d) e
 
 -- ---- replies carried out
 
-pub begun-stands : (log : Log) (m : Memory) (o : Orders) → Tells log m → o.says.items ≡ [] → Stands (begun log) m o
-begun-stands log m o t e = record {
-  tells = t;
-  orders = record {
-    same = ap (map (send_now (member_of m.who) (known (member_of m.who) log))) e;
-    timely = subst (AllByRecursion (IsTimely (member_of m.who) (known (member_of m.who) log))) (sym e) tt;
-  };
-}
-
 -- what carrying out replies does
 abbrev pub CarriesOut : Memory → Orders → Says → Memory → Orders → Type 0
 CarriesOut m o says n p =
     (out : Out) → IsObedient (member_of m.who) (perform_all (member_of m.who) out (orders_of_reply says)).state → Stands out m o
-    → AllByRecursion (IsOwn (member_of m.who) (known (member_of m.who) out.state)) (says_in says) → length o.says.items + 2 ≤ o.room
+    → AllByRecursion (IsOwn (member_of m.who) (known (member_of m.who) out.state)) (says_in says) → length o.list.items + 2 ≤ o.room
     → Stands (perform_all (member_of m.who) out (orders_of_reply says)) n p
 
 pub replied : (log : Log) (m n : Memory) (o p : Orders) (says : Says) (os : List Order) → 2 ≤ m.who.session.shape.life → AreFitting says
-    → CarriesOut m o says n p → orders_of_reply says ≡ os → Tells log m → o.says.items ≡ [] → 2 ≤ o.room → AllByRecursion (IsDue (member_of m.who) (known (member_of m.who) log)) os
+    → CarriesOut m o says n p → orders_of_reply says ≡ os → Tells log m → o.list.items ≡ [] → 2 ≤ o.room → AllByRecursion (IsDue (member_of m.who) (known (member_of m.who) log)) os
     → IsObedient (member_of m.who) (perform_all (member_of m.who) (begun log) os).state → Stands (perform_all (member_of m.who) (begun log) os) n p
 replied log m n o p says os life fits does same tells empty room due obeys =
     let me : Member = member_of m.who in
@@ -88,9 +80,9 @@ replied log m n o p says os life fits does same tells empty room due obeys =
     says-due me (known me log) (says_in says) life fits (subst (AllByRecursion (IsDue me (known me log))) (sym same) due)
     in
     let before : IsObedient me (perform_all me (begun log) (orders_of_reply says)).state = subst (λ os. IsObedient me (perform_all me (begun log) os).state) (sym same) obeys in
-    let none : length o.says.items ≡ 0 = ap length empty in
+    let none : length o.list.items ≡ 0 = ap length empty in
     subst (λ os. Stands (perform_all me (begun log) os) n p) same
-    (does (begun log) before (begun-stands log m o tells empty) own (omega (arith, none, room)))
+    (does (begun log) before (none_stand log m o tells empty) own (omega (arith, none, room)))
 
 -- ---- time
 
@@ -160,7 +152,7 @@ Tell m d is_new says =
 pub new-replied : (log : Log) (d : Datagram) (before m n : Memory) (o p : Orders) (says : Says) → IsMember (member_of before.who) → AreFitting says
     → (is_of_exchange d.message.body ≡ true → d.message.from ≡ before.who.secrets.party → ⊥) → m.who ≡ before.who
     → is_admitted (member_of before.who) (known (member_of before.who) log) d ≡ true → Tells (Heard d ∷ log) m → Tell m d true says
-    → CarriesOut m o says n p → o.says.items ≡ [] → 2 ≤ o.room
+    → CarriesOut m o says n p → o.list.items ≡ [] → 2 ≤ o.room
     → IsObedient (member_of before.who)
     (perform_all (member_of before.who) (begun (Heard d ∷ log)) (reply_orders (member_of before.who) (known (member_of before.who) (Heard d ∷ log)) true d)).state
     → Stands (perform_all (member_of before.who) (begun (Heard d ∷ log)) (reply_orders (member_of before.who) (known (member_of before.who) (Heard d ∷ log)) true d)) n p
@@ -203,7 +195,7 @@ stale-repeat me log d bytes one spelled spells life t = go (repeated me (known m
 pub again-replied : (log : Log) (d : Datagram) (m n : Memory) (o p : Orders) (says : Says) → 2 ≤ m.who.session.shape.life
     → AreFitting says → (is_of_exchange d.message.body ≡ true → (d.message.to ≡ m.who.secrets.party) × (d.message.from ≡ m.who.secrets.party → ⊥))
     → Tells log m → Tell m d false says → CarriesOut m o says n p
-    → o.says.items ≡ [] → 2 ≤ o.room
+    → o.list.items ≡ [] → 2 ≤ o.room
     → IsObedient (member_of m.who) (perform_all (member_of m.who) (begun log) (reply_orders (member_of m.who) (known (member_of m.who) log) false d)).state
     → Stands (perform_all (member_of m.who) (begun log) (reply_orders (member_of m.who) (known (member_of m.who) log) false d)) n p
 again-replied log d m n o p says life fits mine tells tell does empty room obeys =
@@ -253,7 +245,7 @@ not-repeated me log d bytes is_member sound one spells unless = elim (cases_Bool
 pub repeat-answered : (log : Log) (d : Datagram) (m n : Memory) (o p : Orders) (says : Says) (bytes : List ℕ) → IsMember (member_of m.who)
     → IsSound (member_of m.who) (known (member_of m.who) log) → SpellOne → SpellsDatagram m.who.session.shape d bytes → AreFitting says → Tell m d false says
     → CarriesOut m o says n p → (IsInTime (member_of m.who) (known (member_of m.who) log) d.message → repeated (member_of m.who) (known (member_of m.who) log) d ≡ Some d)
-    → Tells log m → o.says.items ≡ [] → 2 ≤ o.room
+    → Tells log m → o.list.items ≡ [] → 2 ≤ o.room
     → IsObedient (member_of m.who) (answer_repeat (member_of m.who) log (repeated (member_of m.who) (known (member_of m.who) log) d)).state
     → Stands (answer_repeat (member_of m.who) log (repeated (member_of m.who) (known (member_of m.who) log) d)) n p
 repeat-answered log d m n o p says bytes is_member sound one spells fits tell does again tells empty room obeys =

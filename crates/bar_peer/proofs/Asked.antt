@@ -20,6 +20,7 @@ use Rattle.bar_rules.specs.Secrets.{partner_of, seed_of}
 use Rattle.bar_exchange.specs.declared.say.Say.{Say}
 use Rattle.bar_peer.specs.declared.credentials.Credentials.{Credentials}
 use Rattle.bar_peer.specs.declared.memory.Memory.{Memory}
+use Rattle.bar_peer.specs.declared.order.Order.TheVariants as queued
 use Rattle.bar_peer.specs.declared.orders.Orders.{Orders}
 use Rattle.bar_peer.specs.Memory.{member_of}
 use Rattle.bar_peer.specs.Sending.{IsTimely, AreFor, IsCarriedOut, Stands}
@@ -87,33 +88,33 @@ pub carried_stands : (m n : Memory) (o p : Orders) (out after : Out) (say : Say)
     → Grows (known (member_of m.who) out.state) (known (member_of m.who) after.state)
     → IsTimely (member_of m.who) (known (member_of m.who) out.state) say → Stands out m o
     → IsCarriedOut (member_of m.who) say out after is_sent n
-    → p.says.items ≡ (if is_sent then o.says.items ++ say ∷ [] else o.says.items) → Stands after n p
+    → p.list.items ≡ (if is_sent then o.list.items ++ queued.Say say ∷ [] else o.list.items) → Stands after n p
 carried_stands m n o p out after say true who g timely h done pushed =
     let me : Member = member_of m.who in
     let k : Knowledge = known me out.state in
     let l : Knowledge = known me after.state in
     let send : ℕ × Datagram = done.sends.0 in
-    let more : AreFor me l (o.says.items ++ say ∷ []) (out.sends ++ send ∷ []) =
-    orders_pushed me l o.says.items out.sends say send (orders_stay me k l o.says.items out.sends g h.orders) done.sends.1
+    let more : AreFor me l (o.list.items ++ queued.Say say ∷ []) (out.sends ++ send ∷ []) =
+    orders_pushed me l o.list.items out.sends (queued.Say say) send (orders_stay me k l o.list.items out.sends g h.orders) done.sends.1
     (timely_still me k l g say timely)
     in
-    let all : AreFor me l p.says.items after.sends =
-    subst (λ sends. AreFor me l p.says.items sends) (sym done.sends.2)
-    (subst (λ says. AreFor me l says (out.sends ++ send ∷ [])) (sym pushed) more)
+    let all : AreFor me l p.list.items after.sends =
+    subst (λ sends. AreFor me l p.list.items sends) (sym done.sends.2)
+    (subst (λ list. AreFor me l list (out.sends ++ send ∷ [])) (sym pushed) more)
     in
     record {
       tells = done.tells;
-      orders = subst (λ (w : Credentials). AreFor (member_of w) (known (member_of w) after.state) p.says.items after.sends) (sym who) all;
+      orders = subst (λ (w : Credentials). AreFor (member_of w) (known (member_of w) after.state) p.list.items after.sends) (sym who) all;
     }
 carried_stands m n o p out after say false who g timely h done pushed =
     let me : Member = member_of m.who in
     let k : Knowledge = known me out.state in
     let l : Knowledge = known me after.state in
-    let all : AreFor me l p.says.items after.sends =
-    subst (λ sends. AreFor me l p.says.items sends) (sym done.sends)
-    (subst (λ says. AreFor me l says out.sends) (sym pushed) (orders_stay me k l o.says.items out.sends g h.orders))
+    let all : AreFor me l p.list.items after.sends =
+    subst (λ sends. AreFor me l p.list.items sends) (sym done.sends)
+    (subst (λ list. AreFor me l list out.sends) (sym pushed) (orders_stay me k l o.list.items out.sends g h.orders))
     in
     record {
       tells = done.tells;
-      orders = subst (λ (w : Credentials). AreFor (member_of w) (known (member_of w) after.state) p.says.items after.sends) (sym who) all;
+      orders = subst (λ (w : Credentials). AreFor (member_of w) (known (member_of w) after.state) p.list.items after.sends) (sym who) all;
     }

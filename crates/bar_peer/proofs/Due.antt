@@ -1,5 +1,5 @@
 -- What an order's datagram is, by a log.
-use Rattle.std.proofs.Common.{◌≡◌, ◌∙◌, ℕ, ◌<◌, ◌≤◌, ◌==◌, Bool, true, false, [], ◌∷◌, Option, Some, None, sym, ap, refl, subst, is_some, arith}
+use Rattle.std.proofs.Common.{◌≡◌, ◌∙◌, ℕ, ◌<◌, ◌≤◌, ◌==◌, Bool, true, false, List, [], ◌∷◌, Option, Some, None, sym, ap, refl, subst, is_some, arith}
 use Rattle.std.specs.Prelude.{option_map, IfSome, Contains}
 use Rattle.std.proofs.lemmas.List.Elements.{Contains-append_right}
 use Rattle.std.specs.Bool.{then_some, MatchBool}
@@ -31,6 +31,7 @@ use Rattle.bar_rules.specs.Peer.Terms.{terms_of}
 use Rattle.bar_rules.specs.Peer.Writing.{body_again, body_now, written}
 use Rattle.bar_laws.specs.Leaves.{KeepsLeaves}
 use Rattle.bar_laws.specs.Rewriting.{IsRewritten}
+use Rattle.bar_laws.specs.Sizes.{FitsItsRoom}
 use Rattle.bar_laws.specs.Soundness.{IsSound, CanGive}
 use Rattle.bar_exchange.specs.Writing.{CanWrite, CanSeal, IsSealable}
 use Rattle.bar_peer.specs.Giving.{IsDue, IsSignedFor}
@@ -183,6 +184,7 @@ pub record AreLaws (me : Member) (log : Log) : Type 0 where
   pub sound : IsSound me (known me log)
   pub rewritten : IsRewritten me (known me log)
   pub leaves : KeepsLeaves me log
+  pub evidence : (party : ℕ) (evidence : List (List ℕ)) → (known me log).evidence party ≡ Some evidence → FitsItsRoom me evidence
   pub life : 2 ≤ me.session.shape.life
 
 signed_for : (me : Member) (log : Log) (kind : Kind) (x : Exchange) (d : Datagram) (b : Body) → AreLaws me log

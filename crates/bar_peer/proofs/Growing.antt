@@ -14,13 +14,16 @@ use Rattle.bar_wire.specs.declared.kind.Kind.TheVariants as kinds
 use Rattle.bar_rules.specs.Member.{Member, round_after}
 use Rattle.bar_rules.specs.Peer.Exchanges.{role_of, partner_in, request_kind, answer_kind, committed}
 use Rattle.bar_rules.specs.Peer.Knowledge.{Knowledge, known, this_round}
-use Rattle.bar_rules.specs.Peer.Log.{Log, Said, ticks}
+use Rattle.bar_rules.specs.Peer.Log.{Log, Said, ticks, earliest, kept_in}
 use Rattle.bar_rules.specs.Peer.Machine.{send_if}
 use Rattle.bar_rules.specs.Peer.Orders.{Order, Ask, Answer, Reveal, GiveCase, AskKey, GiveKey, Resend, Report}
 use Rattle.bar_rules.specs.Peer.Rules.{IsObedient}
 use Rattle.bar_rules.specs.Peer.Run.{Out, say_or_repeat, perform}
 use Rattle.bar_exchange.specs.declared.say.Say.{Say}
-use Rattle.bar_peer.specs.Sending.{send_now, IsTimely, Answers, IsOwn}
+use Rattle.bar_exchange.proofs.Said.{or_none}
+use Rattle.bar_peer.specs.declared.order.Order.{Order as Queued}
+use Rattle.bar_peer.specs.declared.order.Order.TheVariants as queued
+use Rattle.bar_peer.specs.Sending.{send_now, order_now, report_of, IsTimely, IsOrderTimely, Answers, IsOwn}
 
 -- ---- the log after an order
 
@@ -58,11 +61,12 @@ obeys_before me out o =
 
 -- ---- what is known then
 
--- The round is the same, and what was said or revealed stays.
+-- The round is the same, as is the evidence, and what was said or revealed stays.
 pub record Grows (old new : Knowledge) : Type 0 where
   pub time : this_round new ≡ this_round old
   pub said : (kind : Kind) (x : Exchange) (role : Role) (d : Datagram) → old.said kind x role ≡ Some d → new.said kind x role ≡ Some d
   pub revealed : (x : Exchange) (a : List ℕ × List UpdateId) → old.revealed x ≡ Some a → new.revealed x ≡ Some a
+  pub evidence : (party : ℕ) → new.evidence party ≡ old.evidence party
 
 same_ticks : (n : ℕ) → n + 0 ≡ n
 same_ticks n = omega arith
@@ -73,7 +77,7 @@ first_stays o more v is = ap (λ o. option_or o more) is
 pub grows : (me : Member) (out : Out) (o : Order) → Grows (known me out.state) (known me (perform me out o).state)
 grows me out o =
     state_after_order (λ log. Grows (known me out.state) (known me log)) me out o
-    (record { time = refl; said = λ kind x role d is. is; revealed = λ x a is. is })
+    (record { time = refl; said = λ kind x role d is. is; revealed = λ x a is. is; evidence = λ party. refl })
     (λ d.
     record {
       time = ap round_after (same_ticks (ticks out.state));
@@ -82,6 +86,7 @@ grows me out o =
       revealed = λ x a is.
           first_stays ((known me out.state).revealed x)
           (then_some (is_of kinds.Request x Initiator d.message) (committed me (known me out.state).block x)) a is;
+      evidence = λ party. or_none (earliest (λ before e. kept_in party e) out.state);
     })
 
 -- ---- what is sent for an order
@@ -107,23 +112,35 @@ send_stays_of me old new g kinds.Key x send is = mapped_stays _ _ _ (g.said kind
 send_stays_of me old new g kinds.Evidence x send is = mapped_stays _ _ _ (g.said kinds.Evidence x (role_of me x)) send is
 send_stays_of me old new g kinds.Evict x send is = mapped_stays _ _ _ (g.said kinds.Evict x (role_of me x)) send is
 
-pub sends_stay : (me : Member) (old new : Knowledge) → Grows old new → (says : List Say) (sends : List (ℕ × Datagram))
-    → map (send_now me old) says ≡ map (λ send. Some send) sends → map (send_now me new) says ≡ map (λ send. Some send) sends
+order_stays : (me : Member) (old new : Knowledge) → Grows old new → (order : Queued) (send : ℕ × Datagram)
+    → order_now me old order ≡ Some send → order_now me new order ≡ Some send
+order_stays me old new g (queued.Say say) send is = send_stays_of me old new g say.kind say.x send is
+order_stays me old new g (queued.Report party) send is =
+    (λ i. option_map (λ evidence. (0, report_of me evidence)) (g.evidence party i)) ∙ is
+
+pub sends_stay : (me : Member) (old new : Knowledge) → Grows old new → (list : List Queued) (sends : List (ℕ × Datagram))
+    → map (order_now me old) list ≡ map (λ send. Some send) sends → map (order_now me new) list ≡ map (λ send. Some send) sends
 sends_stay me old new g [] [] is = refl
 sends_stay me old new g [] (send ∷ sends) is = absurd (cc)
-sends_stay me old new g (say ∷ says) [] is = absurd (cc)
-sends_stay me old new g (say ∷ says) (send ∷ sends) is =
-    let first : send_now me old say ≡ Some send = cc in
-    let rest : map (send_now me old) says ≡ map (λ send. Some send) sends = cc in
-    λ i. send_stays_of me old new g say.kind say.x send first i ∷ sends_stay me old new g says sends rest i
+sends_stay me old new g (order ∷ list) [] is = absurd (cc)
+sends_stay me old new g (order ∷ list) (send ∷ sends) is =
+    let first : order_now me old order ≡ Some send = cc in
+    let rest : map (order_now me old) list ≡ map (λ send. Some send) sends = cc in
+    λ i. order_stays me old new g order send first i ∷ sends_stay me old new g list sends rest i
 
 pub timely_still : (me : Member) (old new : Knowledge) → Grows old new → (say : Say) → IsTimely me old say → IsTimely me new say
 timely_still me old new g say timely = omega (arith, g.time, timely)
 
-pub all_timely_still : (me : Member) (old new : Knowledge) → Grows old new → (says : List Say) → AllByRecursion (IsTimely me old) says
-    → AllByRecursion (IsTimely me new) says
+order_timely_still : (me : Member) (old new : Knowledge) → Grows old new → (order : Queued) → IsOrderTimely me old order
+    → IsOrderTimely me new order
+order_timely_still me old new g (queued.Say say) timely = timely_still me old new g say timely
+order_timely_still me old new g (queued.Report party) timely = tt
+
+pub all_timely_still : (me : Member) (old new : Knowledge) → Grows old new → (list : List Queued)
+    → AllByRecursion (IsOrderTimely me old) list → AllByRecursion (IsOrderTimely me new) list
 all_timely_still me old new g [] all = tt
-all_timely_still me old new g (say ∷ says) all = (timely_still me old new g say all.0, all_timely_still me old new g says all.1)
+all_timely_still me old new g (order ∷ list) all =
+    (order_timely_still me old new g order all.0, all_timely_still me old new g list all.1)
 
 -- ---- an order of this member's is so still
 

@@ -11,6 +11,7 @@ use Rattle.bar_window.specs.declared.exchange.Role.TheVariants.{Initiator, Respo
 use Rattle.bar_window.specs.declared.exchange.XKind.{XKind}
 use Rattle.bar_window.specs.declared.exchange.XKind.TheVariants.{Balanced, Push}
 use Rattle.bar_wire.specs.Datagram.{Datagram, Body, Manifest, Block, Request, Response, Divulge, Query, Reply, Case, KeyReq, Key, Evidence, Evict, Place, kind_of, place_of, is_of}
+use Rattle.bar_wire.specs.Evidence.{evidence_bytes}
 use Rattle.bar_wire.specs.Grammar.{IsDatagram, SpellsDatagram, MaySend}
 use Rattle.bar_wire.specs.Limits.{everyone}
 use Rattle.bar_wire.specs.Views.{plain}
@@ -34,7 +35,7 @@ use Rattle.bar_laws.specs.Soundness.{LogIsSound}
 use Rattle.bar_ledger.specs.Recalls.{Recalls}
 use Rattle.bar_store.specs.declared.store.Store.{Store}
 use Rattle.bar_store.specs.Holds.{Holds}
-use Rattle.bar_store.specs.Manifests.{manifest_in}
+use Rattle.bar_bytes.specs.Rooms.{kept_in}
 use Rattle.bar_exchange.specs.Keeping.{IsAdmittedNow}
 use Rattle.bar_peer.specs.declared.credentials.Credentials.{Credentials}
 use Rattle.bar_peer.specs.declared.memory.Memory.{Memory}
@@ -149,16 +150,17 @@ record Stays (k new : Knowledge) : Type 0 where
   manifest : new.manifest ≡ k.manifest
   has_evict : new.has_evict ≡ k.has_evict
   announced : new.is_announced ≡ k.is_announced
+  evidence : new.evidence ≡ k.evidence
 
 stays : (me : Member) (d : Datagram) (k : Knowledge) (b : Body) → is_of_exchange b ≡ true → Stays k (learned me d k b)
-stays me d k (Request r s c) e = record { ticks = refl; manifest = refl; has_evict = refl; announced = refl }
-stays me d k (Response r hb) e = record { ticks = refl; manifest = refl; has_evict = refl; announced = refl }
-stays me d k (Divulge r n ha) e = record { ticks = refl; manifest = refl; has_evict = refl; announced = refl }
-stays me d k (Query r s y o) e = record { ticks = refl; manifest = refl; has_evict = refl; announced = refl }
-stays me d k (Reply r w g z) e = record { ticks = refl; manifest = refl; has_evict = refl; announced = refl }
-stays me d k (Case c) e = record { ticks = refl; manifest = refl; has_evict = refl; announced = refl }
-stays me d k (KeyReq r kind role) e = record { ticks = refl; manifest = refl; has_evict = refl; announced = refl }
-stays me d k (Key g) e = record { ticks = refl; manifest = refl; has_evict = refl; announced = refl }
+stays me d k (Request r s c) e = record { ticks = refl; manifest = refl; has_evict = refl; announced = refl; evidence = refl }
+stays me d k (Response r hb) e = record { ticks = refl; manifest = refl; has_evict = refl; announced = refl; evidence = refl }
+stays me d k (Divulge r n ha) e = record { ticks = refl; manifest = refl; has_evict = refl; announced = refl; evidence = refl }
+stays me d k (Query r s y o) e = record { ticks = refl; manifest = refl; has_evict = refl; announced = refl; evidence = refl }
+stays me d k (Reply r w g z) e = record { ticks = refl; manifest = refl; has_evict = refl; announced = refl; evidence = refl }
+stays me d k (Case c) e = record { ticks = refl; manifest = refl; has_evict = refl; announced = refl; evidence = refl }
+stays me d k (KeyReq r kind role) e = record { ticks = refl; manifest = refl; has_evict = refl; announced = refl; evidence = refl }
+stays me d k (Key g) e = record { ticks = refl; manifest = refl; has_evict = refl; announced = refl; evidence = refl }
 stays me d k (Manifest r ds) e = absurd (false≢true e)
 stays me d k (Block u b) e = absurd (false≢true e)
 stays me d k (Evidence ds) e = absurd (false≢true e)
@@ -197,11 +199,12 @@ exchange_holds me k d s of same h =
           ∙ h.blocks u (subst (λ (n : ℕ). round_after n ≤ u.round + me.session.shape.life + (answer_deadline - 1)) st.ticks fresh);
     }
 
--- The ticks, the manifests and the evictions are the same.
+-- The ticks, the manifests, the evictions and the evidence are the same.
 pub record HasSameRest (old new : Memory) : Type 0 where
   pub ticks : new.ticks ≡ old.ticks
   pub manifests : new.manifests ≡ old.manifests
   pub evictions : new.evictions ≡ old.evictions
+  pub evidence : new.evidence ≡ old.evidence
 
 pub exchange_memory : (me : Member) (k : Knowledge) (d : Datagram) (old new : Memory) → is_of_exchange d.message.body ≡ true → IsMemoryOf me k old
     → HasSameRest old new → Holds me (with_heard me d k) new.store → Recalls me (with_heard me d k) new.ledger
@@ -215,7 +218,9 @@ exchange_memory me k d old new of h same store ledger =
       manifests = λ round.
           (λ i. option_map (datagram_bytes me.session) (st.manifest i round))
           ∙ h.manifests round
-          ∙ (λ i. manifest_in (sym same.manifests i) round);
+          ∙ (λ i. kept_in (sym same.manifests i) round);
       evictions = λ round. (λ i. st.has_evict i round) ∙ h.evictions round ∙ (λ i. was_heard (sym same.evictions i) round);
       announced = λ party. (λ i. st.announced i party) ∙ h.announced party ∙ (λ i. is_named (sym same.evictions i) party);
+      evidence = λ party.
+          (λ i. option_map evidence_bytes (st.evidence i party)) ∙ h.evidence party ∙ (λ i. kept_in (sym same.evidence i) party);
     }

@@ -1,4 +1,4 @@
--- What stands before orders: the log was obedient, and the same parties were announced evicted.
+-- What stands before orders: the log was obedient, the same parties were announced evicted, and the same evidence was kept.
 use Rattle.std.proofs.Common.{◌≡◌, ℕ, ◌∙◌, List, [], ◌∷◌, Option, Some, None, is_some, refl}
 use Rattle.std.specs.Option.{option_or}
 use Rattle.bar_rules.specs.Member.{Member}
@@ -7,7 +7,7 @@ use Rattle.bar_rules.specs.Peer.Log.{Log, earliest, heard_in, if_passes, names_p
 use Rattle.bar_rules.specs.Peer.Orders.{Order}
 use Rattle.bar_rules.specs.Peer.Rules.{IsObedient}
 use Rattle.bar_rules.specs.Peer.Run.{Out, perform, perform_all}
-use Rattle.bar_peer.proofs.Growing.{state_after_order, obeys_before}
+use Rattle.bar_peer.proofs.Growing.{state_after_order, obeys_before, grows}
 
 pub obeys_before_all : (me : Member) (out : Out) (os : List Order) → IsObedient me (perform_all me out os).state → IsObedient me out.state
 obeys_before_all me out [] obeys = obeys
@@ -24,3 +24,8 @@ announced_after me out (o ∷ os) party =
     announced_after me (perform me out o) os party
     ∙ state_after_order (λ (log : Log). (known me log).is_announced party ≡ (known me out.state).is_announced party) me out o refl
     (λ d. with_none (earliest (λ log e. if_passes (names_party party) (heard_in e)) out.state))
+
+pub evidence_after : (me : Member) (out : Out) (os : List Order) (party : ℕ)
+    → (known me (perform_all me out os).state).evidence party ≡ (known me out.state).evidence party
+evidence_after me out [] party = refl
+evidence_after me out (o ∷ os) party = evidence_after me (perform me out o) os party ∙ (grows me out o).evidence party

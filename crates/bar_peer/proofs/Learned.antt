@@ -13,11 +13,11 @@ use Rattle.bar_terms.specs.Table.{digest_in}
 use Rattle.bar_wire.specs.Datagram.{Datagram, Body, Manifest, Block}
 use Rattle.bar_wire.specs.Grammar.{RisesTo}
 use Rattle.bar_rules.specs.Member.{Member}
-use Rattle.bar_rules.specs.Values.{datagram_bytes}
 use Rattle.bar_rules.specs.Peer.Admission.{is_admitted, is_heard_again, is_row_met, has_digest}
 use Rattle.bar_rules.specs.Peer.Knowledge.{Knowledge, this_round, table_of, learned, with_heard}
 use Rattle.bar_rules.specs.Peer.Terms.{terms_by}
 use Rattle.bar_laws.specs.Soundness.{IsSound}
+use Rattle.bar_exchange.proofs.Said.{or_none}
 use Rattle.bar_ledger.specs.declared.ledger.Ledger.{Ledger}
 use Rattle.bar_ledger.specs.Recalls.{Recalls}
 use Rattle.bar_store.specs.declared.store.Store.{Store}
@@ -103,28 +103,20 @@ manifest_new me k d round digests e body =
     none_of (k.manifest round)
     (subst (λ b. is_heard_again k (record { from = d.message.from; to = d.message.to; body = b }) ≡ false) body fresh)
 
--- the bytes of the manifests that are kept, with one more
-pub manifests_more : (me : Member) (k : Knowledge) (d : Datagram) (round r : ℕ) (kept : Option (List ℕ)) → k.manifest round ≡ None
-    → option_map (datagram_bytes me.session) (k.manifest r) ≡ kept
-    → option_map (datagram_bytes me.session) (option_or (k.manifest r) (then_some (round == r) d))
-    ≡ (if r == round then Some (datagram_bytes me.session d) else kept)
-manifests_more me k d round r kept none is = elim (cases_eq r round) [
+-- the bytes that are kept by number, with one more
+pub kept_more : {A : Type 0} (bytes : A → List ℕ) (first : ℕ → Option A) (a : A) (here n : ℕ) (kept : Option (List ℕ)) → first here ≡ None
+    → option_map bytes (first n) ≡ kept
+    → option_map bytes (option_or (first n) (then_some (here == n) a)) ≡ (if n == here then Some (bytes a) else kept)
+kept_more {A} bytes first a here n kept none is = elim (cases_eq n here) [
   | inl e ↦
-      (λ i. option_map (datagram_bytes me.session) (option_or (here e i) (then_some (eq-eqb round r (sym e) i) d)))
-      ∙ (λ i. if sym (eq-eqb r round e) i then Some (datagram_bytes me.session d) else kept)
+      (λ i. option_map bytes (option_or ((ap first e ∙ none) i) (then_some (eq-eqb here n (sym e) i) a)))
+      ∙ (λ i. if sym (eq-eqb n here e) i then Some (bytes a) else kept)
   | inr ne ↦
-      (λ i. option_map (datagram_bytes me.session) (option_or (k.manifest r) (then_some (ne_eqb round r (λ e. ne (sym e)) i) d)))
-      ∙ ap (option_map (datagram_bytes me.session)) (or_nothing (k.manifest r))
+      (λ i. option_map bytes (option_or (first n) (then_some (ne_eqb here n (λ e. ne (sym e)) i) a)))
+      ∙ ap (option_map bytes) (or_none (first n))
       ∙ is
-      ∙ (λ i. if sym (ne_eqb r round ne) i then Some (datagram_bytes me.session d) else kept)
+      ∙ (λ i. if sym (ne_eqb n here ne) i then Some (bytes a) else kept)
 ]
-  where
-    here : r ≡ round → k.manifest r ≡ None
-    here e = ap k.manifest e ∙ none
-
-    or_nothing : (o : Option Datagram) → option_or o None ≡ o
-    or_nothing None = refl
-    or_nothing (Some d) = refl
 
 -- ---- lists of bytes
 

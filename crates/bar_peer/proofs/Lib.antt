@@ -31,10 +31,12 @@ pub mod Growing
 pub mod Standing
 pub mod Later
 pub mod Requests
-pub mod Reports
+mod Reported
+mod Evidenced
 pub mod AtTick
 pub mod Taken
 pub mod Contents
 pub mod Plays
 pub mod Stepped
 pub mod Totals
+pub mod Tries

@@ -20,11 +20,11 @@ use Rattle.bar_peer.proofs.Later.{obeys_before_all, announced_after}
 use Rattle.bar_peer.proofs.Sent.{all_append}
 
 pub both_asked : (who : Credentials) (round : ℕ) (m n q : Memory) (o p r : Orders) → AsksPartner who round Balanced m o n p
-    → AsksPartner who round Push n p q r → length p.says.items ≤ length o.says.items + 1 → p.room ≡ o.room → (out : Out)
+    → AsksPartner who round Push n p q r → length p.list.items ≤ length o.list.items + 1 → p.room ≡ o.room → (out : Out)
     → nat_lt 0 (length (young_of (member_of who) (known (member_of who) out.state) round)) ≡ true
     → IsObedient (member_of who)
     (perform_all (member_of who) out (new_requests (member_of who) (known (member_of who) out.state) round)).state
-    → Stands out m o → length o.says.items + 2 ≤ o.room
+    → Stands out m o → length o.list.items + 2 ≤ o.room
     → Stands (perform_all (member_of who) out (new_requests (member_of who) (known (member_of who) out.state) round)) q r
 both_asked who round m n q o p r first second few same out some obedient h room =
     let me : Member = member_of who in
@@ -46,7 +46,7 @@ pub balanced_asked : (who : Credentials) (round : ℕ) (m n : Memory) (o p : Ord
     → nat_lt 0 (length (young_of (member_of who) (known (member_of who) out.state) round)) ≡ false
     → IsObedient (member_of who)
     (perform_all (member_of who) out (new_requests (member_of who) (known (member_of who) out.state) round)).state
-    → Stands out m o → length o.says.items + 2 ≤ o.room
+    → Stands out m o → length o.list.items + 2 ≤ o.room
     → Stands (perform_all (member_of who) out (new_requests (member_of who) (known (member_of who) out.state) round)) n p
 balanced_asked who round m n o p first out none obedient h room =
     let me : Member = member_of who in

@@ -23,7 +23,7 @@ use Rattle.bar_rules.specs.Peer.Run.{Out, say, say_new, say_or_repeat}
 use Rattle.bar_rules.specs.Peer.Signing.{signed}
 use Rattle.bar_laws.specs.Knowing.{EntryIsLearned}
 use Rattle.bar_store.specs.Holds.{Holds}
-use Rattle.bar_store.specs.Manifests.{manifest_in}
+use Rattle.bar_bytes.specs.Rooms.{kept_in}
 use Rattle.bar_store.specs.declared.store.Store.{Store}
 use Rattle.bar_ledger.specs.Recalls.{Recalls}
 use Rattle.bar_exchange.specs.Keeping.{IsSaidNow}
@@ -165,9 +165,10 @@ said_memory me k d old new h same recalled = record {
   time = h.time ∙ sym same.ticks;
   store = subst (Holds me (with_said me d k)) (sym same.store) (same_store me k d old.store h.store);
   ledger = recalled;
-  manifests = λ round. h.manifests round ∙ (λ i. manifest_in (sym same.manifests i) round);
+  manifests = λ round. h.manifests round ∙ (λ i. kept_in (sym same.manifests i) round);
   evictions = λ round. h.evictions round ∙ (λ i. was_heard (sym same.evictions i) round);
   announced = λ party. h.announced party ∙ (λ i. is_named (sym same.evictions i) party);
+  evidence = λ party. h.evidence party ∙ (λ i. kept_in (sym same.evidence i) party);
 }
 
 pub kept_memory : (me : Member) (k : Knowledge) (old new : Memory) → IsMemoryOf me k old → HasOtherLedger old new
@@ -176,9 +177,10 @@ kept_memory me k old new h same is = record {
   time = h.time ∙ sym same.ticks;
   store = subst (Holds me k) (sym same.store) h.store;
   ledger = subst (Recalls me k) (sym is) h.ledger;
-  manifests = λ round. h.manifests round ∙ (λ i. manifest_in (sym same.manifests i) round);
+  manifests = λ round. h.manifests round ∙ (λ i. kept_in (sym same.manifests i) round);
   evictions = λ round. h.evictions round ∙ (λ i. was_heard (sym same.evictions i) round);
   announced = λ party. h.announced party ∙ (λ i. is_named (sym same.evictions i) party);
+  evidence = λ party. h.evidence party ∙ (λ i. kept_in (sym same.evidence i) party);
 }
 
 -- ---- whether there is something to send again

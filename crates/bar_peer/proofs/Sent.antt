@@ -3,7 +3,7 @@ use Rattle.std.proofs.Common.{◌≡◌, ℕ, ◌∙◌, true, false, List, [], 
 use Rattle.std.specs.Prelude.{option_map}
 use Rattle.bar_window.specs.declared.update.UpdateId.{UpdateId}
 use Rattle.bar_window.specs.declared.exchange.Exchange.{Exchange}
-use Rattle.bar_wire.specs.Datagram.{Datagram, Divulge}
+use Rattle.bar_wire.specs.Datagram.{Datagram, Divulge, Evidence}
 use Rattle.bar_wire.specs.declared.kind.Kind.{Kind}
 use Rattle.bar_wire.specs.declared.kind.Kind.TheVariants as kinds
 use Rattle.bar_rules.specs.Member.{Member}
@@ -13,14 +13,14 @@ use Rattle.bar_rules.specs.Peer.Exchanges.{role_of, partner_in}
 use Rattle.bar_rules.specs.Peer.Knowledge.{known}
 use Rattle.bar_rules.specs.Peer.Log.{Log}
 use Rattle.bar_rules.specs.Peer.Machine.{message_to, send_if}
-use Rattle.bar_rules.specs.Peer.Orders.{Order}
+use Rattle.bar_rules.specs.Peer.Orders.{Order, Report}
 use Rattle.bar_rules.specs.Peer.Run.{Out, perform, perform_all, say_or_repeat}
 use Rattle.bar_exchange.specs.Says.{order_again}
-use Rattle.bar_exchange.specs.declared.say.Say.{Say}
 use Rattle.bar_peer.specs.declared.memory.Memory.{Memory}
+use Rattle.bar_peer.specs.declared.order.Order.{Order as Queued}
 use Rattle.bar_peer.specs.declared.orders.Orders.{Orders}
 use Rattle.bar_peer.specs.Memory.{member_of, Tells}
-use Rattle.bar_peer.specs.Sending.{send_now, IsTimely, AreFor, Stands}
+use Rattle.bar_peer.specs.Sending.{send_now, report_of, report_now, order_now, IsOrderTimely, AreFor, Stands}
 use Rattle.bar_peer.proofs.Standing.{orders_pushed}
 
 -- an outcome with one datagram more, where there is one
@@ -60,6 +60,16 @@ sent_again me out kinds.Key x = resent me out x ((known me out.state).said kinds
 sent_again me out kinds.Evidence x = resent me out x ((known me out.state).said kinds.Evidence x (role_of me x))
 sent_again me out kinds.Evict x = resent me out x ((known me out.state).said kinds.Evict x (role_of me x))
 
+-- so does a report
+reported : (me : Member) (out : Out) (o : Option (List (List ℕ)))
+    → send_if me out 0 (option_map Evidence o) ≡ sent out (option_map (λ evidence. (0, report_of me evidence)) o)
+reported me out None = refl
+reported me out (Some evidence) = refl
+
+pub sent_report : (me : Member) (out : Out) (party : ℕ)
+    → perform me out (Report party) ≡ sent out (report_now me (known me out.state) party)
+sent_report me out party = reported me out ((known me out.state).evidence party)
+
 -- it changes no log
 pub state_again : (me : Member) (out : Out) (kind : Kind) (x : Exchange) → (perform me out (order_again kind x)).state ≡ out.state
 state_again me out kind x =
@@ -75,35 +85,36 @@ all_append me out (o ∷ os) ps = all_append me (perform me out o) os ps
 -- ---- orders that are kept
 
 -- one order more, where there is a datagram
-abbrev pub with_say : Say → Option (ℕ × Datagram) → List Say → List Say
-with_say say None says = says
-with_say say (Some send) says = says ++ say ∷ []
+abbrev pub with_order : Queued → Option (ℕ × Datagram) → List Queued → List Queued
+with_order order None list = list
+with_order order (Some send) list = list ++ order ∷ []
 
-pub pushed : (say : Say) (s : Option (ℕ × Datagram)) (says : List Say) → is_some s ≡ true → says ++ say ∷ [] ≡ with_say say s says
-pushed say None says h = absurd (cc)
-pushed say (Some send) says h = refl
+pub pushed : (order : Queued) (s : Option (ℕ × Datagram)) (list : List Queued) → is_some s ≡ true
+    → list ++ order ∷ [] ≡ with_order order s list
+pushed order None list h = absurd (cc)
+pushed order (Some send) list h = refl
 
-pub not_pushed : (say : Say) (s : Option (ℕ × Datagram)) (says : List Say) → is_some s ≡ false → says ≡ with_say say s says
-not_pushed say None says h = refl
-not_pushed say (Some send) says h = absurd (cc)
+pub not_pushed : (order : Queued) (s : Option (ℕ × Datagram)) (list : List Queued) → is_some s ≡ false → list ≡ with_order order s list
+not_pushed order None list h = refl
+not_pushed order (Some send) list h = absurd (cc)
 
-pub stands_with : (m : Memory) (o p : Orders) (out : Out) (say : Say) (s : Option (ℕ × Datagram))
-    → send_now (member_of m.who) (known (member_of m.who) out.state) say ≡ s
-    → IsTimely (member_of m.who) (known (member_of m.who) out.state) say
-    → Stands out m o → p.says.items ≡ with_say say s o.says.items → Stands (sent out s) m p
-stands_with m o p out say None is timely h e = record {
+pub stands_with : (m : Memory) (o p : Orders) (out : Out) (order : Queued) (s : Option (ℕ × Datagram))
+    → order_now (member_of m.who) (known (member_of m.who) out.state) order ≡ s
+    → IsOrderTimely (member_of m.who) (known (member_of m.who) out.state) order
+    → Stands out m o → p.list.items ≡ with_order order s o.list.items → Stands (sent out s) m p
+stands_with m o p out order None is timely h e = record {
   tells = h.tells;
-  orders = subst (λ says. AreFor (member_of m.who) (known (member_of m.who) out.state) says out.sends) (sym e) h.orders;
+  orders = subst (λ list. AreFor (member_of m.who) (known (member_of m.who) out.state) list out.sends) (sym e) h.orders;
 }
-stands_with m o p out say (Some send) is timely h e = record {
+stands_with m o p out order (Some send) is timely h e = record {
   tells = h.tells;
-  orders = subst (λ says. AreFor (member_of m.who) (known (member_of m.who) out.state) says (out.sends ++ send ∷ [])) (sym e)
-      (orders_pushed (member_of m.who) (known (member_of m.who) out.state) o.says.items out.sends say send h.orders is timely);
+  orders = subst (λ list. AreFor (member_of m.who) (known (member_of m.who) out.state) list (out.sends ++ send ∷ [])) (sym e)
+      (orders_pushed (member_of m.who) (known (member_of m.who) out.state) o.list.items out.sends order send h.orders is timely);
 }
 
 -- nothing is sent yet
-pub none_stand : (log : Log) (m : Memory) (o : Orders) → Tells log m → o.says.items ≡ [] → Stands (begun log) m o
+pub none_stand : (log : Log) (m : Memory) (o : Orders) → Tells log m → o.list.items ≡ [] → Stands (begun log) m o
 none_stand log m o h none = record {
   tells = h;
-  orders = subst (λ says. AreFor (member_of m.who) (known (member_of m.who) log) says []) (sym none) (record { same = refl; timely = tt });
+  orders = subst (λ list. AreFor (member_of m.who) (known (member_of m.who) log) list []) (sym none) (record { same = refl; timely = tt });
 }

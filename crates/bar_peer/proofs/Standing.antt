@@ -13,9 +13,11 @@ use Rattle.bar_exchange.specs.declared.says.Says.TheVariants.{Two}
 use Rattle.bar_exchange.specs.Says.{order_by, orders_of_reply, says_in}
 use Rattle.bar_peer.specs.declared.credentials.Credentials.{Credentials}
 use Rattle.bar_peer.specs.declared.memory.Memory.{Memory}
+use Rattle.bar_peer.specs.declared.order.Order.{Order}
+use Rattle.bar_peer.specs.declared.order.Order.TheVariants as queued
 use Rattle.bar_peer.specs.declared.orders.Orders.{Orders}
 use Rattle.bar_peer.specs.Memory.{member_of}
-use Rattle.bar_peer.specs.Sending.{send_now, IsTimely, IsOwn, AreFor, IsCarriedOut, Stands}
+use Rattle.bar_peer.specs.Sending.{order_now, IsOrderTimely, IsOwn, AreFor, IsCarriedOut, Stands}
 use Rattle.bar_peer.proofs.Growing.{Grows, grows, sends_stay, timely_still, all_timely_still, own_still, obeys_before}
 
 all_pushed : {X : Type 0} (P : X → Type 0) (xs : List X) (x : X) → AllByRecursion P xs → P x → AllByRecursion P (xs ++ x ∷ [])
@@ -23,19 +25,20 @@ all_pushed P [] x all this = (this, tt)
 all_pushed P (y ∷ ys) x all this = (all.0, all_pushed P ys x all.1 this)
 
 -- orders are of what was sent still, where something more was said
-pub orders_stay : (me : Member) (old new : Knowledge) (says : List Say) (sends : List (ℕ × Datagram)) → Grows old new
-    → AreFor me old says sends → AreFor me new says sends
-orders_stay me old new says sends g h =
-    record { same = sends_stay me old new g says sends h.same; timely = all_timely_still me old new g says h.timely }
+pub orders_stay : (me : Member) (old new : Knowledge) (list : List Order) (sends : List (ℕ × Datagram)) → Grows old new
+    → AreFor me old list sends → AreFor me new list sends
+orders_stay me old new list sends g h =
+    record { same = sends_stay me old new g list sends h.same; timely = all_timely_still me old new g list h.timely }
 
-pub orders_pushed : (me : Member) (k : Knowledge) (says : List Say) (sends : List (ℕ × Datagram)) (say : Say) (send : ℕ × Datagram)
-    → AreFor me k says sends → send_now me k say ≡ Some send → IsTimely me k say → AreFor me k (says ++ say ∷ []) (sends ++ send ∷ [])
-orders_pushed me k says sends say send h is timely = record {
+pub orders_pushed : (me : Member) (k : Knowledge) (list : List Order) (sends : List (ℕ × Datagram)) (order : Order) (send : ℕ × Datagram)
+    → AreFor me k list sends → order_now me k order ≡ Some send → IsOrderTimely me k order
+    → AreFor me k (list ++ order ∷ []) (sends ++ send ∷ [])
+orders_pushed me k list sends order send h is timely = record {
   same =
-      map-append (send_now me k) says (say ∷ [])
+      map-append (order_now me k) list (order ∷ [])
       ∙ (λ i. h.same i ++ is i ∷ [])
       ∙ sym (map-append (λ send. Some send) sends (send ∷ []));
-  timely = all_pushed (IsTimely me k) says say h.timely timely;
+  timely = all_pushed (IsOrderTimely me k) list order h.timely timely;
 }
 
 -- ---- one reply
@@ -44,21 +47,21 @@ orders_pushed me k says sends say send h is timely = record {
 abbrev pub Replies : Credentials → Memory → Orders → Memory → Orders → Say → Type 0
 Replies who old orders new pushed say =
     (out : Out) → IsObedient (member_of who) (perform (member_of who) out (order_by say.kind say.x)).state → Stands out old orders
-    → IsOwn (member_of who) (known (member_of who) out.state) say → length orders.says.items + 1 ≤ orders.room
+    → IsOwn (member_of who) (known (member_of who) out.state) say → length orders.list.items + 1 ≤ orders.room
     → Stands (perform (member_of who) out (order_by say.kind say.x)) new pushed
 
 pub stands_sent : (old new : Memory) (orders pushed : Orders) (say : Say) (out : Out) → new.who ≡ old.who → Stands out old orders
-    → IsOwn (member_of old.who) (known (member_of old.who) out.state) say → pushed.says.items ≡ orders.says.items ++ say ∷ []
+    → IsOwn (member_of old.who) (known (member_of old.who) out.state) say → pushed.list.items ≡ orders.list.items ++ queued.Say say ∷ []
     → IsCarriedOut (member_of old.who) say out (perform (member_of old.who) out (order_by say.kind say.x)) true new
     → Stands (perform (member_of old.who) out (order_by say.kind say.x)) new pushed
 stands_sent old new orders pushed say out same stands own put carried = record {
   tells = carried.tells;
   orders =
-      subst (λ (who : Credentials). AreFor (member_of who) (known (member_of who) after.state) pushed.says.items after.sends) (sym same)
-      (subst (λ (says : List Say). AreFor me (known me after.state) says after.sends) (sym put)
-      (subst (AreFor me (known me after.state) (orders.says.items ++ say ∷ [])) (sym carried.sends.2)
-      (orders_pushed me (known me after.state) orders.says.items out.sends say carried.sends.0
-      (orders_stay me (known me out.state) (known me after.state) orders.says.items out.sends g stands.orders)
+      subst (λ (who : Credentials). AreFor (member_of who) (known (member_of who) after.state) pushed.list.items after.sends) (sym same)
+      (subst (λ (list : List Order). AreFor me (known me after.state) list after.sends) (sym put)
+      (subst (AreFor me (known me after.state) (orders.list.items ++ queued.Say say ∷ [])) (sym carried.sends.2)
+      (orders_pushed me (known me after.state) orders.list.items out.sends (queued.Say say) carried.sends.0
+      (orders_stay me (known me out.state) (known me after.state) orders.list.items out.sends g stands.orders)
       carried.sends.1
       (timely_still me (known me out.state) (known me after.state) g say own.timely))));
 }
@@ -78,9 +81,9 @@ pub stands_unsent : (old new : Memory) (orders : Orders) (say : Say) (out : Out)
 stands_unsent old new orders say out same stands carried = record {
   tells = carried.tells;
   orders =
-      subst (λ (who : Credentials). AreFor (member_of who) (known (member_of who) after.state) orders.says.items after.sends) (sym same)
-      (subst (AreFor me (known me after.state) orders.says.items) (sym carried.sends)
-      (orders_stay me (known me out.state) (known me after.state) orders.says.items out.sends g stands.orders));
+      subst (λ (who : Credentials). AreFor (member_of who) (known (member_of who) after.state) orders.list.items after.sends) (sym same)
+      (subst (AreFor me (known me after.state) orders.list.items) (sym carried.sends)
+      (orders_stay me (known me out.state) (known me after.state) orders.list.items out.sends g stands.orders));
 }
   where
     me : Member
@@ -96,17 +99,17 @@ stands_unsent old new orders say out same stands carried = record {
 
 -- where the second one is carried out after the first
 pub two_stand : (old mid new : Memory) (orders put pushed : Orders) (first second : Say) (says : Says) (out : Out) → says ≡ Two first second
-    → mid.who ≡ old.who → put.room ≡ orders.room → length put.says.items ≤ length orders.says.items + 1
+    → mid.who ≡ old.who → put.room ≡ orders.room → length put.list.items ≤ length orders.list.items + 1
     → Replies old.who old orders mid put first → Replies mid.who mid put new pushed second
     → IsObedient (member_of old.who) (perform_all (member_of old.who) out (orders_of_reply says)).state → Stands out old orders
     → AllByRecursion (IsOwn (member_of old.who) (known (member_of old.who) out.state)) (says_in says)
-    → length orders.says.items + 2 ≤ orders.room
+    → length orders.list.items + 2 ≤ orders.room
     → Stands (perform_all (member_of old.who) out (orders_of_reply says)) new pushed
 two_stand old mid new orders put pushed first second says out is who room short one two =
     subst
     (λ (says : Says).
     IsObedient me (perform_all me out (orders_of_reply says)).state → Stands out old orders
-    → AllByRecursion (IsOwn me (known me out.state)) (says_in says) → length orders.says.items + 2 ≤ orders.room
+    → AllByRecursion (IsOwn me (known me out.state)) (says_in says) → length orders.list.items + 2 ≤ orders.room
     → Stands (perform_all me out (orders_of_reply says)) new pushed)
     (sym is)
     (λ obeys stands own left.

@@ -3,7 +3,6 @@ use Rattle.std.proofs.Common.{◌≡◌, ◌≤◌, ◌-◌, ◌&&◌, ◌∙◌
 use Rattle.std.specs.Prelude.{nat_le, ◌==◌, if◌then◌else◌, map, Some}
 use Rattle.std.specs.List.{AllByRecursion}
 use Rattle.bar_wire.specs.Datagram.{Datagram}
-use Rattle.bar_exchange.specs.declared.say.Say.{Say}
 use Rattle.std.proofs.lemmas.Bool.{false≢true, true≢false}
 use Rattle.std.proofs.lemmas.Bool.Decides.{nat_tests}
 use Rattle.bar_wire.specs.Inputs.{Input}
@@ -24,13 +23,14 @@ use Rattle.bar_laws.specs.Obedience.{SignedByRule}
 use Rattle.bar_rules.specs.Peer.Rules.{IsObedient}
 use Rattle.bar_peer.specs.declared.credentials.Credentials.{Credentials}
 use Rattle.bar_peer.specs.declared.memory.Memory.{Memory}
+use Rattle.bar_peer.specs.declared.order.Order.{Order}
 use Rattle.bar_peer.specs.declared.orders.Orders.{Orders}
 use Rattle.bar_peer.specs.declared.playing.Playing.{Playing}
 use Rattle.bar_peer.specs.Memory.{member_of, Tells}
 use Rattle.bar_peer.specs.Orders.{left_in}
-use Rattle.bar_peer.specs.Sending.{AreFor, IsTimely, Stands, send_now, without_reports}
+use Rattle.bar_peer.specs.Sending.{AreFor, IsOrderTimely, Stands, order_now}
 use Rattle.bar_peer.specs.StandsFor.{StandsFor, AreLeft, contents_left}
-use Rattle.bar_peer.specs.Steps.{unreported, is_tick}
+use Rattle.bar_peer.specs.Steps.{is_tick}
 use Rattle.bar_peer.specs.Playing.{contents_in}
 use Rattle.bar_peer.proofs.Contents.{contents_told}
 use Rattle.bar_peer.proofs.Plays.{perform_all-plays, datagram-silent}
@@ -51,7 +51,7 @@ step-is me log input over e = ap (step-by me log input) e
 -- ---- before the last tick is over
 
 module _ (m n : Memory) (p : Orders) (inputs : List Input) (input : Input) (who : n.who ≡ m.who) (go : nat_le (last_tick m.who.session) m.ticks ≡ false)
-    (stood : StandsFor m inputs) (stands : Stands (unreported (take_input (member_of m.who) (log_after (member_of m.who) [] inputs) input)) n p) where
+    (stood : StandsFor m inputs) (stands : Stands (take_input (member_of m.who) (log_after (member_of m.who) [] inputs) input) n p) where
   abbrev pub me : Member
   me = member_of m.who
 
@@ -67,11 +67,11 @@ module _ (m n : Memory) (p : Orders) (inputs : List Input) (input : Input) (who 
   pub then-stands : StandsFor n (inputs ++ input ∷ [])
   then-stands = subst (λ (l : Log). Tells l n) (sym after) stands.tells
 
-  pub then-sends : left_in p ≡ p.says.items → AreLeft n p (inputs ++ input ∷ []) (without_reports (step me log input).sends)
+  pub then-sends : left_in p ≡ p.list.items → AreLeft n p (inputs ++ input ∷ []) (step me log input).sends
   then-sends all =
-      let one = subst (λ (l : Log). AreFor (member_of n.who) (known (member_of n.who) l) p.says.items (without_reports (take_input me log input).sends)) (sym after) stands.orders in
-      let two = subst (λ says. AreFor (member_of n.who) (known (member_of n.who) (log_after (member_of n.who) [] (inputs ++ input ∷ []))) says (without_reports (take_input me log input).sends)) (sym all) one in
-      subst (λ (out : Out). AreFor (member_of n.who) (known (member_of n.who) (log_after (member_of n.who) [] (inputs ++ input ∷ []))) (left_in p) (without_reports out.sends)) (sym now) two
+      let one = subst (λ (l : Log). AreFor (member_of n.who) (known (member_of n.who) l) p.list.items (take_input me log input).sends) (sym after) stands.orders in
+      let two = subst (λ says. AreFor (member_of n.who) (known (member_of n.who) (log_after (member_of n.who) [] (inputs ++ input ∷ []))) says (take_input me log input).sends) (sym all) one in
+      subst (λ (out : Out). AreFor (member_of n.who) (known (member_of n.who) (log_after (member_of n.who) [] (inputs ++ input ∷ []))) (left_in p) out.sends) (sym now) two
 
   pub then-silent : (contents : List (List ℕ)) → contents ≡ (take_input me log input).contents → contents ≡ (step me log input).contents
   then-silent contents e = e ∙ ap (λ (out : Out). out.contents) (sym now)
@@ -122,10 +122,10 @@ obeys-now m inputs input law go stood =
     subst (IsObedient me) (log-more me [] inputs input ∙ ap (λ (out : Out). out.state) now) (law me m.who.is_member (inputs ++ input ∷ [])).obedient
 
 -- nothing was sent, and nothing is left
-pub none-left : (me : Member) (k : Knowledge) (left : List Say) (sends : List (ℕ × Datagram)) → left ≡ [] → sends ≡ [] → AreFor me k left sends
+pub none-left : (me : Member) (k : Knowledge) (left : List Order) (sends : List (ℕ × Datagram)) → left ≡ [] → sends ≡ [] → AreFor me k left sends
 none-left me k left sends e f = record {
-  same = ap (map (send_now me k)) e ∙ sym (ap (map (λ send. Some send)) f);
-  timely = subst (AllByRecursion (IsTimely me k)) (sym e) tt;
+  same = ap (map (order_now me k)) e ∙ sym (ap (map (λ send. Some send)) f);
+  timely = subst (AllByRecursion (IsOrderTimely me k)) (sym e) tt;
 }
 
 -- ---- what a step plays
@@ -135,7 +135,7 @@ PlaysNow n playing = (log : Log) → Tells log n → contents_left n.store playi
 
 pub tick-step : EntryIsLearned → (m n : Memory) (p : Orders) (playing : Playing) (inputs : List Input) (input : Input) → n.who ≡ m.who
     → nat_le (last_tick m.who.session) m.ticks ≡ false → StandsFor m inputs
-    → Stands (unreported (take_input (member_of m.who) (log_after (member_of m.who) [] inputs) input)) n p → is_tick input ≡ true → PlaysNow n playing
+    → Stands (take_input (member_of m.who) (log_after (member_of m.who) [] inputs) input) n p → is_tick input ≡ true → PlaysNow n playing
     → contents_left n.store playing ≡ (step (member_of m.who) (log_after (member_of m.who) [] inputs) input).contents
 tick-step learned m n p playing inputs event.Tick who go stood stands t plays =
     then-silent m n p inputs event.Tick who go stood stands (contents_left n.store playing)
@@ -144,7 +144,7 @@ tick-step learned m n p playing inputs (event.Datagram bytes) who go stood stand
 
 pub datagram-step : EntryIsLearned → (m n : Memory) (p : Orders) (playing : Playing) (inputs : List Input) (input : Input) → n.who ≡ m.who
     → nat_le (last_tick m.who.session) m.ticks ≡ false → StandsFor m inputs
-    → Stands (unreported (take_input (member_of m.who) (log_after (member_of m.who) [] inputs) input)) n p → is_tick input ≡ false
+    → Stands (take_input (member_of m.who) (log_after (member_of m.who) [] inputs) input) n p → is_tick input ≡ false
     → contents_left n.store playing ≡ [] → contents_left n.store playing ≡ (step (member_of m.who) (log_after (member_of m.who) [] inputs) input).contents
 datagram-step learned m n p playing inputs (event.Datagram bytes) who go stood stands t none =
     then-silent m n p inputs (event.Datagram bytes) who go stood stands (contents_left n.store playing)

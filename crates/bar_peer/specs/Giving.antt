@@ -9,13 +9,17 @@ use Rattle.bar_wire.specs.Limits.{seats_a_round}
 use Rattle.bar_rules.specs.Member.{Session, Member}
 use Rattle.bar_rules.specs.Values.{datagram_bytes}
 use Rattle.bar_rules.specs.Peer.Agreement.{IsRecent}
-use Rattle.bar_rules.specs.Peer.Exchanges.{role_of}
+use Rattle.bar_rules.specs.Peer.Exchanges.{role_of, partner_in}
 use Rattle.bar_rules.specs.Peer.Knowledge.{Knowledge}
 use Rattle.bar_rules.specs.Peer.Machine.{message_to}
 use Rattle.bar_rules.specs.Peer.Signing.{leaf_for, signed}
 use Rattle.bar_rules.specs.Peer.Writing.{body_now}
+use Rattle.bar_laws.specs.Sizes.{FitsItsRoom}
 use Rattle.bar_exchange.specs.declared.say.Say.{Say}
 use Rattle.bar_exchange.specs.Writing.{CanWrite}
+use Rattle.bar_peer.specs.declared.order.Order.{Order}
+use Rattle.bar_peer.specs.declared.order.Order.TheVariants as orders
+use Rattle.bar_peer.specs.Sending.{report_of}
 
 -- A datagram of an order is signed by what is known now: it is of the order's kind, exchange and side, of a round of the session, and its
 -- leaf is one of the key's.
@@ -35,6 +39,23 @@ pub record IsDue (me : Member) (k : Knowledge) (say : Say) (d : Datagram) : Type
   pub recent : IsRecent me k say.x.round
   pub can : CanWrite me k say.kind say.x
   pub signature : MatchBool (is_signed_kind say.kind) (IsSignedFor me k say d) (d.signature ≡ [])
+
+-- The datagram of a report has the evidence that is kept against the party, which fits its room.
+pub record IsReportDue (me : Member) (k : Knowledge) (party : ℕ) (d : Datagram) : Type 0 where
+  pub evidence : List (List ℕ)
+  pub kept : k.evidence party ≡ Some evidence
+  pub fits : FitsItsRoom me evidence
+  pub is : d ≡ report_of me evidence
+
+-- so it is of each order
+abbrev pub IsOrderDue : Member → Knowledge → Order → Datagram → Type 0
+IsOrderDue me k (orders.Say say) d = IsDue me k say d
+IsOrderDue me k (orders.Report party) d = IsReportDue me k party d
+
+-- the receiver of what an order sends
+abbrev pub receiver_of : Member → Order → ℕ
+receiver_of me (orders.Say say) = partner_in me say.x
+receiver_of me (orders.Report party) = 0
 
 -- a datagram stands at the front of a buffer, as so many bytes
 abbrev pub IsGiven : Session → Datagram → Option ℕ → List ℕ → Type 0

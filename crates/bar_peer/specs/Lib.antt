@@ -13,3 +13,4 @@ pub mod Steps
 pub mod Hearing
 pub mod Playing
 pub mod Telling
+pub mod Trying

@@ -1,7 +1,8 @@
 -- What a peer's memory holds of what the peer knows.
 use Rattle.std.specs.Prelude.{◌≡◌, ℕ, option_map}
 use Rattle.bar_store.specs.Holds.{Holds}
-use Rattle.bar_store.specs.Manifests.{manifest_in}
+use Rattle.bar_bytes.specs.Rooms.{kept_in}
+use Rattle.bar_wire.specs.Evidence.{evidence_bytes}
 use Rattle.bar_ledger.specs.Recalls.{Recalls}
 use Rattle.bar_rules.specs.Member.{Member}
 use Rattle.bar_rules.specs.Values.{datagram_bytes}
@@ -16,14 +17,15 @@ use Rattle.bar_peer.specs.Members.{member_by}
 abbrev pub member_of : Credentials → Member
 member_of who = member_by who.session who.secrets
 
--- The memory holds what is known. Evidence isn't kept.
+-- The memory holds what is known. Evidence is held as the body of an EVIDENCE has it.
 pub record IsMemoryOf (me : Member) (k : Knowledge) (m : Memory) : Type 0 where
   pub time : k.ticks ≡ m.ticks
   pub store : Holds me k m.store
   pub ledger : Recalls me k m.ledger
-  pub manifests : (round : ℕ) → option_map (datagram_bytes me.session) (k.manifest round) ≡ manifest_in m.manifests round
+  pub manifests : (round : ℕ) → option_map (datagram_bytes me.session) (k.manifest round) ≡ kept_in m.manifests round
   pub evictions : (round : ℕ) → k.has_evict round ≡ was_heard m.evictions round
   pub announced : (party : ℕ) → k.is_announced party ≡ is_named m.evictions party
+  pub evidence : (party : ℕ) → option_map evidence_bytes (k.evidence party) ≡ kept_in m.evidence party
 
 -- the memory holds what the log tells
 abbrev pub Tells : Log → Memory → Type 0
@@ -36,11 +38,22 @@ pub record HasOtherLedger (old new : Memory) : Type 0 where
   pub store : new.store ≡ old.store
   pub manifests : new.manifests ≡ old.manifests
   pub evictions : new.evictions ≡ old.evictions
+  pub evidence : new.evidence ≡ old.evidence
 
 -- Nothing but the store is changed.
 pub record HasOtherStore (old new : Memory) : Type 0 where
   pub who : new.who ≡ old.who
   pub ticks : new.ticks ≡ old.ticks
+  pub ledger : new.ledger ≡ old.ledger
+  pub manifests : new.manifests ≡ old.manifests
+  pub evictions : new.evictions ≡ old.evictions
+  pub evidence : new.evidence ≡ old.evidence
+
+-- Nothing but the evidence is changed.
+pub record HasOtherEvidence (old new : Memory) : Type 0 where
+  pub who : new.who ≡ old.who
+  pub ticks : new.ticks ≡ old.ticks
+  pub store : new.store ≡ old.store
   pub ledger : new.ledger ≡ old.ledger
   pub manifests : new.manifests ≡ old.manifests
   pub evictions : new.evictions ≡ old.evictions

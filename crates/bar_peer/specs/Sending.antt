@@ -1,12 +1,12 @@
 -- What the orders of a peer send, by what is known.
-use Rattle.std.specs.Prelude.{◌≡◌, ℕ, ◌+◌, ◌≤◌, ◌++◌, ◌∷◌, [], Bool, true, false, List, Option, Some, option_map, map, not, filter}
+use Rattle.std.specs.Prelude.{◌≡◌, ℕ, ◌+◌, ◌≤◌, ◌++◌, ◌∷◌, [], Bool, true, false, List, Option, Some, option_map, map}
 use Rattle.std.specs.List.{AllByRecursion}
 use Rattle.bar_window.specs.declared.exchange.Exchange.{Exchange}
 use Rattle.bar_window.specs.declared.exchange.Role.TheVariants.{Responder}
 use Rattle.bar_window.specs.declared.exchange.XKind.{XKind}
 use Rattle.bar_window.specs.declared.exchange.XKind.TheVariants.{Balanced, Push}
 use Rattle.bar_window.specs.Exchange.{party_on}
-use Rattle.bar_wire.specs.Datagram.{Datagram, Body, Evidence}
+use Rattle.bar_wire.specs.Datagram.{Datagram, Evidence}
 use Rattle.bar_wire.specs.declared.kind.Kind.{Kind}
 use Rattle.bar_wire.specs.declared.kind.Kind.TheVariants as kinds
 use Rattle.bar_rules.specs.Member.{Member}
@@ -19,6 +19,8 @@ use Rattle.bar_rules.specs.Peer.Run.{Out}
 use Rattle.bar_rules.specs.Peer.Writing.{body_now}
 use Rattle.bar_exchange.specs.declared.say.Say.{Say}
 use Rattle.bar_peer.specs.declared.memory.Memory.{Memory}
+use Rattle.bar_peer.specs.declared.order.Order.{Order}
+use Rattle.bar_peer.specs.declared.order.Order.TheVariants as orders
 use Rattle.bar_peer.specs.declared.orders.Orders.{Orders}
 use Rattle.bar_peer.specs.Memory.{Tells, member_of}
 
@@ -40,10 +42,27 @@ send_now me k say = option_map (λ d. (partner_in me say.x, d)) (datagram_now me
 abbrev pub IsTimely : Member → Knowledge → Say → Type 0
 IsTimely me k say = IsRepeatable me k say.kind say.x.round
 
+-- the report of the evidence that is kept against a party, which goes to the broadcaster, party 0
+abbrev pub report_of : Member → List (List ℕ) → Datagram
+report_of me evidence = unsigned (record { from = me.party; to = 0; body = Evidence evidence })
+
+abbrev pub report_now : Member → Knowledge → ℕ → Option (ℕ × Datagram)
+report_now me k party = option_map (λ evidence. (0, report_of me evidence)) (k.evidence party)
+
+-- what an order sends, with its receiver
+abbrev pub order_now : Member → Knowledge → Order → Option (ℕ × Datagram)
+order_now me k (orders.Say say) = send_now me k say
+order_now me k (orders.Report party) = report_now me k party
+
+-- what an order sends may still be sent
+abbrev pub IsOrderTimely : Member → Knowledge → Order → Type 0
+IsOrderTimely me k (orders.Say say) = IsTimely me k say
+IsOrderTimely me k (orders.Report party) = Unit {0}
+
 -- The orders are those of what was sent, in order, and what they say may still be sent again.
-pub record AreFor (me : Member) (k : Knowledge) (says : List Say) (sends : List (ℕ × Datagram)) : Type 0 where
-  pub same : map (send_now me k) says ≡ map (λ send. Some send) sends
-  pub timely : AllByRecursion (IsTimely me k) says
+pub record AreFor (me : Member) (k : Knowledge) (list : List Order) (sends : List (ℕ × Datagram)) : Type 0 where
+  pub same : map (order_now me k) list ≡ map (λ send. Some send) sends
+  pub timely : AllByRecursion (IsOrderTimely me k) list
 
 -- An answer is to a request for an exchange of this kind, whose responder this member is, and is said in time.
 pub record IsAnswer (me : Member) (k : Knowledge) (x : Exchange) (kind : XKind) : Type 0 where
@@ -76,13 +95,4 @@ pub record IsCarriedOut (me : Member) (say : Say) (old new : Out) (is_sent : Boo
 -- The memory holds what the log tells, and the orders are those of what was sent.
 pub record Stands (out : Out) (m : Memory) (o : Orders) : Type 0 where
   pub tells : Tells out.state m
-  pub orders : AreFor (member_of m.who) (known (member_of m.who) out.state) o.says.items out.sends
-
--- ---- what is sent but for reports of evidence
-
-abbrev pub is_report : Body → Bool
-is_report (Evidence datagrams) = true
-is_report _ = false
-
-abbrev pub without_reports : List (ℕ × Datagram) → List (ℕ × Datagram)
-without_reports sends = filter (λ send. not (is_report send.1.message.body)) sends
+  pub orders : AreFor (member_of m.who) (known (member_of m.who) out.state) o.list.items out.sends

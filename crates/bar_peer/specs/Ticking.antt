@@ -1,5 +1,5 @@
 -- The orders at a tick, by line.
-use Rattle.std.specs.Prelude.{◌≡◌, ◌≤◌, ℕ, ◌+◌, ◌*◌, Bool, not, ◌&&◌, ◌==◌, nat_le, List, [], length}
+use Rattle.std.specs.Prelude.{◌≡◌, ◌≤◌, ℕ, ◌+◌, ◌*◌, Bool, not, ◌&&◌, ◌==◌, nat_le, List, [], is_some, length}
 use Rattle.std.specs.List.{flat_map}
 use Rattle.bar_window.specs.declared.exchange.Exchange.{Exchange}
 use Rattle.bar_window.specs.declared.exchange.XKind.{XKind}
@@ -12,13 +12,13 @@ use Rattle.bar_rules.specs.Peer.Orders.{Order}
 use Rattle.bar_rules.specs.Peer.Replies.{orders_when}
 use Rattle.bar_rules.specs.Peer.Rules.{IsObedient}
 use Rattle.bar_rules.specs.Peer.Run.{Out, perform_all}
-use Rattle.bar_rules.specs.Peer.Ticks.{again, asking_partner, new_requests, orders_at_tick}
+use Rattle.bar_rules.specs.Peer.Ticks.{again, asking_partner, new_requests, orders_at_tick, reports}
 use Rattle.bar_rules.specs.Runs.{begun}
 use Rattle.bar_peer.specs.declared.credentials.Credentials.{Credentials}
 use Rattle.bar_peer.specs.declared.memory.Memory.{Memory}
 use Rattle.bar_peer.specs.declared.orders.Orders.{Orders}
 use Rattle.bar_peer.specs.Memory.{member_of, Tells}
-use Rattle.bar_peer.specs.Sending.{Stands, without_reports}
+use Rattle.bar_peer.specs.Sending.{Stands}
 
 -- what is sent again for an open exchange whose partner isn't announced evicted
 abbrev pub orders_of_open : Member → Knowledge → Exchange → List Order
@@ -28,9 +28,9 @@ orders_of_open me k x = orders_when (not (k.is_announced (partner_in me x))) (ag
 abbrev pub orders_of_opens : Member → Knowledge → List Order
 orders_of_opens me k = flat_map (orders_of_open me k) k.opens
 
--- at most two for each open exchange, and two for the requests of a round
+-- at most two for each open exchange, two for the requests of a round, and a report for each peer
 abbrev pub most_orders : Session → ℕ
-most_orders s = 2 * (exchanges_a_round * (s.shape.life + 2)) + 2
+most_orders s = 2 * (exchanges_a_round * (s.shape.life + 2)) + 2 + s.shape.peers
 
 -- whether it is the first slot of a round of the session
 abbrev pub is_first_slot : Session → ℕ → Bool
@@ -42,19 +42,31 @@ AsksPartner who round kind m o n p =
     let me : Member = member_of who in
     (out : Out) (before : Knowledge) → ((party : ℕ) → before.is_announced party ≡ (known me out.state).is_announced party)
     → IsObedient me (perform_all me out (asking_partner me before round kind)).state → Stands out m o
-    → length o.says.items + 1 ≤ o.room → Stands (perform_all me out (asking_partner me before round kind)) n p
+    → length o.list.items + 1 ≤ o.room → Stands (perform_all me out (asking_partner me before round kind)) n p
 
 -- so are the partners of a round
 abbrev pub AsksPartners : Credentials → ℕ → Memory → Orders → Memory → Orders → Type 0
 AsksPartners who round m o n p =
     let me : Member = member_of who in
     (out : Out) → IsObedient me (perform_all me out (new_requests me (known me out.state) round)).state → Stands out m o
-    → length o.says.items + 2 ≤ o.room → Stands (perform_all me out (new_requests me (known me out.state) round)) n p
+    → length o.list.items + 2 ≤ o.room → Stands (perform_all me out (new_requests me (known me out.state) round)) n p
 
--- what a tick sends stands, all but the reports of evidence
+-- whether a report is due of the evidence against a party
+abbrev pub is_reported : Knowledge → ℕ → Bool
+is_reported k party = is_some (k.evidence party) && not (k.is_announced party)
+
+-- The evidence against peers is reported, by what was kept and announced before, and what stood stands.
+abbrev pub Reports : Memory → Orders → Orders → Type 0
+Reports m o p =
+    let me : Member = member_of m.who in
+    (out : Out) (before : Knowledge) → ((party : ℕ) → before.is_announced party ≡ (known me out.state).is_announced party)
+    → ((party : ℕ) → before.evidence party ≡ (known me out.state).evidence party) → Stands out m o
+    → length o.list.items + m.who.session.shape.peers ≤ o.room → Stands (perform_all me out (reports me before)) m p
+
+-- what a tick sends stands
 abbrev pub Acts : Memory → Orders → Memory → Orders → Type 0
 Acts m o n p =
     let me : Member = member_of m.who in
     (log : Log) → let out : Out = perform_all me (begun log) (orders_at_tick me (known me log)) in
-    IsObedient me out.state → Tells log m → o.says.items ≡ [] → most_orders m.who.session ≤ o.room
-    → Stands (record out { sends = without_reports out.sends }) n p
+    IsObedient me out.state → Tells log m → o.list.items ≡ [] → most_orders m.who.session ≤ o.room
+    → Stands out n p

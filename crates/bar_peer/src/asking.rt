@@ -4,6 +4,7 @@ ghost use Rattle.bar_rules.specs.Member.{round_after};
 ghost use Rattle.bar_peer.specs.Ticking.{AsksPartner, AsksPartners};
 
 use crate::memory::Memory;
+use crate::order::Order;
 use crate::orders::Orders;
 use crate::saying::request;
 use bar_seeds::partner;
@@ -15,7 +16,7 @@ fn ask_partner(memory: &mut Memory, orders: &mut Orders, kind: XKind)
     requires first { 1 ≤ round_after memory.old.ticks }
     requires last { round_after memory.old.ticks ≤ memory.old.who.session.shape.rounds }
     ensures stands { AsksPartner memory.old.who (round_after memory.old.ticks) kind memory.old orders.old memory.new orders.new }
-    ensures length { length orders.new.says.items ≤ length orders.old.says.items + 1 }
+    ensures length { length orders.new.list.items ≤ length orders.old.list.items + 1 }
     ensures room { orders.new.room ≡ orders.old.room }
     ensures given { orders.new.given ≡ orders.old.given }
     ensures who { memory.new.who ≡ memory.old.who }
@@ -31,7 +32,7 @@ fn ask_partner(memory: &mut Memory, orders: &mut Orders, kind: XKind)
     }
     let x = exchange_by(round, kind, Role::Initiator, me, to);
     if memory.ask(x) {
-        orders.push(request(x));
+        orders.push(Order::Say(request(x)));
     }
 }
 
@@ -40,6 +41,7 @@ pub fn ask_partners(memory: &mut Memory, orders: &mut Orders)
     requires first { 1 ≤ round_after memory.old.ticks }
     requires last { round_after memory.old.ticks ≤ memory.old.who.session.shape.rounds }
     ensures stands { AsksPartners memory.old.who (round_after memory.old.ticks) memory.old orders.old memory.new orders.new }
+    ensures length { length orders.new.list.items ≤ length orders.old.list.items + 2 }
     ensures room { orders.new.room ≡ orders.old.room }
     ensures given { orders.new.given ≡ orders.old.given }
     ensures who { memory.new.who ≡ memory.old.who }

@@ -9,18 +9,21 @@ ghost use Rattle.bar_rules.specs.Peer.Knowledge.{Knowledge};
 ghost use Rattle.bar_rules.specs.Peer.Signing.{leaf_for};
 ghost use Rattle.bar_rules.specs.Peer.Writing.{body_now};
 ghost use Rattle.bar_exchange.specs.Writing.{CanWrite, IsWritten, LeavesRest, largest_message};
-ghost use Rattle.bar_peer.specs.Giving.{IsDue, IsGiven, IsSignedFor};
+ghost use Rattle.bar_peer.specs.Giving.{IsDue, IsGiven, IsOrderDue, IsSignedFor, receiver_of};
 ghost use Rattle.bar_peer.specs.Memory.{member_of, IsMemoryOf};
 ghost use Rattle.bar_peer.specs.Orders.{left_in};
 ghost use Rattle.bar_peer.specs.StandsFor.{Inputs, StandsFor, AreLeft, GivesNext};
 
 use crate::memory::Memory;
+use crate::order::Order;
 use crate::peer::Peer;
+use crate::reports::BROADCASTER;
 use bar_exchange::{Say, Sources, side};
 use bar_laws::leaves::leaf_discipline;
 use bar_laws::memories::logs_are_sound;
 use bar_laws::obedience::signed_by_rule;
 use bar_laws::rewriting::what_was_said_is_written_again;
+use bar_laws::rooms::evidence_fits_its_room;
 use bar_ledger::Ledger;
 use bar_seal::{Scheme, leaf_for};
 use bar_window::{Exchange, Role, XKind};
@@ -80,6 +83,18 @@ impl Memory {
     }
 }
 
+impl Memory {
+    /// The receiver of what an order sends.
+    fn receiver(&self, order: Order) -> u16
+        ensures { result ≡ receiver_of (member_of self.now.who) order }
+    {
+        match order {
+            Order::Say(say) => self.partner_in(say.x),
+            Order::Report(_) => BROADCASTER,
+        }
+    }
+}
+
 impl<S: Scheme> Peer<S> {
     /// Signs the message of an order behind it, where its kind is signed, and answers the length of both.
     fn sign(&self, say: Say, len: usize, buf: &mut [u8]) -> Option<usize>
@@ -101,14 +116,26 @@ impl<S: Scheme> Peer<S> {
         Some(len + self.scheme.sign(leaf, message, rest))
     }
 
-    /// Writes the datagram of an order to the front of a buffer, and answers its length.
-    fn give(&self, say: Say, buf: &mut [u8]) -> Option<usize>
+    /// Writes the datagram of an exchange that an order says to the front of a buffer, and answers its length.
+    fn give_said(&self, say: Say, buf: &mut [u8]) -> Option<usize>
         requires room { largest_datagram ≤ length buf.old }
         ensures { (k : Knowledge) (d : Datagram) → IsMemoryOf (member_of self.now.memory.who) k self.now.memory
             → IsDue (member_of self.now.memory.who) k say d → IsGiven self.now.memory.who.session d result buf.new }
     {
         let len = self.memory.write(say, buf)?;
         self.sign(say, len, buf)
+    }
+
+    /// Writes the datagram of an order to the front of a buffer, and answers its length.
+    fn give(&self, order: Order, buf: &mut [u8]) -> Option<usize>
+        requires room { largest_datagram ≤ length buf.old }
+        ensures { (k : Knowledge) (d : Datagram) → IsMemoryOf (member_of self.now.memory.who) k self.now.memory
+            → IsOrderDue (member_of self.now.memory.who) k order d → IsGiven self.now.memory.who.session d result buf.new }
+    {
+        match order {
+            Order::Say(say) => self.give_said(say, buf),
+            Order::Report(party) => self.memory.write_report(party, buf),
+        }
     }
 
     /// Writes the next datagram to the front of a buffer, and answers its receiver and its length, or `None` where none is left.
@@ -126,11 +153,12 @@ impl<S: Scheme> Peer<S> {
         logs_are_sound();
         signed_by_rule();
         what_was_said_is_written_again();
-        let say = self.orders.next()?;
-        let Some(len) = self.give(say, buf) else {
+        evidence_fits_its_room();
+        let order = self.orders.next()?;
+        let Some(len) = self.give(order, buf) else {
             self.orders.clear();
             return None;
         };
-        Some((self.memory.partner_in(say.x), len))
+        Some((self.memory.receiver(order), len))
     }
 }

@@ -37,7 +37,7 @@ impl Memory {
             return;
         }
         if self.store.add_manifest(round, digests) {
-            self.manifests.keep(round, bytes);
+            self.manifests.keep(round as usize, bytes);
         }
     }
 

@@ -1,24 +1,28 @@
 ghost use Rattle.std.specs.Prelude.{◌≡◌, ◌+◌, ◌≤◌, length};
 ghost use Rattle.bar_wire.specs.declared.kind.Kind.TheVariants.{Manifest};
 ghost use Rattle.bar_rules.specs.Member.{round_after, last_tick};
-ghost use Rattle.bar_rules.specs.Peer.Sizes.{largest};
+ghost use Rattle.bar_rules.specs.Peer.Sizes.{largest, most_evidence};
 
 use crate::credentials::Credentials;
 use crate::evictions::Evictions;
+use bar_bytes::Rooms;
 use bar_ledger::Ledger;
-use bar_store::{Manifests, Store};
+use bar_store::Store;
 use bar_window::Exchange;
 
-/// What a peer knows: of the stream, of its exchanges and of evictions. All memory is taken when it is made.
+/// What a peer knows: of the stream, of its exchanges, of evictions and of evidence. All memory is taken when it is made.
 #[derive(Drop)]
 pub struct Memory {
     pub who: Credentials,
     /// How many ticks were taken.
     pub ticks: u32,
     pub store: Store,
-    pub manifests: Manifests,
+    /// The datagram of each round's manifest, as it came.
+    pub manifests: Rooms,
     pub ledger: Ledger,
     pub evictions: Evictions,
+    /// The evidence that is kept against each party, as the body of an EVIDENCE.
+    pub evidence: Rooms,
     ghost in_time: { ticks ≤ last_tick who.session },
     ghost table_rounds: { store.table.rounds ≡ who.session.shape.rounds },
     ghost table_lists: { store.table.per_round ≡ who.session.shape.per_round },
@@ -28,6 +32,8 @@ pub struct Memory {
     ghost manifest_size: { manifests.size ≡ largest who.session.shape Manifest },
     ghost eviction_rounds: { length evictions.rounds.items ≡ who.session.shape.rounds + 1 },
     ghost eviction_parties: { length evictions.parties.items ≡ who.session.shape.peers + 1 },
+    ghost evidence_rooms: { length evidence.rooms.items ≡ who.session.shape.peers + 1 },
+    ghost evidence_size: { evidence.size ≡ most_evidence who.session.shape },
 }
 
 impl Memory {

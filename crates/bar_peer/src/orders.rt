@@ -1,16 +1,16 @@
 ghost use Rattle.std.specs.Prelude.{◌≤◌, length, vec_capacity};
 
-use bar_exchange::Say;
+use crate::order::Order;
 use std::alloc::{AllocError, Global};
 
-/// What is to be said for one input, in order, and how much of it was given out. All memory is taken when it is made.
+/// What is to be sent for one input, in order, and how much of it was given out. All memory is taken when it is made.
 #[derive(Drop)]
 pub struct Orders {
-    says: Vec<Say>,
+    list: Vec<Order>,
     room: usize,
     given: usize,
-    ghost room_fits: { room ≤ vec_capacity says },
-    ghost given_fits: { given ≤ length says.items },
+    ghost room_fits: { room ≤ vec_capacity list },
+    ghost given_fits: { given ≤ length list.items },
 }
 
 impl Orders {
@@ -19,13 +19,13 @@ impl Orders {
 
     /// No orders, and room for so many.
     pub fn make(alloc: Global, room: usize) -> Result<Orders, AllocError>
-        ensures empty { IfOk result (λ o. o.says.items ≡ []) }
+        ensures empty { IfOk result (λ o. o.list.items ≡ []) }
         ensures given { IfOk result (λ o. o.given ≡ 0) }
         ensures room { IfOk result (λ o. o.room ≡ room) }
     {
-        let says = Vec::with_capacity(alloc, room)?;
+        let list = Vec::with_capacity(alloc, room)?;
         Ok(Orders {
-            says,
+            list,
             room,
             given: 0,
         })
@@ -35,38 +35,38 @@ impl Orders {
     pub fn is_empty(&self) -> bool
         ensures { IsTrue result ↔ (left_in self.now ≡ []) }
     {
-        self.given == self.says.len()
+        self.given == self.list.len()
     }
 
     /// Forgets what was given out, and what wasn't.
     pub fn clear(&mut self)
-        ensures { (self.new.says.items ≡ []) × (self.new.given ≡ 0) × (self.new.room ≡ self.old.room) }
+        ensures { (self.new.list.items ≡ []) × (self.new.given ≡ 0) × (self.new.room ≡ self.old.room) }
     {
-        self.says.clear();
+        self.list.clear();
         self.given = 0;
     }
 
     /// Puts an order behind the others, where there is room.
-    pub fn push(&mut self, say: Say)
-        ensures pushed { length self.old.says.items < self.old.room → self.new.says.items ≡ self.old.says.items ++ say ∷ [] }
-        ensures length { length self.new.says.items ≤ length self.old.says.items + 1 }
+    pub fn push(&mut self, order: Order)
+        ensures pushed { length self.old.list.items < self.old.room → self.new.list.items ≡ self.old.list.items ++ order ∷ [] }
+        ensures length { length self.new.list.items ≤ length self.old.list.items + 1 }
         ensures given { self.new.given ≡ self.old.given }
         ensures room { self.new.room ≡ self.old.room }
     {
-        if self.says.len() < self.room {
-            let Ok(()) = self.says.push(say) else {
+        if self.list.len() < self.room {
+            let Ok(()) = self.list.push(order) else {
                 unreachable!()
             };
         }
     }
 
     /// The next one, which is given out now, or `None` where none is left.
-    pub fn next(&mut self) -> Option<Say>
+    pub fn next(&mut self) -> Option<Order>
         ensures first { GivesFirst result (left_in self.old) (left_in self.new) }
         ensures room { self.new.room ≡ self.old.room }
     {
-        let say = *self.says.get(self.given)?;
+        let order = *self.list.get(self.given)?;
         self.given += 1;
-        Some(say)
+        Some(order)
     }
 }

@@ -35,7 +35,7 @@ impl Memory {
             → result ≡ is_heard_again k (datagram self.now.who.session.shape view.now).message }
     {
         match view.body {
-            Body::Manifest { round, .. } => self.manifests.get(round).is_some(),
+            Body::Manifest { round, .. } => self.manifests.get(round as usize).is_some(),
             Body::Evict { round, .. } => self.evictions.was_heard(round),
             _ => view.sig.is_some() && self.heard_like(view).is_some(),
         }

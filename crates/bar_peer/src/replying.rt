@@ -9,6 +9,7 @@ ghost use Rattle.bar_peer.specs.Memory.{member_of};
 ghost use Rattle.bar_peer.specs.Sending.{IsOwn, Stands};
 
 use crate::memory::Memory;
+use crate::order::Order;
 use crate::orders::Orders;
 use bar_exchange::{Say, Says};
 
@@ -17,16 +18,16 @@ fn reply_once(memory: &mut Memory, orders: &mut Orders, say: Say)
     ensures stands { (out : Out)
         → IsObedient (member_of memory.old.who) (perform (member_of memory.old.who) out (order_by say.kind say.x)).state
         → Stands out memory.old orders.old → IsOwn (member_of memory.old.who) (known (member_of memory.old.who) out.state) say
-        → length orders.old.says.items + 1 ≤ orders.old.room
+        → length orders.old.list.items + 1 ≤ orders.old.room
         → Stands (perform (member_of memory.old.who) out (order_by say.kind say.x)) memory.new orders.new }
-    ensures length { length orders.new.says.items ≤ length orders.old.says.items + 1 }
+    ensures length { length orders.new.list.items ≤ length orders.old.list.items + 1 }
     ensures room { orders.new.room ≡ orders.old.room }
     ensures given { orders.new.given ≡ orders.old.given }
     ensures who { memory.new.who ≡ memory.old.who }
     ensures ticks { memory.new.ticks ≡ memory.old.ticks }
 {
     if memory.say(say) {
-        orders.push(say);
+        orders.push(Order::Say(say));
     }
 }
 
@@ -36,8 +37,9 @@ pub fn reply(memory: &mut Memory, orders: &mut Orders, says: Says)
         → IsObedient (member_of memory.old.who) (perform_all (member_of memory.old.who) out (orders_of_reply says)).state
         → Stands out memory.old orders.old
         → AllByRecursion (IsOwn (member_of memory.old.who) (known (member_of memory.old.who) out.state)) (says_in says)
-        → length orders.old.says.items + 2 ≤ orders.old.room
+        → length orders.old.list.items + 2 ≤ orders.old.room
         → Stands (perform_all (member_of memory.old.who) out (orders_of_reply says)) memory.new orders.new }
+    ensures length { length orders.new.list.items ≤ length orders.old.list.items + 2 }
     ensures room { orders.new.room ≡ orders.old.room }
     ensures given { orders.new.given ≡ orders.old.given }
     ensures who { memory.new.who ≡ memory.old.who }

@@ -1,9 +1,9 @@
 //! The start of a peer.
 ghost use Rattle.std.specs.Prelude.{◌≡◌, ◌≤◌, [], IfOk};
 ghost use Rattle.bar_wire.specs.Limits.{largest_datagram};
-ghost use Rattle.bar_wire.specs.declared.kind.Kind.TheVariants.{Manifest};
+ghost use Rattle.bar_wire.specs.declared.kind.Kind.TheVariants.{Manifest, Case};
 ghost use Rattle.bar_rules.specs.Member.{IsMember};
-ghost use Rattle.bar_rules.specs.Peer.Sizes.{largest};
+ghost use Rattle.bar_rules.specs.Peer.Sizes.{largest, most_evidence};
 ghost use Rattle.bar_rules.specs.Verifiers.{IsVerifierOf};
 ghost use Rattle.bar_peer.specs.Members.{member_by};
 ghost use Rattle.bar_peer.specs.Memory.{member_of};
@@ -18,11 +18,13 @@ use crate::memory::Memory;
 use crate::orders::Orders;
 use crate::peer::Peer;
 use crate::playing::Playing;
+use crate::reports::HEADER_LEN;
+use bar_bytes::Rooms;
 use bar_ledger::Ledger;
 use bar_roster::Session;
 use bar_seal::Scheme;
 use bar_seeds::{Secrets, SeedChain};
-use bar_store::{Manifests, Store};
+use bar_store::Store;
 use bar_wire::{SEATS_A_ROUND, Shape};
 use std::alloc::{AllocError, Global};
 
@@ -31,15 +33,33 @@ fn largest_manifest(shape: &Shape) -> usize
     requires signatures { shape.now.sig_len ≤ largest_datagram }
     ensures { result ≡ largest shape.now Manifest }
 {
-    16 + 5 + 32 * usize::from(shape.per_round) + shape.sig_len
+    HEADER_LEN + 5 + 32 * usize::from(shape.per_round) + shape.sig_len
 }
 
-/// How many orders an input gives at the most: two for each exchange that may be asked about, and two requests.
+/// How many bytes the largest CASE has, which is the largest datagram of a kind that peers sign: that of a push.
+fn largest_case(shape: &Shape) -> usize
+    requires signatures { shape.now.sig_len ≤ largest_datagram }
+    ensures { result ≡ largest shape.now Case }
+{
+    let window = 8 * usize::from(shape.life);
+    let terms = (32 + 2 * window).max(4 * window + 1);
+    HEADER_LEN + 8 + terms + 16 * 1280 + shape.sig_len
+}
+
+/// How many bytes the evidence against a party has at the most.
+fn most_evidence(shape: &Shape) -> usize
+    requires signatures { shape.now.sig_len ≤ largest_datagram }
+    ensures { result ≡ most_evidence shape.now }
+{
+    1 + 2 * (2 + largest_case(shape))
+}
+
+/// How many orders an input gives at the most: two for each exchange that may be asked about, two requests, and a report for each peer.
 fn most_orders(session: &Session) -> usize
     ensures { result ≡ most_orders session.now }
 {
     let exchanges = 2 * (1 + SEATS_A_ROUND as usize) * (usize::from(session.shape().life) + 2);
-    2 * exchanges + 2
+    2 * exchanges + 2 + usize::from(session.shape().peers)
 }
 
 impl Memory {
@@ -51,9 +71,10 @@ impl Memory {
         let shape = who.session.shape();
         let size = largest_manifest(&shape);
         let store = Store::make(alloc, shape.rounds, shape.life, shape.per_round)?;
-        let manifests = Manifests::make(alloc, shape.rounds, size)?;
+        let manifests = Rooms::make(alloc, shape.rounds as usize + 1, size)?;
         let ledger = Ledger::make(alloc, who.secrets.party, who.session.cap(), &shape)?;
         let evictions = Evictions::make(alloc, shape.rounds, shape.peers)?;
+        let evidence = Rooms::make(alloc, usize::from(shape.peers) + 1, most_evidence(&shape))?;
         Ok(Memory {
             who,
             ticks: 0,
@@ -61,6 +82,7 @@ impl Memory {
             manifests,
             ledger,
             evictions,
+            evidence,
         })
     }
 }

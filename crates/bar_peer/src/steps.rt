@@ -9,7 +9,6 @@ ghost use Rattle.bar_rules.specs.Peer.Ticks.{contents_at_tick};
 ghost use Rattle.bar_rules.specs.Verifiers.{IsVerifierOf};
 ghost use Rattle.bar_peer.specs.Memory.{member_of, Tells};
 ghost use Rattle.bar_peer.specs.Orders.{left_in};
-ghost use Rattle.bar_peer.specs.Sending.{without_reports};
 ghost use Rattle.bar_peer.specs.StandsFor.{Inputs, StandsFor, AreLeft, contents_left};
 ghost use Rattle.bar_peer.specs.Steps.{TakesInput, is_tick};
 ghost use Rattle.bar_peer.specs.Ticking.{most_orders};
@@ -101,8 +100,8 @@ impl<S: Scheme> Peer<S> {
             → StandsFor self.new.memory (inputs ++ plain_input input.entry ∷ []) }
         ensures sends { (inputs : Inputs) → StandsFor self.old.memory inputs
             → AreLeft self.new.memory self.new.orders (inputs ++ plain_input input.entry ∷ [])
-            (without_reports (step (member_of self.old.memory.who)
-            (log_after (member_of self.old.memory.who) [] inputs) (plain_input input.entry)).sends) }
+            (step (member_of self.old.memory.who)
+            (log_after (member_of self.old.memory.who) [] inputs) (plain_input input.entry)).sends }
         ensures contents { (inputs : Inputs) → StandsFor self.old.memory inputs
             → contents_left self.new.memory.store self.new.playing
             ≡ (step (member_of self.old.memory.who) (log_after (member_of self.old.memory.who) [] inputs)

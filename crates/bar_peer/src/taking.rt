@@ -1,24 +1,33 @@
 //! What a peer does with a datagram.
-ghost use Rattle.std.specs.Prelude.{◌≡◌, ◌≤◌, ◌<◌, [], ◌+◌, ◌*◌};
-ghost use Rattle.bar_wire.specs.Views.{datagram, IsView};
-ghost use Rattle.bar_rules.specs.Member.{last_tick, round_after};
+ghost use Rattle.std.specs.Prelude.{◌≡◌, ◌≤◌, ◌<◌, [], ◌+◌, ◌*◌, Some, true, is_some, length};
+ghost use Rattle.bar_wire.specs.Bodies.{is_peer_kind};
+ghost use Rattle.bar_wire.specs.Datagram.{Datagram};
+ghost use Rattle.bar_wire.specs.Views.{datagram, plain, IsView};
+ghost use Rattle.bar_rules.specs.Member.{Member, last_tick, round_after};
+ghost use Rattle.bar_rules.specs.Peer.Admission.{is_admitted as admitted};
+ghost use Rattle.bar_rules.specs.Peer.Evidence.{is_tried, new_evidence};
+ghost use Rattle.bar_rules.specs.Peer.Knowledge.{known};
 ghost use Rattle.bar_rules.specs.Peer.Log.{Log};
 ghost use Rattle.bar_rules.specs.Peer.Rules.{IsObedient};
-ghost use Rattle.bar_rules.specs.Peer.Run.{answered_to};
+ghost use Rattle.bar_rules.specs.Peer.Run.{answered_to, take_datagram, with_evidence};
 ghost use Rattle.bar_rules.specs.Verifiers.{IsVerifierOf};
-ghost use Rattle.bar_peer.specs.Memory.{member_of, Tells};
+ghost use Rattle.bar_peer.specs.Memory.{member_of, HasOtherEvidence, Tells};
 ghost use Rattle.bar_peer.specs.Sending.{Stands};
 ghost use Rattle.bar_peer.specs.Steps.{TakesTick, TakesDatagram};
 
 use crate::answering::says_to;
 use crate::memory::Memory;
+use crate::order::Order;
 use crate::orders::Orders;
 use crate::replying::reply;
 use crate::ticks::act;
+use crate::trying::find_evidence;
 use bar_bytes::Steps;
 use bar_laws::knowing::knowledge_is_enough;
 use bar_laws::memories::logs_are_sound;
+use bar_laws::rooms::evidence_fits_its_room;
 use bar_seal::Verifier;
+use bar_store::keep_evidence;
 use bar_wire::{View, bytes_spell_one, decode};
 use std::sync::ledger::Ledger as StepLedger;
 
@@ -35,7 +44,113 @@ pub fn take_tick(memory: &mut Memory, orders: &mut Orders)
     act(memory, orders);
 }
 
-/// Keeps what a datagram tells where it is admitted, and answers it; a repeat is answered again. It counts each hash.
+impl Memory {
+    /// Keeps the evidence that a datagram with an accepted signature completes, and answers whether there is some. It counts the steps along
+    /// the seeds.
+    fn keep_found<L: StepLedger>(
+        &mut self,
+        bytes: &[u8],
+        view: &View<'_>,
+        steps: &mut Steps<L>,
+    ) -> bool
+        requires view { IsView self.old.who.session.shape bytes.now view.now }
+        requires signed { is_peer_kind (plain view.now.body) ≡ true }
+        ensures kept { (log : Log) → let me : Member = member_of self.old.who in let d : Datagram = datagram me.session.shape view.now in
+            IsObedient me (with_evidence me log d.message.from (new_evidence me (known me log) d)) → IsObedient me log → Tells log self.old
+            → is_tried me (known me log) d ≡ true
+            → (result ≡ is_some (new_evidence me (known me log) d))
+            × Tells (with_evidence me log d.message.from (new_evidence me (known me log) d)) self.new }
+        ensures rest { HasOtherEvidence self.old self.new }
+        ensures cost { steps.new ≤ steps.old + 4 * self.old.who.session.shape.rounds }
+    {
+        knowledge_is_enough();
+        logs_are_sound();
+        evidence_fits_its_room();
+        let table = self.store.table();
+        match find_evidence(&self.who, table, &self.ledger, bytes, view, steps) {
+            Some(evidence) => {
+                keep_evidence(&mut self.evidence, view.from, &evidence);
+                true
+            }
+            None => false,
+        }
+    }
+}
+
+/// Keeps what a datagram tells where it is admitted, and answers it; a repeat is answered again.
+fn answer(
+    memory: &mut Memory,
+    orders: &mut Orders,
+    bytes: &[u8],
+    view: &View<'_>,
+    is_admitted: bool,
+)
+    requires view { IsView memory.old.who.session.shape bytes.now view.now }
+    ensures stands { (log : Log)
+        → IsObedient (member_of memory.old.who)
+        (answered_to (member_of memory.old.who) log (datagram memory.old.who.session.shape view.now)).state
+        → Tells log memory.old
+        → is_admitted ≡ admitted (member_of memory.old.who) (known (member_of memory.old.who) log)
+        (datagram memory.old.who.session.shape view.now)
+        → orders.old.list.items ≡ [] → 2 ≤ orders.old.room
+        → Stands (answered_to (member_of memory.old.who) log (datagram memory.old.who.session.shape view.now)) memory.new orders.new }
+    ensures length { orders.old.list.items ≡ [] → length orders.new.list.items ≤ 2 }
+    ensures room { orders.new.room ≡ orders.old.room }
+    ensures given { orders.new.given ≡ orders.old.given }
+    ensures who { memory.new.who ≡ memory.old.who }
+    ensures ticks { memory.new.ticks ≡ memory.old.ticks }
+{
+    logs_are_sound();
+    bytes_spell_one();
+    if is_admitted {
+        memory.hear(bytes, view);
+        let says = says_to(memory, view, true);
+        reply(memory, orders, says);
+    } else if memory.is_repeat(bytes, view) {
+        let says = says_to(memory, view, false);
+        reply(memory, orders, says);
+    }
+}
+
+/// Looks for evidence at a datagram with an accepted signature and keeps it, then answers the datagram, and reports the evidence. It counts
+/// the steps along the seeds.
+fn answer_tried<L: StepLedger>(
+    memory: &mut Memory,
+    orders: &mut Orders,
+    bytes: &[u8],
+    view: &View<'_>,
+    is_admitted: bool,
+    steps: &mut Steps<L>,
+)
+    requires view { IsView memory.old.who.session.shape bytes.now view.now }
+    requires signed { is_peer_kind (plain view.now.body) ≡ true }
+    ensures stands { (log : Log)
+        → IsObedient (member_of memory.old.who)
+        (take_datagram (member_of memory.old.who) log (Some (datagram memory.old.who.session.shape view.now))).state
+        → Tells log memory.old
+        → is_tried (member_of memory.old.who) (known (member_of memory.old.who) log) (datagram memory.old.who.session.shape view.now) ≡ true
+        → is_admitted ≡ admitted (member_of memory.old.who) (known (member_of memory.old.who) log)
+        (datagram memory.old.who.session.shape view.now)
+        → orders.old.list.items ≡ [] → 3 ≤ orders.old.room
+        → Stands (take_datagram (member_of memory.old.who) log (Some (datagram memory.old.who.session.shape view.now)))
+        memory.new orders.new }
+    ensures room { orders.new.room ≡ orders.old.room }
+    ensures given { orders.new.given ≡ orders.old.given }
+    ensures who { memory.new.who ≡ memory.old.who }
+    ensures ticks { memory.new.ticks ≡ memory.old.ticks }
+    ensures cost { steps.new ≤ steps.old + 4 * memory.old.who.session.shape.rounds }
+{
+    knowledge_is_enough();
+    logs_are_sound();
+    let is_found = memory.keep_found(bytes, view, steps);
+    answer(memory, orders, bytes, view, is_admitted);
+    if is_found {
+        orders.push(Order::Report(view.from));
+    }
+}
+
+/// Takes a datagram that is read: it looks for evidence and keeps it, then keeps what the datagram tells where it is admitted, answers it,
+/// and reports the evidence. At most one signature is verified. It counts each hash.
 pub fn take_view<V: Verifier, L: StepLedger>(
     memory: &mut Memory,
     orders: &mut Orders,
@@ -48,24 +163,24 @@ pub fn take_view<V: Verifier, L: StepLedger>(
     requires verifier { IsVerifierOf memory.old.who.session (V.is_accepted verifier.now) }
     ensures stands { (log : Log)
         → IsObedient (member_of memory.old.who)
-        (answered_to (member_of memory.old.who) log (datagram memory.old.who.session.shape view.now)).state
-        → Tells log memory.old → orders.old.says.items ≡ [] → 2 ≤ orders.old.room
-        → Stands (answered_to (member_of memory.old.who) log (datagram memory.old.who.session.shape view.now)) memory.new orders.new }
+        (take_datagram (member_of memory.old.who) log (Some (datagram memory.old.who.session.shape view.now))).state
+        → Tells log memory.old → orders.old.list.items ≡ [] → 3 ≤ orders.old.room
+        → Stands (take_datagram (member_of memory.old.who) log (Some (datagram memory.old.who.session.shape view.now)))
+        memory.new orders.new }
     ensures room { orders.new.room ≡ orders.old.room }
     ensures given { orders.new.given ≡ orders.old.given }
     ensures who { memory.new.who ≡ memory.old.who }
     ensures ticks { memory.new.ticks ≡ memory.old.ticks }
-    ensures cost { steps.new ≤ steps.old + (V.most_steps verifier.now + 2 * (round_after memory.old.ticks + 1)) }
+    ensures cost { steps.new ≤ steps.old
+        + (V.most_steps verifier.now + 2 * (round_after memory.old.ticks + 1) + 4 * memory.old.who.session.shape.rounds) }
 {
+    knowledge_is_enough();
     logs_are_sound();
-    bytes_spell_one();
-    if memory.admits(verifier, bytes, view, steps) {
-        memory.hear(bytes, view);
-        let says = says_to(memory, view, true);
-        reply(memory, orders, says);
-    } else if memory.is_repeat(bytes, view) {
-        let says = says_to(memory, view, false);
-        reply(memory, orders, says);
+    let weighed = memory.weigh(verifier, bytes, view, steps);
+    if weighed.is_tried {
+        answer_tried(memory, orders, bytes, view, weighed.is_admitted, steps);
+    } else {
+        answer(memory, orders, bytes, view, weighed.is_admitted);
     }
 }
 
@@ -83,7 +198,8 @@ pub fn take_datagram<V: Verifier, L: StepLedger>(
     ensures given { orders.new.given ≡ orders.old.given }
     ensures who { memory.new.who ≡ memory.old.who }
     ensures ticks { memory.new.ticks ≡ memory.old.ticks }
-    ensures cost { steps.new ≤ steps.old + (V.most_steps verifier.now + 2 * (round_after memory.old.ticks + 1)) }
+    ensures cost { steps.new ≤ steps.old
+        + (V.most_steps verifier.now + 2 * (round_after memory.old.ticks + 1) + 4 * memory.old.who.session.shape.rounds) }
 {
     knowledge_is_enough();
     logs_are_sound();

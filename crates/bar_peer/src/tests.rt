@@ -1,6 +1,7 @@
 //! Whole peers: what they hold, play and send, worked out by hand from the rules.
 
 mod datagrams;
+mod evidence;
 mod pair;
 mod peers;
 mod sessions;
@@ -10,6 +11,7 @@ use bar_seal::LmsScheme;
 use bar_window::{Exchange, XKind};
 use bar_wire::Kind;
 use datagrams::{block_with, front, manifest, signed, tell_block, tell_blocks};
+use evidence::{Evidence, check_evidence, check_report, check_reports, evidence_of};
 use pair::{
     Pair, Row, check_totals, check_window, give_in_turn, pair_of, part, pass, tell_round, trade,
 };
@@ -452,10 +454,57 @@ fn check_request(
     Ok(())
 }
 
+/// Gives a peer a datagram of a party that shows a fault, of which it keeps evidence and reports it, once.
+fn check_shown(
+    rt: &impl Abort,
+    alloc: Global,
+    peer: &mut Peer<LmsScheme>,
+    shown: &[u8],
+    evidence: &Evidence,
+) -> Result<(), AllocError> {
+    let sends = answers(rt, alloc, peer, shown)?;
+    check_report(rt, &sends, evidence);
+    check_evidence(rt, peer, evidence);
+    tell(rt, alloc, peer, shown)
+}
+
+/// The REQUEST of peer 4 to another than its partner is evidence against peer 4. It is reported at once and at the last slot of a round.
+fn check_stray(rt: &impl Abort, alloc: Global, peer: &mut Peer<LmsScheme>) -> Result<(), Fail> {
+    let stray = stray_request(rt, alloc)?;
+    let evidence = evidence_of(alloc, 5, 4, &[&stray])?;
+    check_shown(rt, alloc, peer, &stray, &evidence)?;
+    check_reports(rt, alloc, peer, 6, &evidence, 0)?;
+    check_reports(rt, alloc, peer, 1, &evidence, 1)?;
+    check_reports(rt, alloc, peer, 8, &evidence, 1)?;
+    // what others report isn't for a peer
+    Ok(tell(rt, alloc, peer, &evidence.report)?)
+}
+
+#[test]
+fn a_request_to_another_than_the_partner_is_reported(rt: HostRuntime) -> Result<(), Fail> {
+    let alloc = rt.alloc();
+    let mut peer = peer_of(alloc, session_of_five(), 5, 11)?;
+    ticks(&rt, alloc, &mut peer, 1)?;
+    check_stray(&rt, alloc, &mut peer)
+}
+
+/// Gives a peer all fronts of a datagram, none of which is read.
+fn tell_fronts(
+    rt: &impl Abort,
+    alloc: Global,
+    peer: &mut Peer<LmsScheme>,
+    datagram: &[u8],
+) -> Result<(), AllocError> {
+    for len in 0..datagram.len() {
+        tell(rt, alloc, peer, datagram.get(..len).unwrap_or(b""))?;
+    }
+    Ok(())
+}
+
 fn check_requests(rt: &impl Abort, alloc: Global, peer: &mut Peer<LmsScheme>) -> Result<(), Fail> {
     ticks(rt, alloc, peer, 1)?;
-    let stray = stray_request(rt, alloc)?;
-    tell(rt, alloc, peer, &stray)?;
+    let first = request_of(rt, alloc, 1, 8, 5)?;
+    tell_fronts(rt, alloc, peer, &first)?;
     for (party, secret, count) in [(1, 8, 1), (2, 9, 1), (3, 14, 0)] {
         check_request(rt, alloc, peer, party, secret, count)?;
     }
@@ -467,6 +516,80 @@ fn two_requests_of_a_round_are_answered(rt: HostRuntime) -> Result<(), Fail> {
     let alloc = rt.alloc();
     let mut peer = peer_of(alloc, session_of_five(), 5, 11)?;
     check_requests(&rt, alloc, &mut peer)
+}
+
+/// A KEY of peer 1 for the balanced exchange of round 6 that peer 2 began, which opens its briefcase to other blocks.
+fn bad_key(rt: &impl Abort, alloc: Global) -> Result<Vec<u8>, Fail> {
+    let scheme = scheme_of(alloc, session(), 8)?;
+    let mut message = front(Kind::Key, 1, 2, 6).to_vec(alloc)?;
+    message.extend_from_slice(&[0, 1])?;
+    message.extend_from_slice(&[0; 32])?;
+    Ok(signed(rt, alloc, &scheme, 0, &message)?)
+}
+
+/// A balanced exchange that peer 2 begins, up to its KEYREQ.
+const TRADE_TO_THE_KEY: &[Row] = &[
+    (1, 0, &[(Kind::Response, 1_504)]),
+    (2, 1, &[(Kind::Divulge, 84), (Kind::Case, 2_596)]),
+    (1, 2, &[(Kind::Case, 2_596)]),
+    (2, 4, &[(Kind::KeyReq, 22)]),
+];
+
+/// A key that opens the partner's CASE to other blocks is evidence with the CASE.
+fn check_bad_key(rt: &impl Abort, alloc: Global, pair: &mut Pair) -> Result<(), Fail> {
+    pass(rt, alloc, pair, 40)?;
+    tell_held(rt, alloc, pair)?;
+    let all = trade(rt, alloc, pair, 6, TRADE_TO_THE_KEY)?;
+    let key = bad_key(rt, alloc)?;
+    let case = part(&all, 4, 0, 2_596).unwrap_or(b"");
+    let evidence = evidence_of(alloc, 2, 1, &[case, &key])?;
+    assert_eq!(rt;
+        (evidence.body.len(), evidence.report.len()),
+        (4_107, 4_123)
+    );
+    Ok(check_shown(rt, alloc, &mut pair.two, &key, &evidence)?)
+}
+
+#[test]
+fn a_key_that_opens_badly_is_reported_with_its_briefcase(rt: HostRuntime) -> Result<(), Fail> {
+    let alloc = rt.alloc();
+    let mut pair = pair_of(alloc, session())?;
+    check_bad_key(&rt, alloc, &mut pair)
+}
+
+/// The EVICT of round 1 that names a party.
+fn eviction_of(
+    rt: &impl Abort,
+    alloc: Global,
+    caster: &LmsScheme,
+    party: u8,
+) -> Result<Vec<u8>, AllocError> {
+    let mut message = [
+        0xba, 0x47, 1, 12, 0x00, 0x11, 0x22, 0x33, 0x44, 0x55, 0x66, 0x77, 0, 0, 0xff, 0xff, 0, 0,
+        0, 1, 1, 0,
+    ]
+    .to_vec(alloc)?;
+    message.push(party)?;
+    signed(rt, alloc, caster, 1, &message)
+}
+
+/// A peer asks its partner at each tick, until the partner is announced evicted.
+fn check_eviction(rt: &impl Abort, alloc: Global, pair: &mut Pair) -> Result<(), AllocError> {
+    for _ in 0..8 {
+        check_sent_alone(rt, alloc, &mut pair.one, &front(Kind::Request, 1, 2, 1))?;
+    }
+    let eviction = eviction_of(rt, alloc, &pair.caster, 2)?;
+    tell(rt, alloc, &mut pair.one, &eviction)?;
+    let sends = ticks(rt, alloc, &mut pair.one, 8)?.sends;
+    check_count(rt, &sends, b"", 0);
+    Ok(())
+}
+
+#[test]
+fn nothing_is_sent_to_an_evicted_party(rt: HostRuntime) -> Result<(), Fail> {
+    let alloc = rt.alloc();
+    let mut pair = pair_of(alloc, session())?;
+    Ok(check_eviction(&rt, alloc, &mut pair)?)
 }
 
 /// The session of ten rounds, with larger numbers.

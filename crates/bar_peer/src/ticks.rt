@@ -1,6 +1,6 @@
 //! What a peer sends at a tick.
-ghost use Rattle.std.specs.Prelude.{◌≡◌, ◌+◌, ◌<◌, ◌≤◌, ◌∷◌, [], length};
-ghost use Rattle.bar_rules.specs.Member.{last_tick};
+ghost use Rattle.std.specs.Prelude.{◌≡◌, ◌==◌, ◌+◌, ◌<◌, ◌≤◌, ◌∷◌, [], length};
+ghost use Rattle.bar_rules.specs.Member.{last_tick, slot_after};
 ghost use Rattle.bar_rules.specs.Peer.Agreement.{IsRecent};
 ghost use Rattle.bar_rules.specs.Peer.Knowledge.{Knowledge, known};
 ghost use Rattle.bar_rules.specs.Peer.Log.{Log, Ticked};
@@ -13,7 +13,9 @@ ghost use Rattle.bar_peer.specs.Sending.{IsTimely, Stands};
 
 use crate::asking::ask_partners;
 use crate::memory::Memory;
+use crate::order::Order;
 use crate::orders::Orders;
+use crate::reports::report_all;
 use bar_exchange::{Say, Says};
 use bar_laws::knowing::knowledge_is_enough;
 use bar_laws::memories::logs_are_sound;
@@ -42,6 +44,13 @@ impl Memory {
         (self.ticks + 7) % 8 == 0 && 1 <= round && round <= self.who.session.shape().rounds
     }
 
+    /// Whether this is the last slot of a round.
+    fn is_last_slot(&self) -> bool
+        ensures { result ≡ (slot_after self.now.ticks == 7) }
+    {
+        (self.ticks + 7) % 8 == 7
+    }
+
     /// What is said again of an open exchange: nothing where its partner is announced evicted.
     fn again(&self, x: Exchange) -> Says
         ensures { (k : Knowledge) → IsMemoryOf (member_of self.now.who) k self.now
@@ -61,14 +70,14 @@ impl Memory {
 fn repeat(memory: &Memory, orders: &mut Orders, say: Say)
     ensures stands { (out : Out) → Stands out memory.now orders.old
         → IsTimely (member_of memory.now.who) (known (member_of memory.now.who) out.state) say
-        → length orders.old.says.items + 1 ≤ orders.old.room
+        → length orders.old.list.items + 1 ≤ orders.old.room
         → Stands (perform (member_of memory.now.who) out (order_again say.kind say.x)) memory.now orders.new }
-    ensures length { length orders.new.says.items ≤ length orders.old.says.items + 1 }
+    ensures length { length orders.new.list.items ≤ length orders.old.list.items + 1 }
     ensures room { orders.new.room ≡ orders.old.room }
     ensures given { orders.new.given ≡ orders.old.given }
 {
     if memory.may_repeat(say) {
-        orders.push(say);
+        orders.push(Order::Say(say));
     }
 }
 
@@ -76,10 +85,10 @@ fn repeat(memory: &Memory, orders: &mut Orders, say: Say)
 fn repeat_once(memory: &Memory, orders: &mut Orders, x: Exchange)
     ensures stands { (out : Out) → Stands out memory.now orders.old
         → IsRecent (member_of memory.now.who) (known (member_of memory.now.who) out.state) x.round
-        → length orders.old.says.items + 2 ≤ orders.old.room
+        → length orders.old.list.items + 2 ≤ orders.old.room
         → Stands (perform_all (member_of memory.now.who) out
         (orders_of_open (member_of memory.now.who) (known (member_of memory.now.who) out.state) x)) memory.now orders.new }
-    ensures length { length orders.new.says.items ≤ length orders.old.says.items + 2 }
+    ensures length { length orders.new.list.items ≤ length orders.old.list.items + 2 }
     ensures room { orders.new.room ≡ orders.old.room }
     ensures given { orders.new.given ≡ orders.old.given }
 {
@@ -95,12 +104,12 @@ fn repeat_once(memory: &Memory, orders: &mut Orders, x: Exchange)
 
 /// Says again what the open exchanges lack, in order.
 fn repeat_all(memory: &Memory, orders: &mut Orders)
-    ensures stands { (log : Log) → Tells log memory.now → orders.old.says.items ≡ []
+    ensures stands { (log : Log) → Tells log memory.now → orders.old.list.items ≡ []
         → most_orders memory.now.who.session ≤ orders.old.room
         → Stands (perform_all (member_of memory.now.who) (begun log)
         (orders_of_opens (member_of memory.now.who) (known (member_of memory.now.who) log))) memory.now orders.new }
-    ensures length { (log : Log) → Tells log memory.now → orders.old.says.items ≡ []
-        → length orders.new.says.items + 2 ≤ most_orders memory.now.who.session }
+    ensures length { (log : Log) → Tells log memory.now → orders.old.list.items ≡ []
+        → length orders.new.list.items + 2 + memory.now.who.session.shape.peers ≤ most_orders memory.now.who.session }
     ensures room { orders.new.room ≡ orders.old.room }
     ensures given { orders.new.given ≡ orders.old.given }
 {
@@ -114,7 +123,8 @@ fn repeat_all(memory: &Memory, orders: &mut Orders)
     }
 }
 
-/// Sends what a tick asks for: again what the open exchanges lack, and at the first slot of a round of the session its requests.
+/// Sends what a tick asks for: again what the open exchanges lack, at the first slot of a round of the session its requests, and at the last
+/// slot of a round the reports of evidence.
 pub fn act(memory: &mut Memory, orders: &mut Orders)
     ensures stands { Acts memory.old orders.old memory.new orders.new }
     ensures room { orders.new.room ≡ orders.old.room }
@@ -126,5 +136,8 @@ pub fn act(memory: &mut Memory, orders: &mut Orders)
     repeat_all(memory, orders);
     if memory.is_first_slot() {
         ask_partners(memory, orders);
+    }
+    if memory.is_last_slot() {
+        report_all(memory, orders);
     }
 }

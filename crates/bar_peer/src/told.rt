@@ -1,7 +1,9 @@
 //! What a peer tells of itself.
-ghost use Rattle.std.specs.Prelude.{◌≡◌, ◌↔◌, [], true, nat_le, IsTrue, option_copied, option_map};
+ghost use Rattle.std.specs.Prelude.{◌≡◌, ◌↔◌, ◌+◌, ℕ, [], true, length, nat_le, IsTrue, option_copied, option_map};
+ghost use Rattle.bar_bytes.specs.Rooms.{kept_in};
 ghost use Rattle.bar_terms.specs.Windows.{AreAligned};
 ghost use Rattle.bar_ledger.specs.Totals.{AreSound};
+ghost use Rattle.bar_wire.specs.Evidence.{evidence_bytes};
 ghost use Rattle.bar_rules.specs.Member.{last_tick};
 ghost use Rattle.bar_rules.specs.Values.{datagram_bytes};
 ghost use Rattle.bar_rules.specs.Peer.Knowledge.{Knowledge, known};
@@ -14,6 +16,7 @@ ghost use Rattle.bar_peer.specs.Telling.{AreTotals};
 
 use crate::memory::Memory;
 use crate::peer::Peer;
+use bar_bytes::Rooms;
 use bar_exchange::are_aligned;
 use bar_laws::memories::logs_are_sound;
 use bar_laws::obedience::signed_by_rule;
@@ -92,7 +95,36 @@ impl<S: Scheme> Peer<S> {
             ≡ option_map (datagram_bytes self.now.memory.who.session)
             ((known (member_of self.now.memory.who) (log_after (member_of self.now.memory.who) [] inputs)).manifest round) }
     {
-        self.memory.manifests.get(round)
+        self.memory.manifests.get(round as usize)
+    }
+
+    /// The datagrams of the manifests that were admitted, by round.
+    pub fn manifests(&self) -> &Rooms
+        ensures kept { (inputs : Inputs) → StandsFor self.now.memory inputs → (round : ℕ) → kept_in result.now round
+            ≡ option_map (datagram_bytes self.now.memory.who.session)
+            ((known (member_of self.now.memory.who) (log_after (member_of self.now.memory.who) [] inputs)).manifest round) }
+        ensures count { length result.now.rooms.items ≡ self.now.memory.who.session.shape.rounds + 1 }
+    {
+        &self.memory.manifests
+    }
+
+    /// The evidence that is kept, by party, as the body of an EVIDENCE has it.
+    pub fn kept_evidence(&self) -> &Rooms
+        ensures kept { (inputs : Inputs) → StandsFor self.now.memory inputs → (party : ℕ) → kept_in result.now party
+            ≡ option_map evidence_bytes
+            ((known (member_of self.now.memory.who) (log_after (member_of self.now.memory.who) [] inputs)).evidence party) }
+        ensures count { length result.now.rooms.items ≡ self.now.memory.who.session.shape.peers + 1 }
+    {
+        &self.memory.evidence
+    }
+
+    /// The evidence that is kept against a party, as the body of an EVIDENCE has it, or `None` where none is kept.
+    pub fn evidence(&self, party: u16) -> Option<&[u8]>
+        ensures { (inputs : Inputs) → StandsFor self.now.memory inputs → option_copied result
+            ≡ option_map evidence_bytes
+            ((known (member_of self.now.memory.who) (log_after (member_of self.now.memory.who) [] inputs)).evidence party) }
+    {
+        self.memory.evidence.get(usize::from(party))
     }
 
     /// How many items this peer promised in an exchange, was promised, and gave a key for. Once the exchange can't be asked about any more

@@ -3,4 +3,4 @@ pub mod Picked
 pub mod Lists
 pub mod Learns
 pub mod Known
-pub mod EmptyRooms
+pub mod Entries

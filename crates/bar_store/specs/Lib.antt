@@ -3,5 +3,3 @@ pub mod Held
 pub mod Holds
 pub mod Knowing
 pub mod Windows
-pub mod Sized
-pub mod Manifests

@@ -1,17 +1,16 @@
-//! What a peer holds: the digests of its manifests and their datagrams, and the blocks of its updates, in rooms that are taken at the
 //! start.
 #![tactic(auto)]
 
 mod added;
+mod evidence;
 mod kept_block;
-mod manifests;
 mod picks;
 mod played;
 mod store;
 mod windows;
 
 pub use added::Added;
-pub use manifests::Manifests;
+pub use evidence::keep_evidence;
 pub use store::Store;
 
 #[cfg(test)]

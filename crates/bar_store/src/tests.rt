@@ -1,6 +1,6 @@
 ghost use Rattle.std.specs.Prelude.{◌≡◌};
 
-use crate::{Added, Manifests, Store};
+use crate::{Added, Store};
 use bar_window::{Blocks, UpdateId, Window};
 use sha2::{Digest, Sha256};
 use std::test::Fail;
@@ -124,15 +124,5 @@ fn windows_show_what_is_held_and_lacking(rt: HostRuntime) -> Result<(), Fail> {
     assert_eq!(rt; words(&store.history(5)), [2, 0, 1, 2]);
     assert_eq!(rt; words(&store.young(5)), [0, 0, 1, 2]);
     assert_eq!(rt; words(&store.lacking(5, 3)), [1, 3, 0, 0]);
-    Ok(())
-}
-
-#[test]
-fn manifests_are_kept_as_they_came(rt: HostRuntime) -> Result<(), Fail> {
-    let mut manifests = Manifests::make(rt.alloc(), 3, 4)?;
-    manifests.keep(3, b"came");
-    assert_eq!(rt; manifests.get(3), Some(b"came".as_slice()));
-    assert_eq!(rt; manifests.get(2), None);
-    assert_eq!(rt; manifests.get(4), None);
     Ok(())
 }

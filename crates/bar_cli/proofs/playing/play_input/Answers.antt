@@ -4,7 +4,6 @@ use Rattle.bar_outside.specs.Plan.{outside}
 use Rattle.bar_wire.specs.Inputs.{plain_input}
 use Rattle.bar_rules.specs.Peer.Run.{log_after, step}
 use Rattle.bar_peer.specs.Memory.{member_of}
-use Rattle.bar_peer.specs.Sending.{without_reports}
 use Rattle.bar_peer.specs.StandsFor.{contents_left}
 use Rattle.bar_cli.specs.Transcript.{lines_of_sends}
 use Rattle.bar_cli.specs.Turns.{turn_of}
@@ -32,7 +31,7 @@ returns-clause-follows g c = λ inputs stands.
     let taken = inputs ++ plain_input c.args.input ∷ [] in
     let me = member_of c.args.peer.now.memory.who in
     let out = step me (log_after me [] inputs) (plain_input c.args.input) in
-    let sends = without_reports out.sends in
+    let sends = out.sends in
     lines-followed c.args.played.now (turn_of c.args.peer.now.memory.who.session c.args.number out)
     (contents_left c.step.new.self.memory.store c.step.new.self.playing)
     (lines_of_sends c.append_contents.new.peer.memory.who.session c.args.number sends)

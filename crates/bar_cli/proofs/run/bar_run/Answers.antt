@@ -4,16 +4,21 @@ use Rattle.bar_outside.specs.Plan.{Outside, outside}
 use Rattle.bar_outside.specs.Ends.{Ends, Says, is_plain}
 use Rattle.bar_outside.proofs.Ending.{Ends-ending, Ends-or_memory, said}
 use Rattle.bar_window.specs.declared.exchange.Exchange.{Exchange}
+use Rattle.bar_wire.specs.Datagram.{Datagram}
+use Rattle.bar_rules.specs.Peer.Exchanges.{partner_in}
 use Rattle.bar_rules.specs.Peer.Run.{log_after, sends_of}
 use Rattle.bar_laws.specs.Balance.{GoesToPartner, IsEven, totals_of}
+use Rattle.bar_laws.specs.Evidence.{OpensBadly}
+use Rattle.bar_laws.specs.Framing.{IsNotFramed}
 use Rattle.bar_laws.specs.Leaves.{KeepsLeaves}
 use Rattle.bar_laws.specs.Obedience.{IsRuled}
+use Rattle.bar_cli.specs.Headline.{HasProof}
 use Rattle.bar_cli.specs.JudgePlan.{judge_plan}
 use Rattle.bar_cli.specs.KeygenPlan.{keygen_plan}
 use Rattle.bar_cli.specs.Line.{Line, replay, keygen, judge, plan_of, is_status_of, may_print, usage}
 use Rattle.bar_cli.specs.ReplayPlan.{replay_plan}
 use Rattle.bar_cli.specs.Views.{command_view}
-use Rattle.bar_cli.proofs.MemberLemmas.{of-its_run}
+use Rattle.bar_cli.proofs.MemberLemmas.{of-its_run, proves-bad_keys}
 use Rattle.bar_cli.proofs.Rows as replaying
 use Rattle.bar_cli.proofs.JudgeRows.{judged_so, outcome, same_files}
 use Rattle.bar_cli.proofs.KeygenRows as making
@@ -49,7 +54,7 @@ pub returns-clause-headline : goal.returns-clause-headline
 returns-clause-headline g c = λ names is told zero.
     let law = c.plans_go_in_order.ensures in
     let ends = ends-as _ _ (replay names) _ _ _ _ c.in-Some.ensures is c.report-2.ensures.code c.run_command-status.ensures.ends.ends in
-    replaying.replayed names _ _ c.accepted_secrets_are_held.ensures
+    replaying.replayed names _ _ c.accepted_secrets_are_held.ensures c.accepted_sessions_are_in_range.ensures
     (replaying.outcome law.reads law.ends names _ _ 0 (law.went (replay_plan names) _ _ 0 (rw zero at ends) told))
 
 pub returns-clause-key_made : goal.returns-clause-key_made
@@ -138,3 +143,36 @@ returns-clause-only_reads g c = λ names is told.
     let ends = ends-as _ _ (judge names) _ _ _ _ c.in-Some.ensures is c.report-2.ensures.code c.run_command-status.ensures.ends.ends in
     same_files names _ _ c.report-2.result
     (outcome law.reads law.ends law.shows names _ _ _ (law.went (judge_plan names) _ _ _ ends told))
+
+pub returns-clause-evidence : goal.returns-clause-evidence
+returns-clause-evidence g c = λ names is.
+    of-its_run c.accepted_secrets_are_held.ensures c.accepted_sessions_are_in_range.ensures
+    (λ me inputs. (x : Exchange) (key : Datagram) → OpensBadly me (log_after me [] inputs) x key → HasProof me (log_after me [] inputs) (partner_in me x))
+    (λ me member inputs. proves-bad_keys c.bad_keys_leave_evidence.ensures c.kept_evidence_is_shown.ensures me inputs)
+    names (g.F.Files.disk c.args.files.now).content
+
+pub returns-clause-unframed : goal.returns-clause-unframed
+returns-clause-unframed g c = λ names is.
+    of-its_run c.accepted_secrets_are_held.ensures c.accepted_sessions_are_in_range.ensures
+    (λ me inputs. IsNotFramed me (log_after me [] inputs)) c.no_framing.ensures names (g.F.Files.disk c.args.files.now).content
+
+pub returns-in_default-clause-evidence : goal.returns-in_default-clause-evidence
+returns-in_default-clause-evidence g c = λ names is.
+    of-its_run c.accepted_secrets_are_held.ensures c.accepted_sessions_are_in_range.ensures
+    (λ me inputs. (x : Exchange) (key : Datagram) → OpensBadly me (log_after me [] inputs) x key → HasProof me (log_after me [] inputs) (partner_in me x))
+    (λ me member inputs. proves-bad_keys c.bad_keys_leave_evidence.ensures c.kept_evidence_is_shown.ensures me inputs)
+    names (g.F.Files.disk c.args.files.now).content
+
+pub returns-in_default-clause-unframed : goal.returns-in_default-clause-unframed
+returns-in_default-clause-unframed g c = λ names is.
+    of-its_run c.accepted_secrets_are_held.ensures c.accepted_sessions_are_in_range.ensures
+    (λ me inputs. IsNotFramed me (log_after me [] inputs)) c.no_framing.ensures names (g.F.Files.disk c.args.files.now).content
+
+pub returns-clause-sends : goal.returns-clause-sends
+returns-clause-sends g c = λ names is told zero.
+    let law = c.plans_go_in_order.ensures in
+    let ends = ends-as _ _ (replay names) _ _ _ _ c.in-Some.ensures is c.report-2.ensures.code c.run_command-status.ensures.ends.ends in
+    let done = replaying.replayed names _ _ c.accepted_secrets_are_held.ensures c.accepted_sessions_are_in_range.ensures
+    (replaying.outcome law.reads law.ends names _ _ 0 (law.went (replay_plan names) _ _ 0 (rw zero at ends) told))
+    in
+    (done.accepted, done.sent)

@@ -9,6 +9,7 @@ use Rattle.bar_rules.specs.Peer.Rules.{IsObedient}
 use Rattle.bar_rules.specs.Peer.Run.{Out, perform, perform_all}
 use Rattle.bar_rules.specs.Peer.Ticks.{asking_partner}
 use Rattle.bar_rules.specs.Secrets.{partner_of, seed_of}
+use Rattle.bar_peer.specs.declared.order.Order.TheVariants as queued
 use Rattle.bar_peer.specs.Memory.{member_of}
 use Rattle.bar_peer.specs.Sending.{IsTimely, IsCarriedOut, Stands}
 use Rattle.bar_peer.proofs.Asked.{partner_is, none_asked, one_asked, asks_first, asks_timely, carried_stands}
@@ -82,10 +83,10 @@ returns-then-ask-clause-stands c = λ out before same obedient h room.
     h
     done
     (c.push.ensures.pushed (omega arith)
-    ∙ (λ i. c.args.orders.now.says.items ++ c.request.ensures i ∷ [])
+    ∙ (λ i. c.args.orders.now.list.items ++ queued.Say (c.request.ensures i) ∷ [])
     ∙ (λ i. if sym c.if-ask.true i
-    then c.args.orders.now.says.items ++ record { kind = request_kind x.kind; x = x } ∷ []
-    else c.args.orders.now.says.items)))
+    then c.args.orders.now.list.items ++ queued.Say (record { kind = request_kind x.kind; x = x }) ∷ []
+    else c.args.orders.now.list.items)))
 
 pub returns-else-ask-clause-stands : goal.returns-else-ask-clause-stands
 returns-else-ask-clause-stands c = λ out before same obedient h room.
@@ -136,5 +137,5 @@ returns-else-ask-clause-stands c = λ out before same obedient h room.
     h
     done
     (λ i. if sym c.if-ask.false i
-    then c.args.orders.now.says.items ++ record { kind = request_kind x.kind; x = x } ∷ []
-    else c.args.orders.now.says.items))
+    then c.args.orders.now.list.items ++ queued.Say (record { kind = request_kind x.kind; x = x }) ∷ []
+    else c.args.orders.now.list.items))

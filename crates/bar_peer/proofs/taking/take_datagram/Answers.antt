@@ -5,14 +5,10 @@ use Rattle.bar_wire.specs.Views.{datagram}
 use Rattle.bar_wire.specs.declared.shape.Shape.{Shape}
 use Rattle.bar_rules.specs.Member.{Member}
 use Rattle.bar_rules.specs.Values.{datagram_of}
-use Rattle.bar_rules.specs.Peer.Evidence.{new_evidence}
-use Rattle.bar_rules.specs.Peer.Knowledge.{known}
 use Rattle.bar_rules.specs.Peer.Rules.{IsObedient}
 use Rattle.bar_rules.specs.Peer.Run.{take_datagram}
 use Rattle.bar_peer.specs.Memory.{member_of}
 use Rattle.bar_peer.specs.Sending.{Stands}
-use Rattle.bar_peer.specs.Steps.{unreported}
-use Rattle.bar_peer.proofs.Taken.{datagram-taken}
 use Rattle.bar_peer.proofs.taking.take_datagram.Goals as goal
 
 pub returns-in-Ok-clause-stands : goal.returns-in-Ok-clause-stands
@@ -22,7 +18,5 @@ returns-in-Ok-clause-stands g c log obeys tells empty room =
     let read : Some d ≡ datagram_of me.session c.args.bytes.now =
     c.in-Ok.ensures.told ∙ ap (λ (shape : Shape). places.datagram_of shape c.args.bytes.now) c.shape-shape.ensures.value
     in
-    subst (λ (o : Option Datagram). Stands (unreported (take_datagram me log o)) c.take_view.new.memory c.take_view.new.orders) read
-    (datagram-taken c.knowledge_is_enough.ensures.entry c.logs_are_sound.ensures c.args.memory.now c.take_view.new.memory c.args.orders.now c.take_view.new.orders
-    log d d.message.from (new_evidence me (known me log) d) c.take_view.ensures.stands c.take_view.ensures.who
-    (subst (λ (o : Option Datagram). IsObedient me (take_datagram me log o).state) (sym read) obeys) tells empty room)
+    subst (λ (o : Option Datagram). Stands (take_datagram me log o) c.take_view.new.memory c.take_view.new.orders) read
+    (c.take_view.ensures.stands log (subst (λ (o : Option Datagram). IsObedient me (take_datagram me log o).state) (sym read) obeys) tells empty room)

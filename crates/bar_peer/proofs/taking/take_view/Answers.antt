@@ -1,62 +1,44 @@
-use Rattle.std.proofs.Common.{◌≡◌, ◌∙◌, ◌∷◌, true, false, sym, ap, subst}
+use Rattle.std.proofs.Common.{◌≡◌, ◌∙◌, List, ℕ, Option, None, sym, subst, arith}
 use Rattle.bar_wire.specs.Datagram.{Datagram}
 use Rattle.bar_wire.specs.Views.{datagram}
 use Rattle.bar_rules.specs.Member.{Member}
-use Rattle.bar_rules.specs.Peer.Admission.{is_admitted}
-use Rattle.bar_rules.specs.Peer.Knowledge.{known}
-use Rattle.bar_rules.specs.Peer.Log.{Heard}
-use Rattle.bar_rules.specs.Peer.Replies.{reply_orders}
+use Rattle.bar_rules.specs.Peer.Evidence.{new_evidence}
+use Rattle.bar_rules.specs.Peer.Knowledge.{Knowledge, known}
 use Rattle.bar_rules.specs.Peer.Rules.{IsObedient}
-use Rattle.bar_rules.specs.Runs.{begun}
-use Rattle.std.specs.Bool.{then_some}
+use Rattle.bar_rules.specs.Peer.Run.{answered_to, report_new, with_evidence}
 use Rattle.bar_laws.specs.Soundness.{IsSound}
-use Rattle.bar_balanced.specs.Balanced.{AreSpelled}
 use Rattle.bar_peer.specs.Memory.{member_of}
 use Rattle.bar_peer.specs.Sending.{Stands}
-use Rattle.bar_peer.proofs.Answered.{answered-before, answered-new, answered-again, new-replied, repeat-answered, not-repeated, begun-stands, apart, received}
-use Rattle.bar_peer.proofs.Before.{perform_all-before}
+use Rattle.bar_peer.proofs.Taken.{AreObedient, obeyed, none-new}
 use Rattle.bar_peer.proofs.taking.take_view.Goals as goal
 
-pub returns-then-admits-clause-stands : goal.returns-then-admits-clause-stands
-returns-then-admits-clause-stands g c log obeys tells empty room =
+pub returns-then-weighed-clause-stands : goal.returns-then-weighed-clause-stands
+returns-then-weighed-clause-stands g c log obeys tells empty room =
     let me : Member = member_of c.args.memory.now.who in
     let d : Datagram = datagram c.args.memory.now.who.session.shape c.args.view.now in
-    let before : IsObedient me log = answered-before me log d obeys in
-    let spelled : AreSpelled me (known me log) = record { spelled = (c.logs_are_sound.ensures me log before).spelled } in
-    let admitted : is_admitted me (known me log) d ≡ true = sym (c.admits.ensures.exact (known me log) tells spelled) ∙ c.if-admits.true in
-    let is = answered-new me log d admitted in
-    let now = subst (λ out. IsObedient me out.state) is obeys in
-    let heard : IsObedient me (Heard d ∷ log) = perform_all-before me (begun (Heard d ∷ log)) (reply_orders me (known me (Heard d ∷ log)) true d) now in
-    subst (λ out. Stands out c.reply.new.memory c.reply.new.orders) (sym is)
-    (new-replied log d c.args.memory.now c.hear.new.self c.reply.new.memory c.args.orders.now c.reply.new.orders c.says_to-says.result
-    c.args.memory.now.who.is_member c.says_to-says.ensures.fitting (apart c.args.memory.now.who.session.shape d me.party c.requires.view.spelled.fits (received me (known me log) d admitted)) c.hear.ensures.who admitted (c.hear.ensures.learns log heard tells) c.says_to-says.ensures.orders c.reply.ensures.stands empty room now)
+    let k : Knowledge = known me log in
+    let ev : Option (List (List ℕ)) = new_evidence me k d in
+    let all : AreObedient me log d c.args.view.now.from ev = obeyed me log d c.args.view.now.from ev obeys in
+    let sound : IsSound me k = c.logs_are_sound.ensures me log all.first in
+    c.answer_tried.ensures.stands log obeys tells (sym (c.weigh-weighed.ensures.tried k tells sound) ∙ c.if-weighed.true)
+    (c.weigh-weighed.ensures.admitted k tells sound)
+    empty
+    room
 
-pub returns-then-is_repeat-clause-stands : goal.returns-then-is_repeat-clause-stands
-returns-then-is_repeat-clause-stands g c log obeys tells empty room =
+pub returns-else-weighed-clause-stands : goal.returns-else-weighed-clause-stands
+returns-else-weighed-clause-stands g c log obeys tells empty room =
     let me : Member = member_of c.args.memory.now.who in
     let d : Datagram = datagram c.args.memory.now.who.session.shape c.args.view.now in
-    let before : IsObedient me log = answered-before me log d obeys in
-    let sound : IsSound me (known me log) = c.logs_are_sound.ensures me log before in
-    let spelled : AreSpelled me (known me log) = record { spelled = sound.spelled } in
-    let refused : is_admitted me (known me log) d ≡ false = sym (c.admits.ensures.exact (known me log) tells spelled) ∙ c.if-admits.false in
-    let is = answered-again me log d refused in
-    subst (λ out. Stands out c.reply-then-is_repeat.new.memory c.reply-then-is_repeat.new.orders) (sym is)
-    (repeat-answered log d c.args.memory.now c.reply-then-is_repeat.new.memory c.args.orders.now c.reply-then-is_repeat.new.orders
-    c.says_to-says-then-is_repeat.result c.args.bytes.now c.args.memory.now.who.is_member sound c.bytes_spell_one.ensures c.requires.view.spelled
-    c.says_to-says-then-is_repeat.ensures.fitting c.says_to-says-then-is_repeat.ensures.orders c.reply-then-is_repeat.ensures.stands
-    (λ in_time. c.is_repeat.ensures (known me log) tells spelled in_time ∙ ap (λ b. then_some b d) c.if-is_repeat.true) tells empty room
-    (subst (λ out. IsObedient me out.state) is obeys))
-
-pub returns-else-is_repeat-clause-stands : goal.returns-else-is_repeat-clause-stands
-returns-else-is_repeat-clause-stands g c log obeys tells empty room =
-    let me : Member = member_of c.args.memory.now.who in
-    let d : Datagram = datagram c.args.memory.now.who.session.shape c.args.view.now in
-    let before : IsObedient me log = answered-before me log d obeys in
-    let sound : IsSound me (known me log) = c.logs_are_sound.ensures me log before in
-    let spelled : AreSpelled me (known me log) = record { spelled = sound.spelled } in
-    let refused : is_admitted me (known me log) d ≡ false = sym (c.admits.ensures.exact (known me log) tells spelled) ∙ c.if-admits.false in
-    let is = answered-again me log d refused in
-    subst (λ out. Stands out c.args.memory.now c.args.orders.now) (sym (is ∙ not-repeated me log d c.args.bytes.now c.args.memory.now.who.is_member sound
-    c.bytes_spell_one.ensures c.requires.view.spelled
-    (λ in_time. c.is_repeat.ensures (known me log) tells spelled in_time ∙ ap (λ b. then_some b d) c.if-is_repeat.false)))
-    (begun-stands log c.args.memory.now c.args.orders.now tells empty)
+    let q : ℕ = c.args.view.now.from in
+    let k : Knowledge = known me log in
+    let ev : Option (List (List ℕ)) = new_evidence me k d in
+    let all : AreObedient me log d q ev = obeyed me log d q ev obeys in
+    let sound : IsSound me k = c.logs_are_sound.ensures me log all.first in
+    let none : ev ≡ None = none-new me k d (sym (c.weigh-weighed.ensures.tried k tells sound) ∙ c.if-weighed.false) in
+    let answered : IsObedient me (answered_to me log d).state =
+    subst (λ (e : Option (List (List ℕ))). IsObedient me (answered_to me (with_evidence me log q e) d).state) none all.answered
+    in
+    subst
+    (λ (e : Option (List (List ℕ))). Stands (report_new me (answered_to me (with_evidence me log q e) d) q e) c.answer.new.memory c.answer.new.orders)
+    (sym none)
+    (c.answer.ensures.stands log answered tells (c.weigh-weighed.ensures.admitted k tells sound) empty (omega (arith, room)))

@@ -58,7 +58,7 @@ loop-preserved c =
           ((λ i. done ++ sym c.in-Some.ensures.rest i) ∙ c.loop.invariant.split ∙ sym h.ledger.opens)
           in
           let life : m.ledger.shape.life ≡ m.who.session.shape.life = ap (λ (s : Shape). s.life) h.ledger.shape in
-          let room : length c.loop.orders.says.items + 2 ≤ c.loop.orders.room =
+          let room : length c.loop.orders.list.items + 2 ≤ c.loop.orders.room =
           omega (arith, c.loop.invariant.few, c.loop.invariant.room, ap length none, most, c.len-end.ensures.most, c.loop-test.true, life)
           in
           let one : Stands (perform_all me before (orders_of_open me (known me before.state) x)) m c.repeat_once.new.orders =

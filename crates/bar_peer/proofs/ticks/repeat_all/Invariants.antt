@@ -18,10 +18,10 @@ invariant-loop l = record {
   done : List Exchange;
   split : done ++ above l.after (opens_in l.memory.ledger) ≡ opens_in l.memory.ledger;
   count : length done ≡ l.counter;
-  few : length l.orders.says.items ≤ length l.initial.orders.says.items + 2 * l.counter;
+  few : length l.orders.list.items ≤ length l.initial.orders.list.items + 2 * l.counter;
   room : l.orders.room ≡ l.initial.orders.room;
   given : l.orders.given ≡ l.initial.orders.given;
-  stands : (log : Log) → Tells log l.memory → l.initial.orders.says.items ≡ [] → most_orders l.memory.who.session ≤ l.initial.orders.room
+  stands : (log : Log) → Tells log l.memory → l.initial.orders.list.items ≡ [] → most_orders l.memory.who.session ≤ l.initial.orders.room
       → Stands (perform_all (member_of l.memory.who) (begun log)
       (flat_map (orders_of_open (member_of l.memory.who) (known (member_of l.memory.who) log)) done)) l.memory l.orders;
 }

@@ -30,7 +30,7 @@ returns-in-Balanced-clause-carried_out c out obeys tells now own =
     gives_request c.args.self.now _ c.args.x c.knowledge_is_enough.ensures.entry
     c.exchanges_are_few.ensures.obedient_left
     c.logs_are_sound.ensures
-    (record { who = refl; ticks = refl; store = refl; manifests = refl; evictions = refl })
+    (record { who = refl; ticks = refl; store = refl; manifests = refl; evictions = refl; evidence = refl })
     (λ k d h s body room early.
     c.say_request.ensures.learns me k d h.store h.ledger same
     (subst (λ (kind : XKind). IsSaidNow me k d (request_kind kind) c.args.x) c.in-Balanced.is s)
@@ -56,7 +56,7 @@ returns-in-Push-clause-carried_out c out obeys tells now own =
     gives_request c.args.self.now _ c.args.x c.knowledge_is_enough.ensures.entry
     c.exchanges_are_few.ensures.obedient_left
     c.logs_are_sound.ensures
-    (record { who = refl; ticks = refl; store = refl; manifests = refl; evictions = refl })
+    (record { who = refl; ticks = refl; store = refl; manifests = refl; evictions = refl; evidence = refl })
     (λ k d h s body room early.
     c.say_query.ensures.learns me k d (seed_of me c.args.x.round) h.store h.ledger
     (subst (λ (kind : XKind). IsSaidNow me k d (request_kind kind) c.args.x) c.in-Push.is s)

@@ -67,7 +67,12 @@ returns-in-Key-clause-learns c log obeys h =
     in
     heard_tells c.knowledge_is_enough.ensures.entry old new log d (rest.who ∙ first.who)
     (exchange_memory me k d old new of h
-    (record { ticks = rest.ticks ∙ first.ticks; manifests = rest.manifests ∙ first.manifests; evictions = rest.evictions ∙ first.evictions }) store ledger)
+    (record {
+      ticks = rest.ticks ∙ first.ticks;
+      manifests = rest.manifests ∙ first.manifests;
+      evictions = rest.evictions ∙ first.evictions;
+      evidence = rest.evidence ∙ first.evidence;
+    }) store ledger)
 
 pub returns-in_default : goal.returns-in_default
 returns-in_default c = record {
@@ -95,7 +100,7 @@ returns-in_default c = record {
       let ledger : Recalls me (with_heard me d k) new.ledger = c.hear_of_exchange-in_default.ensures.learns k h.ledger sound room now of in
       heard_tells c.knowledge_is_enough.ensures.entry old new log d rest.who
       (exchange_memory me k d old new of h
-      (record { ticks = rest.ticks; manifests = rest.manifests; evictions = rest.evictions }) store ledger);
+      (record { ticks = rest.ticks; manifests = rest.manifests; evictions = rest.evictions; evidence = rest.evidence }) store ledger);
   who = c.hear_of_exchange-in_default.ensures.rest.who;
   ticks = c.hear_of_exchange-in_default.ensures.rest.ticks;
 }

@@ -29,6 +29,7 @@ returns-then-round-now-clause-learns c k h sound now is =
       manifests = h.manifests;
       evictions = h.evictions;
       announced = h.announced;
+      evidence = h.evidence;
     })
 
 pub returns-else-round-now-clause-learns : goal.returns-else-round-now-clause-learns

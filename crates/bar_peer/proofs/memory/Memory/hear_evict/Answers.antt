@@ -29,4 +29,5 @@ returns-clause-learns c k h is =
       announced = λ p.
           (λ i. h.announced p i || sym (marked shape.peers _ 0 (pairs w.parties.now) p range.1.2 old.eviction_parties) i)
           ∙ sym (c.add.ensures.parties p);
+      evidence = h.evidence;
     })

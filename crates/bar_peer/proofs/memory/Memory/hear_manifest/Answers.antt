@@ -5,12 +5,13 @@ use Rattle.bar_wire.specs.Grammar.{InRange}
 use Rattle.bar_wire.specs.Views.{datagram, plain, AreWhole}
 use Rattle.bar_wire.specs.declared.view.Body.{Body as RawBody}
 use Rattle.bar_rules.specs.Member.{Member}
+use Rattle.bar_rules.specs.Values.{datagram_bytes}
 use Rattle.bar_rules.specs.Peer.Knowledge.{learned}
 use Rattle.bar_store.specs.Held.{digest_list}
 use Rattle.bar_store.specs.Holds.{Holds}
-use Rattle.bar_store.specs.Manifests.{manifest_in}
+use Rattle.bar_bytes.specs.Rooms.{kept_in}
 use Rattle.bar_peer.specs.Memory.{member_of}
-use Rattle.bar_peer.proofs.Learned.{by_body, same_recalled, manifest_new, manifests_more, length_chunks, whole_count}
+use Rattle.bar_peer.proofs.Learned.{by_body, same_recalled, manifest_new, kept_more, length_chunks, whole_count}
 use Rattle.bar_peer.proofs.memory.Memory.hear_manifest.Goals as goal
 
 pub add_manifest-requires-clause-few : goal.add_manifest-requires-clause-few
@@ -42,9 +43,10 @@ returns-then-add_manifest-clause-learns c k h now is =
       store = subst (λ (b : Body). Holds me (learned me d k b) c.add_manifest.new.self) body store;
       ledger = same_recalled me k old.ledger _ _ _ _ h.ledger;
       manifests = λ r.
-          manifests_more me k d w.round r _ none (h.manifests r)
-          ∙ (λ i. if r == w.round then Some (sym now.bytes_are i) else manifest_in old.manifests r)
+          kept_more (datagram_bytes me.session) k.manifest d w.round r _ none (h.manifests r)
+          ∙ (λ i. if r == w.round then Some (sym now.bytes_are i) else kept_in old.manifests r)
           ∙ sym (c.keep.ensures.kept r);
       evictions = h.evictions;
       announced = h.announced;
+      evidence = h.evidence;
     })

@@ -43,7 +43,7 @@ returns-in-Response-clause-carried_out c out obeys tells own =
     let recent = recent_by_time (member_of who) k c.args.say.kind c.args.say.x.round life own.timely in
     at_kind c.args.self.now _ c.args.say.x true c.args.say.kind kinds.Response c.in-Response.is
     (gives_response c.args.self.now _ c.args.say.x c.knowledge_is_enough.ensures.entry
-    (record { who = refl; ticks = refl; store = refl; manifests = refl; evictions = refl })
+    (record { who = refl; ticks = refl; store = refl; manifests = refl; evictions = refl; evidence = refl })
     life
     (λ k d h. c.say_response.ensures.learns (member_of who) k d h.store h.ledger))
     out
@@ -61,7 +61,7 @@ returns-else-not-knows_offer-clause-carried_out c out obeys tells own =
     let recent = recent_by_time (member_of who) k c.args.say.kind c.args.say.x.round life own.timely in
     at_kind c.args.self.now _ c.args.say.x c.say_reply.result c.args.say.kind kinds.Reply c.in-Reply.is
     (gives_reply c.args.self.now _ c.args.say.x c.say_reply.result c.knowledge_is_enough.ensures.entry
-    (record { who = refl; ticks = refl; store = refl; manifests = refl; evictions = refl })
+    (record { who = refl; ticks = refl; store = refl; manifests = refl; evictions = refl; evidence = refl })
     life
     (λ k h recent push.
     offer_known (member_of who) k c.args.self.now.ledger c.args.say.x h.ledger recent push
@@ -83,7 +83,7 @@ returns-in-Case-clause-carried_out c out obeys tells own =
     let recent = recent_by_time (member_of who) k c.args.say.kind c.args.say.x.round life own.timely in
     at_kind c.args.self.now _ c.args.say.x c.say_case.result c.args.say.kind kinds.Case c.in-Case.is
     (gives_case c.args.self.now _ c.args.say.x c.say_case.result c.knowledge_is_enough.ensures.entry
-    (record { who = refl; ticks = refl; store = refl; manifests = refl; evictions = refl })
+    (record { who = refl; ticks = refl; store = refl; manifests = refl; evictions = refl; evidence = refl })
     life
     (λ k d h. c.say_case.ensures.learns (member_of who) k d h.ledger)
     (λ k h. c.say_case.ensures.without (member_of who) k h.ledger))
@@ -101,7 +101,7 @@ returns-in-Key-clause-carried_out c out obeys tells own =
     let recent = recent_by_time (member_of who) k c.args.say.kind c.args.say.x.round life own.timely in
     at_kind c.args.self.now _ c.args.say.x c.say_key.result c.args.say.kind kinds.Key c.in-Key.is
     (gives_key c.args.self.now _ c.args.say.x c.say_key.result c.knowledge_is_enough.ensures.entry
-    (record { who = refl; ticks = refl; store = refl; manifests = refl; evictions = refl })
+    (record { who = refl; ticks = refl; store = refl; manifests = refl; evictions = refl; evidence = refl })
     life
     (λ k d h. c.say_key.ensures.learns (member_of who) k d h.ledger))
     out

@@ -2,6 +2,7 @@ use Rattle.std.proofs.Common.{◌≡◌, ◌+◌, ◌/◌, ◌∙◌, ◌∷◌,
 use Rattle.std.specs.Prelude.{option_map}
 use Rattle.bar_store.specs.Holds.{Holds}
 use Rattle.bar_ledger.specs.Recalls.{Recalls}
+use Rattle.bar_wire.specs.Evidence.{evidence_bytes}
 use Rattle.bar_rules.specs.Member.{Member, round_after}
 use Rattle.bar_rules.specs.Values.{datagram_bytes}
 use Rattle.bar_rules.specs.Peer.Knowledge.{Knowledge, known, this_round, with_tick}
@@ -22,4 +23,5 @@ returns-clause-learns c = λ log h.
       manifests = λ round. (λ i. option_map (datagram_bytes me.session) ((e i).manifest round)) ∙ h.manifests round;
       evictions = λ round. (λ i. (e i).has_evict round) ∙ h.evictions round;
       announced = λ party. (λ i. (e i).is_announced party) ∙ h.announced party;
+      evidence = λ party. (λ i. option_map evidence_bytes ((e i).evidence party)) ∙ h.evidence party;
     }

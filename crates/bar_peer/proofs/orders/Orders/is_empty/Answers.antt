@@ -6,6 +6,6 @@ use Rattle.bar_peer.proofs.orders.Orders.is_empty.Goals as goal
 pub returns : goal.returns
 returns c =
     let o = c.args.self.now in (
-      λ h. drop_all o.given o.says.items (omega (arith, eqb-true o.given c.len.result h, c.len.ensures)),
-      λ e. eq-eqb o.given c.len.result (omega (arith, ap length e, length-drop o.given o.says.items, o.given_fits, c.len.ensures)),
+      λ h. drop_all o.given o.list.items (omega (arith, eqb-true o.given c.len.result h, c.len.ensures)),
+      λ e. eq-eqb o.given c.len.result (omega (arith, ap length e, length-drop o.given o.list.items, o.given_fits, c.len.ensures)),
     )

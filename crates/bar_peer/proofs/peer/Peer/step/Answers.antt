@@ -6,7 +6,6 @@ use Rattle.bar_rules.specs.Peer.Run.{Out, log_after}
 use Rattle.bar_peer.specs.declared.orders.Orders.{Orders}
 use Rattle.bar_peer.specs.Memory.{member_of, Tells}
 use Rattle.bar_peer.specs.Orders.{left_in}
-use Rattle.bar_peer.specs.Sending.{without_reports}
 use Rattle.bar_peer.specs.StandsFor.{contents_left}
 use Rattle.bar_peer.proofs.Stepped.{log-more, over-stands, none-left, obeys-now, then-stands, then-sends, PlaysNow, tick-step, datagram-step}
 use Rattle.bar_peer.proofs.peer.Peer.step.Goals as goal
@@ -15,8 +14,8 @@ use Rattle.bar_peer.proofs.peer.Peer.step.Goals.{then-is_tick, else-is_tick}
 room : {most old new : ℕ} → most ≤ old → new ≡ old → most ≤ new
 room most e = omega (arith, most, e)
 
-all-left : (o : Orders) → o.given ≡ 0 → left_in o ≡ o.says.items
-all-left o e = ap (λ (n : ℕ). drop n o.says.items) e
+all-left : (o : Orders) → o.given ≡ 0 → left_in o ≡ o.list.items
+all-left o e = ap (λ (n : ℕ). drop n o.list.items) e
 
 pub returns-then-is_over-clause-stands : goal.returns-then-is_over-clause-stands
 returns-then-is_over-clause-stands g c inputs stood =
@@ -29,7 +28,7 @@ pub returns-then-is_over-clause-sends : goal.returns-then-is_over-clause-sends
 returns-then-is_over-clause-sends g c inputs stood =
     let m = c.args.self.now.memory in
     let is = over-stands m inputs (plain_input c.args.input) (sym c.is_over.ensures ∙ c.if-is_over.true) stood in
-    none-left (member_of m.who) _ (left_in c.args.self.now.orders) _ c.requires.sends (ap (λ (out : Out). without_reports out.sends) is)
+    none-left (member_of m.who) _ (left_in c.args.self.now.orders) _ c.requires.sends (ap (λ (out : Out). out.sends) is)
 
 pub returns-then-is_over-clause-contents : goal.returns-then-is_over-clause-contents
 returns-then-is_over-clause-contents g c inputs stood =

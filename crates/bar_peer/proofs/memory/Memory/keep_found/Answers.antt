@@ -1,0 +1,49 @@
+use Rattle.std.proofs.Common.{◌≡◌, ◌∙◌, sym, ap, refl}
+use Rattle.std.specs.Prelude.{option_map}
+use Rattle.bar_terms.specs.Table.{digests_of}
+use Rattle.bar_wire.specs.Datagram.{Datagram}
+use Rattle.bar_wire.specs.Evidence.{datagrams_of}
+use Rattle.bar_wire.specs.Views.{datagram}
+use Rattle.bar_rules.specs.Member.{Member}
+use Rattle.bar_rules.specs.Peer.Evidence.{new_evidence}
+use Rattle.bar_rules.specs.Peer.Knowledge.{Knowledge, known, table_of}
+use Rattle.bar_laws.specs.Soundness.{IsSound}
+use Rattle.bar_peer.specs.Memory.{member_of}
+use Rattle.bar_peer.proofs.Taken.{found-kept, none-kept}
+use Rattle.bar_peer.proofs.memory.Memory.keep_found.Goals as goal
+
+pub returns-in-Some-clause-kept : goal.returns-in-Some-clause-kept
+returns-in-Some-clause-kept g c log obeys before h tried =
+    let old = c.args.self.now in
+    let me : Member = member_of old.who in
+    let d : Datagram = datagram me.session.shape c.args.view.now in
+    let k : Knowledge = known me log in
+    let sound : IsSound me k = c.logs_are_sound.ensures me log before in
+    let table : table_of k ≡ digests_of c.table-table.result.now.lists =
+    (λ i round. h.store.table round i) ∙ (λ i. digests_of (sym c.table-table.ensures i).lists)
+    in
+    let found = c.find_evidence.ensures.exact k h.ledger table sound tried in
+    found-kept c.knowledge_is_enough.ensures.entry c.evidence_fits_its_room.ensures old _ log c.args.view.now.from (new_evidence me k d)
+    (datagrams_of c.in-Some.evidence)
+    (sym found ∙ ap (option_map datagrams_of) c.in-Some.is)
+    (record { who = refl; ticks = refl; store = refl; ledger = refl; manifests = refl; evictions = refl })
+    obeys
+    h
+    c.keep_evidence.ensures.kept
+
+pub returns-in-None-clause-kept : goal.returns-in-None-clause-kept
+returns-in-None-clause-kept g c log obeys before h tried =
+    let old = c.args.self.now in
+    let me : Member = member_of old.who in
+    let d : Datagram = datagram me.session.shape c.args.view.now in
+    let k : Knowledge = known me log in
+    let sound : IsSound me k = c.logs_are_sound.ensures me log before in
+    let table : table_of k ≡ digests_of c.table-table.result.now.lists =
+    (λ i round. h.store.table round i) ∙ (λ i. digests_of (sym c.table-table.ensures i).lists)
+    in
+    let found = c.find_evidence.ensures.exact k h.ledger table sound tried in
+    none-kept old _ log c.args.view.now.from (new_evidence me k d)
+    (sym found ∙ ap (option_map datagrams_of) c.in-None.is)
+    (record { who = refl; ticks = refl; store = refl; ledger = refl; manifests = refl; evictions = refl })
+    refl
+    h

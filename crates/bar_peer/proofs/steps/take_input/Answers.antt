@@ -1,0 +1,19 @@
+use Rattle.std.proofs.Common.{◌≡◌, sym, ap, subst}
+use Rattle.bar_wire.specs.Inputs.{Input, plain_input}
+use Rattle.bar_wire.specs.Inputs as event
+use Rattle.bar_rules.specs.Member.{Member}
+use Rattle.bar_rules.specs.Peer.Rules.{IsObedient}
+use Rattle.bar_rules.specs.Peer.Run.{take_input}
+use Rattle.bar_peer.specs.Memory.{member_of}
+use Rattle.bar_peer.specs.Sending.{Stands}
+use Rattle.bar_peer.proofs.steps.take_input.Goals as goal
+
+pub returns-in-Tick-clause-stands : goal.returns-in-Tick-clause-stands
+returns-in-Tick-clause-stands g c log obeys tells empty room =
+    let me : Member = member_of c.args.memory.now.who in
+    let is : plain_input c.args.input ≡ event.Tick = ap plain_input c.in-Tick.is in
+    let stands =
+    c.take_tick.ensures.stands log (subst (λ (input : Input). IsObedient me (take_input me log input).state) is obeys) tells empty room
+    in
+    subst (λ (input : Input). Stands (take_input me log input) c.take_tick.new.memory c.take_tick.new.orders) (sym is)
+    (record { tells = stands.tells; orders = stands.orders })

@@ -1,0 +1,120 @@
+//! The evidence that a datagram completes.
+ghost use Rattle.std.specs.Prelude.{◌≡◌, ◌+◌, ◌*◌, ◌≤◌, ◌∷◌, ℕ, List, [], Some, true, option_map};
+ghost use Rattle.std.specs.Option.{option_copied};
+ghost use Rattle.bar_terms.specs.Table.{digests_of};
+ghost use Rattle.bar_wire.specs.Bodies.{is_peer_kind};
+ghost use Rattle.bar_wire.specs.Datagram.{place_of};
+ghost use Rattle.bar_wire.specs.Evidence.{datagrams_of};
+ghost use Rattle.bar_wire.specs.Views.{datagram, plain, IsView};
+ghost use Rattle.bar_judge.specs.Parts.{IsRead};
+ghost use Rattle.bar_rules.specs.Values.{is_signed_by};
+ghost use Rattle.bar_rules.specs.Peer.Agreement.{IsRecent};
+ghost use Rattle.bar_rules.specs.Peer.Evidence.{is_tried, new_evidence, pair_with, pairs_in};
+ghost use Rattle.bar_rules.specs.Peer.Knowledge.{Knowledge, table_of};
+ghost use Rattle.bar_laws.specs.Soundness.{IsSound};
+ghost use Rattle.bar_ledger.specs.Recalls.{Recalls};
+ghost use Rattle.bar_peer.specs.Memory.{member_of};
+
+use crate::credentials::Credentials;
+use bar_bytes::Steps;
+use bar_exchange::heard_from;
+use bar_judge::laws::verdicts_are_what_is_found;
+use bar_judge::{found, is_peer_kind};
+use bar_ledger::{Ledger, opening_kind};
+use bar_terms::Table;
+use bar_wire::{EvidenceView, Kind, Place, View, decode, place_of, the_datagram_is_spelled};
+use std::sync::ledger::Ledger as StepLedger;
+
+/// The datagram of a kind that was heard from a side of an exchange, where it and one of the same side after it show a fault of their
+/// sender. It counts the steps along the seeds.
+fn pair_with<'a, L: StepLedger>(
+    who: &Credentials,
+    table: &Table,
+    ledger: &'a Ledger,
+    kind: Kind,
+    place: Place,
+    view: &View<'_>,
+    steps: &mut Steps<L>,
+) -> Option<&'a [u8]>
+    requires view { IsRead who.now.session.shape view.now }
+    requires signed { is_peer_kind (plain view.now.body) ≡ true }
+    ensures exact { (k : Knowledge) (bytes : List ℕ) → Recalls (member_of who.now) k ledger.now → table_of k ≡ digests_of table.now.lists
+        → IsSound (member_of who.now) k → IsRecent (member_of who.now) k place.x.round → IsView who.now.session.shape bytes view.now
+        → is_signed_by who.now.session (datagram who.now.session.shape view.now) ≡ true
+        → place_of (datagram who.now.session.shape view.now).message ≡ Some (record { exchange = place.x; role = place.role })
+        → option_map (λ heard. heard ∷ bytes ∷ []) (option_copied result) ≡ pair_with who.now.session (table_of k)
+        (datagram who.now.session.shape view.now) (k.heard kind place.x place.role) }
+    ensures cost { steps.new ≤ steps.old + who.now.session.shape.rounds }
+{
+    verdicts_are_what_is_found();
+    the_datagram_is_spelled();
+    let heard = heard_from(ledger, place.x, kind, place.role)?;
+    let earlier = decode(heard, &who.session.shape()).ok()?;
+    if !is_peer_kind(&earlier.body) {
+        return None;
+    }
+    found(&who.session, table, &earlier, Some(view), steps)?;
+    Some(heard)
+}
+
+/// The first of a side's datagrams of an exchange with which this one shows a fault. It counts the steps along the seeds.
+fn earlier_of_pair<'a, L: StepLedger>(
+    who: &Credentials,
+    table: &Table,
+    ledger: &'a Ledger,
+    place: Place,
+    view: &View<'_>,
+    steps: &mut Steps<L>,
+) -> Option<&'a [u8]>
+    requires view { IsRead who.now.session.shape view.now }
+    requires signed { is_peer_kind (plain view.now.body) ≡ true }
+    ensures exact { (k : Knowledge) (bytes : List ℕ) → Recalls (member_of who.now) k ledger.now → table_of k ≡ digests_of table.now.lists
+        → IsSound (member_of who.now) k → IsRecent (member_of who.now) k place.x.round → IsView who.now.session.shape bytes view.now
+        → is_signed_by who.now.session (datagram who.now.session.shape view.now) ≡ true
+        → place_of (datagram who.now.session.shape view.now).message ≡ Some (record { exchange = place.x; role = place.role })
+        → option_map (λ heard. heard ∷ bytes ∷ []) (option_copied result) ≡ pairs_in who.now.session k
+        (datagram who.now.session.shape view.now) place.x place.role }
+    ensures cost { steps.new ≤ steps.old + 3 * who.now.session.shape.rounds }
+{
+    let opening = opening_kind(place.x.kind, place.role);
+    if let Some(heard) = pair_with(who, table, ledger, opening, place, view, steps) {
+        return Some(heard);
+    }
+    if let Some(heard) = pair_with(who, table, ledger, Kind::Case, place, view, steps) {
+        return Some(heard);
+    }
+    pair_with(who, table, ledger, Kind::Key, place, view, steps)
+}
+
+/// The evidence that a datagram with an accepted signature completes: itself, or it behind the first that was heard of its side of its
+/// exchange with which it shows a fault. It counts the steps along the seeds.
+pub fn find_evidence<'a, L: StepLedger>(
+    who: &Credentials,
+    table: &Table,
+    ledger: &'a Ledger,
+    bytes: &'a [u8],
+    view: &View<'_>,
+    steps: &mut Steps<L>,
+) -> Option<EvidenceView<'a>>
+    requires view { IsView who.now.session.shape bytes.now view.now }
+    requires signed { is_peer_kind (plain view.now.body) ≡ true }
+    ensures exact { (k : Knowledge) → Recalls (member_of who.now) k ledger.now → table_of k ≡ digests_of table.now.lists
+        → IsSound (member_of who.now) k → is_tried (member_of who.now) k (datagram who.now.session.shape view.now) ≡ true
+        → option_map datagrams_of result ≡ new_evidence (member_of who.now) k (datagram who.now.session.shape view.now) }
+    ensures cost { steps.new ≤ steps.old + 4 * who.now.session.shape.rounds }
+{
+    verdicts_are_what_is_found();
+    the_datagram_is_spelled();
+    if found(&who.session, table, view, None, steps).is_some() {
+        return Some(EvidenceView {
+            one: bytes,
+            two: None,
+        });
+    }
+    let place = place_of(view)?;
+    let heard = earlier_of_pair(who, table, ledger, place, view, steps)?;
+    Some(EvidenceView {
+        one: heard,
+        two: Some(bytes),
+    })
+}
