@@ -1,0 +1,5 @@
+pub mod FanoutLemmas
+pub mod Listing
+pub mod Pieces
+pub mod Manifests
+pub mod Announced

@@ -1,0 +1,3 @@
+pub mod Evictions
+pub mod Listed
+pub mod Fanout

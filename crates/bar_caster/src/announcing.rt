@@ -1,0 +1,72 @@
+//! The messages of the broadcaster that go to all peers.
+ghost use Rattle.std.specs.Prelude.{◌≡◌, ◌+◌, ◌*◌, ◌≤◌, ℕ, List, length, take};
+ghost use Rattle.std.specs.List.{concat, flat_map};
+ghost use Rattle.bar_bytes.specs.Bytes.{u16_bytes};
+ghost use Rattle.bar_wire.specs.Datagram.{Manifest, Evict};
+ghost use Rattle.bar_wire.specs.Limits.{largest_datagram};
+ghost use Rattle.bar_wire.specs.Views.{plain, IsBody};
+ghost use Rattle.bar_wire.specs.Writing.{body_written};
+ghost use Rattle.bar_rules.specs.Values.{message_bytes};
+ghost use Rattle.bar_rules.specs.Broadcaster.Sending.{caster_message};
+
+use bar_roster::Session;
+use bar_wire::{Body, EVERYONE, encode};
+
+/// The broadcaster's number.
+const BROADCASTER: u16 = 0;
+
+/// Writes the message of a body to all peers, which is all before the signature, to the front of `out`, and answers its length.
+fn write_to_all(session: &Session, body: &Body<'_>, out: &mut [u8]) -> usize
+    requires body { IsBody session.now.shape body.now }
+    requires short { 16 + body_written session.now.shape body.now ≤ largest_datagram }
+    requires room { largest_datagram ≤ length out.old }
+    ensures written { take result out.new ≡ message_bytes session.now (caster_message (plain body.now)) }
+    ensures end { result ≡ 16 + body_written session.now.shape body.now }
+{
+    let shape = session.shape();
+    encode(BROADCASTER, EVERYONE, body, &shape, out)
+}
+
+/// Writes the message of the MANIFEST of a round, of so many digests of 32 bytes each, to the front of `out`, and answers its length.
+pub fn write_manifest(
+    session: &Session,
+    round: u32,
+    digests: &[u8],
+    count: u8,
+    out: &mut [u8],
+) -> usize
+    requires whole { length digests.now ≡ 32 * count }
+    requires room { largest_datagram ≤ length out.old }
+    ensures written { (list : List (List ℕ)) → count ≡ length list → digests.now ≡ concat list →
+        take result out.new ≡ message_bytes session.now (caster_message (Manifest round list)) }
+    ensures end { result ≡ 21 + 32 * count }
+{
+    let body = Body::Manifest {
+        round,
+        count,
+        digests,
+    };
+    write_to_all(session, &body, out)
+}
+
+/// Writes the message of an EVICT of a round, of parties that stand in two bytes each, to the front of `out`, and answers its length.
+pub fn write_evictions(
+    session: &Session,
+    round: u32,
+    parties: &[u8],
+    count: u8,
+    out: &mut [u8],
+) -> usize
+    requires whole { length parties.now ≡ 2 * count }
+    requires room { largest_datagram ≤ length out.old }
+    ensures written { (evicted : List ℕ) → parties.now ≡ flat_map u16_bytes evicted →
+        take result out.new ≡ message_bytes session.now (caster_message (Evict round evicted)) }
+    ensures end { result ≡ 21 + 2 * count }
+{
+    let body = Body::Evict {
+        round,
+        count,
+        parties,
+    };
+    write_to_all(session, &body, out)
+}
