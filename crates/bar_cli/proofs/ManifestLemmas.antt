@@ -20,7 +20,7 @@ use Rattle.bar_rules.specs.Peer.Run.{log_after}
 use Rattle.bar_rules.specs.Peer.Sizes.{largest}
 use Rattle.bar_rules.specs.Values.{datagram_bytes}
 use Rattle.bar_laws.specs.Sizes.{RunFitsRooms}
-use Rattle.bar_judge.proofs.TableSizes.{signature_short}
+use Rattle.bar_lms.proofs.DigitLemmas.{signature_short}
 use Rattle.bar_findings.specs.Findings.{AreShort, Found, findings_actions, findings_of}
 use Rattle.bar_cli.specs.Found.{evidence_of, found_by, manifest_of}
 

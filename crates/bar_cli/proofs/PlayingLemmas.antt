@@ -10,7 +10,7 @@ use Rattle.bar_wire.specs.Datagram.{Datagram}
 use Rattle.bar_rules.specs.Member.{Session}
 use Rattle.bar_rules.specs.Values.{datagram_bytes}
 use Rattle.bar_peer.specs.declared.memory.Memory.{Memory}
-use Rattle.bar_peer.specs.declared.orders.Orders.{Orders}
+use Rattle.bar_peer.specs.Orders.{Orders}
 use Rattle.bar_peer.specs.Playing.{PlaysFirst}
 use Rattle.bar_peer.specs.StandsFor.{Inputs, StandsFor, AreLeft}
 use Rattle.bar_cli.specs.Transcript.{line_of_bytes, lines_of_sends}

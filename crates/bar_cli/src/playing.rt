@@ -10,7 +10,7 @@ ghost use Rattle.bar_wire.specs.Inputs.{plain_input};
 ghost use Rattle.bar_wire.specs.Limits.{largest_datagram};
 ghost use Rattle.bar_rules.specs.Peer.Run.{log_after, step};
 ghost use Rattle.bar_peer.specs.Memory.{member_of};
-ghost use Rattle.bar_peer.specs.Orders.{left_in};
+ghost use Rattle.bar_store.specs.Orders.{left_in};
 ghost use Rattle.bar_peer.specs.StandsFor.{Inputs, StandsFor, AreLeft, contents_left};
 ghost use Rattle.bar_cli.specs.Transcript.{line_of_bytes, lines_of_sends};
 ghost use Rattle.bar_cli.specs.Turns.{turn_actions, turn_of};

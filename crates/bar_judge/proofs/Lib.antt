@@ -1,4 +1,3 @@
-mod Windows
 mod Messages
 mod Openings
 pub mod TableLists

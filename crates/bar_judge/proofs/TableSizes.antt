@@ -4,11 +4,7 @@ use Rattle.std.specs.List.{concat}
 use Rattle.std.proofs.lemmas.Bool.{cases_Bool}
 use Rattle.std.proofs.lemmas.Option.{option_and_then_some, none-some}
 use Rattle.bar_bytes.proofs.Lengths.{length_u32}
-use Rattle.bar_lms.specs.declared.params.Ots.{Ots}
-use Rattle.bar_lms.specs.declared.params.Ots.TheVariants.{W1, W2, W4, W8}
-use Rattle.bar_lms.specs.declared.params.Params.{Params}
-use Rattle.bar_lms.specs.Params.{chains, signature_len}
-use Rattle.bar_lms.proofs.DigitLemmas.{level_facts}
+use Rattle.bar_lms.proofs.DigitLemmas.{signature_short}
 use Rattle.bar_wire.specs.declared.shape.Shape.{Shape}
 use Rattle.bar_wire.specs.Datagram.{Datagram, Body, Manifest, Block, Request, Response, Divulge, Query, Reply, Case, KeyReq, Key, Evidence, Evict, kind_of}
 use Rattle.bar_wire.specs.Grammar.{HasForm, InRange, SpellsDatagram, message_bytes, pieces}
@@ -19,15 +15,6 @@ use Rattle.bar_roster.specs.Sessions.{IsSession}
 use Rattle.bar_rules.specs.Member.{Session}
 use Rattle.bar_rules.specs.Values.{datagram_of, is_signed_by}
 use Rattle.bar_judge.specs.TableFile.{RoundList, list_in, list_of_signed, if_after, list_after}
-
-chains_few : (ots : Ots) → chains ots ≤ 265
-chains_few W1 = omega arith
-chains_few W2 = omega arith
-chains_few W4 = omega arith
-chains_few W8 = omega arith
-
-pub signature_short : (p : Params) → signature_len p ≤ 9004
-signature_short p = let levels = level_facts p.height in omega (arith, chains_few p.ots, levels.most)
 
 -- what is known of the lengths of a body with a list
 record IsShort (s : Shape) (body : Body) : Type 0 where

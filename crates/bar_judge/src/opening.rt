@@ -2,7 +2,7 @@
 ghost use Rattle.std.specs.Prelude.{◌≡◌, ◌+◌, ◌*◌, ◌≤◌, ◌&&◌, false, true, length};
 ghost use Rattle.std.specs.Bool.{then_some};
 ghost use Rattle.std.specs.Option.{option_map_or};
-ghost use Rattle.bar_window.specs.Exchange.{same_exchange, same_role};
+ghost use Rattle.bar_window.specs.Exchange.{same_role};
 ghost use Rattle.bar_window.specs.Terms.{plain_terms};
 ghost use Rattle.bar_terms.specs.Table.{digests_of, no_lists};
 ghost use Rattle.bar_terms.specs.Terms.{can_promise};
@@ -25,15 +25,6 @@ use bar_terms::{Table, junk_count, terms_fit, update_count};
 use bar_window::Exchange;
 use bar_wire::{View, exchange_by};
 
-pub(crate) fn is_same(x: Exchange, y: Exchange) -> bool
-    ensures { result ≡ same_exchange x y }
-{
-    x.round == y.round
-        && x.kind.code() == y.kind.code()
-        && x.initiator == y.initiator
-        && x.responder == y.responder
-}
-
 /// Whether a briefcase has as many items as its sender promises by its terms.
 pub(crate) fn has_counts(case: &Briefcase<'_>, cap: u8) -> bool
     requires windows { AreAligned case.now.terms }
@@ -52,7 +43,7 @@ fn is_key_for(m: &View<'_>, case: &Briefcase<'_>, n: &View<'_>, key: &GivenKey<'
 {
     let of_case = case.exchange(m.from, m.to);
     let of_key = exchange_by(key.round, key.kind, key.role, n.from, n.to);
-    m.to == n.to && is_same(of_case, of_key) && case.role.code() == key.role.code()
+    m.to == n.to && of_case == of_key && case.role.code() == key.role.code()
 }
 
 /// What a key shows of a briefcase of an exchange, where its terms are valid and its counts are those of its sender's promise.

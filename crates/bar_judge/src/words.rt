@@ -15,7 +15,6 @@ ghost use Rattle.bar_judge.specs.Verdicts.{plain_fault};
 
 use crate::briefcase::{Briefcase, briefcase_of};
 use crate::fault::Fault;
-use crate::opening::is_same;
 use bar_seal::identity;
 use bar_seal::laws::identities_name_messages;
 use bar_seeds::commitment;
@@ -109,7 +108,7 @@ fn is_of_one_exchange(m: &View<'_>, n: &View<'_>) -> bool
     ensures { (s : ShapeData) → result ≡ same_place (datagram s m.now).message (datagram s n.now).message }
 {
     match (place_of(m), place_of(n)) {
-        (Some(one), Some(two)) => is_same(one.x, two.x),
+        (Some(one), Some(two)) => one.x == two.x,
         _ => false,
     }
 }

@@ -20,8 +20,8 @@ mod Formed
 mod SubsetFacts
 mod OwnSide
 -- the lemmas that other groups may cite
-pub use Rattle.bar_laws.proofs.Logs.FirstFinds.{option_or-cases, option_or-some, IsEntry, IsFind, find-of, allowed-at, obedient-before}
-pub use Rattle.bar_laws.proofs.Logs.Lists.{all-both, all-flat, all-snoc, all-map, all-of, all-kept, all-flat-map, all-that, all-mapped}
+pub use Rattle.bar_laws.proofs.Logs.FirstFinds.{or-none, option_or-cases, option_or-some, IsEntry, IsFind, find-of, allowed-at, obedient-before}
+pub use Rattle.bar_laws.proofs.Logs.Lists.{all-both, all-flat, all-snoc, all-map, all-of, all-kept, all-flat-map, all-that, all-mapped, filter-same}
 pub use Rattle.bar_laws.proofs.Logs.EqualityTests.{some-equal, no-value, other-kind, same_exchange-is, same_role-is, same_terms-is}
 pub use Rattle.bar_laws.proofs.Logs.Facts.{length_window_bytes, length-chain_back, length-briefcase_key, length-commitment_of, partner_low, partner_high, promises_equal, promises_some, promises_few, terms_promise, length_sealed, length_keystream, own_key, own_seed, lms_signed_has_its_length, leaves_few, peers_named, lms_signed_is_accepted, length-sha256}
 pub use Rattle.bar_laws.proofs.Logs.LaterLogs.{WasHeard, first_heard-was, first_said-was, some-is, IsLater, said-rule, if_passes-is, later-entry, WasSaid, find-later, map-later, then-later, said_in-is, heard_in-is, later-same, round-later}

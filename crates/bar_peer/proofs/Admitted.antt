@@ -1,5 +1,5 @@
 -- What admits a datagram, what refuses it, and at which evidence is looked for.
-use Rattle.std.proofs.Common.{◌≡◌, ◌≤◌, ◌∙◌, ◌+◌, ◌==◌, is_some, nat_le, ℕ, Bool, true, false, Some, None, ◌&&◌, ◌||◌, not, sym, ap, refl}
+use Rattle.std.proofs.Common.{◌≡◌, ◌≤◌, ◌∙◌, ◌+◌, ◌==◌, is_some, nat_le, ℕ, Bool, true, false, Some, None, ◌&&◌, not, sym, ap, refl}
 use Rattle.std.specs.Prelude.{if◌then◌else◌}
 use Rattle.std.proofs.lemmas.Bool.{and_parts, false≢true}
 use Rattle.std.proofs.lemmas.Option.{same_Some}
@@ -8,7 +8,8 @@ use Rattle.bar_window.specs.declared.exchange.Role.TheVariants.{Initiator, Respo
 use Rattle.bar_window.specs.declared.exchange.XKind.{XKind}
 use Rattle.bar_window.specs.declared.exchange.XKind.TheVariants.{Balanced, Push}
 use Rattle.bar_wire.specs.Bodies.{is_peer_kind}
-use Rattle.bar_wire.specs.Datagram.{Message, Datagram, Place, place_by, place_of, Body, Manifest, Block, Request, Response, Divulge, Query, Reply, Case, KeyReq, Key, Evidence, Evict, is_signed, round_of}
+use Rattle.bar_wire.specs.Datagram.{Message, Datagram, Place, place_by, place_of, Body, Manifest, Block, Request, Response, Divulge, Query, Reply, Case, KeyReq, Key, Evidence, Evict, round_of}
+use Rattle.bar_wire.proofs.Signed.{peer_kind_signed}
 use Rattle.bar_rules.specs.Member.{Session, Member}
 use Rattle.bar_rules.specs.Values.{is_signed_by}
 use Rattle.bar_rules.specs.Peer.Admission.{is_admitted, is_for, is_heard_again, is_row_met, has_valid_signature}
@@ -124,20 +125,6 @@ tried_by_signature me k d =
     (nat_le (this_round k) (round_of d.message.body + me.session.shape.life))
 
 -- a kind that peers sign is a signed one
-pub peer_kind_signed : (b : Body) → is_peer_kind b ≡ true → is_signed b ≡ true
-peer_kind_signed (Request r s c) e = refl
-peer_kind_signed (Response r hb) e = refl
-peer_kind_signed (Query r s y o) e = refl
-peer_kind_signed (Reply r w g z) e = refl
-peer_kind_signed (Case c) e = refl
-peer_kind_signed (Key g) e = refl
-peer_kind_signed (Manifest r ds) e = absurd (false≢true e)
-peer_kind_signed (Block u b) e = absurd (false≢true e)
-peer_kind_signed (Divulge r n ha) e = absurd (false≢true e)
-peer_kind_signed (KeyReq r kind role) e = absurd (false≢true e)
-peer_kind_signed (Evidence ds) e = absurd (false≢true e)
-peer_kind_signed (Evict r ps) e = absurd (false≢true e)
-
 pub valid_of_peer : (s : Session) (d : Datagram) → is_peer_kind d.message.body ≡ true → has_valid_signature s d ≡ is_signed_by s d
 valid_of_peer s d e = ap (λ b. if b then is_signed_by s d else true) (peer_kind_signed d.message.body e)
 
@@ -163,10 +150,6 @@ pub shows_signed : (me : Member) (k : Knowledge) (d : Datagram) → may_show me 
 shows_signed me k d e = valid_of_peer me.session d (shows_peer_kind me k d e)
 
 -- ---- what was weighed
-
-pub none_asked : (a b : Bool) → (a || b) ≡ false → (a ≡ false) × (b ≡ false)
-none_asked false b e = (refl, e)
-none_asked true b e = absurd (false≢true (sym e))
 
 -- whether it is admitted and tried is told, by what may be and by whether the signature is accepted
 pub weighed_admitted : (me : Member) (k : Knowledge) (d : Datagram) (may valid : Bool) → may ≡ may_admit me k d

@@ -52,7 +52,7 @@ same_as s d (Some e) heard bytes same one fits spells is eq =
     ap (λ b. then_some b e) test
     ∙ then_same same e d (λ is_same. one s.shape e d bytes (record { fits = fits e refl; is = sym (told ∙ here is_same) }) spells)
 
-spelled_like : (me : Member) (k : Knowledge) (b : Body) (o : Option Place) (e : Datagram) → AreSpelled me k → heard_like k b o ≡ Some e
+pub spelled_like : (me : Member) (k : Knowledge) (b : Body) (o : Option Place) (e : Datagram) → AreSpelled me k → heard_like k b o ≡ Some e
     → IsDatagram me.session.shape e
 spelled_like me k b None e h is = absurd (cc)
 spelled_like me k b (Some p) e h is = h.spelled (kind_of b) p.exchange p.role e is

@@ -21,7 +21,7 @@ use Rattle.bar_exchange.specs.declared.say.Say.{Say}
 use Rattle.bar_peer.specs.declared.credentials.Credentials.{Credentials}
 use Rattle.bar_peer.specs.declared.memory.Memory.{Memory}
 use Rattle.bar_peer.specs.declared.order.Order.TheVariants as queued
-use Rattle.bar_peer.specs.declared.orders.Orders.{Orders}
+use Rattle.bar_peer.specs.Orders.{Orders}
 use Rattle.bar_peer.specs.Memory.{member_of}
 use Rattle.bar_peer.specs.Sending.{IsTimely, AreFor, IsCarriedOut, Stands}
 use Rattle.bar_peer.proofs.Growing.{Grows, timely_still}

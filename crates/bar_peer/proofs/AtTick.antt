@@ -12,7 +12,7 @@ use Rattle.bar_rules.specs.Peer.Ticks.{new_requests, reports, orders_at_tick}
 use Rattle.bar_rules.specs.Runs.{begun}
 use Rattle.bar_peer.specs.declared.credentials.Credentials.{Credentials}
 use Rattle.bar_peer.specs.declared.memory.Memory.{Memory}
-use Rattle.bar_peer.specs.declared.orders.Orders.{Orders}
+use Rattle.bar_peer.specs.Orders.{Orders}
 use Rattle.bar_peer.specs.Memory.{member_of}
 use Rattle.bar_peer.specs.Sending.{Stands}
 use Rattle.bar_peer.specs.Ticking.{orders_of_opens, is_first_slot, AsksPartners, Reports}

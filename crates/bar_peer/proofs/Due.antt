@@ -1,21 +1,18 @@
 -- What an order's datagram is, by a log.
-use Rattle.std.proofs.Common.{◌≡◌, ◌∙◌, ℕ, ◌<◌, ◌≤◌, ◌==◌, Bool, true, false, List, [], ◌∷◌, Option, Some, None, sym, ap, refl, subst, is_some, arith}
+use Rattle.std.proofs.Common.{◌≡◌, ◌∙◌, ℕ, ◌<◌, ◌≤◌, Bool, true, false, List, [], ◌∷◌, Option, Some, None, sym, ap, refl, subst, is_some, arith}
 use Rattle.std.specs.Prelude.{option_map, IfSome, Contains}
 use Rattle.std.proofs.lemmas.List.Elements.{Contains-append_right}
 use Rattle.std.specs.Bool.{then_some, MatchBool}
-use Rattle.std.specs.Option.{option_or, option_map_or}
-use Rattle.std.proofs.lemmas.Bool.{and_parts}
-use Rattle.std.proofs.lemmas.Bool.Decides.{nat_tests}
+use Rattle.std.specs.Option.{option_or}
 use Rattle.bar_window.specs.declared.exchange.Exchange.{Exchange}
 use Rattle.bar_window.specs.declared.exchange.Role.{Role}
 use Rattle.bar_window.specs.declared.exchange.Role.TheVariants.{Initiator, Responder}
 use Rattle.bar_window.specs.declared.exchange.XKind.{XKind}
 use Rattle.bar_window.specs.declared.exchange.XKind.TheVariants.{Balanced, Push}
 use Rattle.bar_window.specs.Terms.{Terms}
-use Rattle.bar_window.specs.Exchange.{same_exchange, same_kind, same_role}
-use Rattle.bar_wire.specs.Datagram.{Message, Datagram, Body, Manifest, Block, Request, Response, Divulge, Query, Reply, Case, KeyReq, Key, Evidence, Evict, Place, is_of, is_place, kind_of, part_of, place_by, place_of, exchange_by, round_of}
+use Rattle.bar_wire.specs.Datagram.{Message, Datagram, Body, Manifest, Block, Request, Response, Divulge, Query, Reply, Case, KeyReq, Key, Evidence, Evict, Place, is_of, kind_of, part_of, place_by, place_of, exchange_by, round_of}
 use Rattle.bar_wire.specs.Grammar.{IsRound}
-use Rattle.bar_wire.specs.Kinds.{code_of, kind_at, is_signed_kind}
+use Rattle.bar_wire.specs.Kinds.{is_signed_kind}
 use Rattle.bar_wire.specs.declared.kind.Kind.{Kind}
 use Rattle.bar_wire.specs.declared.kind.Kind.TheVariants as kinds
 use Rattle.bar_rules.specs.Member.{Member}
@@ -33,9 +30,11 @@ use Rattle.bar_laws.specs.Leaves.{KeepsLeaves}
 use Rattle.bar_laws.specs.Rewriting.{IsRewritten}
 use Rattle.bar_laws.specs.Sizes.{FitsItsRoom}
 use Rattle.bar_laws.specs.Soundness.{IsSound, CanGive}
+use Rattle.bar_exchange.proofs.FourTests.{round_by, kind_by}
 use Rattle.bar_exchange.specs.Writing.{CanWrite, CanSeal, IsSealable}
 use Rattle.bar_peer.specs.Giving.{IsDue, IsSignedFor}
 use Rattle.bar_peer.specs.Sending.{datagram_now, IsTimely}
+use Rattle.bar_peer.proofs.Heard.{is_here}
 
 -- ---- options
 
@@ -78,68 +77,14 @@ in_log me p (e ∷ log) d h is = by (first_said p log) (λ now. now_said me p lo
 
 -- ---- what is of a kind, exchange and side
 
-at_code : (k : Kind) → kind_at (code_of k) ≡ Some k
-at_code kinds.Manifest = refl
-at_code kinds.Block = refl
-at_code kinds.Request = refl
-at_code kinds.Response = refl
-at_code kinds.Divulge = refl
-at_code kinds.Query = refl
-at_code kinds.Reply = refl
-at_code kinds.Case = refl
-at_code kinds.KeyReq = refl
-at_code kinds.Key = refl
-at_code kinds.Evidence = refl
-at_code kinds.Evict = refl
-
-one_kind : (a b : Kind) → code_of a ≡ code_of b → a ≡ b
-one_kind a b h = let both : Some a ≡ Some b = sym (at_code a) ∙ ap kind_at h ∙ at_code b in cc
-
-one_xkind : (a b : XKind) → same_kind a b ≡ true → a ≡ b
-one_xkind Balanced Balanced h = refl
-one_xkind Balanced Push h = absurd (cc)
-one_xkind Push Balanced h = absurd (cc)
-one_xkind Push Push h = refl
-
-one_role : (a b : Role) → same_role a b ≡ true → a ≡ b
-one_role Initiator Initiator h = refl
-one_role Initiator Responder h = absurd (cc)
-one_role Responder Initiator h = absurd (cc)
-one_role Responder Responder h = refl
-
-one_exchange : (x y : Exchange) → same_exchange x y ≡ true → x ≡ y
-one_exchange x y h =
-    let round : x.round ≡ y.round = grind (arith, nat_tests, h) in
-    let code : same_kind x.kind y.kind ≡ true = grind (arith, nat_tests, h) in
-    let kind : x.kind ≡ y.kind = one_xkind x.kind y.kind code in
-    let initiator : x.initiator ≡ y.initiator = grind (arith, nat_tests, h) in
-    let responder : x.responder ≡ y.responder = grind (arith, nat_tests, h) in
-    λ i. record { round = round i; kind = kind i; initiator = initiator i; responder = responder i }
-
 abbrev place : Exchange → Role → Place
 place x role = record { exchange = x; role = role }
-
-place_is : (x : Exchange) (role : Role) (o : Option Place) → option_map_or (is_place x role) o false ≡ true → o ≡ Some (place x role)
-place_is x role None h = absurd (cc)
-place_is x role (Some p) h =
-    let both = and_parts (same_exchange p.exchange x) (same_role p.role role) h in
-    let there : p.exchange ≡ x = one_exchange p.exchange x both.0 in
-    let side : p.role ≡ role = one_role p.role role both.1 in
-    λ i. Some (place (there i) (side i))
 
 -- A body is of this kind, and of this round, kind and side of an exchange.
 record IsOfPart (x : Exchange) (kind : Kind) (role : Role) (m : Message) : Type 0 where
   pub of_kind : kind_of m.body ≡ kind
   pub at : place_of m ≡ Some (place x role)
   pub part : part_of m.body ≡ Some (x.round, x.kind, role)
-
-round_in : (p : ℕ × XKind × Role) (from to : ℕ) → (exchange_by p.0 p.1 p.2 from to).round ≡ p.0
-round_in (r, k, Initiator) from to = refl
-round_in (r, k, Responder) from to = refl
-
-kind_in : (p : ℕ × XKind × Role) (from to : ℕ) → (exchange_by p.0 p.1 p.2 from to).kind ≡ p.1
-kind_in (r, k, Initiator) from to = refl
-kind_in (r, k, Responder) from to = refl
 
 part_is : (x : Exchange) (role : Role) (from to : ℕ) (o : Option (ℕ × XKind × Role)) → option_map (place_by from to) o ≡ Some (place x role)
     → o ≡ Some (x.round, x.kind, role)
@@ -148,33 +93,28 @@ part_is x role from to o h =
     let p : ℕ × XKind × Role = some.0 in
     let there : x ≡ exchange_by p.0 p.1 p.2 from to = ap (λ (q : Place). q.exchange) some.2 in
     let side : role ≡ p.2 = ap (λ (q : Place). q.role) some.2 in
-    let round : x.round ≡ p.0 = ap (λ (y : Exchange). y.round) there ∙ round_in p from to in
-    let kind : x.kind ≡ p.1 = ap (λ (y : Exchange). y.kind) there ∙ kind_in p from to in
+    let round : x.round ≡ p.0 = ap (λ (y : Exchange). y.round) there ∙ round_by p.0 p.1 p.2 from to in
+    let kind : x.kind ≡ p.1 = ap (λ (y : Exchange). y.kind) there ∙ kind_by p.0 p.1 p.2 from to in
     some.1 ∙ (λ i. Some (sym round i, sym kind i, sym side i))
 
 of_part : (kind : Kind) (x : Exchange) (role : Role) (m : Message) → is_of kind x role m ≡ true → IsOfPart x kind role m
 of_part kind x role m h =
-    let both = and_parts (code_of (kind_of m.body) == code_of kind) (option_map_or (is_place x role) (place_of m) false) h in
-    let there = place_is x role (place_of m) both.1 in
-    record {
-      of_kind = one_kind (kind_of m.body) kind (grind (arith, nat_tests, both.0));
-      at = there;
-      part = part_is x role m.from m.to (part_of m.body) there;
-    }
+    let here = is_here m kind x role h in
+    record { of_kind = here.kind_is; at = here.place_is; part = part_is x role m.from m.to (part_of m.body) here.place_is }
 
-round_by : (b : Body) (p : ℕ × XKind × Role) → part_of b ≡ Some p → round_of b ≡ p.0
-round_by (Manifest r ds) p h = absurd (cc)
-round_by (Block u block) p h = absurd (cc)
-round_by (Evidence ds) p h = absurd (cc)
-round_by (Evict r ps) p h = absurd (cc)
-round_by (Request r s c) p h = let same : (r, Balanced, Initiator) ≡ p = cc in ap (λ (q : ℕ × XKind × Role). q.0) same
-round_by (Response r hb) p h = let same : (r, Balanced, Responder) ≡ p = cc in ap (λ (q : ℕ × XKind × Role). q.0) same
-round_by (Divulge r n ha) p h = let same : (r, Balanced, Initiator) ≡ p = cc in ap (λ (q : ℕ × XKind × Role). q.0) same
-round_by (Query r s y o) p h = let same : (r, Push, Initiator) ≡ p = cc in ap (λ (q : ℕ × XKind × Role). q.0) same
-round_by (Reply r w g z) p h = let same : (r, Push, Responder) ≡ p = cc in ap (λ (q : ℕ × XKind × Role). q.0) same
-round_by (Case c) p h = let same : (c.round, c.kind, c.role) ≡ p = cc in ap (λ (q : ℕ × XKind × Role). q.0) same
-round_by (KeyReq r kind role) p h = let same : (r, kind, role) ≡ p = cc in ap (λ (q : ℕ × XKind × Role). q.0) same
-round_by (Key g) p h = let same : (g.round, g.kind, g.role) ≡ p = cc in ap (λ (q : ℕ × XKind × Role). q.0) same
+round_of_part : (b : Body) (p : ℕ × XKind × Role) → part_of b ≡ Some p → round_of b ≡ p.0
+round_of_part (Manifest r ds) p h = absurd (cc)
+round_of_part (Block u block) p h = absurd (cc)
+round_of_part (Evidence ds) p h = absurd (cc)
+round_of_part (Evict r ps) p h = absurd (cc)
+round_of_part (Request r s c) p h = let same : (r, Balanced, Initiator) ≡ p = cc in ap (λ (q : ℕ × XKind × Role). q.0) same
+round_of_part (Response r hb) p h = let same : (r, Balanced, Responder) ≡ p = cc in ap (λ (q : ℕ × XKind × Role). q.0) same
+round_of_part (Divulge r n ha) p h = let same : (r, Balanced, Initiator) ≡ p = cc in ap (λ (q : ℕ × XKind × Role). q.0) same
+round_of_part (Query r s y o) p h = let same : (r, Push, Initiator) ≡ p = cc in ap (λ (q : ℕ × XKind × Role). q.0) same
+round_of_part (Reply r w g z) p h = let same : (r, Push, Responder) ≡ p = cc in ap (λ (q : ℕ × XKind × Role). q.0) same
+round_of_part (Case c) p h = let same : (c.round, c.kind, c.role) ≡ p = cc in ap (λ (q : ℕ × XKind × Role). q.0) same
+round_of_part (KeyReq r kind role) p h = let same : (r, kind, role) ≡ p = cc in ap (λ (q : ℕ × XKind × Role). q.0) same
+round_of_part (Key g) p h = let same : (g.round, g.kind, g.role) ≡ p = cc in ap (λ (q : ℕ × XKind × Role). q.0) same
 
 -- ---- the datagram of an order
 
@@ -193,7 +133,7 @@ signed_for : (me : Member) (log : Log) (kind : Kind) (x : Exchange) (d : Datagra
 signed_for me log kind x d b laws said is =
     let of = of_part kind x (role_of me x) d.message (laws.sound.said kind x (role_of me x) d said) in
     let there = in_log me (is_of kind x (role_of me x)) log d laws.obedient said in
-    let round : round_of d.message.body ≡ x.round = round_by d.message.body (x.round, x.kind, role_of me x) of.part in
+    let round : round_of d.message.body ≡ x.round = round_of_part d.message.body (x.round, x.kind, role_of me x) of.part in
     record {
       kind = of.of_kind;
       part = of.part;

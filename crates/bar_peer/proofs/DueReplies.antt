@@ -1,5 +1,5 @@
 -- The replies to a datagram are of exchanges of this member's, and may be said now.
-use Rattle.std.proofs.Common.{◌≡◌, ◌≤◌, ◌+◌, ℕ, Bool, true, false, ◌&&◌, ◌||◌, List, [], ◌∷◌, refl, sym, subst, arith, inl, inr}
+use Rattle.std.proofs.Common.{◌≡◌, ◌≤◌, ◌+◌, ℕ, Bool, true, false, ◌||◌, List, [], ◌∷◌, refl, sym, subst, arith, inl, inr}
 use Rattle.std.specs.Prelude.{map, nat_le, ◌==◌}
 use Rattle.std.specs.List.{AllByRecursion}
 use Rattle.std.proofs.lemmas.Bool.{and_parts, cases_Bool, false≢true}
@@ -14,16 +14,18 @@ use Rattle.bar_wire.specs.Datagram.{Body, Manifest, Block, Request, Response, Di
 use Rattle.bar_wire.specs.declared.kind.Kind.{Kind}
 use Rattle.bar_wire.specs.declared.kind.Kind.TheVariants as kinds
 use Rattle.bar_rules.specs.Member.{Member}
-use Rattle.bar_rules.specs.Peer.Admission.{is_row_met, may_ask}
+use Rattle.bar_rules.specs.Peer.Admission.{is_row_met}
 use Rattle.bar_rules.specs.Peer.Agreement.{IsRecent}
-use Rattle.bar_rules.specs.Peer.Exchanges.{role_of, request_kind}
+use Rattle.bar_rules.specs.Peer.Exchanges.{role_of}
 use Rattle.bar_rules.specs.Peer.Knowledge.{Knowledge, this_round, is_in_time}
 use Rattle.bar_rules.specs.Peer.Orders.{Order, Ask, Answer, Reveal, GiveCase, AskKey, GiveKey, Resend, Report}
 use Rattle.bar_rules.specs.Peer.Replies.{orders_for, orders_when}
 use Rattle.bar_exchange.specs.declared.say.Say.{Say}
 use Rattle.bar_exchange.specs.Says.{order_by, Fits}
+use Rattle.bar_exchange.proofs.FourTests.{round_by}
 use Rattle.bar_peer.specs.Repeats.{is_of_exchange}
 use Rattle.bar_peer.specs.Sending.{IsOwn}
+use Rattle.bar_peer.proofs.Rows.{last_of, may_ask_in_time}
 
 -- one of its parties is this member
 abbrev IsOurs : Member → Exchange → Type 0
@@ -62,10 +64,6 @@ says-due me k (say ∷ says) life fits all = (say-due me k say.kind say.x life f
 
 -- ---- the orders for a datagram
 
-round-by : (r : ℕ) (kind : XKind) (role : Role) (from to : ℕ) → (exchange_by r kind role from to).round ≡ r
-round-by r kind Initiator from to = refl
-round-by r kind Responder from to = refl
-
 ours-by : (me : Member) (r : ℕ) (kind : XKind) (role : Role) (from to : ℕ) → to ≡ me.party → IsOurs me (exchange_by r kind role from to)
 ours-by me r kind Initiator from to e = elim (cases_Bool (from == me.party)) [
   | inl same ↦ let is : from ≡ me.party = grind (arith, nat_tests, same) in rw same is
@@ -84,14 +82,14 @@ recent-by : (me : Member) (k : Knowledge) (r deadline : ℕ) (kind : XKind) (rol
 recent-by me k r deadline kind role from to few t =
     let by : this_round k ≤ r + deadline = grind (arith, nat_tests, t) in
     let here : IsRecent me k r = omega (arith, few, by) in
-    subst (IsRecent me k) (sym (round-by r kind role from to)) here
+    subst (IsRecent me k) (sym (round_by r kind role from to)) here
 
 soon-by : (k : Knowledge) (r deadline : ℕ) (kind : XKind) (role : Role) (from to : ℕ) → deadline ≤ 2
     → nat_le (this_round k) (r + deadline) ≡ true → this_round k ≤ (exchange_by r kind role from to).round + 2
 soon-by k r deadline kind role from to few t =
     let by : this_round k ≤ r + deadline = grind (arith, nat_tests, t) in
     let here : this_round k ≤ r + 2 = omega (arith, few, by) in
-    subst (λ (n : ℕ). this_round k ≤ n + 2) (sym (round-by r kind role from to)) here
+    subst (λ (n : ℕ). this_round k ≤ n + 2) (sym (round_by r kind role from to)) here
 
 when-due : (me : Member) (k : Knowledge) (b : Bool) (os : List Order) → (b ≡ true → AllByRecursion (IsDue me k) os) → AllByRecursion (IsDue me k) (orders_when b os)
 when-due me k true os all = all refl
@@ -102,24 +100,17 @@ in-time : (is_new t : Bool) → (is_new ≡ true → t ≡ true) → (is_new || 
 in-time true t new e = new refl
 in-time false t new e = e
 
-last : (a t : Bool) → (a && t) ≡ true → t ≡ true
-last a t h = (and_parts a t h).1
-
-ask-deadline : (me : Member) (k : Knowledge) (kind : XKind) (from round : ℕ) (seed : List ℕ) → may_ask me k kind from round seed ≡ true
-    → is_in_time me.session k (request_kind kind) round ≡ true
-ask-deadline me k kind from round seed h = last _ _ (last _ _ h)
-
 -- the row of a datagram of an exchange bounds its round by the deadline of its kind
 pub row-deadline : (me : Member) (k : Knowledge) (from to : ℕ) (b : Body) → is_of_exchange b ≡ true → is_row_met me k from to b ≡ true
     → is_in_time me.session k (kind_of b) (round_of b) ≡ true
-row-deadline me k from to (Request r s c) x met = ask-deadline me k Balanced from r s met
-row-deadline me k from to (Response r hb) x met = last _ _ met
-row-deadline me k from to (Divulge r n ha) x met = last _ _ met
-row-deadline me k from to (Query r s y o) x met = ask-deadline me k Push from r s (last _ _ met)
-row-deadline me k from to (Reply r w g z) x met = last _ _ met
-row-deadline me k from to (Case c) x met = last _ _ met
-row-deadline me k from to (KeyReq r kind role) x met = last _ _ met
-row-deadline me k from to (Key g) x met = last _ _ met
+row-deadline me k from to (Request r s c) x met = may_ask_in_time me k Balanced from r s met
+row-deadline me k from to (Response r hb) x met = last_of _ _ met
+row-deadline me k from to (Divulge r n ha) x met = last_of _ _ met
+row-deadline me k from to (Query r s y o) x met = may_ask_in_time me k Push from r s (last_of _ _ met)
+row-deadline me k from to (Reply r w g z) x met = last_of _ _ met
+row-deadline me k from to (Case c) x met = last_of _ _ met
+row-deadline me k from to (KeyReq r kind role) x met = last_of _ _ met
+row-deadline me k from to (Key g) x met = last_of _ _ met
 row-deadline me k from to (Manifest r ds) x met = absurd (false≢true x)
 row-deadline me k from to (Block u b) x met = absurd (false≢true x)
 row-deadline me k from to (Evidence ds) x met = absurd (false≢true x)

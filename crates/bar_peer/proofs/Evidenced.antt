@@ -1,17 +1,17 @@
 -- Kept evidence, as the body of a report.
-use Rattle.std.proofs.Common.{◌≡◌, ◌∙◌, ◌+◌, ◌<◌, ◌^◌, ℕ, false, List, [], ◌∷◌, ◌++◌, Result, Ok, Err, length, sym, ap, subst, arith}
+use Rattle.std.proofs.Common.{◌≡◌, ◌∙◌, ◌+◌, ℕ, false, List, [], ◌∷◌, ◌++◌, Result, Ok, Err, length, sym, ap, subst, arith}
 use Rattle.std.specs.Prelude.{IfOk}
 use Rattle.std.specs.Result.{is_err}
-use Rattle.std.specs.List.{flat_map, AllByRecursion}
+use Rattle.std.specs.List.{flat_map}
 use Rattle.std.proofs.lemmas.List.{append-nil}
 use Rattle.bar_wire.specs.Datagram.{Evidence}
 use Rattle.bar_wire.specs.Evidence.{evidence_bytes, datagrams_of, IsEvidence}
-use Rattle.bar_wire.specs.Grammar.{entry, message_bytes, IsEntryInRange}
+use Rattle.bar_wire.specs.Grammar.{entry, message_bytes}
 use Rattle.bar_wire.specs.Places.{entries, entries_len}
 use Rattle.bar_wire.specs.declared.evidence.EvidenceView.{EvidenceView}
 use Rattle.bar_wire.specs.declared.fault.WireFault.{WireFault}
 use Rattle.bar_wire.specs.declared.shape.Shape.{Shape}
-use Rattle.bar_wire.proofs.EvidenceReads.{evidence_whole}
+use Rattle.bar_wire.proofs.EvidenceReads.{evidence_whole, lengths_fit}
 use Rattle.bar_wire.proofs.ReadBack.{entries_back}
 use Rattle.bar_wire.proofs.Written.{message_len}
 
@@ -21,10 +21,6 @@ pub evidence_of : (bytes : List ℕ) (r : Result EvidenceView WireFault) → fal
 evidence_of bytes (Ok v) none found = (datagrams_of v, found)
 evidence_of bytes (Err fault) none found = absurd (cc)
 
-short_entries : (ds : List (List ℕ)) → AllByRecursion IsEntryInRange ds → AllByRecursion (λ d. length d < 2 ^ 16) ds
-short_entries [] all = tt
-short_entries (d ∷ ds) all = (omega (arith, all.0.1), short_entries ds all.1)
-
 -- its entries are its datagrams
 pub entries_of : (bytes rest : List ℕ) (count : ℕ) (ds : List (List ℕ)) → bytes ≡ count ∷ rest → IsEvidence bytes ds
     → entries count rest ≡ ds
@@ -33,7 +29,7 @@ entries_of bytes rest count ds is of =
     let same : count ∷ rest ≡ length ds ∷ (flat ++ []) = sym is ∙ of.is in
     let counts : count ≡ length ds = cc in
     let rests : rest ≡ flat ++ [] = cc in
-    (λ i. entries (counts i) ((rests ∙ append-nil flat) i)) ∙ entries_back ds (short_entries ds of.range.2)
+    (λ i. entries (counts i) ((rests ∙ append-nil flat) i)) ∙ entries_back ds (lengths_fit ds of.range.2)
 
 -- they are as long as their lengths say
 pub whole_entries : (bytes rest : List ℕ) (count : ℕ) (ds : List (List ℕ)) → bytes ≡ count ∷ rest → IsEvidence bytes ds

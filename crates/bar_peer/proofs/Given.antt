@@ -19,7 +19,8 @@ use Rattle.bar_rules.specs.Member.{Session, is_alive}
 use Rattle.bar_rules.specs.Values.{opening_of, is_good, opened_block}
 use Rattle.bar_rules.specs.Peer.Admission.{has_digest}
 use Rattle.bar_peer.specs.Opening.{is_to_hold, block_in_item, block_in_items, IsNear, AreGiven}
-use Rattle.bar_peer.proofs.Opened.{and_false, none_if, same_is}
+use Rattle.bar_window.proofs.Sets.{same_is}
+use Rattle.bar_peer.proofs.Opened.{and_false, none_if}
 
 -- the block of an update among those of updates
 abbrev block_among : List UpdateId → List (List ℕ) → UpdateId → Option (List ℕ)

@@ -1,23 +1,25 @@
 -- What is known after a datagram of an exchange was heard.
-use Rattle.std.proofs.Common.{◌≡◌, ◌∙◌, ◌==◌, ◌&&◌, ℕ, Bool, true, false, not, Option, Some, None, is_some, sym, ap, refl, option_map}
+use Rattle.std.proofs.Common.{◌≡◌, ◌∙◌, ◌&&◌, ℕ, Bool, true, false, not, Option, Some, None, is_some, sym, ap, refl, option_map}
 use Rattle.std.specs.Option.{option_map_or}
-use Rattle.std.proofs.lemmas.Bool.{not-true, and_parts, eqb-true, false≢true, both_ways}
+use Rattle.std.proofs.lemmas.Bool.{not-true, and_parts, false≢true, both_ways}
 use Rattle.std.proofs.lemmas.Option.{same_Some}
-use Rattle.bar_window.specs.Exchange.{same_exchange, same_kind, same_role}
 use Rattle.bar_window.specs.declared.exchange.Exchange.{Exchange}
 use Rattle.bar_window.specs.declared.exchange.Role.{Role}
-use Rattle.bar_window.specs.declared.exchange.Role.TheVariants.{Initiator, Responder}
+use Rattle.bar_window.specs.declared.exchange.Role.TheVariants.{Initiator}
 use Rattle.bar_window.specs.declared.exchange.XKind.{XKind}
 use Rattle.bar_window.specs.declared.exchange.XKind.TheVariants.{Balanced, Push}
-use Rattle.bar_wire.specs.Datagram.{Message, Datagram, Body, Manifest, Block, Request, Response, Divulge, Query, Reply, Case, KeyReq, Key, Evidence, Evict, Place, kind_of, part_of, place_by, place_of, exchange_by, is_of, is_place, is_signed}
-use Rattle.bar_wire.specs.Kinds.{code_of, kind_at, is_signed_kind}
+use Rattle.bar_wire.specs.Datagram.{Message, Datagram, Body, Manifest, Block, Request, Response, Divulge, Query, Reply, Case, KeyReq, Key, Evidence, Evict, Place, kind_of, part_of, place_by, place_of, is_of, is_place, is_signed}
+use Rattle.bar_wire.specs.Kinds.{is_signed_kind}
 use Rattle.bar_wire.specs.declared.kind.Kind.{Kind}
-use Rattle.bar_wire.specs.declared.kind.Kind.TheVariants as kinds
 use Rattle.bar_rules.specs.Member.{Member}
 use Rattle.bar_rules.specs.Peer.Admission.{is_admitted, is_named_again}
 use Rattle.bar_rules.specs.Peer.Exchanges.{request_kind}
 use Rattle.bar_rules.specs.Peer.Knowledge.{Knowledge, has_heard_of}
 use Rattle.bar_laws.specs.Soundness.{IsSound}
+use Rattle.bar_ledger.proofs.Same.{one_exchange}
+use Rattle.bar_exchange.proofs.FourTests.{kind_by}
+use Rattle.bar_exchange.proofs.KindCases.{one_kind}
+use Rattle.bar_exchange.proofs.Places.{one_role}
 use Rattle.bar_balanced.specs.Parts.{is_balanced}
 use Rattle.bar_balanced.specs.Parts as balanced
 use Rattle.bar_push.specs.Parts.{is_push}
@@ -30,15 +32,11 @@ pub unplaced : (from to : ℕ) (o : Option (ℕ × XKind × Role)) → option_ma
 unplaced from to None none some = false≢true some
 unplaced from to (Some p) none some = absurd (cc)
 
-kind_here : (round : ℕ) (kind : XKind) (role : Role) (from to : ℕ) → (exchange_by round kind role from to).kind ≡ kind
-kind_here round kind Initiator from to = refl
-kind_here round kind Responder from to = refl
-
 pub placed_kind : (from to : ℕ) (o : Option (ℕ × XKind × Role)) (p : Place) → option_map (place_by from to) o ≡ Some p
     → option_map (λ q. q.1) o ≡ Some p.exchange.kind
 placed_kind from to None p e = absurd (cc)
 placed_kind from to (Some q) p e =
-    ap Some (sym (kind_here q.0 q.1 q.2 from to) ∙ ap (λ (p : Place). p.exchange.kind) (same_Some (place_by from to q) p e))
+    ap Some (sym (kind_by q.0 q.1 q.2 from to) ∙ ap (λ (p : Place). p.exchange.kind) (same_Some (place_by from to q) p e))
 
 balanced_part : (round : ℕ) (kind : XKind) (role : Role) → Some kind ≡ Some Balanced → is_some (balanced.part_by round kind role) ≡ true
 balanced_part round kind role e = ap (λ k. is_some (balanced.part_by round k role)) (same_Some kind Balanced e)
@@ -76,53 +74,12 @@ push_by (Evict r ps) e = absurd (cc)
 
 -- ---- what a datagram is of
 
-kind_back : (kind : Kind) → kind_at (code_of kind) ≡ Some kind
-kind_back kinds.Manifest = refl
-kind_back kinds.Block = refl
-kind_back kinds.Request = refl
-kind_back kinds.Response = refl
-kind_back kinds.Divulge = refl
-kind_back kinds.Query = refl
-kind_back kinds.Reply = refl
-kind_back kinds.Case = refl
-kind_back kinds.KeyReq = refl
-kind_back kinds.Key = refl
-kind_back kinds.Evidence = refl
-kind_back kinds.Evict = refl
-
-same_code : (a b : Kind) → (code_of a == code_of b) ≡ true → a ≡ b
-same_code a b e = same_Some a b (sym (kind_back a) ∙ ap kind_at (eqb-true (code_of a) (code_of b) e) ∙ kind_back b)
-
-kind_is : (a b : XKind) → same_kind a b ≡ true → a ≡ b
-kind_is Balanced Balanced e = refl
-kind_is Push Push e = refl
-kind_is Balanced Push e = absurd (false≢true e)
-kind_is Push Balanced e = absurd (false≢true e)
-
-role_is : (a b : Role) → same_role a b ≡ true → a ≡ b
-role_is Initiator Initiator e = refl
-role_is Responder Responder e = refl
-role_is Initiator Responder e = absurd (false≢true e)
-role_is Responder Initiator e = absurd (false≢true e)
-
-exchange_is : (x y : Exchange) → same_exchange x y ≡ true → x ≡ y
-exchange_is x y e =
-    let last = and_parts _ _ e in
-    let third = and_parts _ _ last.0 in
-    let first = and_parts _ _ third.0 in
-    λ i. record {
-      round = eqb-true x.round y.round first.0 i;
-      kind = kind_is x.kind y.kind first.1 i;
-      initiator = eqb-true x.initiator y.initiator third.1 i;
-      responder = eqb-true x.responder y.responder last.1 i;
-    }
-
 placed : (o : Option Place) (x : Exchange) (role : Role) → option_map_or (is_place x role) o false ≡ true
     → o ≡ Some (record { exchange = x; role = role })
 placed None x role e = absurd (false≢true e)
 placed (Some p) x role e =
     let parts = and_parts _ _ e in
-    λ i. Some (record { exchange = exchange_is p.exchange x parts.0 i; role = role_is p.role role parts.1 i })
+    λ i. Some (record { exchange = one_exchange p.exchange x parts.0 i; role = one_role p.role role parts.1 i })
 
 -- The message is of this kind, and stands on this side of the exchange.
 pub record IsHere (m : Message) (kind : Kind) (x : Exchange) (role : Role) : Type 0 where
@@ -132,7 +89,7 @@ pub record IsHere (m : Message) (kind : Kind) (x : Exchange) (role : Role) : Typ
 pub is_here : (m : Message) (kind : Kind) (x : Exchange) (role : Role) → is_of kind x role m ≡ true → IsHere m kind x role
 is_here m kind x role e =
     let parts = and_parts _ _ e in
-    record { kind_is = same_code (kind_of m.body) kind parts.0; place_is = placed (place_of m) x role parts.1 }
+    record { kind_is = one_kind (kind_of m.body) kind parts.0; place_is = placed (place_of m) x role parts.1 }
 
 -- ---- requests
 

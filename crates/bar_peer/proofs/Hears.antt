@@ -45,7 +45,8 @@ use Rattle.bar_peer.specs.Memory.{IsMemoryOf, Tells, member_of}
 use Rattle.bar_peer.specs.Repeats.{is_of_exchange}
 use Rattle.bar_peer.proofs.Heard.{IsHere, is_here, unseated}
 use Rattle.bar_peer.proofs.Keys.{admitted_for}
-use Rattle.bar_peer.proofs.Rooms.{asking_by, room-left, some_mapped}
+use Rattle.bar_exchange.proofs.FourTests.{some_of}
+use Rattle.bar_peer.proofs.Rooms.{asking_by, room-left}
 
 -- ---- what a log tells
 
@@ -127,7 +128,7 @@ leaves_room leaves sound entry me log d fits obeys x is =
     in
     let role : role_of me x ≡ Responder = ap (λ b. if b then Initiator else Responder) (ne_eqb x.initiator me.party apart) in
     let free : is_kept me k x ≡ false =
-    some_mapped _ (asking_of k x (role_of me x))
+    some_of _ (asking_of k x (role_of me x))
     ∙ ap (λ (r : Role). is_some (asking_of k x r)) role
     ∙ ap (λ o. is_some (option_and_then asking_at o)) none
     in
@@ -137,7 +138,7 @@ leaves_room leaves sound entry me log d fits obeys x is =
     ∙ (λ i. is_some (option_or (none i) (then_some (is i) (k.asked x.kind x.round))))
     in
     let kept : is_kept me after x ≡ true =
-    some_mapped _ (asking_of after x (role_of me x))
+    some_of _ (asking_of after x (role_of me x))
     ∙ ap (λ (r : Role). is_some (asking_of after x r)) role
     ∙ asking_by me after (sound me (Heard d ∷ log) obeys) x Responder seat
     in

@@ -30,7 +30,8 @@ use Rattle.bar_store.specs.declared.store.Store.{Store}
 use Rattle.bar_store.specs.Held.{block_in, HasSame}
 use Rattle.bar_store.specs.Holds.{Holds}
 use Rattle.bar_peer.specs.Opening.{IsNear, AreGiven, block_given}
-use Rattle.bar_peer.proofs.Opened.{none_if, or_none}
+use Rattle.bar_exchange.proofs.Said.{or_none}
+use Rattle.bar_peer.proofs.Opened.{none_if}
 use Rattle.bar_peer.proofs.Rows.{in_time}
 
 -- ---- what an admitted datagram meets

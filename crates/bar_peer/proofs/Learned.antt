@@ -1,9 +1,8 @@
 -- What is known after a datagram to all, or a block, was heard.
-use Rattle.std.proofs.Common.{◌≡◌, ◌∙◌, ◌==◌, ◌+◌, ◌*◌, ◌/◌, ◌≤◌, ◌&&◌, ◌||◌, inl, inr, ℕ, zero, suc, Bool, true, false, List, [], ◌∷◌, length, drop, Option, Some, None, is_some, nat_lt, sym, ap, refl, subst, arith, option_map, if◌then◌else◌}
+use Rattle.std.proofs.Common.{◌≡◌, ◌∙◌, ◌==◌, ◌+◌, ◌*◌, ◌/◌, ◌≤◌, ◌&&◌, ◌||◌, inl, inr, ℕ, Bool, true, false, List, [], ◌∷◌, Option, Some, None, is_some, nat_lt, sym, ap, refl, subst, arith, option_map, if◌then◌else◌}
 use Rattle.std.specs.Bool.{then_some}
 use Rattle.std.specs.List.{list_any}
 use Rattle.std.specs.Option.{option_or}
-use Rattle.std.specs.Simd.{first_chunks}
 use Rattle.std.proofs.lemmas.Bool.{not-true, and_parts, cases_eq, eq-eqb, ne_eqb, lt-ltb, false≢true}
 use Rattle.bar_window.specs.declared.exchange.Exchange.{Exchange}
 use Rattle.bar_window.specs.declared.exchange.XKind.{XKind}
@@ -118,11 +117,7 @@ kept_more {A} bytes first a here n kept none is = elim (cases_eq n here) [
       ∙ (λ i. if sym (ne_eqb n here ne) i then Some (bytes a) else kept)
 ]
 
--- ---- lists of bytes
-
-pub length_chunks : (w n : ℕ) (bytes : List ℕ) → length (first_chunks w n bytes) ≡ n
-length_chunks w zero bytes = refl
-length_chunks w (suc n) bytes = ap suc (length_chunks w n (drop w bytes))
+-- ---- digests
 
 pub whole_count : (count n : ℕ) → n ≡ 32 * count → n / 32 ≡ count
 whole_count count n e = omega (arith, e)

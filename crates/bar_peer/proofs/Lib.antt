@@ -4,7 +4,6 @@ pub mod Admitted
 pub mod Replied
 pub mod DueReplies
 pub mod Stale
-pub mod Before
 pub mod Opened
 pub mod Given
 pub mod Answered

@@ -20,7 +20,8 @@ use Rattle.bar_exchange.specs.declared.say.Say.{Say}
 use Rattle.bar_exchange.specs.Writing.{IsWritten, bytes_to}
 use Rattle.bar_peer.specs.declared.order.Order.{Order}
 use Rattle.bar_peer.specs.declared.order.Order.TheVariants as queued
-use Rattle.bar_peer.specs.Giving.{IsDue, IsOrderDue, IsGiven, receiver_of}
+use Rattle.bar_peer.specs.Giving.{IsDue, IsOrderDue, receiver_of}
+use Rattle.bar_rules.specs.Giving.{IsGiven}
 use Rattle.bar_peer.specs.Sending.{AreFor, IsOrderTimely, datagram_now, order_now, report_of}
 use Rattle.bar_peer.proofs.Due.{AreLaws, due, map_some}
 

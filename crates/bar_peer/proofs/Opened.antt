@@ -1,16 +1,11 @@
 -- The blocks of an opened briefcase, item by item.
 use Rattle.std.proofs.Common.{◌≡◌, ◌<◌, ◌∙◌, ℕ, zero, suc, ◌+◌, ◌&&◌, Bool, true, false, List, [], ◌∷◌, take, length, slice_index_or, Option, Some, None, ap, refl, arith, if◌then◌else◌}
 use Rattle.std.specs.Option.{option_or}
-use Rattle.std.proofs.lemmas.Bool.{and_parts, eqb-true}
 use Rattle.bar_window.specs.declared.update.UpdateId.{UpdateId}
-use Rattle.bar_window.specs.Updates.{same_update}
 use Rattle.bar_terms.specs.declared.items.Item.{Item}
 use Rattle.bar_terms.specs.Table.{Table}
+use Rattle.bar_exchange.proofs.Said.{or_none}
 use Rattle.bar_peer.specs.Opening.{block_in_item, block_in_items}
-
-pub or_none : {A : Type 0} (o : Option A) → option_or o None ≡ o
-or_none None = refl
-or_none (Some x) = refl
 
 pub or_or : {A : Type 0} (o p q : Option A) → option_or o (option_or p q) ≡ option_or (option_or o p) q
 or_or None p q = refl
@@ -23,11 +18,6 @@ none_if false = refl
 pub and_false : (b : Bool) → (b && false) ≡ false
 and_false true = refl
 and_false false = refl
-
-pub same_is : (u v : UpdateId) → same_update u v ≡ true → u ≡ v
-same_is u v e =
-    let p = and_parts _ _ e in
-    (λ i. record { round = eqb-true u.round v.round p.0 i; index = eqb-true u.index v.index p.1 i })
 
 -- ---- all items
 

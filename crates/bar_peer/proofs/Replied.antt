@@ -5,12 +5,13 @@ use Rattle.bar_window.specs.declared.exchange.Role.{Role}
 use Rattle.bar_window.specs.declared.exchange.Role.TheVariants.{Initiator, Responder}
 use Rattle.bar_window.specs.declared.exchange.XKind.{XKind}
 use Rattle.bar_window.specs.declared.exchange.XKind.TheVariants.{Balanced, Push}
-use Rattle.bar_wire.specs.Datagram.{Body, Manifest, Block, Request, Response, Divulge, Query, Reply, Case, KeyReq, Key, Evidence, Evict, Place, place_by, part_of, exchange_by}
+use Rattle.bar_wire.specs.Datagram.{Body, Manifest, Block, Request, Response, Divulge, Query, Reply, Case, KeyReq, Key, Evidence, Evict, Place, place_by, part_of}
 use Rattle.bar_rules.specs.Member.{Member}
 use Rattle.bar_rules.specs.Peer.Knowledge.{Knowledge}
 use Rattle.bar_rules.specs.Peer.Orders.{Order}
 use Rattle.bar_rules.specs.Peer.Replies.{orders_for}
 use Rattle.bar_wire.specs.declared.place.Place.{Place as CodePlace}
+use Rattle.bar_exchange.proofs.FourTests.{kind_by}
 use Rattle.bar_balanced.specs.Parts.{is_balanced}
 use Rattle.bar_balanced.specs.Parts as balanced
 use Rattle.bar_push.specs.Parts.{is_push}
@@ -35,10 +36,6 @@ no_orders me k is_new from to (KeyReq r kind role) e = absurd (cc)
 no_orders me k is_new from to (Key g) e = absurd (cc)
 no_orders me k is_new from to (Evidence ds) e = refl
 no_orders me k is_new from to (Evict r ps) e = refl
-
-kind_by : (r : ℕ) (kind : XKind) (role : Role) (from to : ℕ) → (exchange_by r kind role from to).kind ≡ kind
-kind_by r kind Initiator from to = refl
-kind_by r kind Responder from to = refl
 
 -- the kind of the exchange of a place that a part names
 part-kind : (p : Place) (from to r : ℕ) (kind : XKind) (role : Role) → Some p ≡ Some (place_by from to (r, kind, role)) → p.exchange.kind ≡ kind

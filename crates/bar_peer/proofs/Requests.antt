@@ -12,7 +12,7 @@ use Rattle.bar_rules.specs.Peer.Run.{Out, perform_all}
 use Rattle.bar_rules.specs.Peer.Ticks.{asking_partner, new_requests}
 use Rattle.bar_peer.specs.declared.credentials.Credentials.{Credentials}
 use Rattle.bar_peer.specs.declared.memory.Memory.{Memory}
-use Rattle.bar_peer.specs.declared.orders.Orders.{Orders}
+use Rattle.bar_peer.specs.Orders.{Orders}
 use Rattle.bar_peer.specs.Memory.{member_of}
 use Rattle.bar_peer.specs.Sending.{Stands}
 use Rattle.bar_peer.specs.Ticking.{AsksPartner}

@@ -85,11 +85,11 @@ by_deadline : (me : Member) (k : Knowledge) (kind : Kind) (round : ℕ) → dead
     → is_in_time me.session k kind round ≡ true → IsRecent me k round
 by_deadline me k kind round few h = grind (arith, nat_tests)
 
-last_of : (a t : Bool) → (a && t) ≡ true → t ≡ true
+pub last_of : (a t : Bool) → (a && t) ≡ true → t ≡ true
 last_of a t h = (and_parts a t h).1
 
-may_ask_in_time : (me : Member) (k : Knowledge) (kind : XKind) (from round : ℕ) (seed : List ℕ) → may_ask me k kind from round seed ≡ true
-    → is_in_time me.session k (request_kind kind) round ≡ true
+pub may_ask_in_time : (me : Member) (k : Knowledge) (kind : XKind) (from round : ℕ) (seed : List ℕ)
+    → may_ask me k kind from round seed ≡ true → is_in_time me.session k (request_kind kind) round ≡ true
 may_ask_in_time me k kind from round seed h = last_of _ _ (last_of _ _ h)
 
 -- each row of an exchange bounds the round

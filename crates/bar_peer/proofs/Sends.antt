@@ -3,12 +3,12 @@ use Rattle.std.proofs.Common.{◌≡◌, ◌∙◌, ℕ, ◌==◌, ◌&&◌, tru
 use Rattle.std.specs.Prelude.{option_map, ◌∷◌}
 use Rattle.std.specs.Bool.{then_some}
 use Rattle.std.specs.Option.{option_or, option_map_or}
-use Rattle.std.proofs.lemmas.Bool.{eq-eqb, false≢true, and_from}
+use Rattle.std.proofs.lemmas.Bool.{false≢true, and_from}
 use Rattle.bar_window.specs.declared.exchange.Exchange.{Exchange}
 use Rattle.bar_window.specs.declared.exchange.Role.{Role}
 use Rattle.bar_window.specs.declared.exchange.Role.TheVariants.{Initiator, Responder}
 use Rattle.bar_window.specs.declared.exchange.XKind.{XKind}
-use Rattle.bar_window.specs.Exchange.{kind_code, role_code, other_role, party_on, same_exchange}
+use Rattle.bar_window.specs.Exchange.{other_role, party_on}
 use Rattle.bar_wire.specs.Datagram.{Datagram, Body, is_of, is_place, place_by}
 use Rattle.bar_wire.specs.Kinds.{code_of}
 use Rattle.bar_wire.specs.declared.kind.Kind.{Kind}
@@ -26,13 +26,16 @@ use Rattle.bar_store.specs.Holds.{Holds}
 use Rattle.bar_bytes.specs.Rooms.{kept_in}
 use Rattle.bar_store.specs.declared.store.Store.{Store}
 use Rattle.bar_ledger.specs.Recalls.{Recalls}
+use Rattle.bar_ledger.proofs.Same.{same_self}
+use Rattle.bar_exchange.proofs.KindCases.{same_itself}
+use Rattle.bar_exchange.proofs.Places.{same_side}
 use Rattle.bar_exchange.specs.Keeping.{IsSaidNow}
 use Rattle.bar_exchange.specs.declared.say.Say.{Say}
 use Rattle.bar_peer.specs.declared.memory.Memory.{Memory}
 use Rattle.bar_peer.specs.Evictions.{was_heard, is_named}
 use Rattle.bar_peer.specs.Memory.{IsMemoryOf, Tells, member_of, HasOtherLedger}
 use Rattle.bar_peer.specs.Sending.{datagram_now, send_now, IsCarriedOut}
-use Rattle.bar_peer.proofs.Rooms.{some_mapped}
+use Rattle.bar_exchange.proofs.FourTests.{some_of}
 
 -- what is sent of a kind is what was said
 abbrev pub IsToldAsSaid : Kind → Type 0
@@ -64,14 +67,14 @@ none_of (Some v) lacks = absurd (false≢true (sym lacks))
 pub unsaid : (me : Member) (k : Knowledge) (kind : Kind) (x : Exchange) → IsToldAsSaid kind
     → is_some (send_now me k (say_of kind x)) ≡ false → k.said kind x (role_of me x) ≡ None
 unsaid me k kind x told lacks =
-    sym (told me k x) ∙ none_of (datagram_now me k kind x) (sym (some_mapped _ (datagram_now me k kind x)) ∙ lacks)
+    sym (told me k x) ∙ none_of (datagram_now me k kind x) (sym (some_of _ (datagram_now me k kind x)) ∙ lacks)
 
 -- what was said of a kind is sent again
 pub said_again : (kind : Kind) (x : Exchange) (body : Option Body) (out new : Out) (m : Memory) → IsToldAsSaid kind → Tells out.state m
     → is_some (send_now (member_of m.who) (known (member_of m.who) out.state) (say_of kind x)) ≡ true
     → new ≡ say (member_of m.who) out kind x body → IsCarriedOut (member_of m.who) (say_of kind x) out new true m
 said_again kind x body out new m told tells has is =
-    go (datagram_now me k kind x) refl (sym (some_mapped _ (datagram_now me k kind x)) ∙ has)
+    go (datagram_now me k kind x) refl (sym (some_of _ (datagram_now me k kind x)) ∙ has)
   where
     me : Member
     me = member_of m.who
@@ -88,21 +91,12 @@ said_again kind x body out new m told tells has is =
 
 -- ---- for the first time
 
-same_self : (x : Exchange) → same_exchange x x ≡ true
-same_self x =
-    and_from _ _
-    (and_from _ _
-    (and_from _ _ (eq-eqb x.round x.round refl) (eq-eqb (kind_code x.kind) (kind_code x.kind) refl))
-    (eq-eqb x.initiator x.initiator refl))
-    (eq-eqb x.responder x.responder refl)
-
 -- a message is of its own kind, exchange and side
 is_of_own : (me : Member) (k : Knowledge) (d : Datagram) (kind : Kind) (x : Exchange) → IsSaidNow me k d kind x
     → is_of kind x (role_of me x) d.message ≡ true
 is_of_own me k d kind x h =
     (λ i. (code_of (h.kind_is i) == code_of kind) && option_map_or (is_place x (role_of me x)) (h.place_is i) false)
-    ∙ and_from _ _ (eq-eqb (code_of kind) (code_of kind) refl)
-    (and_from _ _ (same_self x) (eq-eqb (role_code (role_of me x)) (role_code (role_of me x)) refl))
+    ∙ and_from _ _ (same_itself kind) (and_from _ _ (same_self x) (same_side (role_of me x)))
 
 -- it is then the first one that was said
 pub first_said : (me : Member) (k : Knowledge) (d : Datagram) (kind : Kind) (x : Exchange) → IsSaidNow me k d kind x
@@ -189,13 +183,13 @@ pub other_kinds : (me : Member) (k : Knowledge) (kind : Kind) (x : Exchange) →
     → is_some (k.said kind x (role_of me x)) ≡ is_some (send_now me k (say_of kind x))
 other_kinds me k kinds.Divulge x divulge request = absurd (divulge refl)
 other_kinds me k kinds.KeyReq x divulge request = absurd (request refl)
-other_kinds me k kinds.Manifest x divulge request = sym (some_mapped _ (k.said kinds.Manifest x (role_of me x)))
-other_kinds me k kinds.Block x divulge request = sym (some_mapped _ (k.said kinds.Block x (role_of me x)))
-other_kinds me k kinds.Request x divulge request = sym (some_mapped _ (k.said kinds.Request x (role_of me x)))
-other_kinds me k kinds.Response x divulge request = sym (some_mapped _ (k.said kinds.Response x (role_of me x)))
-other_kinds me k kinds.Query x divulge request = sym (some_mapped _ (k.said kinds.Query x (role_of me x)))
-other_kinds me k kinds.Reply x divulge request = sym (some_mapped _ (k.said kinds.Reply x (role_of me x)))
-other_kinds me k kinds.Case x divulge request = sym (some_mapped _ (k.said kinds.Case x (role_of me x)))
-other_kinds me k kinds.Key x divulge request = sym (some_mapped _ (k.said kinds.Key x (role_of me x)))
-other_kinds me k kinds.Evidence x divulge request = sym (some_mapped _ (k.said kinds.Evidence x (role_of me x)))
-other_kinds me k kinds.Evict x divulge request = sym (some_mapped _ (k.said kinds.Evict x (role_of me x)))
+other_kinds me k kinds.Manifest x divulge request = sym (some_of _ (k.said kinds.Manifest x (role_of me x)))
+other_kinds me k kinds.Block x divulge request = sym (some_of _ (k.said kinds.Block x (role_of me x)))
+other_kinds me k kinds.Request x divulge request = sym (some_of _ (k.said kinds.Request x (role_of me x)))
+other_kinds me k kinds.Response x divulge request = sym (some_of _ (k.said kinds.Response x (role_of me x)))
+other_kinds me k kinds.Query x divulge request = sym (some_of _ (k.said kinds.Query x (role_of me x)))
+other_kinds me k kinds.Reply x divulge request = sym (some_of _ (k.said kinds.Reply x (role_of me x)))
+other_kinds me k kinds.Case x divulge request = sym (some_of _ (k.said kinds.Case x (role_of me x)))
+other_kinds me k kinds.Key x divulge request = sym (some_of _ (k.said kinds.Key x (role_of me x)))
+other_kinds me k kinds.Evidence x divulge request = sym (some_of _ (k.said kinds.Evidence x (role_of me x)))
+other_kinds me k kinds.Evict x divulge request = sym (some_of _ (k.said kinds.Evict x (role_of me x)))

@@ -18,7 +18,7 @@ use Rattle.bar_rules.specs.Peer.Run.{Out, perform, perform_all, say_or_repeat}
 use Rattle.bar_exchange.specs.Says.{order_again}
 use Rattle.bar_peer.specs.declared.memory.Memory.{Memory}
 use Rattle.bar_peer.specs.declared.order.Order.{Order as Queued}
-use Rattle.bar_peer.specs.declared.orders.Orders.{Orders}
+use Rattle.bar_peer.specs.Orders.{Orders}
 use Rattle.bar_peer.specs.Memory.{member_of, Tells}
 use Rattle.bar_peer.specs.Sending.{send_now, report_of, report_now, order_now, IsOrderTimely, AreFor, Stands}
 use Rattle.bar_peer.proofs.Standing.{orders_pushed}

@@ -9,7 +9,7 @@ use Rattle.std.proofs.lemmas.Slice.Eq.{bytes_eq-Decides}
 use Rattle.bar_window.specs.declared.exchange.Role.{Role}
 use Rattle.bar_window.specs.declared.exchange.Role.TheVariants.{Initiator, Responder}
 use Rattle.bar_window.specs.declared.exchange.XKind.{XKind}
-use Rattle.bar_wire.specs.Datagram.{Datagram, Body, Manifest, Block, Request, Response, Divulge, Query, Reply, Case, KeyReq, Key, Evidence, Evict, Place, place_of, kind_of, round_of, exchange_by}
+use Rattle.bar_wire.specs.Datagram.{Datagram, Body, Manifest, Block, Request, Response, Divulge, Query, Reply, Case, KeyReq, Key, Evidence, Evict, place_of, round_of, exchange_by}
 use Rattle.bar_wire.specs.Grammar.{IsDatagram, SpellsDatagram}
 use Rattle.bar_rules.specs.Member.{Session, Member}
 use Rattle.bar_rules.specs.Values.{datagram_bytes}
@@ -19,7 +19,7 @@ use Rattle.bar_rules.specs.Peer.Orders.{Order}
 use Rattle.bar_rules.specs.Peer.Replies.{orders_for, orders_when, heard_like, if_same, repeated}
 use Rattle.bar_balanced.specs.Balanced.{AreSpelled}
 use Rattle.bar_peer.specs.Repeats.{IsInTime}
-use Rattle.bar_peer.proofs.Again.{SpellOne}
+use Rattle.bar_peer.proofs.Again.{SpellOne, spelled_like}
 
 -- ---- in time or not
 
@@ -69,11 +69,6 @@ stale-orders me k from to (Evict r ps) life t = refl
 
 -- ---- what is repeated is the datagram itself
 
-spelled-like : (me : Member) (k : Knowledge) (b : Body) (o : Option Place) (e : Datagram) → AreSpelled me k → heard_like k b o ≡ Some e
-    → IsDatagram me.session.shape e
-spelled-like me k b None e h is = absurd (cc)
-spelled-like me k b (Some p) e h is = h.spelled (kind_of b) p.exchange p.role e is
-
 then-is : (b : Bool) (e c : Datagram) → then_some b e ≡ Some c → (b ≡ true) × (e ≡ c)
 then-is true e c h = (refl, cc)
 then-is false e c h = absurd (cc)
@@ -90,7 +85,7 @@ pub repeated-is : (me : Member) (k : Knowledge) (d c : Datagram) (bytes : List �
     → repeated me k d ≡ Some c → c ≡ d
 repeated-is me k d c bytes one h spells is = elim (cases_Bool (k.is_announced d.message.from)) [
   | inl t ↦ absurd (none (sym (ap (λ b. if b then None else if_same me.session d like) t) ∙ is))
-  | inr f ↦ same-is me.session d c bytes like one (λ e. spelled-like me k d.message.body (place_of d.message) e h) spells
+  | inr f ↦ same-is me.session d c bytes like one (λ e. spelled_like me k d.message.body (place_of d.message) e h) spells
       (sym (ap (λ b. if b then None else if_same me.session d like) f) ∙ is)
 ]
   where

@@ -3,6 +3,7 @@ use Rattle.std.proofs.Common.{◌≡◌, ◌∙◌, ◌≤◌, ◌+◌, ℕ, tru
 use Rattle.std.specs.List.{AllByRecursion}
 use Rattle.std.proofs.lemmas.List.{map-append}
 use Rattle.bar_wire.specs.Datagram.{Datagram}
+use Rattle.bar_wire.proofs.Lists.{AllByRecursion-push}
 use Rattle.bar_rules.specs.Member.{Member}
 use Rattle.bar_rules.specs.Peer.Knowledge.{Knowledge, known}
 use Rattle.bar_rules.specs.Peer.Rules.{IsObedient}
@@ -15,14 +16,10 @@ use Rattle.bar_peer.specs.declared.credentials.Credentials.{Credentials}
 use Rattle.bar_peer.specs.declared.memory.Memory.{Memory}
 use Rattle.bar_peer.specs.declared.order.Order.{Order}
 use Rattle.bar_peer.specs.declared.order.Order.TheVariants as queued
-use Rattle.bar_peer.specs.declared.orders.Orders.{Orders}
+use Rattle.bar_peer.specs.Orders.{Orders}
 use Rattle.bar_peer.specs.Memory.{member_of}
 use Rattle.bar_peer.specs.Sending.{order_now, IsOrderTimely, IsOwn, AreFor, IsCarriedOut, Stands}
 use Rattle.bar_peer.proofs.Growing.{Grows, grows, sends_stay, timely_still, all_timely_still, own_still, obeys_before}
-
-all_pushed : {X : Type 0} (P : X → Type 0) (xs : List X) (x : X) → AllByRecursion P xs → P x → AllByRecursion P (xs ++ x ∷ [])
-all_pushed P [] x all this = (this, tt)
-all_pushed P (y ∷ ys) x all this = (all.0, all_pushed P ys x all.1 this)
 
 -- orders are of what was sent still, where something more was said
 pub orders_stay : (me : Member) (old new : Knowledge) (list : List Order) (sends : List (ℕ × Datagram)) → Grows old new
@@ -38,7 +35,7 @@ orders_pushed me k list sends order send h is timely = record {
       map-append (order_now me k) list (order ∷ [])
       ∙ (λ i. h.same i ++ is i ∷ [])
       ∙ sym (map-append (λ send. Some send) sends (send ∷ []));
-  timely = all_pushed (IsOrderTimely me k) list order h.timely timely;
+  timely = AllByRecursion-push (IsOrderTimely me k) list order h.timely timely;
 }
 
 -- ---- one reply

@@ -24,10 +24,10 @@ use Rattle.bar_rules.specs.Peer.Rules.{IsObedient}
 use Rattle.bar_peer.specs.declared.credentials.Credentials.{Credentials}
 use Rattle.bar_peer.specs.declared.memory.Memory.{Memory}
 use Rattle.bar_peer.specs.declared.order.Order.{Order}
-use Rattle.bar_peer.specs.declared.orders.Orders.{Orders}
+use Rattle.bar_peer.specs.Orders.{Orders}
 use Rattle.bar_peer.specs.declared.playing.Playing.{Playing}
 use Rattle.bar_peer.specs.Memory.{member_of, Tells}
-use Rattle.bar_peer.specs.Orders.{left_in}
+use Rattle.bar_store.specs.Orders.{left_in}
 use Rattle.bar_peer.specs.Sending.{AreFor, IsOrderTimely, Stands, order_now}
 use Rattle.bar_peer.specs.StandsFor.{StandsFor, AreLeft, contents_left}
 use Rattle.bar_peer.specs.Steps.{is_tick}

@@ -38,15 +38,15 @@ use Rattle.bar_laws.specs.Sizes.{LogKeepsShortEvidence}
 use Rattle.bar_peer.specs.declared.credentials.Credentials.{Credentials}
 use Rattle.bar_peer.specs.declared.memory.Memory.{Memory}
 use Rattle.bar_peer.specs.declared.order.Order.TheVariants as queued
-use Rattle.bar_peer.specs.declared.orders.Orders.{Orders}
+use Rattle.bar_peer.specs.Orders.{Orders}
 use Rattle.bar_peer.specs.Evictions.{was_heard, is_named}
 use Rattle.bar_peer.specs.Memory.{member_of, HasOtherEvidence, IsMemoryOf, Tells}
 use Rattle.bar_peer.specs.Sending.{Stands, report_now}
 use Rattle.bar_peer.proofs.Answered.{answered-before}
-use Rattle.bar_peer.proofs.Before.{perform-before}
+use Rattle.bar_peer.proofs.Growing.{obeys_before}
 use Rattle.bar_peer.proofs.Later.{evidence_after}
 use Rattle.bar_peer.proofs.Learned.{kept_more}
-use Rattle.bar_peer.proofs.Rooms.{some_mapped}
+use Rattle.bar_exchange.proofs.FourTests.{some_of}
 use Rattle.bar_peer.proofs.Sent.{sent_report, stands_with, pushed}
 
 -- ---- admission doesn't read the evidence that is kept
@@ -211,7 +211,7 @@ none-new me k d is =
 
 pub report-before : (me : Member) (out : Out) (q : ℕ) (ev : Option (List (List ℕ))) → IsObedient me (report_new me out q ev).state → IsObedient me out.state
 report-before me out q None h = h
-report-before me out q (Some e) h = perform-before me out (Report q) h
+report-before me out q (Some e) h = obeys_before me out (Report q) h
 
 evidence-before : (me : Member) (log : Log) (q : ℕ) (ev : Option (List (List ℕ))) → IsObedient me (with_evidence me log q ev) → IsObedient me log
 evidence-before me log q None h = h
@@ -260,7 +260,7 @@ report-stands m o p log d q e none h put =
     let out : Out = answered_to me (Kept q e ∷ log) d in
     let s : Option (ℕ × Datagram) = report_now me (known me out.state) q in
     let has : (known me out.state).evidence q ≡ Some e = answer-keeps me (Kept q e ∷ log) d q ∙ kept-now me log q e none in
-    let some : is_some s ≡ true = some_mapped _ ((known me out.state).evidence q) ∙ ap (λ o. is_some o) has in
+    let some : is_some s ≡ true = some_of _ ((known me out.state).evidence q) ∙ ap (λ o. is_some o) has in
     subst (λ (after : Out). Stands after m p) (sym (sent_report me out q))
     (stands_with m o p out (queued.Report q) s refl tt h (put ∙ pushed (queued.Report q) s o.list.items some))
 

@@ -5,17 +5,13 @@ use Rattle.std.specs.Bool.{then_some}
 use Rattle.std.specs.Option.{option_map_or}
 use Rattle.std.proofs.lemmas.Bool.{and_parts, false≢true}
 use Rattle.std.proofs.lemmas.Bool.Decides.{nat_tests}
+use Rattle.std.proofs.lemmas.Option.{same_Some}
 use Rattle.bar_window.specs.declared.exchange.Exchange.{Exchange}
 use Rattle.bar_window.specs.declared.exchange.Role.{Role}
-use Rattle.bar_window.specs.declared.exchange.Role.TheVariants.{Initiator, Responder}
-use Rattle.bar_window.specs.declared.terms.Terms.{Terms as WindowTerms}
-use Rattle.bar_window.specs.declared.terms.Terms.TheVariants.{Balanced, Push}
-use Rattle.bar_window.specs.declared.window.Window.{Window}
 use Rattle.bar_window.specs.Exchange.{other_role, same_role}
 use Rattle.bar_window.specs.Terms.{Terms, plain_terms}
-use Rattle.bar_window.specs.Window.{IsAligned, IsWindowOf}
 use Rattle.bar_terms.specs.Terms.{promise, can_promise}
-use Rattle.bar_terms.specs.Windows.{AreAligned, AreWindowsOf}
+use Rattle.bar_terms.proofs.Aligned.{aligned}
 use Rattle.bar_wire.specs.Bodies.{briefcase_in}
 use Rattle.bar_wire.specs.Datagram.{Datagram, Briefcase}
 use Rattle.bar_wire.specs.declared.kind.Kind.{Kind}
@@ -40,28 +36,20 @@ use Rattle.bar_ledger.specs.Memory.{find_in}
 use Rattle.bar_ledger.specs.Recalls.{Recalls, IsKeptBy, complete_terms}
 use Rattle.bar_ledger.specs.Totals.{AreSound, totals_by}
 use Rattle.bar_ledger.specs.declared.totals.Totals.{Totals as Told}
+use Rattle.bar_exchange.proofs.FourTests.{some_of}
+use Rattle.bar_exchange.proofs.Places.{same_side}
 use Rattle.bar_peer.specs.Telling.{IsTold, AreTotals, no_totals}
 use Rattle.bar_peer.proofs.Keys.{is_case}
+use Rattle.bar_peer.proofs.Sends.{none_of}
 
 -- ---- options
 
-some_of : {X : Type 0} (o : Option X) → is_some o ≡ true → (x : X) × (o ≡ Some x)
-some_of None h = absurd (false≢true h)
-some_of (Some x) h = (x, refl)
-
-none_of : {X : Type 0} (o : Option X) → is_some o ≡ false → o ≡ None
-none_of None h = refl
-none_of (Some x) h = absurd (false≢true (sym h))
-
-some_map : {X Y : Type 0} (f : X → Y) (o : Option X) → is_some (option_map f o) ≡ is_some o
-some_map f None = refl
-some_map f (Some x) = refl
-
-same_some : {X : Type 0} (x y : X) → Some x ≡ Some y → x ≡ y
-same_some x y h = cc
+value_of : {X : Type 0} (o : Option X) → is_some o ≡ true → (x : X) × (o ≡ Some x)
+value_of None h = absurd (false≢true h)
+value_of (Some x) h = (x, refl)
 
 of_then : {X : Type 0} (b : Bool) (x y : X) → then_some b x ≡ Some y → x ≡ y
-of_then true x y h = same_some x y h
+of_then true x y h = same_Some x y h
 of_then false x y h = absurd (cc)
 
 -- ---- what was said
@@ -81,7 +69,7 @@ promised_by me k x d (Some t) e said is =
 promised : (me : Member) (k : Knowledge) (x : Exchange) → IsRewritten me k → has_said_of k kinds.Case x (role_of me x) ≡ true
     → IsPromised me k x
 promised me k x rewritten said =
-    let d = some_of (k.said kinds.Case x (role_of me x)) said in
+    let d = value_of (k.said kinds.Case x (role_of me x)) said in
     promised_by me k x d.0 (terms_of me k x) refl d.1 (rewritten.same kinds.Case x d.0 d.1)
 
 -- ---- what was heard
@@ -95,7 +83,7 @@ received me k x t (Some d) sound terms e =
     let c = is_case d.message.body (and_parts _ _ (sound.heard kinds.Case x (other_role (role_of me x)) d e)).0 in
     let found : case_heard me k x ≡ Some c.0 = ap case_in e ∙ ap briefcase_in c.1 in
     let theirs = sound.theirs x c.0 found in
-    let same : c.0.terms ≡ t = same_some c.0.terms t (sym theirs.terms ∙ terms) in
+    let same : c.0.terms ≡ t = same_Some c.0.terms t (sym theirs.terms ∙ terms) in
     ap (promise_size me.session) found ∙ (λ i. length (promise me.session.cap (same i) (theirs.side i)))
 
 -- ---- where nothing was said
@@ -151,10 +139,6 @@ none_told me k x told sound none zeros =
 
 -- ---- what is kept
 
-same_self : (r : Role) → same_role r r ≡ true
-same_self Initiator = refl
-same_self Responder = refl
-
 -- An exchange that is kept may be asked about, and what is kept of it is of this member's side.
 pub record IsFound (me : Member) (k : Knowledge) (l : Ledger) (x : Exchange) (e : Entry) : Type 0 where
   pub kept : Kept
@@ -171,7 +155,7 @@ found_by me k l x e (Some kept) is recalls entry live own =
     record {
       kept = kept;
       found = is;
-      entry = sym (same_some e kept.entry entry);
+      entry = sym (same_Some e kept.entry entry);
       recent = omega (arith, live.recent, recalls.round, life);
       own = own;
     }
@@ -186,17 +170,17 @@ said_kept me k l x e kind recalls f =
     recalls.said kind x (role_of me x) f.recent
     ∙ ap (λ o. option_map_or (said_by kind (role_of me x)) o false) f.found
     ∙ ap (λ (r : Role). same_role (role_of me x) r && is_said kind f.kept.entry) f.own.side
-    ∙ ap (λ (b : Bool). b && is_said kind f.kept.entry) (same_self (role_of me x))
+    ∙ ap (λ (b : Bool). b && is_said kind f.kept.entry) (same_side (role_of me x))
 
 heard_kept : (me : Member) (k : Knowledge) (l : Ledger) (x : Exchange) (e : Entry) → Recalls me k l → (f : IsFound me k l x e)
     → is_some (k.heard kinds.Case x (other_role (role_of me x))) ≡ is_some f.kept.case
 heard_kept me k l x e recalls f =
     let other : Role = other_role (role_of me x) in
-    sym (some_map (datagram_bytes me.session) (k.heard kinds.Case x other))
+    sym (some_of (datagram_bytes me.session) (k.heard kinds.Case x other))
     ∙ ap (λ o. is_some o) (recalls.heard kinds.Case x other f.recent)
     ∙ ap (λ o. is_some (option_and_then (heard_by kinds.Case other) o)) f.found
     ∙ ap (λ (r : Role). is_some (if same_role other (other_role r) then f.kept.case else None)) f.own.side
-    ∙ ap (λ (b : Bool). is_some (if b then f.kept.case else None)) (same_self other)
+    ∙ ap (λ (b : Bool). is_some (if b then f.kept.case else None)) (same_side other)
 
 terms_kept : (me : Member) (k : Knowledge) (l : Ledger) (x : Exchange) (e : Entry) (t : Terms) → Recalls me k l → (f : IsFound me k l x e)
     → terms_of me k x ≡ Some t → plain_terms f.kept.entry.terms ≡ t
@@ -216,18 +200,6 @@ pub nothing_kept : (me : Member) (k : Knowledge) (l : Ledger) (x : Exchange) →
     → find_in l x ≡ None → has_said_of k kinds.Case x (role_of me x) ≡ false
 nothing_kept me k l x recalls recent none =
     recalls.said kinds.Case x (role_of me x) recent ∙ ap (λ o. option_map_or (said_by kinds.Case (role_of me x)) o false) none
-
-two_aligned : (life round : ℕ) (w v : Window) → IsWindowOf life round w → IsWindowOf life round v → IsAligned w v
-two_aligned life round w v one two =
-    let base : w.base ≡ v.base = one.base ∙ sym two.base in record { base = base; used = omega (arith, base, one.used, two.used) }
-
-aligned : (life round : ℕ) (t : WindowTerms) → AreWindowsOf life round t → AreAligned t
-aligned life round (Balanced nonce ha hb) h = two_aligned life round ha hb h.0 h.1
-aligned life round (Push young aged want give junk) h = (
-  two_aligned life round aged young h.1 h.0,
-  two_aligned life round want young h.2 h.0,
-  two_aligned life round give young h.3 h.0,
-)
 
 -- the terms of an exchange whose CASE was said are such that each side can promise
 pub said_soundly : (me : Member) (k : Knowledge) (l : Ledger) (x : Exchange) (e : Entry) → Recalls me k l → IsSound me k → IsRewritten me k

@@ -56,8 +56,3 @@ IsOrderDue me k (orders.Report party) d = IsReportDue me k party d
 abbrev pub receiver_of : Member → Order → ℕ
 receiver_of me (orders.Say say) = partner_in me say.x
 receiver_of me (orders.Report party) = 0
-
--- a datagram stands at the front of a buffer, as so many bytes
-abbrev pub IsGiven : Session → Datagram → Option ℕ → List ℕ → Type 0
-IsGiven s d None buf = ⊥
-IsGiven s d (Some n) buf = (take n buf ≡ datagram_bytes s d) × (n ≤ length buf)

@@ -1,9 +1,6 @@
-pub mod Members
 pub mod Evictions
-pub mod Orders
 pub mod Memory
 pub mod Sending
-pub mod Schemes
 pub mod Repeats
 pub mod Ticking
 pub mod Giving
@@ -14,3 +11,4 @@ pub mod Hearing
 pub mod Playing
 pub mod Telling
 pub mod Trying
+pub mod Orders

@@ -11,7 +11,7 @@ use Rattle.bar_rules.specs.Peer.Log.{Log}
 use Rattle.bar_peer.specs.declared.credentials.Credentials.{Credentials}
 use Rattle.bar_peer.specs.declared.memory.Memory.{Memory}
 use Rattle.bar_peer.specs.Evictions.{was_heard, is_named}
-use Rattle.bar_peer.specs.Members.{member_by}
+use Rattle.bar_rules.specs.Members.{member_by}
 
 -- the peer
 abbrev pub member_of : Credentials → Member

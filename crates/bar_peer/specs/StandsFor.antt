@@ -11,11 +11,11 @@ use Rattle.std.specs.Option.{option_to_list}
 use Rattle.bar_store.specs.declared.store.Store.{Store}
 use Rattle.bar_store.specs.Held.{block_in}
 use Rattle.bar_peer.specs.declared.memory.Memory.{Memory}
-use Rattle.bar_peer.specs.declared.orders.Orders.{Orders}
+use Rattle.bar_peer.specs.Orders.{Orders}
 use Rattle.bar_peer.specs.declared.playing.Playing.{Playing}
 use Rattle.bar_peer.specs.Memory.{Tells, member_of}
-use Rattle.bar_peer.specs.Orders.{left_in}
-use Rattle.bar_peer.specs.Giving.{IsGiven}
+use Rattle.bar_store.specs.Orders.{left_in}
+use Rattle.bar_rules.specs.Giving.{IsGiven}
 use Rattle.bar_peer.specs.Sending.{AreFor}
 
 abbrev pub Inputs : Type 0
@@ -34,10 +34,3 @@ abbrev pub contents_left : Store → Playing → List (List ℕ)
 contents_left s p =
     flat_map (λ index. flat_map content_of (option_to_list (block_in s (record { round = p.round; index = index }))))
     (range_with_len p.next (p.end - p.next))
-
--- The first of what is to be sent is given out, as its receiver and so many bytes of a buffer, and the others are left; and nothing is
--- given out where nothing is left.
-abbrev pub GivesNext : Session → List (ℕ × Datagram) → Option (ℕ × ℕ) → List ℕ → (List (ℕ × Datagram) → Type 0) → Type 0
-GivesNext s sends None buf Left = (sends ≡ []) × Left []
-GivesNext s sends (Some given) buf Left =
-    (d : Datagram) × (rest : List (ℕ × Datagram)) × (sends ≡ (given.0, d) ∷ rest) × IsGiven s d (Some given.1) buf × Left rest

@@ -16,7 +16,7 @@ use Rattle.bar_rules.specs.Peer.Ticks.{again, asking_partner, new_requests, orde
 use Rattle.bar_rules.specs.Runs.{begun}
 use Rattle.bar_peer.specs.declared.credentials.Credentials.{Credentials}
 use Rattle.bar_peer.specs.declared.memory.Memory.{Memory}
-use Rattle.bar_peer.specs.declared.orders.Orders.{Orders}
+use Rattle.bar_peer.specs.Orders.{Orders}
 use Rattle.bar_peer.specs.Memory.{member_of, Tells}
 use Rattle.bar_peer.specs.Sending.{Stands}
 

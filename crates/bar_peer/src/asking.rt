@@ -5,14 +5,14 @@ ghost use Rattle.bar_peer.specs.Ticking.{AsksPartner, AsksPartners};
 
 use crate::memory::Memory;
 use crate::order::Order;
-use crate::orders::Orders;
 use crate::saying::request;
 use bar_seeds::partner;
+use bar_store::Orders;
 use bar_window::{Role, XKind};
 use bar_wire::exchange_by;
 
 /// Asks the partner of this round, one of the session, for an exchange of a kind, where the partner isn't announced evicted.
-fn ask_partner(memory: &mut Memory, orders: &mut Orders, kind: XKind)
+fn ask_partner(memory: &mut Memory, orders: &mut Orders<Order>, kind: XKind)
     requires first { 1 ≤ round_after memory.old.ticks }
     requires last { round_after memory.old.ticks ≤ memory.old.who.session.shape.rounds }
     ensures stands { AsksPartner memory.old.who (round_after memory.old.ticks) kind memory.old orders.old memory.new orders.new }
@@ -37,7 +37,7 @@ fn ask_partner(memory: &mut Memory, orders: &mut Orders, kind: XKind)
 }
 
 /// Asks the partners of this round, one of the session, for a balanced exchange, and for a push where there are young updates to offer.
-pub fn ask_partners(memory: &mut Memory, orders: &mut Orders)
+pub fn ask_partners(memory: &mut Memory, orders: &mut Orders<Order>)
     requires first { 1 ≤ round_after memory.old.ticks }
     requires last { round_after memory.old.ticks ≤ memory.old.who.session.shape.rounds }
     ensures stands { AsksPartners memory.old.who (round_after memory.old.ticks) memory.old orders.old memory.new orders.new }

@@ -1,6 +1,6 @@
 ghost use Rattle.std.specs.Prelude.{◌≡◌};
 ghost use Rattle.bar_rules.specs.Member.{IsMember};
-ghost use Rattle.bar_peer.specs.Members.{member_by};
+ghost use Rattle.bar_rules.specs.Members.{member_by};
 
 use bar_roster::Session;
 use bar_seeds::{Secrets, SeedChain};

@@ -9,10 +9,12 @@ ghost use Rattle.bar_rules.specs.Peer.Knowledge.{Knowledge};
 ghost use Rattle.bar_rules.specs.Peer.Signing.{leaf_for};
 ghost use Rattle.bar_rules.specs.Peer.Writing.{body_now};
 ghost use Rattle.bar_exchange.specs.Writing.{CanWrite, IsWritten, LeavesRest, largest_message};
-ghost use Rattle.bar_peer.specs.Giving.{IsDue, IsGiven, IsOrderDue, IsSignedFor, receiver_of};
+ghost use Rattle.bar_peer.specs.Giving.{IsDue, IsOrderDue, IsSignedFor, receiver_of};
+ghost use Rattle.bar_rules.specs.Giving.{IsGiven};
 ghost use Rattle.bar_peer.specs.Memory.{member_of, IsMemoryOf};
-ghost use Rattle.bar_peer.specs.Orders.{left_in};
-ghost use Rattle.bar_peer.specs.StandsFor.{Inputs, StandsFor, AreLeft, GivesNext};
+ghost use Rattle.bar_store.specs.Orders.{left_in};
+ghost use Rattle.bar_peer.specs.StandsFor.{Inputs, StandsFor, AreLeft};
+ghost use Rattle.bar_rules.specs.Giving.{GivesNext};
 
 use crate::memory::Memory;
 use crate::order::Order;

@@ -12,7 +12,6 @@ mod memory;
 mod of_key;
 mod opening;
 mod order;
-mod orders;
 mod peer;
 mod playing;
 mod repeats;

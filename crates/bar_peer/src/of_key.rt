@@ -1,9 +1,9 @@
 //! The peer of a key file.
 ghost use Rattle.std.specs.Prelude.{◌≡◌, [], false, IfOk};
 ghost use Rattle.bar_roster.specs.KeyFile.{IsKeyFileOf};
-ghost use Rattle.bar_peer.specs.Members.{member_by};
+ghost use Rattle.bar_rules.specs.Members.{member_by};
 ghost use Rattle.bar_peer.specs.Memory.{member_of};
-ghost use Rattle.bar_peer.specs.Orders.{left_in};
+ghost use Rattle.bar_store.specs.Orders.{left_in};
 ghost use Rattle.bar_peer.specs.StandsFor.{StandsFor, contents_left};
 
 use crate::peer::Peer;

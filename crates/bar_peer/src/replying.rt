@@ -10,11 +10,11 @@ ghost use Rattle.bar_peer.specs.Sending.{IsOwn, Stands};
 
 use crate::memory::Memory;
 use crate::order::Order;
-use crate::orders::Orders;
 use bar_exchange::{Say, Says};
+use bar_store::Orders;
 
 /// Carries out a reply.
-fn reply_once(memory: &mut Memory, orders: &mut Orders, say: Say)
+fn reply_once(memory: &mut Memory, orders: &mut Orders<Order>, say: Say)
     ensures stands { (out : Out)
         → IsObedient (member_of memory.old.who) (perform (member_of memory.old.who) out (order_by say.kind say.x)).state
         → Stands out memory.old orders.old → IsOwn (member_of memory.old.who) (known (member_of memory.old.who) out.state) say
@@ -32,7 +32,7 @@ fn reply_once(memory: &mut Memory, orders: &mut Orders, say: Say)
 }
 
 /// Carries out replies, in order.
-pub fn reply(memory: &mut Memory, orders: &mut Orders, says: Says)
+pub fn reply(memory: &mut Memory, orders: &mut Orders<Order>, says: Says)
     ensures stands { (out : Out)
         → IsObedient (member_of memory.old.who) (perform_all (member_of memory.old.who) out (orders_of_reply says)).state
         → Stands out memory.old orders.old

@@ -3,21 +3,18 @@ ghost use Rattle.std.specs.Prelude.{◌≡◌, ◌≤◌, ℕ, List, Some, lengt
 ghost use Rattle.bar_wire.specs.Limits.{largest_datagram};
 ghost use Rattle.bar_rules.specs.Peer.Knowledge.{Knowledge};
 ghost use Rattle.bar_laws.specs.Sizes.{FitsItsRoom};
-ghost use Rattle.bar_peer.specs.Giving.{IsGiven};
+ghost use Rattle.bar_rules.specs.Giving.{IsGiven};
 ghost use Rattle.bar_peer.specs.Memory.{member_of, IsMemoryOf};
 ghost use Rattle.bar_peer.specs.Sending.{report_of};
 ghost use Rattle.bar_peer.specs.Ticking.{is_reported, Reports};
 
 use crate::memory::Memory;
 use crate::order::Order;
-use crate::orders::Orders;
+use bar_store::{HEADER_LEN, Orders};
 use bar_wire::{Body, encode, split_evidence};
 
 /// The broadcaster's number.
 pub const BROADCASTER: u16 = 0;
-
-/// How many bytes stand before the fields of a datagram.
-pub const HEADER_LEN: usize = 16;
 
 impl Memory {
     /// Whether a report is due of the evidence against a party: some is kept, and the party isn't announced evicted.
@@ -49,7 +46,7 @@ impl Memory {
 }
 
 /// Reports the evidence against each peer that isn't announced evicted, in order of their numbers.
-pub fn report_all(memory: &Memory, orders: &mut Orders)
+pub fn report_all(memory: &Memory, orders: &mut Orders<Order>)
     ensures stands { Reports memory.now orders.old orders.new }
     ensures room { orders.new.room ≡ orders.old.room }
     ensures given { orders.new.given ≡ orders.old.given }

@@ -5,54 +5,27 @@ ghost use Rattle.bar_wire.specs.declared.kind.Kind.TheVariants.{Manifest, Case};
 ghost use Rattle.bar_rules.specs.Member.{IsMember};
 ghost use Rattle.bar_rules.specs.Peer.Sizes.{largest, most_evidence};
 ghost use Rattle.bar_rules.specs.Verifiers.{IsVerifierOf};
-ghost use Rattle.bar_peer.specs.Members.{member_by};
+ghost use Rattle.bar_rules.specs.Members.{member_by};
 ghost use Rattle.bar_peer.specs.Memory.{member_of};
-ghost use Rattle.bar_peer.specs.Orders.{left_in};
-ghost use Rattle.bar_peer.specs.Schemes.{IsSignerOf};
+ghost use Rattle.bar_store.specs.Orders.{left_in};
+ghost use Rattle.bar_rules.specs.Signers.{IsSignerOf};
 ghost use Rattle.bar_peer.specs.StandsFor.{StandsFor, contents_left};
 ghost use Rattle.bar_peer.specs.Ticking.{most_orders};
 
 use crate::credentials::Credentials;
 use crate::evictions::Evictions;
 use crate::memory::Memory;
-use crate::orders::Orders;
+use crate::order::Order;
 use crate::peer::Peer;
 use crate::playing::Playing;
-use crate::reports::HEADER_LEN;
 use bar_bytes::Rooms;
 use bar_ledger::Ledger;
 use bar_roster::Session;
 use bar_seal::Scheme;
 use bar_seeds::{Secrets, SeedChain};
-use bar_store::Store;
-use bar_wire::{SEATS_A_ROUND, Shape};
+use bar_store::{Orders, Store, largest_manifest, most_evidence};
+use bar_wire::SEATS_A_ROUND;
 use std::alloc::{AllocError, Global};
-
-/// How many bytes the largest manifest has.
-fn largest_manifest(shape: &Shape) -> usize
-    requires signatures { shape.now.sig_len ≤ largest_datagram }
-    ensures { result ≡ largest shape.now Manifest }
-{
-    HEADER_LEN + 5 + 32 * usize::from(shape.per_round) + shape.sig_len
-}
-
-/// How many bytes the largest CASE has, which is the largest datagram of a kind that peers sign: that of a push.
-fn largest_case(shape: &Shape) -> usize
-    requires signatures { shape.now.sig_len ≤ largest_datagram }
-    ensures { result ≡ largest shape.now Case }
-{
-    let window = 8 * usize::from(shape.life);
-    let terms = (32 + 2 * window).max(4 * window + 1);
-    HEADER_LEN + 8 + terms + 16 * 1280 + shape.sig_len
-}
-
-/// How many bytes the evidence against a party has at the most.
-fn most_evidence(shape: &Shape) -> usize
-    requires signatures { shape.now.sig_len ≤ largest_datagram }
-    ensures { result ≡ most_evidence shape.now }
-{
-    1 + 2 * (2 + largest_case(shape))
-}
 
 /// How many orders an input gives at the most: two for each exchange that may be asked about, two requests, and a report for each peer.
 fn most_orders(session: &Session) -> usize

@@ -8,13 +8,13 @@ ghost use Rattle.bar_rules.specs.Peer.Run.{log_after, step};
 ghost use Rattle.bar_rules.specs.Peer.Ticks.{contents_at_tick};
 ghost use Rattle.bar_rules.specs.Verifiers.{IsVerifierOf};
 ghost use Rattle.bar_peer.specs.Memory.{member_of, Tells};
-ghost use Rattle.bar_peer.specs.Orders.{left_in};
+ghost use Rattle.bar_store.specs.Orders.{left_in};
 ghost use Rattle.bar_peer.specs.StandsFor.{Inputs, StandsFor, AreLeft, contents_left};
 ghost use Rattle.bar_peer.specs.Steps.{TakesInput, is_tick};
 ghost use Rattle.bar_peer.specs.Ticking.{most_orders};
 
 use crate::memory::Memory;
-use crate::orders::Orders;
+use crate::order::Order;
 use crate::peer::Peer;
 use crate::playing::Playing;
 use crate::taking::{take_datagram, take_tick};
@@ -22,6 +22,7 @@ use bar_bytes::Steps;
 use bar_laws::knowing::knowledge_is_enough;
 use bar_laws::obedience::signed_by_rule;
 use bar_seal::{Scheme, Verifier};
+use bar_store::Orders;
 use bar_wire::Input;
 use std::sync::ledger::Ledger as StepLedger;
 
@@ -49,7 +50,7 @@ fn is_tick(input: &Input<'_>) -> bool
 /// Takes an input that comes before the last tick is taken. It counts each hash.
 fn take_input<V: Verifier, L: StepLedger>(
     memory: &mut Memory,
-    orders: &mut Orders,
+    orders: &mut Orders<Order>,
     verifier: &V,
     input: Input<'_>,
     steps: &mut Steps<L>,

@@ -18,7 +18,6 @@ ghost use Rattle.bar_peer.specs.Steps.{TakesTick, TakesDatagram};
 use crate::answering::says_to;
 use crate::memory::Memory;
 use crate::order::Order;
-use crate::orders::Orders;
 use crate::replying::reply;
 use crate::ticks::act;
 use crate::trying::find_evidence;
@@ -27,12 +26,12 @@ use bar_laws::knowing::knowledge_is_enough;
 use bar_laws::memories::logs_are_sound;
 use bar_laws::rooms::evidence_fits_its_room;
 use bar_seal::Verifier;
-use bar_store::keep_evidence;
+use bar_store::{Orders, keep_evidence};
 use bar_wire::{View, bytes_spell_one, decode};
 use std::sync::ledger::Ledger as StepLedger;
 
 /// Takes a tick, and says what it asks for.
-pub fn take_tick(memory: &mut Memory, orders: &mut Orders)
+pub fn take_tick(memory: &mut Memory, orders: &mut Orders<Order>)
     requires { memory.old.ticks < last_tick memory.old.who.session }
     ensures stands { TakesTick memory.old orders.old memory.new orders.new }
     ensures room { orders.new.room ≡ orders.old.room }
@@ -80,7 +79,7 @@ impl Memory {
 /// Keeps what a datagram tells where it is admitted, and answers it; a repeat is answered again.
 fn answer(
     memory: &mut Memory,
-    orders: &mut Orders,
+    orders: &mut Orders<Order>,
     bytes: &[u8],
     view: &View<'_>,
     is_admitted: bool,
@@ -116,7 +115,7 @@ fn answer(
 /// the steps along the seeds.
 fn answer_tried<L: StepLedger>(
     memory: &mut Memory,
-    orders: &mut Orders,
+    orders: &mut Orders<Order>,
     bytes: &[u8],
     view: &View<'_>,
     is_admitted: bool,
@@ -153,7 +152,7 @@ fn answer_tried<L: StepLedger>(
 /// and reports the evidence. At most one signature is verified. It counts each hash.
 pub fn take_view<V: Verifier, L: StepLedger>(
     memory: &mut Memory,
-    orders: &mut Orders,
+    orders: &mut Orders<Order>,
     verifier: &V,
     bytes: &[u8],
     view: &View<'_>,
@@ -187,7 +186,7 @@ pub fn take_view<V: Verifier, L: StepLedger>(
 /// Takes a datagram. One that isn't read changes nothing. It counts each hash.
 pub fn take_datagram<V: Verifier, L: StepLedger>(
     memory: &mut Memory,
-    orders: &mut Orders,
+    orders: &mut Orders<Order>,
     verifier: &V,
     bytes: &[u8],
     steps: &mut Steps<L>,

@@ -14,11 +14,11 @@ ghost use Rattle.bar_peer.specs.Sending.{IsTimely, Stands};
 use crate::asking::ask_partners;
 use crate::memory::Memory;
 use crate::order::Order;
-use crate::orders::Orders;
 use crate::reports::report_all;
 use bar_exchange::{Say, Says};
 use bar_laws::knowing::knowledge_is_enough;
 use bar_laws::memories::logs_are_sound;
+use bar_store::Orders;
 use bar_window::{Exchange, XKind};
 
 impl Memory {
@@ -67,7 +67,7 @@ impl Memory {
 }
 
 /// Sends again what was said of a kind, or what isn't signed, where there is such.
-fn repeat(memory: &Memory, orders: &mut Orders, say: Say)
+fn repeat(memory: &Memory, orders: &mut Orders<Order>, say: Say)
     ensures stands { (out : Out) → Stands out memory.now orders.old
         → IsTimely (member_of memory.now.who) (known (member_of memory.now.who) out.state) say
         → length orders.old.list.items + 1 ≤ orders.old.room
@@ -82,7 +82,7 @@ fn repeat(memory: &Memory, orders: &mut Orders, say: Say)
 }
 
 /// Says again what an open exchange lacks, where its partner isn't announced evicted.
-fn repeat_once(memory: &Memory, orders: &mut Orders, x: Exchange)
+fn repeat_once(memory: &Memory, orders: &mut Orders<Order>, x: Exchange)
     ensures stands { (out : Out) → Stands out memory.now orders.old
         → IsRecent (member_of memory.now.who) (known (member_of memory.now.who) out.state) x.round
         → length orders.old.list.items + 2 ≤ orders.old.room
@@ -103,7 +103,7 @@ fn repeat_once(memory: &Memory, orders: &mut Orders, x: Exchange)
 }
 
 /// Says again what the open exchanges lack, in order.
-fn repeat_all(memory: &Memory, orders: &mut Orders)
+fn repeat_all(memory: &Memory, orders: &mut Orders<Order>)
     ensures stands { (log : Log) → Tells log memory.now → orders.old.list.items ≡ []
         → most_orders memory.now.who.session ≤ orders.old.room
         → Stands (perform_all (member_of memory.now.who) (begun log)
@@ -125,7 +125,7 @@ fn repeat_all(memory: &Memory, orders: &mut Orders)
 
 /// Sends what a tick asks for: again what the open exchanges lack, at the first slot of a round of the session its requests, and at the last
 /// slot of a round the reports of evidence.
-pub fn act(memory: &mut Memory, orders: &mut Orders)
+pub fn act(memory: &mut Memory, orders: &mut Orders<Order>)
     ensures stands { Acts memory.old orders.old memory.new orders.new }
     ensures room { orders.new.room ≡ orders.old.room }
     ensures given { orders.new.given ≡ orders.old.given }

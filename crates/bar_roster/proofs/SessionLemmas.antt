@@ -190,10 +190,10 @@ shape_by_holds n peers s false h e = cc
 
 -- numbers in range, with their shape and with parties and leaves enough, make a session
 session_of_parts : (n : Numbers) (count fanout : ℕ) (shape : Shape) (parties : List (List ℕ) × List (List ℕ))
-    → AreInRange n → IsShapeOf n count shape → (2 ≤ count) × (count ≤ 200)
+    → AreInRange n → IsShapeOf n count shape → (2 ≤ count) × (count ≤ 200) → (1 ≤ fanout) × (fanout ≤ count)
     → (length parties.0 ≡ 1 + count) × (length parties.1 ≡ 0 + count) → leaves_a_round * n.rounds ≤ 2 ^ levels (height_of n.lms)
     → IsSession (session_data n shape fanout parties)
-session_of_parts n count fanout shape parties range is counted grown leaves = record {
+session_of_parts n count fanout shape parties range is counted spread grown leaves = record {
   shape = record {
     version_is = omega (arith, is.version, range.version);
     peers_low = omega (arith, is.peers_are, counted.0);
@@ -207,6 +207,8 @@ session_of_parts n count fanout shape parties range is counted grown leaves = re
   signatures = is.sig_len;
   cap_low = range.cap_low;
   cap_high = range.cap_high;
+  fanout_low = spread.0;
+  fanout_high = omega (arith, is.peers_are, spread.1);
   keys = omega (arith, is.peers_are, grown.0);
   anchors = omega (arith, is.peers_are, grown.1);
   leaves = rw is.rounds leaves;
@@ -226,10 +228,11 @@ parties_in_range ms n s range read =
     let counted = entries_range listed.0 entries listed.1 in
     let grown = parties_counted n.lms n.ots (key ∷ []) [] entries parties is_parties in
     let enough = leaves_hold n.rounds (height_of n.lms) leaves is_leaves in
+    let spread = in_range 1 count Fanout (get_member (codes "fanout") ms) fanout is_fanout in
     let made = ok_or_holds (shape_of n count) (BadValue Id) shape is_shape in
     let from_numbers = shape_by_holds n count shape (is_shaped n.id n.life) refl made in
     let same : session_data n shape fanout parties ≡ s = cc in
-    subst IsSession same (session_of_parts n count fanout shape parties range from_numbers counted grown enough)))))))
+    subst IsSession same (session_of_parts n count fanout shape parties range from_numbers counted spread grown enough)))))))
 
 -- an accepted session has its numbers in their ranges, a key and an anchor for each that needs one, and a leaf for each message
 pub session_in_range : (bytes : List ℕ) (s : SessionData) → session_of bytes ≡ Ok s → IsSession s

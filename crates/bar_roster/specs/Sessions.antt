@@ -23,6 +23,8 @@ pub record IsSession (s : SessionData) : Type 0 where
   pub signatures : s.shape.sig_len ≡ signature_len s.params
   pub cap_low : 1 ≤ s.cap
   pub cap_high : s.cap ≤ 16
+  pub fanout_low : 1 ≤ s.fanout
+  pub fanout_high : s.fanout ≤ s.shape.peers
   pub keys : length s.keys ≡ s.shape.peers + 1
   pub anchors : length s.anchors ≡ s.shape.peers
   pub leaves : leaves_a_round * s.shape.rounds ≤ 2 ^ levels s.params.height

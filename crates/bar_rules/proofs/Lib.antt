@@ -1,3 +1,4 @@
 mod Worked
 mod WorkedVerdicts
 mod WorkedBroadcast
+pub mod LongerRuns

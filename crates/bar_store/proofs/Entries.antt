@@ -94,3 +94,10 @@ pub keeps_two : (old new : ℕ → Option (List ℕ)) (number size : ℕ) (one :
 keeps_two old new number size one two o is keeps =
     subst (λ (o : Option (Bor (List ℕ))). KeepsWhatFits old new number size (one ∷ other o)) (sym is)
     (λ range fits. keeps (omega (arith, range.2.0.1)) (omega (arith, range.2.1.0.1)) (omega (arith, fits, two_long one two.now)))
+
+pub long_with_one : (one : List ℕ) (o : Option (Bor (List ℕ))) → o ≡ None → length (evidence_bytes (one ∷ other o)) ≡ 3 + length one
+long_with_one one o is = ap (λ (o : Option (Bor (List ℕ))). length (evidence_bytes (one ∷ other o))) is ∙ one_long one
+
+pub long_with_two : (one : List ℕ) (two : Bor (List ℕ)) (o : Option (Bor (List ℕ))) → o ≡ Some two
+    → length (evidence_bytes (one ∷ other o)) ≡ 5 + length one + length two.now
+long_with_two one two o is = ap (λ (o : Option (Bor (List ℕ))). length (evidence_bytes (one ∷ other o))) is ∙ two_long one two.now

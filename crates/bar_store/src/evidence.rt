@@ -30,6 +30,7 @@ fn keep_one(rooms: &mut Rooms, number: usize, one: &[u8])
     requires last { number < length rooms.old.rooms.items }
     ensures kept { length one.now ≤ 65535 → 3 + length one.now ≤ rooms.old.size → (n : ℕ) → kept_in rooms.new n ≡
         (if n == number then Some (evidence_bytes (one.now ∷ [])) else kept_in rooms.old n) }
+    ensures unfit { rooms.old.size < 3 + length one.now → rooms.new ≡ rooms.old }
     ensures count { length rooms.new.rooms.items ≡ length rooms.old.rooms.items }
     ensures size { rooms.new.size ≡ rooms.old.size }
 {
@@ -46,6 +47,7 @@ fn keep_two(rooms: &mut Rooms, number: usize, one: &[u8], two: &[u8])
     ensures kept { length one.now ≤ 65535 → length two.now ≤ 65535 → 5 + length one.now + length two.now ≤ rooms.old.size
         → (n : ℕ) → kept_in rooms.new n ≡
         (if n == number then Some (evidence_bytes (one.now ∷ two.now ∷ [])) else kept_in rooms.old n) }
+    ensures unfit { rooms.old.size < 5 + length one.now + length two.now → rooms.new ≡ rooms.old }
     ensures count { length rooms.new.rooms.items ≡ length rooms.old.rooms.items }
     ensures size { rooms.new.size ≡ rooms.old.size }
 {
@@ -63,6 +65,7 @@ pub fn keep_evidence(rooms: &mut Rooms, party: u16, evidence: &EvidenceView<'_>)
     ensures kept { AreDatagramsInRange (datagrams_of evidence.now)
         → length (evidence_bytes (datagrams_of evidence.now)) ≤ rooms.old.size → (n : ℕ) → kept_in rooms.new n ≡
         (if n == party then Some (evidence_bytes (datagrams_of evidence.now)) else kept_in rooms.old n) }
+    ensures unfit { rooms.old.size < length (evidence_bytes (datagrams_of evidence.now)) → rooms.new ≡ rooms.old }
     ensures count { length rooms.new.rooms.items ≡ length rooms.old.rooms.items }
     ensures size { rooms.new.size ≡ rooms.old.size }
 {

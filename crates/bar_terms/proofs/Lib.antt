@@ -2,4 +2,5 @@ pub mod Segments
 pub mod Lookups
 pub mod Ends
 pub mod Equal
+pub mod Aligned
 mod Worked

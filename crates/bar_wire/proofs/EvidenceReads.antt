@@ -36,7 +36,7 @@ split_is bytes rest count ds is fits len range same =
     subst (λ (x : List (List ℕ)). IsEvidence bytes x) same (record { range = range; is = is ∙ (λ i. sym all.long i ∷ (sym all.joined ∙ sym (append-nil (flat_map entry (entries count rest)))) i) })
 
 -- entries in range have lengths of 16 bits
-lengths_fit : (ds : List (List ℕ)) → AllByRecursion IsEntryInRange ds → AllByRecursion (λ d. length d < 2 ^ 16) ds
+pub lengths_fit : (ds : List (List ℕ)) → AllByRecursion IsEntryInRange ds → AllByRecursion (λ d. length d < 2 ^ 16) ds
 lengths_fit [] all = tt
 lengths_fit (d ∷ ds) all = (omega (arith, all.0.1), lengths_fit ds all.1)
 

@@ -13,6 +13,7 @@ pub mod Nones
 pub mod Whole
 pub mod SetBack
 pub mod RangeTests
+pub mod Signed
 pub mod ReadBack
 pub mod Told
 pub mod EvidenceReads

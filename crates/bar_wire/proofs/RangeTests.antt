@@ -109,7 +109,7 @@ rises_tells high low (p ∷ ps) = three_tell (nat_lt low p) (nat_le p high) (ris
 entry_tells : (d : List ℕ) → IsTrue (is_entry_in_range d) ↔ IsEntryInRange d
 entry_tells d = and_tells (nat_lt 0 (length d)) (nat_le (length d) largest_datagram) (lt_tells 0 (length d)) (le_tells (length d) largest_datagram)
 
-datagrams_tell : (ds : List (List ℕ)) → IsTrue (are_datagrams_in_range ds) ↔ AreDatagramsInRange ds
+pub datagrams_tell : (ds : List (List ℕ)) → IsTrue (are_datagrams_in_range ds) ↔ AreDatagramsInRange ds
 datagrams_tell ds = three_tell (nat_lt 0 (length ds)) (nat_le (length ds) 2) (list_all is_entry_in_range ds) (lt_tells 0 (length ds)) (le_tells (length ds) 2) (all_tell is_entry_in_range IsEntryInRange entry_tells ds)
 
 parties_tell : (peers : ℕ) (ps : List ℕ) → IsTrue (are_parties_in_range peers ps) ↔ ArePartiesInRange peers ps

@@ -4,14 +4,14 @@ use Rattle.bar_bytes.specs.Bytes.{u16_bytes, first_u16}
 use Rattle.std.specs.Simd.{first_chunks}
 use Rattle.bar_wire.specs.Places.{entries_len, entries, pairs}
 
-u16_is : (n : ℕ) → n < 2 ^ 16 → u16_bytes n ≡ n / 256 ∷ n % 256 ∷ []
+pub u16_is : (n : ℕ) → n < 2 ^ 16 → u16_bytes n ≡ n / 256 ∷ n % 256 ∷ []
 unfolding u16_bytes
 u16_is n lt = let e : n / 256 % 256 ≡ n / 256 = omega arith in ap (λ (h : ℕ). h ∷ n % 256 ∷ []) e
 
 pub raw_back : (n : ℕ) (after : List ℕ) → n < 2 ^ 16 → first_u16 (u16_bytes n ++ after) ≡ n
 raw_back n after lt = ap (λ (x : List ℕ). first_u16 (x ++ after)) (u16_is n lt) ∙ omega arith
 
-skip_two : (n k : ℕ) (after : List ℕ) → n < 2 ^ 16 → drop (2 + k) (u16_bytes n ++ after) ≡ drop k after
+pub skip_two : (n k : ℕ) (after : List ℕ) → n < 2 ^ 16 → drop (2 + k) (u16_bytes n ++ after) ≡ drop k after
 skip_two n k after lt =
     let two : 2 + k ≡ suc (suc k) = omega arith in
     ap (λ (x : List ℕ). drop (2 + k) (x ++ after)) (u16_is n lt) ∙ ap (λ m. drop m (n / 256 ∷ n % 256 ∷ after)) two

@@ -1,4 +1,5 @@
 -- What one input adds to the broadcaster's log, and what it sends.
+use Rattle.bar_rules.specs.Broadcaster.Party.{IsBroadcaster}
 use Rattle.bar_rules.specs.Broadcaster.Sending.{evicted, served, caster_message, caster_signed, send_all, announce_by, announce, announce_manifest, announce_evictions, send_block, send_blocks, caster_tick, evict_by, judge_body, judge_datagram, caster_take, caster_step}
 use Rattle.bar_rules.specs.Broadcaster.Stream.{round_blocks, manifest_list, caster_table, is_in_fanout}
 use Rattle.bar_wire.specs.Limits.{leaves_a_round}
@@ -19,7 +20,6 @@ use Rattle.bar_laws.proofs.Logs.{first_said-was, SaidIn, said-in, all-of, all-ke
 use Rattle.bar_laws.proofs.Runs.{Adds, SentBy, adds-send, sent-said, came, ticked-low}
 use Rattle.bar_laws.proofs.Fitting.SignedAccepted.{signed-accepted}
 use Rattle.bar_lms.specs.Params.{levels}
-use Rattle.bar_roster.specs.KeyFile.{Fits}
 use Rattle.bar_laws.proofs.Fitting.CasterFits.{manifest-fits, evict-fits, block-fits, served-are-peers, blocks-are-whole, blocks-are-few}
 use Rattle.bar_roster.specs.Sessions.{IsSession}
 use Rattle.bar_wire.specs.Grammar.{IsDatagram}
@@ -47,12 +47,6 @@ pub record IsOwnMessage (s : Session) (stream : List ℕ) (party : ℕ) (d : Dat
   pub body : IsOwnBody s stream d.message.body
   pub fits : IsDatagram s.shape d
   pub accepted : is_signed_by s d ≡ true
-
--- the member is the broadcaster of its session, which holds the key that comes from its secret
-pub record IsCaster (me : Member) : Type 0 where
-  pub session : IsSession me.session
-  pub party : me.party ≡ 0
-  pub fits : Fits me.session 0 me.secret
 
 -- the broadcaster's own messages
 abbrev pub AreOwn : Session → List ℕ → Log → Type 0
@@ -153,10 +147,10 @@ casts-blocks me stream log o m i (b ∷ blocks) out z s low high few whole a =
     (λ p peer. block-fits me.session (record { round = m; index = i }) b p s low high (omega (arith, few)) whole.0 peer.0 peer.1)
     (all-kept (IsPeerOf me.session) (is_in_fanout me (record { round = m; index = i })) (served me.session out.state) (all-of (IsPeerOf me.session) (served me.session out.state) (served-are-peers me.session out.state))) a)
 
-caster-accepted : (me : Member) (leaf : ℕ) (body : Body) → IsCaster me → leaf < 2 ^ levels me.session.params.height → is_signed_by me.session (caster_signed me leaf body) ≡ true
+caster-accepted : (me : Member) (leaf : ℕ) (body : Body) → IsBroadcaster me → leaf < 2 ^ levels me.session.params.height → is_signed_by me.session (caster_signed me leaf body) ≡ true
 caster-accepted me leaf body is below = signed-accepted me.session 0 me.secret leaf (caster_message body) is.fits refl below
 
-casts-tick : (me : Member) (stream : List ℕ) (log : Log) (o : Option Datagram) (out : Out) → IsCaster me → 1 ≤ round_now out.state → Casts me stream log o out → Casts me stream log o (caster_tick me stream out)
+casts-tick : (me : Member) (stream : List ℕ) (log : Log) (o : Option Datagram) (out : Out) → IsBroadcaster me → 1 ≤ round_now out.state → Casts me stream log o out → Casts me stream log o (caster_tick me stream out)
 casts-tick me stream log o out is low a = go (not (nat_le m me.session.shape.rounds)) refl _ _ _
   where
     m : ℕ
@@ -217,7 +211,7 @@ casts-judge me stream log d (Evidence ev) e own fair = casts-evict me stream log
 casts-judge me stream log d _ e own fair = casts-begun me stream log (Some d) own fair
 
 -- the broadcaster's step
-pub caster-casts : (me : Member) (stream : List ℕ) (log : Log) (i : Input) → IsCaster me → AreOwn me.session stream log → IsFair me stream log → Casts me stream log (came me i) (caster_step me stream log i)
+pub caster-casts : (me : Member) (stream : List ℕ) (log : Log) (i : Input) → IsBroadcaster me → AreOwn me.session stream log → IsFair me stream log → Casts me stream log (came me i) (caster_step me stream log i)
 unfolding caster_step
 caster-casts me stream log i is own fair = go (nat_le (last_tick me.session) (ticks log)) i
   where

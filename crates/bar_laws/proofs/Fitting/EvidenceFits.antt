@@ -16,15 +16,17 @@ use Rattle.bar_wire.specs.declared.shape.Shape.{Shape}
 use Rattle.bar_rules.specs.Peer.Sizes.{largest, most_evidence}
 use Rattle.bar_wire.specs.Evidence.{evidence_bytes}
 use Rattle.bar_bytes.specs.Bytes.{u16_bytes}
+use Rattle.bar_laws.specs.Broadcasting.{ShownIsShort}
 use Rattle.bar_laws.specs.Sizes.{FitsItsRoom}
-use Rattle.std.proofs.Common.{◌≡◌, ℕ, ◌+◌, ◌*◌, ◌<◌, ◌≤◌, ◌^◌, Bool, true, false, List, [], ◌∷◌, length, refl, sym, ap, ◌&&◌, subst, eqb, arith, not, length-append}
+use Rattle.std.proofs.Common.{◌≡◌, ℕ, ◌+◌, ◌*◌, ◌<◌, ◌≤◌, ◌^◌, Bool, true, false, List, [], ◌∷◌, length, refl, sym, ap, ◌∙◌, ◌&&◌, subst, eqb, arith, not, length-append}
 use Rattle.std.specs.Prelude.{Option, Some, None, max, option_and_then, option_map, if◌then◌else◌}
 use Rattle.std.specs.Bool.{then_some}
 use Rattle.std.specs.List.{AllByRecursion, flat_map, list_all}
 use Rattle.std.proofs.Math.Nat.{le-max_left, max-le, mul-le-mul_left}
 use Rattle.std.proofs.lemmas.Bool.{and_parts}
-use Rattle.bar_laws.proofs.Logs.{no-value, IsFind, find-of, allowed-at, read-fits, spells}
-use Rattle.bar_laws.proofs.Fitting.MessageLengths.{length-u16, signature-short, spelling-short}
+use Rattle.bar_laws.proofs.Logs.{no-value, IsFind, find-of, allowed-at, read-fits, spells, eqb_refl}
+use Rattle.bar_lms.proofs.DigitLemmas.{signature_short}
+use Rattle.bar_laws.proofs.Fitting.MessageLengths.{length-u16, spelling-short}
 use Rattle.bar_laws.proofs.Fitting.Largest.{fits-largest}
 
 -- ---- what a verdict reads
@@ -139,24 +141,42 @@ entries-room s (b ∷ bs) ds q e peer = go (datagram_of s b) (all_read s bs) ref
 -- the largest CASE of a session has few bytes
 case-few : (s : Session) → IsSession s → largest s.shape kinds.Case ≤ 30021
 case-few s is =
-    let short : s.shape.sig_len ≤ 9004 = omega (arith, is.signatures, signature-short s.params) in
+    let short : s.shape.sig_len ≤ 9004 = omega (arith, is.signatures, signature_short s.params) in
     let window : window_len s.shape ≤ 128 = let few : s.shape.life ≤ 16 = s.shape.shaped.few in omega (arith, few) in
     let terms : max (32 + 2 * window_len s.shape) (4 * window_len s.shape + 1) ≤ 513 = max-le (omega (arith, window)) (omega (arith, window)) in
     omega (arith, terms, short)
 
+-- one or two entries, which fit the room
+record IsSmall (s : Session) (evidence : List (List ℕ)) : Type 0 where
+  some : 0 < length evidence
+  few : length evidence ≤ 2
+  each : AllByRecursion IsEntryInRange evidence
+  short : length (evidence_bytes evidence) ≤ most_evidence s.shape
+
+readable-small : (s : Session) (evidence : List (List ℕ)) → IsSession s → IsReadable s evidence → IsSmall s evidence
+readable-small s evidence is r =
+    let short : AreShort evidence r.datagrams = read-short s evidence r.datagrams (sender_of r.datagrams) is r.read r.one_peer in
+    let all = entries-room s evidence r.datagrams (sender_of r.datagrams) r.read r.one_peer in
+    let few : length evidence ≤ 2 = omega (arith, r.few, short.many) in
+    record {
+      some = omega (arith, r.some, short.many);
+      few = few;
+      each = short.each;
+      short = simp length-append (omega (arith, all, few, mul-le-mul_left (2 + largest s.shape kinds.Case) few));
+    }
+
+-- evidence that is shown against a party has no more bytes than its room
+pub shown-short : ShownIsShort
+shown-short s table evidence party fault is e =
+    (readable-small s evidence is (named-readable s table party evidence (ap (accuses party) e ∙ eqb_refl party))).short
+
 pub evidence-fits-room : (me : Member) (log : Log) (q : ℕ) (evidence : List (List ℕ)) → IsSession me.session → IsObedient me log → kept log q ≡ Some evidence → FitsItsRoom me evidence
 evidence-fits-room me log q evidence is h e =
-    let r : IsReadable me.session evidence = kept-named me log q evidence h e in
-    let short : AreShort evidence r.datagrams = read-short me.session evidence r.datagrams (sender_of r.datagrams) is r.read r.one_peer in
-    let all = entries-room me.session evidence r.datagrams (sender_of r.datagrams) r.read r.one_peer in
-    let few : length evidence ≤ 2 = omega (arith, r.few, short.many) in
-    let room : length (evidence_bytes evidence) ≤ most_evidence me.session.shape =
-    simp length-append (omega (arith, all, few, mul-le-mul_left (2 + largest me.session.shape kinds.Case) few))
-    in
+    let small : IsSmall me.session evidence = readable-small me.session evidence is (kept-named me log q evidence h e) in
     record {
-      range = (omega (arith, r.some, short.many), few, short.each);
-      short = room;
-      sendable = omega (arith, room, case-few me.session is);
+      range = (small.some, small.few, small.each);
+      short = small.short;
+      sendable = omega (arith, small.short, case-few me.session is);
     }
 
 -- ---- the report
@@ -164,14 +184,13 @@ evidence-fits-room me log q evidence is h e =
 pub evidence-fits : (me : Member) (log : Log) (q : ℕ) (evidence : List (List ℕ)) → IsMember me → IsObedient me log → kept log q ≡ Some evidence
     → IsDatagram me.session.shape (unsigned (record { from = me.party; to = 0; body = Evidence evidence }))
 evidence-fits me log q evidence is h e =
-    let r : IsReadable me.session evidence = kept-named me log q evidence h e in
-    let short : AreShort evidence r.datagrams = read-short me.session evidence r.datagrams (sender_of r.datagrams) is.session r.read r.one_peer in
+    let small : IsSmall me.session evidence = readable-small me.session evidence is.session (kept-named me log q evidence h e) in
     let peers : me.session.shape.peers ≤ 200 = is.session.shape.peers_high in
     record {
       from_fits = omega (arith, peers, is.peer.1);
       to_fits = omega arith;
-      form = in-packets evidence short.each;
-      range = (omega (arith, r.some, short.many), omega (arith, r.few, short.many), short.each);
+      form = in-packets evidence small.each;
+      range = (small.some, small.few, small.each);
       may_send = (is.peer, refl);
       signature_long = refl;
     }

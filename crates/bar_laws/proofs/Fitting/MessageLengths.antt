@@ -1,11 +1,6 @@
 -- What a peer signs fits into evidence: its bytes are at most those of a packet.
 use Rattle.bar_wire.specs.Bodies.{is_peer_kind}
-use Rattle.bar_lms.specs.Params.{chains, levels, signature_len}
-use Rattle.bar_lms.specs.declared.params.Height.{Height}
-use Rattle.bar_lms.specs.declared.params.Height.TheVariants.{H5, H10, H15}
-use Rattle.bar_lms.specs.declared.params.Ots.{Ots}
-use Rattle.bar_lms.specs.declared.params.Ots.TheVariants.{W1, W2, W4, W8}
-use Rattle.bar_lms.specs.declared.params.Params.{Params}
+use Rattle.bar_lms.proofs.DigitLemmas.{signature_short}
 use Rattle.bar_roster.specs.Sessions.{IsSession}
 use Rattle.bar_rules.specs.Member.{Session}
 use Rattle.bar_window.specs.Terms.{Terms}
@@ -33,20 +28,6 @@ length-u16 n = refl
 pub length-u32 : (n : ℕ) → length (u32_bytes n) ≡ 4
 unfolding u32_bytes
 length-u32 n = refl
-
-chains-few : (ots : Ots) → chains ots ≤ 265
-chains-few W1 = omega arith
-chains-few W2 = omega arith
-chains-few W4 = omega arith
-chains-few W8 = omega arith
-
-levels-few : (height : Height) → levels height ≤ 15
-levels-few H5 = omega arith
-levels-few H10 = omega arith
-levels-few H15 = omega arith
-
-pub signature-short : (p : Params) → signature_len p ≤ 9004
-signature-short p = omega (arith, chains-few p.ots, levels-few p.height)
 
 -- a session's life is of at most sixteen rounds
 set-short : (s : Shape) (round : ℕ) (us : List UpdateId) → length (set_bytes s round us) ≤ 128
@@ -102,6 +83,6 @@ spelling-short s d is fits peer =
     let header : length (message_bytes s.shape d.message) ≡ 16 + length (concat (pieces s.shape d.message.body)) = header-is s.shape d.message in
     let fields : length (concat (pieces s.shape d.message.body)) ≤ 22000 = fields-short s.shape d.message.body fits.form fits.range peer in
     let long : length d.signature ≤ s.shape.sig_len = omega (arith, fits.signature_long, sign-short (kind_of d.message.body) s.shape) in
-    let short : s.shape.sig_len ≤ 9004 = omega (arith, is.signatures, signature-short s.params) in
+    let short : s.shape.sig_len ≤ 9004 = omega (arith, is.signatures, signature_short s.params) in
     let whole : length (spelling s.shape d) ≡ length (message_bytes s.shape d.message) + length d.signature = length-append (message_bytes s.shape d.message) d.signature in
     (omega (arith, whole, header), omega (arith, whole, header, fields, long, short))

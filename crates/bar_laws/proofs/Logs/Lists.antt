@@ -48,3 +48,8 @@ all-flat P f (x ∷ xs) h = all-both P (f x) (flat_map f xs) (h x) (all-flat P f
 pub all-flat-map : {X Y : Type 0} (P : X → Type 0) (Q : Y → Type 0) (f : X → List Y) (xs : List X) → ((x : X) → P x → AllByRecursion Q (f x)) → AllByRecursion P xs → AllByRecursion Q (flat_map f xs)
 all-flat-map P Q f [] k a = tt
 all-flat-map P Q f (x ∷ xs) k a = all-both Q (f x) (flat_map f xs) (k x a.0) (all-flat-map P Q f xs k a.1)
+
+-- tests that agree at each element keep the same
+pub filter-same : {X : Type 0} (p q : X → Bool) (xs : List X) → AllByRecursion (λ x. p x ≡ q x) xs → filter p xs ≡ filter q xs
+filter-same p q [] h = refl
+filter-same p q (x ∷ xs) h = λ i. cond (h.0 i) (x ∷ filter-same p q xs h.1 i) (filter-same p q xs h.1 i)

@@ -15,18 +15,14 @@ use Rattle.bar_rules.specs.Peer.Log.{lists_of, Log, Ticked, Heard, Said, Kept, h
 use Rattle.bar_rules.specs.Member.{Member, round_after, is_alive}
 use Rattle.bar_rules.specs.Values.{window_of}
 use Rattle.std.proofs.Common.{◌≡◌, ℕ, ◌≤◌, ◌+◌, ◌-◌, Bool, true, false, List, [], ◌∷◌, refl, sym, ap, ◌∙◌, subst, arith, cond, ◌||◌, eqb}
-use Rattle.std.specs.Prelude.{option_map, Option, Some, None, is_some, filter}
+use Rattle.std.specs.Prelude.{option_map, Option, Some, None, is_some}
 use Rattle.std.specs.Option.{option_or}
 use Rattle.std.specs.Bool.{then_some}
 use Rattle.std.specs.List.{AllByRecursion}
 use Rattle.std.proofs.lemmas.Bool.{and_parts, leb-true}
-use Rattle.bar_laws.proofs.Logs.{is_of-is, part-round}
+use Rattle.bar_laws.proofs.Logs.{filter-same, is_of-is, part-round}
 use Rattle.bar_laws.proofs.Memory.InLife.{InLife, of-round, window-in-life, by-round}
 use Rattle.bar_laws.proofs.Memory.Learning.{grown, by-kind, known-ticked, known-heard, known-said, known-kept}
-
-pub filter-same : {X : Type 0} (p q : X → Bool) (xs : List X) → AllByRecursion (λ x. p x ≡ q x) xs → filter p xs ≡ filter q xs
-filter-same p q [] h = refl
-filter-same p q (x ∷ xs) h = λ i. cond (h.0 i) (x ∷ filter-same p q xs h.1 i) (filter-same p q xs h.1 i)
 
 or-same : {A : Type 0} (o p q r : Option A) → o ≡ p → q ≡ r → option_or o q ≡ option_or p r
 or-same o p q r e f = λ i. option_or (e i) (f i)

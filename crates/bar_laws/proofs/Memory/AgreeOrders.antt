@@ -33,10 +33,10 @@ use Rattle.std.proofs.Common.{◌≡◌, ℕ, ◌≤◌, ◌+◌, ◌-◌, Bool,
 use Rattle.std.specs.Prelude.{Option, Some, None, option_map, option_and_then, unwrap_or, nat_lt, filter, max, ◌/◌}
 use Rattle.std.specs.Bool.{then_some}
 use Rattle.std.specs.List.{AllByRecursion}
-use Rattle.bar_laws.proofs.Memory.AgreeLogs.{now, filter-same, held-on, blocks-on, history-same, said-agree}
+use Rattle.bar_laws.proofs.Memory.AgreeLogs.{now, held-on, blocks-on, history-same, said-agree}
 use Rattle.bar_laws.proofs.Memory.AgreeRows.{all-with, body-same, terms-same, wanted-same}
 use Rattle.bar_laws.proofs.Memory.InLife.{InLife, BodyInLife, LogInLife, from-in-life, history-in-life, young-in-life, aged-in-life, wanted-in-life, given-in-life, promised-in-life, offered-in-life, terms-in-life, by-round}
-use Rattle.bar_laws.proofs.Logs.{some-equal, other-kind, parts-of}
+use Rattle.bar_laws.proofs.Logs.{filter-same, some-equal, other-kind, parts-of}
 
 -- ---- orders in time
 

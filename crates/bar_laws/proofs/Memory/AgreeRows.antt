@@ -29,9 +29,9 @@ use Rattle.std.specs.Option.{option_map_or}
 use Rattle.std.specs.Str.{bytes_eq}
 use Rattle.std.specs.List.{AllByRecursion}
 use Rattle.std.proofs.lemmas.Bool.{and_parts, leb-true, ltb-true}
-use Rattle.bar_laws.proofs.Memory.AgreeLogs.{now, filter-same, IsInTime, held-on}
+use Rattle.bar_laws.proofs.Memory.AgreeLogs.{now, IsInTime, held-on}
 use Rattle.bar_laws.proofs.Memory.InLife.{InLife, rounds-in-life, by-round}
-use Rattle.bar_laws.proofs.Logs.{no-value, parts-of}
+use Rattle.bar_laws.proofs.Logs.{filter-same, no-value, parts-of}
 
 -- ---- tests
 

@@ -21,13 +21,10 @@ use Rattle.std.specs.Option.{option_or, option_map_or}
 use Rattle.std.specs.Bool.{then_some}
 use Rattle.std.specs.List.{list_any}
 use Rattle.std.proofs.lemmas.Bool.{leb-true, le-leb, both_ways}
+use Rattle.bar_laws.proofs.Logs.{or-none}
 use Rattle.bar_laws.proofs.Memory.OpenList.{IsRising, opened-rising, picked-inserted, all-picked}
 
 -- ---- options and counts
-
-or-none : {A : Type 0} (o : Option A) → option_or o None ≡ o
-or-none (Some a) = refl
-or-none None = refl
 
 some-then : {A : Type 0} (b : Bool) (a : A) → is_some (then_some b a) ≡ b
 some-then true a = refl

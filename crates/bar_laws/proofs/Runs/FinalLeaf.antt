@@ -63,7 +63,7 @@ said-sealed me log d h w =
     al.0.signature ∙ (λ i. record { message = d.message; signature = signature_of me (leaf i) (message_bytes me.session d.message) })
 
 -- what stands in a log was said
-was-said-in : (log : Log) (d : Datagram) → Contains log (Said d) → WasSaid log d
+pub was-said-in : (log : Log) (d : Datagram) → Contains log (Said d) → WasSaid log d
 was-said-in [] d w = absurd (omega (arith, w.1))
 was-said-in (x ∷ log) d w = go w.0 w.1 w.2 (was-said-in log d)
   where

@@ -83,7 +83,7 @@ tick-stands me log low =
 
 -- ---- evidence
 
-not_some : {A : Type 0} (o : Option A) → not (is_some o) ≡ true → o ≡ None
+pub not_some : {A : Type 0} (o : Option A) → not (is_some o) ≡ true → o ≡ None
 not_some None e = refl
 not_some (Some a) e = cc
 

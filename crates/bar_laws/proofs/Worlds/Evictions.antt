@@ -11,7 +11,7 @@ use Rattle.bar_rules.specs.Values.{datagram_of, is_signed_by}
 use Rattle.bar_rules.specs.Judge.Verdict.{Shown, NotShown, Malformed, NotSigned, Fault, verdict, verdict_on, all_read, fault_of, judged, sender_of, are_of_one_peer}
 use Rattle.bar_rules.specs.World.World.{World, member, AllGenuine, Setup}
 use Rattle.bar_terms.specs.Table.{Table, Agrees}
-use Rattle.bar_wire.specs.Datagram.{Datagram, Body, Request, Response, Query, Reply, Case, Key, is_signed, Manifest}
+use Rattle.bar_wire.specs.Datagram.{Datagram, Body, is_signed, Manifest}
 use Rattle.std.proofs.Common.{is_some, ◌≡◌, ℕ, Bool, true, false, List, [], ◌∷◌, refl, sym, ap, ◌∙◌, subst, ◌&&◌, eqb}
 use Rattle.std.specs.Prelude.{Option, Some, None, slice_get, option_map, option_and_then, if◌then◌else◌, not}
 use Rattle.std.specs.List.{AllByRecursion, list_all}
@@ -20,6 +20,7 @@ use Rattle.bar_laws.proofs.Worlds.SoundWorlds.{IsSound}
 use Rattle.std.proofs.Common.{inl, inr}
 use Rattle.std.specs.Prelude.{◌⊎◌, nat_le, cond}
 use Rattle.std.specs.Bool.{then_some}
+use Rattle.bar_wire.proofs.Signed.{peer_kind_signed}
 use Rattle.bar_laws.proofs.Runs.{heard-in, HeardIn}
 use Rattle.bar_laws.proofs.Logs.{no-value, SaidIn, option_or-cases, IsEntry, IsFind, find-of, allowed-at, first_heard-was, IsLater, later-entry, table-later, heard-fits}
 use Rattle.bar_laws.proofs.Fitting.{IsFair, IsOwnBody}
@@ -38,7 +39,7 @@ pub record IsShown (s : Session) (t : Table) (evidence : List (List ℕ)) (party
   pub fault : fault_of s t datagrams ≡ Some f
   pub sender : sender_of datagrams ≡ party
 
-shown-is : (s : Session) (t : Table) (evidence : List (List ℕ)) (party : ℕ) (f : Fault) → verdict s t evidence ≡ Shown party f → IsShown s t evidence party f
+pub shown-is : (s : Session) (t : Table) (evidence : List (List ℕ)) (party : ℕ) (f : Fault) → verdict s t evidence ≡ Shown party f → IsShown s t evidence party f
 shown-is s t evidence party f e = go (all_read s evidence) refl e
   where
     by : (ds : List Datagram) (a b : Bool) (o : Option Fault) → are_of_one_peer ds ≡ a → list_all (is_signed_by s) ds ≡ b → fault_of s t ds ≡ o → all_read s evidence ≡ Some ds
@@ -54,15 +55,6 @@ shown-is s t evidence party f e = go (all_read s evidence) refl e
     go : (o : Option (List Datagram)) → all_read s evidence ≡ o → verdict_on s t o ≡ Shown party f → IsShown s t evidence party f
     go None g e = cc
     go (Some ds) g e = by ds _ _ _ refl refl refl g e
-
-peer-signed : (b : Body) → is_peer_kind b ≡ true → is_signed b ≡ true
-peer-signed (Request r s c) e = refl
-peer-signed (Response r hb) e = refl
-peer-signed (Query r s y o) e = refl
-peer-signed (Reply r w g z) e = refl
-peer-signed (Case c) e = refl
-peer-signed (Key k) e = refl
-peer-signed b e = absurd (both_ways (is_peer_kind b) refl e)
 
 -- genuine evidence of a trusted party is made of what it said
 all-said : (setup : Setup) (trusted : ℕ → Bool) (w : World) (q : ℕ) (log : Log) (ev : List (List ℕ)) (ds : List Datagram) → trusted q ≡ true → slice_get w.logs q ≡ Some log → AllGenuine setup trusted w ev
@@ -85,7 +77,7 @@ all-said setup trusted w q log (b ∷ ev) ds t at g r p s = go (datagram_of setu
         let ss = and_parts _ _ s' in
         let from : d.message.from ≡ q = eqb-true _ _ one.1 in
         subst (λ z. AllByRecursion (λ (d : Datagram). HasSaid log d.message) z) same (
-          g.0 d log f (peer-signed d.message.body one.0) (subst (λ z. trusted z ≡ true) (sym from) t) ss.0 (subst (λ z. slice_get w.logs z ≡ Some log) (sym from) at),
+          g.0 d log f (peer_kind_signed d.message.body one.0) (subst (λ z. trusted z ≡ true) (sym from) t) ss.0 (subst (λ z. slice_get w.logs z ≡ Some log) (sym from) at),
           rest es t at g.1 h pp.1 ss.1,
         )
 

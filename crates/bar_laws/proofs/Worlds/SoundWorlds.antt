@@ -1,4 +1,5 @@
 -- In a world where nothing is forged each delivered message of a trusted party was signed by it.
+use Rattle.bar_rules.specs.Broadcaster.Party.{IsBroadcaster}
 use Rattle.bar_rules.specs.Broadcaster.Sending.{caster_step}
 use Rattle.bar_wire.specs.Bodies.{evidence_in}
 use Rattle.bar_rules.specs.Peer.Knowledge.{known}
@@ -19,7 +20,7 @@ use Rattle.std.proofs.lemmas.Bool.{both_ways, ne_eqb}
 use Rattle.std.specs.Bool.{then_some}
 use Rattle.bar_laws.proofs.Logs.{no-value, option_or-cases, IsLater, said-rule, spells, fits-reads, SaidIn, was-said}
 use Rattle.bar_laws.proofs.Runs.{Adds, AddedBy, SentBy, IsSource, HeardIn, came, step-adds, step-obedient}
-use Rattle.bar_laws.proofs.Fitting.{IsFair, IsOwnBody, IsOwnMessage, AreOwn, AllFit, IsCaster, own-inside, caster-casts, said-accepted, said-fits, step-fits}
+use Rattle.bar_laws.proofs.Fitting.{IsFair, IsOwnBody, IsOwnMessage, AreOwn, AllFit, own-inside, caster-casts, said-accepted, said-fits, step-fits}
 
 -- ---- lists
 
@@ -343,7 +344,7 @@ peer-keeps setup p log i n is h =
         }
 
 -- the broadcaster's step is such a step too
-caster-keeps : (setup : Setup) (log : Log) (i : Input) → IsCaster (member setup 0) → IsFair (member setup 0) setup.stream log → AreOwn setup.session setup.stream log
+caster-keeps : (setup : Setup) (log : Log) (i : Input) → IsBroadcaster (member setup 0) → IsFair (member setup 0) setup.stream log → AreOwn setup.session setup.stream log
     → IsStep setup 0 log i (caster_step (member setup 0) setup.stream log i)
 caster-keeps setup log i s fair own =
     let c = caster-casts (member setup 0) setup.stream log i s own fair in
@@ -354,7 +355,7 @@ caster-keeps setup log i s fair own =
 pub cast-member : (setup : Setup) (p : ℕ) → IsSetup setup → 1 ≤ p → p ≤ setup.session.shape.peers → IsMember (member setup p)
 cast-member setup p is low high = record { session = is.session; peer = (omega (arith, low), high); fits = is.fits p high }
 
-cast-caster : (setup : Setup) → IsSetup setup → IsCaster (member setup 0)
+cast-caster : (setup : Setup) → IsSetup setup → IsBroadcaster (member setup 0)
 cast-caster setup is = record { session = is.session; party = refl; fits = is.fits 0 (omega arith) }
 
 -- each party's step, where the session fits each party's secret

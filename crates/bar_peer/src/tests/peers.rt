@@ -1,6 +1,6 @@
 //! Peers, and all that they give out.
 ghost use Rattle.std.specs.Prelude.{◌≡◌, ◌<◌, []};
-ghost use Rattle.bar_peer.specs.Orders.{left_in};
+ghost use Rattle.bar_store.specs.Orders.{left_in};
 ghost use Rattle.bar_peer.specs.StandsFor.{contents_left};
 
 use super::sessions::ID;

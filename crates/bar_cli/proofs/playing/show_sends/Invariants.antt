@@ -3,7 +3,7 @@ use Rattle.bar_outside.specs.Disk.{Disk}
 use Rattle.bar_outside.specs.Plan.{outside}
 use Rattle.bar_outside.specs.Plan.Action.{show}
 use Rattle.bar_wire.specs.Datagram.{Datagram}
-use Rattle.bar_peer.specs.Orders.{left_in}
+use Rattle.bar_store.specs.Orders.{left_in}
 use Rattle.bar_peer.specs.StandsFor.{Inputs, StandsFor, AreLeft}
 use Rattle.bar_cli.specs.Transcript.{lines_of_sends}
 use Rattle.bar_cli.proofs.PlayingLemmas.{Underway}

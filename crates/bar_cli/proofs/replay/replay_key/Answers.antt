@@ -2,7 +2,7 @@ use Rattle.std.proofs.Common.{Ok, Err, refl}
 use Rattle.std.proofs.lemmas.Result.{err_from_is_err_and}
 use Rattle.bar_outside.proofs.Ending.{EndsWith-reading, EndsWith-accepted, EndsWith-refused, EndsWith-doing, EndsWith-ending, EndsWith-unread}
 use Rattle.bar_record.specs.Inputs.{inputs_left}
-use Rattle.bar_peer.specs.Members.{member_by}
+use Rattle.bar_rules.specs.Members.{member_by}
 use Rattle.bar_cli.specs.Found.{found_by}
 use Rattle.bar_cli.specs.ReplayPlan.{replay_actions, turns_of}
 use Rattle.bar_cli.specs.Refusals.{input_refused}

@@ -1,4 +1,5 @@
-use Rattle.std.proofs.Common.{◌∙◌, Some, None, sym, ap, option_map}
+use Rattle.std.proofs.Common.{◌≡◌, ◌∙◌, Some, None, sym, ap, option_map, rules}
+use Rattle.bar_window.specs.Exchange.{same_exchange}
 use Rattle.bar_wire.specs.Sides.{place_in}
 use Rattle.bar_wire.specs.Views.{datagram}
 use Rattle.bar_judge.proofs.Messages.{place_told}
@@ -6,7 +7,8 @@ use Rattle.bar_judge.proofs.words.is_of_one_exchange.Goals as goal
 
 pub returns-in-Some-Some : goal.returns-in-Some-Some
 returns-in-Some-Some c s =
-    c.is_same.ensures
+    let same : c.eq.result ≡ same_exchange c.in-Some-Some.one.x c.in-Some-Some.two.x = search rules in
+    same
     ∙ sym (place_told (datagram s c.args.m.now).message (datagram s c.args.n.now).message (Some c.in-Some-Some.one) (Some c.in-Some-Some.two)
     (ap (option_map place_in) (sym c.in-Some-Some.is-0) ∙ c.place_of.ensures s) (ap (option_map place_in) (sym c.in-Some-Some.is-1) ∙ c.place_of-2.ensures s))
 

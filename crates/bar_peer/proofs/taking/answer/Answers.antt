@@ -14,7 +14,7 @@ use Rattle.bar_balanced.specs.Balanced.{AreSpelled}
 use Rattle.bar_peer.specs.Memory.{member_of}
 use Rattle.bar_peer.specs.Sending.{Stands}
 use Rattle.bar_peer.proofs.Answered.{answered-before, answered-new, answered-again, new-replied, repeat-answered, not-repeated, apart, received}
-use Rattle.bar_peer.proofs.Before.{perform_all-before}
+use Rattle.bar_peer.proofs.Later.{obeys_before_all}
 use Rattle.bar_peer.proofs.Sent.{none_stand}
 use Rattle.bar_peer.proofs.taking.answer.Goals as goal
 
@@ -25,7 +25,9 @@ returns-then-is_admitted-clause-stands c log obeys tells weighed empty room =
     let admitted : is_admitted me (known me log) d ≡ true = sym weighed ∙ c.if-is_admitted.true in
     let is = answered-new me log d admitted in
     let now = subst (λ out. IsObedient me out.state) is obeys in
-    let heard : IsObedient me (Heard d ∷ log) = perform_all-before me (begun (Heard d ∷ log)) (reply_orders me (known me (Heard d ∷ log)) true d) now in
+    let heard : IsObedient me (Heard d ∷ log) =
+    obeys_before_all me (begun (Heard d ∷ log)) (reply_orders me (known me (Heard d ∷ log)) true d) now
+    in
     subst (λ out. Stands out c.reply.new.memory c.reply.new.orders) (sym is)
     (new-replied log d c.args.memory.now c.hear.new.self c.reply.new.memory c.args.orders.now c.reply.new.orders c.says_to-says.result
     c.args.memory.now.who.is_member c.says_to-says.ensures.fitting (apart c.args.memory.now.who.session.shape d me.party c.requires.view.spelled.fits (received me (known me log) d admitted)) c.hear.ensures.who admitted (c.hear.ensures.learns log heard tells) c.says_to-says.ensures.orders c.reply.ensures.stands empty room now)

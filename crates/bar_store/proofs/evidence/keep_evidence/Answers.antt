@@ -1,7 +1,7 @@
-use Rattle.std.proofs.Common.{ℕ, ◌∷◌, subst}
+use Rattle.std.proofs.Common.{ℕ, ◌∷◌, subst, arith}
 use Rattle.bar_bytes.specs.Rooms.{kept_in}
 use Rattle.bar_wire.specs.Evidence.{other}
-use Rattle.bar_store.proofs.Entries.{KeepsWhatFits, keeps_one, keeps_two}
+use Rattle.bar_store.proofs.Entries.{KeepsWhatFits, keeps_one, keeps_two, long_with_one, long_with_two}
 use Rattle.bar_store.proofs.evidence.keep_evidence.Goals as goal
 
 pub returns-in-Some-clause-kept : goal.returns-in-Some-clause-kept
@@ -20,3 +20,13 @@ returns-in-None-clause-kept c =
     let new = kept_in c.keep_one.new.rooms in
     subst (λ (n : ℕ). KeepsWhatFits old new n c.args.rooms.now.size (evidence.one.now ∷ other evidence.two)) c.from-number.ensures
     (keeps_one old new c.from-number.result c.args.rooms.now.size evidence.one.now evidence.two c.in-None.is c.keep_one.ensures.kept)
+
+pub returns-in-Some-clause-unfit : goal.returns-in-Some-clause-unfit
+returns-in-Some-clause-unfit c big =
+    let evidence = c.args.evidence.now in
+    c.keep_two.ensures.unfit (omega (arith, big, long_with_two evidence.one.now c.in-Some.two evidence.two c.in-Some.is))
+
+pub returns-in-None-clause-unfit : goal.returns-in-None-clause-unfit
+returns-in-None-clause-unfit c big =
+    let evidence = c.args.evidence.now in
+    c.keep_one.ensures.unfit (omega (arith, big, long_with_one evidence.one.now evidence.two c.in-None.is))

@@ -4,7 +4,8 @@ use Rattle.bar_wire.specs.Views.{datagram}
 use Rattle.bar_balanced.specs.Balanced.{AreSpelled}
 use Rattle.bar_rules.specs.Member.{Member}
 use Rattle.bar_peer.specs.Memory.{member_of}
-use Rattle.bar_peer.proofs.Admitted.{last_false, last_true, none_asked, unadmitted, untried, admits_in_time, shows_in_time, weighed_admitted, weighed_tried}
+use Rattle.std.proofs.lemmas.Bool.{or_parts}
+use Rattle.bar_peer.proofs.Admitted.{last_false, last_true, unadmitted, untried, admits_in_time, shows_in_time, weighed_admitted, weighed_tried}
 use Rattle.bar_peer.proofs.memory.Memory.weigh.Goals as goal
 use Rattle.bar_peer.proofs.memory.Memory.weigh.Goals.{then-is_admitted, else-is_admitted}
 
@@ -19,7 +20,7 @@ returns-then-not-is_asked-clause-admitted g c k h sound =
       | then-is_admitted w ↦ w.is_asked-is ∙ w.if-is_admitted.true ∙ (λ i. sym w.if-is_admitted.true i || shows)
       | else-is_admitted w ↦ w.is_asked-is ∙ (λ i. sym w.if-is_admitted.false i || shows)
     ] in
-    unadmitted me k d (sym (c.may_admit-is_admitted.ensures.exact k h spelled) ∙ (none_asked admits shows (sym asked ∙ search)).0)
+    unadmitted me k d (sym (c.may_admit-is_admitted.ensures.exact k h spelled) ∙ (or_parts admits shows (sym asked ∙ search)).0)
 
 pub returns-then-not-is_asked-clause-tried : goal.returns-then-not-is_asked-clause-tried
 returns-then-not-is_asked-clause-tried g c k h sound =
@@ -31,7 +32,7 @@ returns-then-not-is_asked-clause-tried g c k h sound =
       | then-is_admitted w ↦ w.is_asked-is ∙ w.if-is_admitted.true ∙ (λ i. sym w.if-is_admitted.true i || shows)
       | else-is_admitted w ↦ w.is_asked-is ∙ (λ i. sym w.if-is_admitted.false i || shows)
     ] in
-    untried me k d (sym (c.may_show-is_tried.ensures.exact k h) ∙ (none_asked admits shows (sym asked ∙ search)).1)
+    untried me k d (sym (c.may_show-is_tried.ensures.exact k h) ∙ (or_parts admits shows (sym asked ∙ search)).1)
 
 pub returns-then-not-is_valid-clause-admitted : goal.returns-then-not-is_valid-clause-admitted
 returns-then-not-is_valid-clause-admitted g c k h sound =

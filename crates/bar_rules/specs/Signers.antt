@@ -1,4 +1,4 @@
--- The scheme that signs for a peer.
+-- The scheme that signs for a party.
 use Rattle.std.specs.Prelude.{◌≡◌, ℕ, ◌^◌, List}
 use Rattle.bar_lms.specs.Params.{levels}
 use Rattle.bar_rules.specs.Member.{Member}

@@ -1,4 +1,4 @@
--- The peer of a session that secrets are of.
+-- The party of a session that secrets are of.
 use Rattle.bar_roster.specs.SessionText.{SessionData}
 use Rattle.bar_seeds.specs.declared.secrets.Secrets.{Secrets}
 use Rattle.bar_rules.specs.Member.{Member}

@@ -1,24 +1,23 @@
 ghost use Rattle.std.specs.Prelude.{◌≤◌, length, vec_capacity};
 
-use crate::order::Order;
 use std::alloc::{AllocError, Global};
 
 /// What is to be sent for one input, in order, and how much of it was given out. All memory is taken when it is made.
 #[derive(Drop)]
-pub struct Orders {
-    list: Vec<Order>,
+pub struct Orders<T> {
+    list: Vec<T>,
     room: usize,
     given: usize,
     ghost room_fits: { room ≤ vec_capacity list },
     ghost given_fits: { given ≤ length list.items },
 }
 
-impl Orders {
+impl<T: Copy> Orders<T> {
     ghost use Rattle.std.specs.Prelude.{◌≡◌, ◌+◌, ◌<◌, ◌≤◌, ◌++◌, ◌∷◌, [], ◌↔◌, IsTrue, Some, None, IfOk, IfSome, IsNone, length, drop};
-    ghost use Rattle.bar_peer.specs.Orders.{left_in, GivesFirst};
+    ghost use Rattle.bar_store.specs.Orders.{left_in, GivesFirst};
 
     /// No orders, and room for so many.
-    pub fn make(alloc: Global, room: usize) -> Result<Orders, AllocError>
+    pub fn make(alloc: Global, room: usize) -> Result<Orders<T>, AllocError>
         ensures empty { IfOk result (λ o. o.list.items ≡ []) }
         ensures given { IfOk result (λ o. o.given ≡ 0) }
         ensures room { IfOk result (λ o. o.room ≡ room) }
@@ -47,8 +46,9 @@ impl Orders {
     }
 
     /// Puts an order behind the others, where there is room.
-    pub fn push(&mut self, order: Order)
+    pub fn push(&mut self, order: T)
         ensures pushed { length self.old.list.items < self.old.room → self.new.list.items ≡ self.old.list.items ++ order ∷ [] }
+        ensures full { self.old.room ≤ length self.old.list.items → self.new.list.items ≡ self.old.list.items }
         ensures length { length self.new.list.items ≤ length self.old.list.items + 1 }
         ensures given { self.new.given ≡ self.old.given }
         ensures room { self.new.room ≡ self.old.room }
@@ -61,7 +61,7 @@ impl Orders {
     }
 
     /// The next one, which is given out now, or `None` where none is left.
-    pub fn next(&mut self) -> Option<Order>
+    pub fn next(&mut self) -> Option<T>
         ensures first { GivesFirst result (left_in self.old) (left_in self.new) }
         ensures room { self.new.room ≡ self.old.room }
     {

@@ -1,0 +1,13 @@
+-- The broadcaster over every list of inputs: what it signs, whom it evicts, and to whom it sends.
+mod Steps
+mod Serving
+mod Signing
+mod Evicting
+mod FanoutCounts
+mod FanoutSends
+-- the lemmas that other groups may cite
+pub use Rattle.bar_laws.proofs.Broadcasts.Serving.{serves-the-others}
+pub use Rattle.bar_laws.proofs.Broadcasts.Signing.{signs-once}
+pub use Rattle.bar_laws.proofs.Broadcasts.Evicting.{evicts-exactly}
+pub use Rattle.bar_laws.proofs.Broadcasts.FanoutCounts.{fanouts-whole}
+pub use Rattle.bar_laws.proofs.Broadcasts.FanoutSends.{to-the-fanout, out-twice}

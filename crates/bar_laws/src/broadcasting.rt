@@ -1,0 +1,28 @@
+//! What the broadcaster of a session does, whatever datagrams and ticks come.
+
+ghost use Rattle.bar_laws.specs.Broadcasting.{EvictsExactly, ShownIsShort, SignsOnceARound, ServesTheOthers, GoesToTheFanout, FanoutsAreWhole, GoesOutTwice};
+
+/// A party is evicted exactly where evidence came in time whose verdict, under the table of its moment, names the party; and the first such
+/// evidence is kept.
+pub fn evicts_exactly_the_shown()
+    ensures { EvictsExactly }
+{}
+
+/// Evidence that is shown against a party fits the room of a party.
+pub fn shown_evidence_is_short()
+    ensures { ShownIsShort }
+{}
+
+/// One manifest and at most one notice of evictions is signed a round, each with its own leaf of the key.
+pub fn signs_once_a_round()
+    ensures { SignsOnceARound }
+{}
+
+/// Nothing is sent to an evicted peer. Where none is evicted, each update goes to exactly as many peers as the session says, and twice to
+/// each of them.
+pub fn blocks_reach_their_fanout()
+    ensures serves { ServesTheOthers }
+    ensures receivers { GoesToTheFanout }
+    ensures whole { FanoutsAreWhole }
+    ensures twice { GoesOutTwice }
+{}

@@ -1,0 +1,12 @@
+-- Orders that are left.
+use Rattle.std.specs.Prelude.{◌≡◌, List, [], ◌∷◌, Option, Some, None, drop}
+use Rattle.bar_store.specs.declared.orders.Orders.{Orders}
+
+-- those that aren't given out
+abbrev pub left_in : {T : Type 0} → Orders T → List T
+left_in o = drop o.given o.list.items
+
+-- the first of a list is given, if there is one, and the others are left
+abbrev pub GivesFirst : {T : Type 0} → Option T → List T → List T → Type 0
+GivesFirst None old new = (old ≡ []) × (new ≡ [])
+GivesFirst (Some order) old new = old ≡ order ∷ new
