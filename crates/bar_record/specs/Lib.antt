@@ -1,3 +1,4 @@
 pub mod Recording
 pub mod Items
 pub mod Inputs
+pub mod Pacing

@@ -1,5 +1,5 @@
 -- Recordings: a head, an entry for each input, and an end.
-use Rattle.std.specs.Prelude.{ℕ, zero, suc, ◌+◌, nat_le, ◌==◌, List, [], ◌∷◌, ◌++◌, codes, length, take, drop, bytes_eq, Result, Ok, Err, if◌then◌else◌}
+use Rattle.std.specs.Prelude.{ℕ, zero, suc, ◌+◌, ◌≤◌, nat_le, ◌==◌, List, [], ◌∷◌, ◌++◌, codes, length, take, drop, bytes_eq, Result, Ok, Err, if◌then◌else◌}
 use Rattle.std.specs.List.{flat_map}
 use Rattle.bar_bytes.specs.Bytes.{u16_bytes, first_u16}
 use Rattle.bar_wire.specs.Limits.{largest_datagram}
@@ -18,6 +18,11 @@ head_bytes id party = codes "BARL" ++ (1 ∷ (id ++ u16_bytes party))
 abbrev pub entry_bytes : Input → List ℕ
 entry_bytes event.Tick = 1 ∷ []
 entry_bytes (event.Datagram bytes) = 2 ∷ (u16_bytes (length bytes) ++ bytes)
+
+-- a datagram has no more bytes than one can have
+abbrev pub IsInRange : Input → Type 0
+IsInRange event.Tick = Unit {0}
+IsInRange (event.Datagram bytes) = length bytes ≤ largest_datagram
 
 -- the recording of a list of inputs
 abbrev pub recording_bytes : List ℕ → ℕ → List Input → List ℕ
