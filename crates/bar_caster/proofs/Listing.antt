@@ -1,5 +1,6 @@
 -- The evicted peers of rooms and of a log.
-use Rattle.std.proofs.Common.{◌≡◌, ◌∙◌, ℕ, zero, suc, ◌+◌, ◌≤◌, ◌<◌, ◌==◌, ◌++◌, Bool, true, false, List, [], ◌∷◌, Option, Some, None, is_some, refl, sym, ap, subst, arith, inl, inr}
+use Rattle.std.proofs.Common.{◌≡◌, ◌∙◌, ℕ, zero, suc, ◌+◌, ◌≤◌, ◌<◌, ◌==◌, ◌++◌, Bool, true, false, List, [], ◌∷◌, Option, Some, None}
+use Rattle.std.proofs.Common.{is_some, refl, sym, ap, subst, arith, inl, inr}
 use Rattle.std.specs.Prelude.{filter, option_copied, option_map, if◌then◌else◌}
 use Rattle.std.specs.Option.{option_or}
 use Rattle.std.specs.Bool.{then_some}
@@ -21,7 +22,7 @@ use Rattle.bar_caster.specs.Listed.{peers_with_evidence}
 
 -- ---- peer by peer
 
-one_more : (p : ℕ → Bool) (n : ℕ) (b : Bool) → p (n + 1) ≡ b
+pub one_more : (p : ℕ → Bool) (n : ℕ) (b : Bool) → p (n + 1) ≡ b
     → filter p (range_with_len 1 (n + 1)) ≡ filter p (range_with_len 1 n) ++ (if b then (n + 1) ∷ [] else [])
 one_more p n b is =
     ap (filter p) (sym (map-id (range_with_len 1 (n + 1))))
@@ -55,14 +56,14 @@ pub some-copied : {X : Type 0} (o : Option (Bor X)) → is_some (option_copied o
 some-copied None = refl
 some-copied (Some v) = refl
 
-or_none : {X : Type 0} (o : Option X) → option_or o None ≡ o
+pub or_none : {X : Type 0} (o : Option X) → option_or o None ≡ o
 or_none None = refl
 or_none (Some v) = refl
 
-kept_here : (log : Log) (q : ℕ) (ev : List (List ℕ)) → kept log q ≡ None → kept (Kept q ev ∷ log) q ≡ Some ev
+pub kept_here : (log : Log) (q : ℕ) (ev : List (List ℕ)) → kept log q ≡ None → kept (Kept q ev ∷ log) q ≡ Some ev
 kept_here log q ev none = λ i. option_or (none i) (then_some (eq-eqb q q refl i) ev)
 
-kept_elsewhere : (log : Log) (q p : ℕ) (ev : List (List ℕ)) → (q == p) ≡ false → kept (Kept q ev ∷ log) p ≡ kept log p
+pub kept_elsewhere : (log : Log) (q p : ℕ) (ev : List (List ℕ)) → (q == p) ≡ false → kept (Kept q ev ∷ log) p ≡ kept log p
 kept_elsewhere log q p ev other = (λ i. option_or (kept log p) (then_some (other i) ev)) ∙ or_none (kept log p)
 
 -- ---- the evictions after evidence

@@ -1,10 +1,9 @@
 -- The digests of a round's blocks, one behind the other.
-use Rattle.std.proofs.Common.{◌≡◌, ℕ, zero, suc, ◌+◌, ◌*◌, List, [], ◌∷◌, ◌++◌, length, take, refl, sym, ap, ◌∙◌, append_assoc, length-append, arith}
+use Rattle.std.proofs.Common.{◌≡◌, ℕ, zero, suc, ◌+◌, List, [], ◌∷◌, ◌++◌, take, sym, ap, ◌∙◌, append_assoc, arith}
 use Rattle.std.specs.Prelude.{map, slice_get, Some}
 use Rattle.std.specs.List.{concat}
 use Rattle.std.proofs.lemmas.List.{append-nil}
 use Rattle.sha2.specs.Sha256.{sha256}
-use Rattle.sha2.proofs.Facts256.{length-sha256}
 
 abbrev pub digests_of : List (List ℕ) → List ℕ
 digests_of blocks = concat (map sha256 blocks)
@@ -25,7 +24,3 @@ pub digests-more : (blocks : List (List ℕ)) (i : ℕ) (block : List ℕ) → s
 digests-more blocks i block here =
     let more : i + 1 ≡ suc i = omega arith in
     ap (λ n. digests_of (take n blocks)) more ∙ next-digest blocks i block here
-
-pub digests-length : (blocks : List (List ℕ)) → length (digests_of blocks) ≡ 32 * length (map sha256 blocks)
-digests-length [] = refl
-digests-length (b ∷ blocks) = omega (arith, length-append (sha256 b) (digests_of blocks), length-sha256 b, digests-length blocks)

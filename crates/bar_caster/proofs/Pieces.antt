@@ -12,16 +12,23 @@ use Rattle.bar_rules.specs.Member.{Session}
 use Rattle.bar_rules.specs.Broadcaster.Stream.{block_bytes, piece_of, round_blocks}
 
 -- a test that holds of the first k of a run of numbers alone
-kept-front : (p : ℕ → Bool) (a n k : ℕ) → k ≤ n → ((i : ℕ) → a ≤ i → i < a + k → p i ≡ true) → ((i : ℕ) → a + k ≤ i → i < a + n → p i ≡ false) → filter p (range_with_len a n) ≡ range_with_len a k
+kept-front : (p : ℕ → Bool) (a n k : ℕ) → k ≤ n → ((i : ℕ) → a ≤ i → i < a + k → p i ≡ true)
+    → ((i : ℕ) → a + k ≤ i → i < a + n → p i ≡ false) → filter p (range_with_len a n) ≡ range_with_len a k
 kept-front p a zero zero few first last = refl
 kept-front p a zero (suc k) few first last = let none : ⊥ = omega (arith, few) in absurd none
 kept-front p a (suc n) zero few first last =
     let here : p a ≡ false = last a (omega arith) (omega arith) in
-    let rest : filter p (range_with_len (a + 1) n) ≡ [] = kept-front p (a + 1) n zero (omega arith) (λ i low high. let none : ⊥ = omega (arith, low, high) in absurd none) (λ i low high. last i (omega (arith, low)) (omega (arith, high))) in
+    let rest : filter p (range_with_len (a + 1) n) ≡ [] =
+    kept-front p (a + 1) n zero (omega arith)
+    (λ i low high. let none : ⊥ = omega (arith, low, high) in absurd none)
+    (λ i low high. last i (omega (arith, low)) (omega (arith, high))) in
     rw (here, rest) refl
 kept-front p a (suc n) (suc k) few first last =
     let here : p a ≡ true = first a (omega arith) (omega arith) in
-    let rest : filter p (range_with_len (a + 1) n) ≡ range_with_len (a + 1) k = kept-front p (a + 1) n k (omega (arith, few)) (λ i low high. first i (omega (arith, low)) (omega (arith, high))) (λ i low high. last i (omega (arith, low)) (omega (arith, high))) in
+    let rest : filter p (range_with_len (a + 1) n) ≡ range_with_len (a + 1) k =
+    kept-front p (a + 1) n k (omega (arith, few))
+    (λ i low high. first i (omega (arith, low)) (omega (arith, high)))
+    (λ i low high. last i (omega (arith, low)) (omega (arith, high))) in
     rw (here, rest) refl
 
 -- how many blocks a round has, whose first block has this number
@@ -36,22 +43,27 @@ abbrev block_from : List ℕ → ℕ → ℕ → List ℕ
 block_from stream number i = block_bytes (piece_of stream (number + i))
 
 blocks-listed : (s : Session) (stream : List ℕ) (round : ℕ)
-    → round_blocks s stream round ≡ map (block_from stream (first_number s round)) (range_with_len 0 (count_from (length stream) s.shape.per_round (first_number s round)))
+    → round_blocks s stream round
+    ≡ map (block_from stream (first_number s round))
+    (range_with_len 0 (count_from (length stream) s.shape.per_round (first_number s round)))
 blocks-listed s stream round =
     let number : ℕ = first_number s round in
     let len : ℕ = length stream in
     let most : ℕ = s.shape.per_round in
     let ceil : ℕ = div_ceil (len - number * 1022) 1022 in
-    let about : (len - number * 1022 ≤ ceil * 1022) × (ceil * 1022 < len - number * 1022 + 1022) = div_ceil_times (len - number * 1022) 1022 (omega arith) in
+    let about : (len - number * 1022 ≤ ceil * 1022) × (ceil * 1022 < len - number * 1022 + 1022) =
+    div_ceil_times (len - number * 1022) 1022 (omega arith) in
     ap (map (block_from stream number))
     (kept-front (λ i. nat_lt (1022 * (number + i)) len) 0 most (min ceil most) (omega arith)
     (λ i low high. lt-ltb (1022 * (number + i)) len (omega (arith, high, about.0, about.1)))
     (λ i low high. le-ltb (1022 * (number + i)) len (omega (arith, low, high, about.0, about.1))))
 
-pub blocks-counted : (s : Session) (stream : List ℕ) (round : ℕ) → length (round_blocks s stream round) ≡ count_from (length stream) s.shape.per_round ((round - 1) * s.shape.per_round)
+pub blocks-counted : (s : Session) (stream : List ℕ) (round : ℕ)
+    → length (round_blocks s stream round) ≡ count_from (length stream) s.shape.per_round ((round - 1) * s.shape.per_round)
 blocks-counted s stream round =
     ap length (blocks-listed s stream round)
-    ∙ length-map-range_with_len (block_from stream (first_number s round)) 0 (count_from (length stream) s.shape.per_round (first_number s round))
+    ∙ length-map-range_with_len (block_from stream (first_number s round)) 0
+    (count_from (length stream) s.shape.per_round (first_number s round))
 
 pub block-at : (s : Session) (stream : List ℕ) (round index : ℕ) → index < length (round_blocks s stream round)
     → slice_get (round_blocks s stream round) index ≡ Some (block_bytes (piece_of stream ((round - 1) * s.shape.per_round + index)))

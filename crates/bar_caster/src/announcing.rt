@@ -9,11 +9,12 @@ ghost use Rattle.bar_wire.specs.Writing.{body_written};
 ghost use Rattle.bar_rules.specs.Values.{message_bytes};
 ghost use Rattle.bar_rules.specs.Broadcaster.Sending.{caster_message};
 
+use bar_bytes::put_u16;
 use bar_roster::Session;
 use bar_wire::{Body, EVERYONE, encode};
 
 /// The broadcaster's number.
-const BROADCASTER: u16 = 0;
+pub const BROADCASTER: u16 = 0;
 
 /// Writes the message of a body to all peers, which is all before the signature, to the front of `out`, and answers its length.
 fn write_to_all(session: &Session, body: &Body<'_>, out: &mut [u8]) -> usize
@@ -69,4 +70,17 @@ pub fn write_evictions(
         parties,
     };
     write_to_all(session, &body, out)
+}
+
+/// Writes parties in two bytes each to the front of `out`, and answers the length of all.
+pub fn write_parties(parties: &[u16], out: &mut [u8]) -> usize
+    requires { 2 * length parties.now ≤ length out.old }
+    ensures written { take result out.new ≡ flat_map u16_bytes parties.now }
+    ensures end { result ≡ 2 * length parties.now }
+{
+    let mut at = 0;
+    for party in parties {
+        at = put_u16(out, at, *party);
+    }
+    at
 }

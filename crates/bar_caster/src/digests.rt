@@ -23,7 +23,6 @@ fn put_digest(out: &mut [u8], at: usize, block: &[u8; 1024]) -> usize
 
 /// Writes the digest of each block of a round to the front of `out`, in the order of the blocks, and answers how many there are.
 pub fn write_digests(stream: &Stream, round: u32, out: &mut [u8]) -> u8
-    requires round { 1 ≤ round }
     requires room { 32 * 64 ≤ length out.old }
     ensures count { (s : Session) → s.shape.per_round ≡ stream.now.per_round →
         result ≡ length (manifest_list s stream.now.bytes.items round) }

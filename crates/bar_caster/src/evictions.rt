@@ -15,6 +15,7 @@ pub struct Evictions {
     evidence: Rooms,
     ghost list_room: { peers ≤ vec_capacity list },
     ghost rooms: { length evidence.rooms.items ≡ peers + 1 },
+    ghost few: { length list.items ≤ peers },
 }
 
 /// Lists the peers against which evidence is kept, in order.
@@ -22,6 +23,7 @@ fn list_evicted(list: &mut Vec<u16>, evidence: &Rooms, peers: u16)
     requires { peers ≤ vec_capacity list.old }
     ensures listed { list.new.items ≡ peers_with_evidence evidence.now peers }
     ensures room { vec_capacity list.old ≤ vec_capacity list.new }
+    ensures few { length list.new.items ≤ peers }
 {
     list.clear();
     for before in 0..peers {
@@ -35,7 +37,7 @@ fn list_evicted(list: &mut Vec<u16>, evidence: &Rooms, peers: u16)
 }
 
 impl Evictions {
-    ghost use Rattle.std.specs.Prelude.{◌≡◌, ◌≤◌, [], Some, None, true, is_some, length, IfOk, option_copied, ◌∷◌};
+    ghost use Rattle.std.specs.Prelude.{◌≡◌, ◌<◌, ◌≤◌, [], Some, None, true, is_some, length, IfOk, option_copied, ◌∷◌};
     ghost use Rattle.bar_bytes.specs.Rooms.{kept_in};
     ghost use Rattle.bar_wire.specs.Evidence.{datagrams_of, evidence_bytes};
     ghost use Rattle.bar_wire.specs.Grammar.{AreDatagramsInRange};
@@ -47,6 +49,7 @@ impl Evictions {
     pub fn make(alloc: Global, peers: u16, size: usize) -> Result<Evictions, AllocError>
         ensures empty { IfOk result (λ e. (s : Session) → s.shape.peers ≡ peers → AreOfLog s e []) }
         ensures size { IfOk result (λ e. e.evidence.size ≡ size) }
+        ensures peers { IfOk result (λ e. e.peers ≡ peers) }
     {
         let list = Vec::with_capacity(alloc, usize::from(peers))?;
         let evidence = Rooms::make(alloc, usize::from(peers) + 1, size)?;
@@ -71,6 +74,13 @@ impl Evictions {
         self.evidence.get(usize::from(party))
     }
 
+    /// The evidence that is kept, by party.
+    pub fn kept(&self) -> &Rooms
+        ensures { result.now ≡ self.now.evidence }
+    {
+        &self.evidence
+    }
+
     /// Whether evidence is kept against a party.
     pub fn is_evicted(&self, party: u16) -> bool
         ensures { result ≡ is_some (kept_in self.now.evidence party) }
@@ -84,7 +94,10 @@ impl Evictions {
             → AreDatagramsInRange (datagrams_of evidence.now) → length (evidence_bytes (datagrams_of evidence.now)) ≤ self.old.evidence.size
             → AreOfLog s self.new (Kept party (datagrams_of evidence.now) ∷ log) }
         ensures again { (s : Session) (log : Log) → AreOfLog s self.old log → is_some (kept log party) ≡ true → self.new ≡ self.old }
+        ensures unfit { self.old.evidence.size < length (evidence_bytes (datagrams_of evidence.now))
+            → self.new.evidence ≡ self.old.evidence }
         ensures size { self.new.evidence.size ≡ self.old.evidence.size }
+        ensures peers { self.new.peers ≡ self.old.peers }
     {
         if party == 0 || self.peers < party {
             return;

@@ -2,7 +2,7 @@
 
 ghost use Rattle.std.specs.Prelude.{◌≡◌, ◌<◌};
 
-use crate::Ranks;
+use crate::fanout::Ranks;
 use bar_bytes::Steps;
 use bar_window::UpdateId;
 use std::alloc::{AllocError, Global};

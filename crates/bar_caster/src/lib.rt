@@ -1,19 +1,32 @@
-//! Parts of the broadcaster: its stream, cut into blocks, what it announces, to which peers each block goes, and whom it evicted.
+//! The broadcaster of a session: what it signs and sends of its stream, and whom it evicts.
 #![tactic(auto)]
 
 mod announcing;
+mod caster;
 mod digests;
 mod evictions;
 mod fanout;
+mod fault;
+mod giving;
+mod item;
+mod memory;
+mod of_key;
+mod order;
+mod sending;
+mod signing;
+mod starting;
+mod steps;
 mod stream;
+mod taking;
+mod ticks;
+mod told;
 
-pub use announcing::{write_evictions, write_manifest};
-pub use digests::write_digests;
-pub use evictions::Evictions;
-pub use fanout::Ranks;
-pub use stream::Stream;
+pub use caster::Caster;
+pub use fault::CasterFault;
 
 #[cfg(test)]
 mod fanout_tests;
 #[cfg(test)]
 mod stream_tests;
+#[cfg(test)]
+mod tests;

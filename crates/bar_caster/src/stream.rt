@@ -28,7 +28,7 @@ impl Stream {
     ghost use Rattle.std.specs.Prelude.{◌≡◌, ◌+◌, ◌-◌, ◌*◌, ◌<◌, ◌≤◌, length, slice_get, Some};
     ghost use Rattle.bar_wire.specs.Limits.{largest_content};
     ghost use Rattle.bar_rules.specs.Member.{Session};
-    ghost use Rattle.bar_rules.specs.Broadcaster.Stream.{piece_of, round_blocks};
+    ghost use Rattle.bar_rules.specs.Broadcaster.Stream.{block_bytes, piece_of, round_blocks};
 
     /// A stream of these bytes, whose rounds have at most `per_round` blocks.
     pub fn new(bytes: Vec<u8>, per_round: u8) -> Stream
@@ -49,12 +49,13 @@ impl Stream {
 
     /// How many blocks a round has.
     pub fn blocks_in(&self, round: u32) -> u8
-        requires { 1 ≤ round }
         ensures count { (s : Session) → s.shape.per_round ≡ self.now.per_round →
             result ≡ length (round_blocks s self.now.bytes.items round) }
         ensures few { result ≤ self.now.per_round }
     {
-        let before = (round as usize - 1) * usize::from(self.per_round) * LARGEST_CONTENT;
+        let before = (round as usize).saturating_sub(1)
+            * usize::from(self.per_round)
+            * LARGEST_CONTENT;
         let rest = self.bytes.len().saturating_sub(before);
         rest.div_ceil(LARGEST_CONTENT)
             .min(usize::from(self.per_round)) as u8
@@ -62,19 +63,19 @@ impl Stream {
 
     /// The piece of the stream that stands in the block of this index, of which what is past the stream's end is left out.
     fn piece(&self, round: u32, index: u8) -> &[u8]
-        requires { 1 ≤ round }
         ensures { result.now ≡ piece_of self.now.bytes.items ((round - 1) * self.now.per_round + index) }
     {
-        let number = (round as usize - 1) * usize::from(self.per_round) + usize::from(index);
+        let number = (round as usize).saturating_sub(1) * usize::from(self.per_round)
+            + usize::from(index);
         let start = (number * LARGEST_CONTENT).min(self.bytes.len());
         let end = (start + LARGEST_CONTENT).min(self.bytes.len());
         &self.bytes[start..end]
     }
 
-    /// Writes the block of this index, where the round has so many.
+    /// Writes the block of this index. Past the round's blocks it is the piece that stands there, which has no bytes past the stream's end.
     pub fn write_block(&self, round: u32, index: u8, out: &mut [u8; 1024])
-        requires { 1 ≤ round }
-        ensures { (s : Session) → s.shape.per_round ≡ self.now.per_round → index < length (round_blocks s self.now.bytes.items round) →
+        ensures piece { out.new ≡ block_bytes (piece_of self.now.bytes.items ((round - 1) * self.now.per_round + index)) }
+        ensures block { (s : Session) → s.shape.per_round ≡ self.now.per_round → index < length (round_blocks s self.now.bytes.items round) →
             slice_get (round_blocks s self.now.bytes.items round) index ≡ Some out.new }
     {
         write_content(self.piece(round, index), out);

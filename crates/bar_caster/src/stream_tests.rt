@@ -1,4 +1,4 @@
-use crate::Stream;
+use crate::stream::Stream;
 use std::test::Fail;
 
 /// The first three bytes of a block of round 1, and its last.

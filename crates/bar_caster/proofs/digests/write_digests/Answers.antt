@@ -23,7 +23,7 @@ loop-index-preserved c =
           let within : l.index < length blocks = omega (arith, c.loop-index-test.true, c.blocks_in-count.ensures.count s same) in
           c.put_digest-at.ensures.writes.front
           ∙ ap (λ (front : List ℕ). front ++ sha256 c.write_block.new.out) (l.invariant.front s same)
-          ∙ sym (digests-more blocks l.index c.write_block.new.out (c.write_block.ensures s same within));
+          ∙ sym (digests-more blocks l.index c.write_block.new.out (c.write_block.ensures.block s same within));
     }
 
 pub returns-clause-digests : goal.returns-clause-digests

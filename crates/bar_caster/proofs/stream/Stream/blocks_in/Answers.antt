@@ -9,7 +9,8 @@ pub returns-clause-count : goal.returns-clause-count
 returns-clause-count c = λ s same.
     let bytes = c.args.self.now.bytes.items in
     let at : c.saturating_sub-rest.result ≡ length bytes - (c.args.round - 1) * c.args.self.now.per_round * 1022 =
-    c.saturating_sub-rest.ensures ∙ λ i. (c.len.ensures ∙ c.args.self.now.bytes.ok.0) i - (c.args.round - 1) * c.from.ensures i * 1022 in
+    c.saturating_sub-rest.ensures
+    ∙ λ i. (c.len.ensures ∙ c.args.self.now.bytes.ok.0) i - c.saturating_sub.ensures i * c.from.ensures i * 1022 in
     let counted : c.min.result ≡ count_from (length bytes) c.args.self.now.per_round ((c.args.round - 1) * c.args.self.now.per_round) =
     c.min.ensures ∙ λ i. min ((c.div_ceil.ensures ∙ ap (λ rest. div_ceil rest 1022) at) i) (c.from-2.ensures i) in
     counted

@@ -5,8 +5,8 @@ use Rattle.bar_rules.specs.Broadcaster.Stream.{block_bytes, piece_of}
 use Rattle.bar_caster.proofs.Pieces.{block-at}
 use Rattle.bar_caster.proofs.stream.Stream.write_block.Goals as goal
 
-pub returns : goal.returns
-returns c = λ s same within.
+pub returns-clause-block : goal.returns-clause-block
+returns-clause-block c = λ s same within.
     let bytes = c.args.self.now.bytes.items in
     block-at s bytes c.args.round c.args.index within
     ∙ ap (λ most. Some (block_bytes (piece_of bytes ((c.args.round - 1) * most + c.args.index)))) same

@@ -1,0 +1,63 @@
+-- An input before the last tick is taken; after it nothing changes, and nothing is sent.
+use Rattle.std.proofs.Common.{◌≡◌, ◌∙◌, ◌++◌, ◌∷◌, [], refl, sym, ap, subst, drop}
+use Rattle.bar_store.specs.Orders.{left_in}
+use Rattle.bar_wire.specs.Inputs as event
+use Rattle.bar_wire.specs.Inputs.{plain_input}
+use Rattle.bar_wire.specs.declared.input.Input.{Input as RawInput}
+use Rattle.bar_rules.specs.Broadcaster.Sending.{caster_step}
+use Rattle.bar_caster.specs.Memory.{member_of, stream_of}
+use Rattle.bar_caster.specs.Orders.{Orders}
+use Rattle.bar_caster.specs.StandsFor.{StandsFor, AreLeft, log_of}
+use Rattle.bar_caster.proofs.Stepped.{then_stands, then_sends, then_silent, over_stands, over_silent}
+use Rattle.bar_caster.proofs.caster.Caster.step.Goals as goal
+
+all_left : (o : Orders) → o.given ≡ 0 → left_in o ≡ o.list.items
+all_left o none = ap (λ n. drop n o.list.items) none
+
+pub returns-then-is_over-clause-stands : goal.returns-then-is_over-clause-stands
+returns-then-is_over-clause-stands g c inputs stood =
+    over_stands c.args.self.now.memory inputs (plain_input c.args.input) (sym c.is_over.ensures ∙ c.if-is_over.true) stood
+
+pub returns-then-is_over-clause-sends : goal.returns-then-is_over-clause-sends
+returns-then-is_over-clause-sends g c inputs stood =
+    over_silent c.args.self.now.memory c.args.self.now.orders inputs (plain_input c.args.input) (sym c.is_over.ensures ∙ c.if-is_over.true) stood
+    c.requires.sends
+
+pub returns-in-Tick-clause-stands : goal.returns-in-Tick-clause-stands
+returns-in-Tick-clause-stands g c inputs stood =
+    let m = c.args.self.now.memory in
+    let n = c.take_tick.new.self.memory in
+    let go = sym c.is_over.ensures ∙ c.if-is_over.false in
+    subst (λ (x : RawInput). StandsFor n (inputs ++ plain_input x ∷ [])) (sym c.in-Tick.is)
+    (then_stands m n inputs event.Tick c.take_tick.ensures.same go stood (c.take_tick.ensures.stands inputs stood).tells)
+
+pub returns-in-Tick-clause-sends : goal.returns-in-Tick-clause-sends
+returns-in-Tick-clause-sends g c inputs stood =
+    let m = c.args.self.now.memory in
+    let n = c.take_tick.new.self.memory in
+    let o = c.take_tick.new.self.orders in
+    let go = sym c.is_over.ensures ∙ c.if-is_over.false in
+    subst (λ (x : RawInput). AreLeft n o (inputs ++ plain_input x ∷ []) (caster_step (member_of m) (stream_of m) (log_of m inputs) (plain_input x)).sends)
+    (sym c.in-Tick.is)
+    (then_sends m n inputs event.Tick c.take_tick.ensures.same go stood o (c.take_tick.ensures.stands inputs stood)
+    (all_left o (c.take_tick.ensures.given ∙ c.clear.ensures.1)))
+
+pub returns-in-Datagram-clause-stands : goal.returns-in-Datagram-clause-stands
+returns-in-Datagram-clause-stands g c inputs stood =
+    let m = c.args.self.now.memory in
+    let n = c.take_datagram.new.self in
+    let go = sym c.is_over.ensures ∙ c.if-is_over.false in
+    subst (λ (x : RawInput). StandsFor n (inputs ++ plain_input x ∷ [])) (sym c.in-Datagram.is)
+    (then_stands m n inputs (event.Datagram c.in-Datagram.bytes.now) c.take_datagram.ensures.same go stood
+    (c.take_datagram.ensures.judged (log_of m inputs) stood))
+
+pub returns-in-Datagram-clause-sends : goal.returns-in-Datagram-clause-sends
+returns-in-Datagram-clause-sends g c inputs stood =
+    let m = c.args.self.now.memory in
+    let n = c.take_datagram.new.self in
+    let o = c.clear.new.self in
+    let go = sym c.is_over.ensures ∙ c.if-is_over.false in
+    subst (λ (x : RawInput). AreLeft n o (inputs ++ plain_input x ∷ []) (caster_step (member_of m) (stream_of m) (log_of m inputs) (plain_input x)).sends)
+    (sym c.in-Datagram.is)
+    (then_silent m n inputs (event.Datagram c.in-Datagram.bytes.now) c.take_datagram.ensures.same go stood o
+    (λ i. drop (c.clear.ensures.1 i) (c.clear.ensures.0 i)) refl)

@@ -1,0 +1,61 @@
+ghost use Rattle.std.specs.Prelude.{◌≡◌, ◌+◌, ◌≤◌, length};
+ghost use Rattle.bar_wire.specs.declared.kind.Kind.TheVariants.{Manifest, Evict};
+ghost use Rattle.bar_rules.specs.Broadcaster.Party.{IsBroadcaster};
+ghost use Rattle.bar_rules.specs.Member.{round_after, last_tick};
+ghost use Rattle.bar_rules.specs.Members.{member_by};
+ghost use Rattle.bar_rules.specs.Peer.Sizes.{largest, most_evidence};
+
+use crate::evictions::Evictions;
+use crate::stream::Stream;
+use bar_bytes::{Room, Rooms};
+use bar_roster::Session;
+use bar_seeds::Secrets;
+use bar_terms::Table;
+
+/// What a broadcaster knows: its session and secret, the stream, what it signed, and whom it evicted. All memory is taken when it is made.
+#[derive(Drop)]
+pub struct Memory {
+    pub session: Session,
+    pub secrets: Secrets,
+    pub stream: Stream,
+    /// How many ticks were taken.
+    pub ticks: u32,
+    /// The lists of the rounds that have begun.
+    pub table: Table,
+    /// The datagram of each round's manifest, as it was signed.
+    pub manifests: Rooms,
+    /// The datagram of the last notice of evictions, as it was signed.
+    pub notice: Room,
+    pub evictions: Evictions,
+    ghost same_session: { secrets.id ≡ session.shape.id },
+    ghost is_broadcaster: { IsBroadcaster (member_by session secrets) },
+    ghost same_rounds: { stream.per_round ≡ session.shape.per_round },
+    ghost in_time: { ticks ≤ last_tick session },
+    ghost table_rounds: { table.rounds ≡ session.shape.rounds },
+    ghost table_lists: { table.per_round ≡ session.shape.per_round },
+    ghost manifest_rooms: { length manifests.rooms.items ≡ session.shape.rounds + 1 },
+    ghost manifest_size: { manifests.size ≡ largest session.shape Manifest },
+    ghost notice_size: { notice.size ≡ largest session.shape Evict },
+    ghost evicted_peers: { evictions.peers ≡ session.shape.peers },
+    ghost evidence_size: { evictions.evidence.size ≡ most_evidence session.shape },
+}
+
+impl Memory {
+    ghost use Rattle.std.specs.Prelude.{◌≡◌, nat_le};
+    ghost use Rattle.bar_rules.specs.Member.{round_after, last_tick};
+
+    /// This round.
+    pub fn round(&self) -> u32
+        ensures { result ≡ round_after self.now.ticks }
+    {
+        (self.ticks + 7) / 8
+    }
+
+    /// Whether the last tick was taken.
+    pub fn is_over(&self) -> bool
+        ensures { result ≡ nat_le (last_tick self.now.session) self.now.ticks }
+    {
+        let shape = self.session.shape();
+        self.ticks >= 8 * (shape.rounds + u32::from(shape.life) + 1)
+    }
+}

@@ -1,0 +1,75 @@
+//! What a broadcaster tells of itself.
+ghost use Rattle.std.specs.Prelude.{◌≡◌, ◌+◌, ℕ, List, length, nat_le, option_copied, option_map};
+ghost use Rattle.bar_bytes.specs.Rooms.{kept_in};
+ghost use Rattle.bar_wire.specs.Evidence.{evidence_bytes};
+ghost use Rattle.bar_wire.specs.Grammar.{IsPeer};
+ghost use Rattle.bar_wire.specs.declared.kind.Kind.TheVariants.{Manifest};
+ghost use Rattle.bar_rules.specs.Broadcaster.Sending.{evicted};
+ghost use Rattle.bar_rules.specs.Member.{last_tick};
+ghost use Rattle.bar_rules.specs.Peer.Log.{kept, ticks};
+ghost use Rattle.bar_rules.specs.Values.{datagram_bytes};
+ghost use Rattle.bar_caster.specs.Memory.{said_of};
+ghost use Rattle.bar_caster.specs.StandsFor.{Inputs, StandsFor, log_of};
+
+use crate::caster::Caster;
+use bar_bytes::Rooms;
+use bar_seal::Scheme;
+
+impl<S: Scheme> Caster<S> {
+    /// How many ticks were taken.
+    pub fn ticks(&self) -> u32
+        ensures { (inputs : Inputs) → StandsFor self.now.memory inputs → result ≡ ticks (log_of self.now.memory inputs) }
+    {
+        self.memory.ticks
+    }
+
+    /// Whether the last tick was taken.
+    pub fn over(&self) -> bool
+        ensures { (inputs : Inputs) → StandsFor self.now.memory inputs
+            → result ≡ nat_le (last_tick self.now.memory.session) (ticks (log_of self.now.memory inputs)) }
+    {
+        self.memory.is_over()
+    }
+
+    /// The evicted peers, in increasing order.
+    pub fn evicted(&self) -> &[u16]
+        ensures { (inputs : Inputs) → StandsFor self.now.memory inputs
+            → result.now ≡ evicted self.now.memory.session (log_of self.now.memory inputs) }
+    {
+        self.memory.evictions.evicted()
+    }
+
+    /// The first accepted evidence against a peer, as the body of an EVIDENCE has it, or `None` where it isn't evicted.
+    pub fn evidence(&self, party: u16) -> Option<&[u8]>
+        ensures { (inputs : Inputs) → StandsFor self.now.memory inputs → IsPeer self.now.memory.session.shape party
+            → option_copied result ≡ option_map evidence_bytes (kept (log_of self.now.memory inputs) party) }
+    {
+        self.memory.evictions.evidence(party)
+    }
+
+    /// The first accepted evidence against each evicted peer, by its number, as the body of an EVIDENCE has it.
+    pub fn kept_evidence(&self) -> &Rooms
+        ensures kept { (inputs : Inputs) → StandsFor self.now.memory inputs → (party : ℕ) → IsPeer self.now.memory.session.shape party
+            → kept_in result.now party ≡ option_map evidence_bytes (kept (log_of self.now.memory inputs) party) }
+        ensures count { length result.now.rooms.items ≡ self.now.memory.session.shape.peers + 1 }
+    {
+        self.memory.evictions.kept()
+    }
+
+    /// The datagram of the manifest of a round, as it was signed, or `None` where none was.
+    pub fn manifest(&self, round: u32) -> Option<&[u8]>
+        ensures { (inputs : Inputs) → StandsFor self.now.memory inputs → option_copied result
+            ≡ option_map (datagram_bytes self.now.memory.session) (said_of Manifest round (log_of self.now.memory inputs)) }
+    {
+        self.memory.manifests.get(round as usize)
+    }
+
+    /// The datagrams of the manifests that were signed, by round.
+    pub fn manifests(&self) -> &Rooms
+        ensures kept { (inputs : Inputs) → StandsFor self.now.memory inputs → (round : ℕ) → kept_in result.now round
+            ≡ option_map (datagram_bytes self.now.memory.session) (said_of Manifest round (log_of self.now.memory inputs)) }
+        ensures count { length result.now.rooms.items ≡ self.now.memory.session.shape.rounds + 1 }
+    {
+        &self.memory.manifests
+    }
+}
