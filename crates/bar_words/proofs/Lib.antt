@@ -1,0 +1,4 @@
+pub mod OptionLemmas
+pub mod TakenLemmas
+pub mod WorkedLines
+pub mod ValueLemmas

@@ -1,0 +1,13 @@
+//! The words of a command line, read by `clap`.
+#![tactic(auto)]
+
+mod laws;
+mod numbers;
+mod options;
+
+pub use laws::{taken_words_have_values, worked_lines};
+pub use numbers::{id_of, number_in};
+pub use options::{WordsFault, option_values};
+
+#[cfg(test)]
+mod tests;
