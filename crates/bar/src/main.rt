@@ -1,12 +1,14 @@
-//! The program: the commands over the real files and standard streams.
+//! The program: the commands over the real files, the loopback network and the standard streams.
 #![tactic(auto)]
 
+mod link;
 mod outside;
 #[cfg(test)]
 mod tests;
 
 use bar_cli::bar_run;
-use bar_outside::{Files, Sink};
+use bar_outside::{Files, Link, Sink};
+use link::RealLink;
 use outside::{RealFiles, RealSink, Standard};
 use std::alloc::Global;
 use std::env::Env;
@@ -27,10 +29,11 @@ fn words_of<R: Env + AllocGlobal>(rt: &R) -> io::Result<Vec<String>> {
 }
 
 // Does what the words say, and answers the exit status.
-fn run_words<F: Files, K: Sink>(
+fn run_words<F: Files, L: Link, K: Sink>(
     alloc: Global,
     words: io::Result<Vec<String>>,
     files: &mut F,
+    link: &mut L,
     out: &mut K,
     err: &mut K,
 ) -> u8 {
@@ -45,13 +48,14 @@ fn run_words<F: Files, K: Sink>(
             Vec::new(alloc)
         }
     };
-    bar_run(alloc, &words, files, out, err)
+    bar_run(alloc, &words, files, link, out, err)
 }
 
 fn main(rt: HostRuntime) -> ExitCode {
     let mut files = RealFiles::new(&rt);
+    let mut link = RealLink::new(&rt);
     let mut out = RealSink::new(Standard::Out(rt.stdout()));
     let mut err = RealSink::new(Standard::Err(rt.stderr()));
     let words = words_of(&rt);
-    ExitCode::from(run_words(rt.alloc(), words, &mut files, &mut out, &mut err))
+    ExitCode::from(run_words(rt.alloc(), words, &mut files, &mut link, &mut out, &mut err))
 }

@@ -12,6 +12,7 @@ use Rattle.bar_wire.specs.Datagram.{Datagram, Body, Manifest, Block, Request, Re
 use Rattle.bar_wire.specs.Datagram.{Evict}
 use Rattle.bar_wire.specs.Grammar.{IsDatagram, pieces}
 use Rattle.bar_wire.specs.Limits.{largest_datagram}
+use Rattle.bar_wire.specs.declared.kind.Kind.{Kind}
 use Rattle.bar_wire.specs.declared.kind.Kind.TheVariants as kinds
 use Rattle.bar_wire.proofs.FieldLengths.{length_digests, length_parties}
 use Rattle.bar_wire.proofs.Written.{message_len}
@@ -25,6 +26,7 @@ use Rattle.bar_rules.specs.Values.{datagram_bytes, message_bytes}
 use Rattle.bar_laws.specs.Broadcasting.{IsAnnouncement, SignsOnceARound}
 use Rattle.bar_caster.specs.declared.item.Item.{Item}
 use Rattle.bar_caster.specs.declared.item.Item.TheVariants as items
+use Rattle.bar_caster.specs.Memory.{said_of}
 use Rattle.bar_caster.specs.Orders.{block_to, datagram_now}
 use Rattle.bar_caster.specs.StandsFor.{Inputs}
 use Rattle.bar_caster.proofs.Given.{one_within, block_len, unsigned_bytes}
@@ -108,19 +110,24 @@ one_whole s stream round index block within is =
     piece_short : (stream : List ℕ) (number : ℕ) → length (piece_of stream number) ≤ 1022
     piece_short stream number = simp length-take (omega arith)
 
+-- what was signed
+pub said_short : (me : Member) (stream : List ℕ) → IsBroadcaster me → SignsOnceARound
+    → (inputs : Inputs) (kind : Kind) (round : ℕ) (d : Datagram)
+    → said_of kind round (caster_log_after me stream inputs) ≡ Some d → length (datagram_bytes me.session d) ≤ largest_datagram
+said_short me stream broadcaster law inputs kind round d is =
+    let log : Log = caster_log_after me stream inputs in
+    let signed = (law me stream broadcaster inputs).each d (said_there (has_kind_and_round kind round) log d is).0 in
+    announced_short me stream d broadcaster.session signed.announces signed.fits
+
 -- what an order sends
 pub sent_short : (me : Member) (stream : List ℕ) → IsBroadcaster me → SignsOnceARound
     → (inputs : Inputs) (peer : ℕ) (item : Item) (d : Datagram)
     → datagram_now me stream (caster_log_after me stream inputs) peer item ≡ Some d
     → length (datagram_bytes me.session d) ≤ largest_datagram
 sent_short me stream broadcaster law inputs peer items.Manifest d is =
-    let log : Log = caster_log_after me stream inputs in
-    let signed = (law me stream broadcaster inputs).each d (said_there (has_kind_and_round kinds.Manifest (round_now log)) log d is).0 in
-    announced_short me stream d broadcaster.session signed.announces signed.fits
+    said_short me stream broadcaster law inputs kinds.Manifest (round_now (caster_log_after me stream inputs)) d is
 sent_short me stream broadcaster law inputs peer items.Evictions d is =
-    let log : Log = caster_log_after me stream inputs in
-    let signed = (law me stream broadcaster inputs).each d (said_there (has_kind_and_round kinds.Evict (round_now log)) log d is).0 in
-    announced_short me stream d broadcaster.session signed.announces signed.fits
+    said_short me stream broadcaster law inputs kinds.Evict (round_now (caster_log_after me stream inputs)) d is
 sent_short me stream broadcaster law inputs peer (items.Block index) d is =
     let log : Log = caster_log_after me stream inputs in
     let round : ℕ = round_now log in

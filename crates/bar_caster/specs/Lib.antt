@@ -5,3 +5,6 @@ pub mod Memory
 pub mod Orders
 pub mod StandsFor
 pub mod Ticking
+pub mod Core
+pub mod Time
+pub mod Runs

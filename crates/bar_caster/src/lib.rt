@@ -2,6 +2,7 @@
 #![tactic(auto)]
 
 mod announcing;
+mod as_core;
 mod caster;
 mod digests;
 mod evictions;
@@ -12,6 +13,7 @@ mod item;
 mod memory;
 mod of_key;
 mod order;
+mod runs;
 mod sending;
 mod signing;
 mod starting;
@@ -23,6 +25,7 @@ mod told;
 
 pub use caster::Caster;
 pub use fault::CasterFault;
+pub use runs::rules_give_the_run;
 
 #[cfg(test)]
 mod fanout_tests;

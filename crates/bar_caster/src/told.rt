@@ -4,6 +4,7 @@ ghost use Rattle.bar_bytes.specs.Rooms.{kept_in};
 ghost use Rattle.bar_wire.specs.Evidence.{evidence_bytes};
 ghost use Rattle.bar_wire.specs.Grammar.{IsPeer};
 ghost use Rattle.bar_wire.specs.declared.kind.Kind.TheVariants.{Manifest};
+ghost use Rattle.bar_roster.specs.Sessions.{IsSession};
 ghost use Rattle.bar_rules.specs.Broadcaster.Sending.{evicted};
 ghost use Rattle.bar_rules.specs.Member.{last_tick};
 ghost use Rattle.bar_rules.specs.Peer.Log.{kept, ticks};
@@ -14,8 +15,17 @@ ghost use Rattle.bar_caster.specs.StandsFor.{Inputs, StandsFor, log_of};
 use crate::caster::Caster;
 use bar_bytes::Rooms;
 use bar_seal::Scheme;
+use bar_wire::Shape;
 
 impl<S: Scheme> Caster<S> {
+    /// The numbers of the session's datagrams.
+    pub fn shape(&self) -> Shape
+        ensures value { result ≡ self.now.memory.session.shape }
+        ensures session { IsSession self.now.memory.session }
+    {
+        self.memory.session.shape()
+    }
+
     /// How many ticks were taken.
     pub fn ticks(&self) -> u32
         ensures { (inputs : Inputs) → StandsFor self.now.memory inputs → result ≡ ticks (log_of self.now.memory inputs) }

@@ -63,12 +63,14 @@ pub found : (r : Option EvidenceView) (v : EvidenceView) (o : Option (List (List
     ok_or o (tt {0}) ≡ Ok (datagrams_of v)
 found r v o is e = ap (λ x. ok_or x (tt {0})) (sym e ∙ ap (option_map datagrams_of) is)
 
-pub unfound : (r : Option EvidenceView) (o : Option (List (List ℕ))) → r ≡ None → option_map datagrams_of r ≡ o → ok_or o (tt {0}) ≡ Err (tt {0})
+pub unfound : (r : Option EvidenceView) (o : Option (List (List ℕ))) → r ≡ None → option_map datagrams_of r ≡ o →
+    ok_or o (tt {0}) ≡ Err (tt {0})
 unfound r o is e = ap (λ x. ok_or x (tt {0})) (sym e ∙ ap (option_map datagrams_of) is)
 
 -- what is found is what the bytes spell
 pub evidence-read : (bytes : List ℕ) (r : Result EvidenceView WireFault) → IfOk r (λ v. IsEvidence bytes (datagrams_of v)) →
-    ((ds : List (List ℕ)) → IsEvidence bytes ds → IsOkAnd r (λ v. datagrams_of v ≡ ds)) → option_map datagrams_of (result_ok r) ≡ evidence_of bytes
+    ((ds : List (List ℕ)) → IsEvidence bytes ds → IsOkAnd r (λ v. datagrams_of v ≡ ds)) →
+    option_map datagrams_of (result_ok r) ≡ evidence_of bytes
 evidence-read bytes (Ok v) found only = sym (spelled bytes (datagrams_of v) found)
 evidence-read bytes (Err fault) found only = by_spelling (evidence_of bytes) refl
   where

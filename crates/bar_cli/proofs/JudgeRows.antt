@@ -1,17 +1,19 @@
 -- The rows of the status table, from how `judge` ended.
-use Rattle.std.proofs.Common.{◌≡◌, ◌⊎◌, ℕ, List, [], Option, Some, None, Result, Ok, Err, false, true, refl, sym, ap, ◌∙◌, subst, IsSomeAnd, inl, inr}
+use Rattle.std.proofs.Common.{◌≡◌, ◌⊎◌, ℕ, List, [], Option, Some, None, Result, Ok, Err, false, true, IsTrue, refl, sym, ap, ◌∙◌, subst, IsSomeAnd, inl, inr}
+use Rattle.std.specs.Option.{ok_or}
 use Rattle.bar_outside.specs.Disk.{Content, Failure, readable}
 use Rattle.bar_outside.specs.Plan.{Outside, Plan, Names, ending, is_stop}
 use Rattle.bar_outside.specs.Ends.{SameFiles, NothingPrinted}
 use Rattle.bar_outside.specs.Stages.{Went, IsUnchanged, ReadsFirst, EndsThere, HasShown, ShowsThere, NamesFirst}
+use Rattle.bar_outside.proofs.Unlinked.{IsUnlinked, unlinked-accepting, unlinked-reading}
 use Rattle.bar_terms.specs.Table.{Lists}
 use Rattle.bar_roster.specs.declared.fault.SessionFault.{SessionFault}
 use Rattle.bar_roster.specs.SessionText.{SessionData}
 use Rattle.bar_rules.specs.Judge.Verdict.{Verdict, Fault, Why, Shown, NotShown}
 use Rattle.bar_cli.specs.Judging.{lists_of, evidence_of, verdict_of, verdict_line, status_of_verdict}
-use Rattle.bar_cli.specs.JudgePlan.{JudgeFiles, HasSession, HasTable, JudgeAccepted, HasBadSession, HasBadTable, HasBadEvidence, HasJudged, Judged, JudgedFront, IsJudgeCall, by_datagrams, by_lists, by_session, judge_plan, verdict_in}
+use Rattle.bar_cli.specs.JudgePlan.{JudgeFiles, HasSession, HasTable, JudgeAccepted, HasBadSession, HasBadTable, HasBadEvidence, HasJudged, Judged, JudgedFront, IsJudgeCall, by_datagrams, by_lists, by_session, evidence_plan, judge_plan, table_plan, verdict_in}
 use Rattle.bar_cli.specs.Refusals.{session_refused, table_refused, evidence_refused}
-use Rattle.bar_cli.specs.Replay.{session_of}
+use Rattle.bar_live.specs.Accepting.{session_of}
 use Rattle.bar_cli.proofs.EndLemmas.{differ, go-on}
 
 -- what comes behind each read
@@ -24,6 +26,17 @@ with-table names session bytes = by_lists names session (lists_of session bytes)
 
 abbrev with-session : JudgeFiles → List ℕ → Content → Plan
 with-session names text = by_session names (session_of text)
+
+-- nothing is done over the link
+pub unlinked-plan : (names : JudgeFiles) (content : Content) → IsUnlinked (judge_plan names content).actions
+unlinked-plan names content =
+    unlinked-reading names.session (with-session names) content
+    (λ text. unlinked-accepting (session_of text) (table_plan names) _ content
+    (λ session. unlinked-reading names.table (with-table names session) content
+    (λ table. unlinked-accepting (lists_of session table) (evidence_plan names session) _ content
+    (λ lists. unlinked-reading names.evidence (with-evidence session lists) content
+    (λ bytes. unlinked-accepting (ok_or (evidence_of bytes) (tt {0})) _ _ content (λ datagrams. tt) (λ none. tt)))
+    (λ at. tt))) (λ fault. tt))
 
 -- ---- the status of a verdict
 
@@ -58,23 +71,26 @@ abbrev pub Outcome : JudgeFiles → Outside → Outside → ℕ → Type 0
 Outcome names old new status =
     (IsUnchanged status old new × ((is_stop status ≡ true) ⊎ IsRefused names old.files.content status))
     ⊎ ((a : JudgeAccepted names old.files.content)
-    × HasShown (verdict_line (verdict_in names old.files.content a)) (status_of_verdict (verdict_in names old.files.content a)) old new status)
+    × HasShown (verdict_line (verdict_in names old.files.content a))
+    (status_of_verdict (verdict_in names old.files.content a)) old new status)
 
-module _ (reads : ReadsFirst) (ends : EndsThere) (shows : ShowsThere) (names : JudgeFiles) (old new : Outside) (status : ℕ) where
+module _ (reads : ReadsFirst) (ends : EndsThere) (shows : ShowsThere) (names : JudgeFiles) (old new : Outside) (status : ℕ)
+    (told : IsTrue old.files.told) where
   refused : (final : ℕ) (line : List ℕ) → Went (ending final line old.files.content) old new status →
       (status ≡ final → IsRefused names old.files.content status) → Outcome names old new status
   refused final line w why =
-      let e = ends final line old new status w in inl (e.0, elim e.1 [ inl same ↦ inr (why same) | inr stop ↦ inl stop ])
+      let e = ends final line old new status told w in inl (e.0, elim e.1 [ inl same ↦ inr (why same) | inr stop ↦ inl stop ])
 
   outcome-datagrams : (session : SessionData) (lists : Lists) (bytes : List ℕ) (o : Option (List (List ℕ))) →
       HasTable names old.files.content session lists → readable old.files.content names.evidence ≡ Some bytes → evidence_of bytes ≡ o →
       Went (by_datagrams session lists o old.files.content) old new status →
       Outcome names old new status
   outcome-datagrams session lists bytes None t r e w =
-      refused 8 evidence_refused w (λ s. inr (s, inr (record { session = session; lists = lists; by_table = t; bytes = bytes; read = r; is = e })))
+      refused 8 evidence_refused w
+      (λ s. inr (s, inr (record { session = session; lists = lists; by_table = t; bytes = bytes; read = r; is = e })))
   outcome-datagrams session lists bytes (Some ds) t r e w = inr (
     record { session = session; lists = lists; datagrams = ds; by_table = t; bytes = bytes; read = r; is = e },
-    shows (verdict_line (verdict_of session lists ds)) (status_of_verdict (verdict_of session lists ds)) [] old new status w,
+    shows (verdict_line (verdict_of session lists ds)) (status_of_verdict (verdict_of session lists ds)) [] old new status told w,
   )
 
   outcome-lists : (session : SessionData) (bytes : List ℕ) (r : Result Lists ℕ) →
@@ -84,25 +100,29 @@ module _ (reads : ReadsFirst) (ends : EndsThere) (shows : ShowsThere) (names : J
   outcome-lists session bytes (Err at) s r e w =
       refused 8 (table_refused at) w (λ k. inr (k, inl (at, record { session = session; in_session = s; bytes = bytes; read = r; is = e })))
   outcome-lists session bytes (Ok lists) s r e w =
-      elim (reads names.evidence (with-evidence session lists) old new status w) [
+      elim (reads names.evidence (with-evidence session lists) old new status told w) [
         | inl same ↦ inl (same.0, inl same.1)
         | inr on ↦
-            outcome-datagrams session lists on.bytes (evidence_of on.bytes) (record { in_session = s; bytes = bytes; read = r; is = e }) on.read refl on.rest
+            outcome-datagrams session lists on.bytes (evidence_of on.bytes)
+            (record { in_session = s; bytes = bytes; read = r; is = e }) on.read refl on.rest
       ]
 
-  outcome-session : (text : List ℕ) (r : Result SessionData SessionFault) → readable old.files.content names.session ≡ Some text → session_of text ≡ r →
+  outcome-session : (text : List ℕ) (r : Result SessionData SessionFault) → readable old.files.content names.session ≡ Some text →
+      session_of text ≡ r →
       Went (by_session names r old.files.content) old new status →
       Outcome names old new status
-  outcome-session text (Err fault) r e w = refused 4 (session_refused fault) w (λ s. inl (s, fault, record { text = text; read = r; is = e }))
+  outcome-session text (Err fault) r e w =
+      refused 4 (session_refused fault) w (λ s. inl (s, fault, record { text = text; read = r; is = e }))
   outcome-session text (Ok session) r e w =
-      elim (reads names.table (with-table names session) old new status w) [
+      elim (reads names.table (with-table names session) old new status told w) [
         | inl same ↦ inl (same.0, inl same.1)
-        | inr on ↦ outcome-lists session on.bytes (lists_of session on.bytes) (record { text = text; read = r; is = e }) on.read refl on.rest
+        | inr on ↦ outcome-lists session on.bytes (lists_of session on.bytes)
+            (record { text = text; read = r; is = e }) on.read refl on.rest
       ]
 
   pub outcome : Went (judge_plan names old.files.content) old new status → Outcome names old new status
   outcome w =
-      elim (reads names.session (with-session names) old new status w) [
+      elim (reads names.session (with-session names) old new status told w) [
         | inl same ↦ inl (same.0, inl same.1)
         | inr on ↦ outcome-session on.bytes (session_of on.bytes) on.read refl on.rest
       ]
@@ -110,7 +130,8 @@ module _ (reads : ReadsFirst) (ends : EndsThere) (shows : ShowsThere) (names : J
 -- ---- the rows
 
 -- a verdict of this status was printed
-pub judged : (names : JudgeFiles) (old new : Outside) (status : ℕ) → is_stop status ≡ false → (IsRefused names old.files.content status → ⊥) →
+pub judged : (names : JudgeFiles) (old new : Outside) (status : ℕ) → is_stop status ≡ false →
+    (IsRefused names old.files.content status → ⊥) →
     Outcome names old new status → (v : Verdict) × (status ≡ status_of_verdict v) × Judged names v old new
 judged names old new status go not_refused (inl r) = absurd (elim r.1 [ inl stop ↦ go-on status go stop | inr why ↦ not_refused why ])
 judged names old new status go not_refused (inr a) = (
@@ -123,9 +144,11 @@ judged names old new status go not_refused (inr a) = (
 pub judged_so : (names : JudgeFiles) (old new : Outside) (status : ℕ) → (status ≡ 0) ⊎ (status ≡ 1) → Outcome names old new status →
     HasJudged names status old new
 judged_so names old new status (inl e) o =
-    judged names old new status (ap is_stop e) (λ r. elim r [ inl k ↦ differ 0 4 refl (sym e ∙ k.0) | inr k ↦ differ 0 8 refl (sym e ∙ k.0) ]) o
+    judged names old new status (ap is_stop e)
+    (λ r. elim r [ inl k ↦ differ 0 4 refl (sym e ∙ k.0) | inr k ↦ differ 0 8 refl (sym e ∙ k.0) ]) o
 judged_so names old new status (inr e) o =
-    judged names old new status (ap is_stop e) (λ r. elim r [ inl k ↦ differ 1 4 refl (sym e ∙ k.0) | inr k ↦ differ 1 8 refl (sym e ∙ k.0) ]) o
+    judged names old new status (ap is_stop e)
+    (λ r. elim r [ inl k ↦ differ 1 4 refl (sym e ∙ k.0) | inr k ↦ differ 1 8 refl (sym e ∙ k.0) ]) o
 
 module _ (names : JudgeFiles) (old new : Outside) where
   pub shown : Outcome names old new 0 → (party : ℕ) × (fault : Fault) × Judged names (Shown party fault) old new
@@ -145,7 +168,10 @@ module _ (names : JudgeFiles) (old new : Outside) where
       IsUnchanged status old new × IsRefused names old.files.content status
   refused_so status go which (inl r) = (r.0, elim r.1 [ inl stop ↦ absurd (go-on status go stop) | inr why ↦ why ])
   refused_so status go which (inr a) =
-      absurd (elim a.1.ended [ inl same ↦ no-refusal (verdict_in names old.files.content a.0) status go which same | inr stop ↦ go-on status go stop ])
+      absurd (elim a.1.ended [
+        | inl same ↦ no-refusal (verdict_in names old.files.content a.0) status go which same
+        | inr stop ↦ go-on status go stop
+      ])
 
   pub bad_session : Outcome names old new 4 → (fault : SessionFault) × HasBadSession names old.files.content fault
   bad_session o = elim (refused_so 4 refl (inl refl) o).1 [ inl k ↦ (k.1, k.2) | inr k ↦ absurd (differ 4 8 refl k.0) ]
@@ -177,16 +203,19 @@ module _ (first : NamesFirst) (names : JudgeFiles) (content : Content) (call : F
       Names (by_lists names session r content).actions call → IsJudgeCall names call
   call-lists session (Err at) h = absurd h
   call-lists session (Ok lists) h =
-      elim (first names.evidence (with-evidence session lists) content call h) [ inl e ↦ inr (inr e) | inr m ↦ absurd (call-said session lists (evidence_of m.0) m.2) ]
+      elim (first names.evidence (with-evidence session lists) content call h)
+      [ inl e ↦ inr (inr e) | inr m ↦ absurd (call-said session lists (evidence_of m.0) m.2) ]
 
   call-session : (r : Result SessionData SessionFault) →
       Names (by_session names r content).actions call → IsJudgeCall names call
   call-session (Err fault) h = absurd h
   call-session (Ok session) h =
-      elim (first names.table (with-table names session) content call h) [ inl e ↦ inr (inl e) | inr m ↦ call-lists session (lists_of session m.0) m.2 ]
+      elim (first names.table (with-table names session) content call h)
+      [ inl e ↦ inr (inl e) | inr m ↦ call-lists session (lists_of session m.0) m.2 ]
 
   pub call-named : Names (judge_plan names content).actions call → IsJudgeCall names call
-  call-named h = elim (first names.session (with-session names) content call h) [ inl e ↦ inl e | inr m ↦ call-session (session_of m.0) m.2 ]
+  call-named h =
+      elim (first names.session (with-session names) content call h) [ inl e ↦ inl e | inr m ↦ call-session (session_of m.0) m.2 ]
 
 pub named-some : (first : NamesFirst) (names : JudgeFiles) (content : Content) (o : Option Failure) →
     IsSomeAnd o (Names (judge_plan names content).actions) → IsSomeAnd o (IsJudgeCall names)

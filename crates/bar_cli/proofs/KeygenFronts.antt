@@ -1,5 +1,5 @@
 -- What a part of `keygen` leaves.
-use Rattle.std.proofs.Common.{◌≡◌, ◌⊎◌, Option, ℕ, List, [], ◌∷◌, ◌++◌, Some, refl, ap, ◌∙◌, subst, inl, inr, take, append-nil}
+use Rattle.std.proofs.Common.{◌≡◌, ◌⊎◌, Option, ℕ, List, [], ◌∷◌, ◌++◌, Some, IsTrue, refl, ap, ◌∙◌, subst, inl, inr, take, append-nil}
 use Rattle.std.specs.List.{concat}
 use Rattle.bar_outside.specs.Disk.{Content}
 use Rattle.bar_outside.specs.Plan.{Outside, Action, Reached, IsShowNext, content_after, shown}
@@ -48,7 +48,8 @@ module _ (text lines : List ℕ) (file : Option (List ℕ)) (bytes : List ℕ) (
         file_is = u.played
             ∙ ap (λ turns. Some (played_bytes turns ++ take u.played_count (concat u.this.contents))) only.0
             ∙ ap (λ xs. Some (take u.played_count xs)) contents;
-        out = u.printed ∙ ap (λ turns. shown_bytes turns ++ take u.shown_count (concat u.this.lines)) only.0 ∙ ap (take u.shown_count) shows;
+        out = u.printed ∙ ap (λ turns. shown_bytes turns ++ take u.shown_count (concat u.this.lines)) only.0
+            ∙ ap (take u.shown_count) shows;
         order = elim u.order [ inl none ↦ inl none | inr all ↦ inr (subst (λ xs. take u.played_count xs ≡ xs) contents all) ];
         at_output = λ h. subst (λ xs. take u.played_count xs ≡ xs) contents (u.at_output h);
       }
@@ -59,12 +60,12 @@ KeyStopped asked status old new =
     IsUnchanged status old new
     ⊎ ((b : KeyBegun asked old new) × (status ≡ 7 → new.files.content asked.key ≡ Some (key_text_of (key_made asked b.accepted.secret))))
 
-module _ (asked : Keygen) (old new : Outside) (status : ℕ) where
+module _ (asked : Keygen) (old new : Outside) (status : ℕ) (told : IsTrue old.files.told) where
   begun : (a : KeygenAccepted asked old.files.content) (d : Reached (keygen_actions asked a.secret) status old new) →
       IsMaking (key_text_of (key_made asked a.secret)) (lines_of asked a.secret) (content_after d.done old.files.content asked.key)
       (shown d.done) d.begun.rest → KeyStopped asked status old new
   begun a d m =
-      let file = ap (λ (holds : Content). holds asked.key) d.ran.files ∙ m.file_is in
+      let file = ap (λ (holds : Content). holds asked.key) (d.ran.files told) ∙ m.file_is in
       inr (
         record {
           accepted = a;
@@ -81,7 +82,7 @@ module _ (asked : Keygen) (old new : Outside) (status : ℕ) where
       IsStopped asked.key (key-turn (key_text_of (key_made asked a.secret)) (lines_of asked a.secret) ∷ []) old.files.content
       (content_after d.done old.files.content) (shown d.done) d.begun.rest → KeyStopped asked status old new
   unfolding IsStopped
-  stopped-accepted a d (inl quiet) = inl (unchanged-by (keygen_actions asked a.secret) status old new d quiet)
+  stopped-accepted a d (inl quiet) = inl (unchanged-by (keygen_actions asked a.secret) status old new told tt d quiet)
   stopped-accepted a d (inr (inl m)) = begun a d (making-none _ _ _ _ _ m)
   stopped-accepted a d (inr (inr u)) = begun a d (making-some _ _ _ _ _ u)
 
@@ -97,9 +98,9 @@ module _ (asked : Keygen) (old new : Outside) (status : ℕ) where
   a_front o = elim (stopped-at o) [ inl same ↦ inl (same.files, same.out) | inr b ↦ inr b.0 ]
 
 -- what stands where the output failed
-pub written-key : (asked : Keygen) (old new : Outside) → Outcome asked old new 7 → KeyWritten asked old new
-written-key asked old new o =
-    elim (stopped-at asked old new 7 o) [
+pub written-key : (asked : Keygen) (old new : Outside) → IsTrue old.files.told → Outcome asked old new 7 → KeyWritten asked old new
+written-key asked old new told o =
+    elim (stopped-at asked old new 7 told o) [
       | inl same ↦ absurd (same.no_output refl)
       | inr b ↦ record { accepted = b.0.accepted; printed_count = b.0.printed_count; written = b.1 refl; printed = b.0.printed }
     ]

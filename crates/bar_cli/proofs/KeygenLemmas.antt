@@ -14,7 +14,8 @@ pub can-keygen : (asked : Keygen) (secret : List ℕ) (content : Content) → Ca
 can-keygen asked secret content = (put_at-there content asked.key [], tt)
 
 -- what was made is what is asked for
-pub as-asked : {T : Type 0} (asked : Keygen) (secret text lines : List ℕ) (old new : Outside) (r : Result T Fault) → text ≡ key_text_of (key_made asked secret) → lines ≡ lines_of asked secret →
+pub as-asked : {T : Type 0} (asked : Keygen) (secret text lines : List ℕ) (old new : Outside) (r : Result T Fault) →
+    text ≡ key_text_of (key_made asked secret) → lines ≡ lines_of asked secret →
     Follows (create asked.key ∷ append asked.key text ∷ show lines ∷ []) old new r → Follows (keygen_actions asked secret) old new r
 as-asked asked secret text lines old new r e f h =
     subst (λ (xs : List ℕ). Follows (create asked.key ∷ append asked.key xs ∷ show (lines_of asked secret) ∷ []) old new r) e

@@ -1,11 +1,12 @@
 -- The rows of the status table, from how `keygen` ended.
-use Rattle.std.proofs.Common.{◌≡◌, ◌≢◌, ◌⊎◌, ◌==◌, ℕ, List, [], ◌∷◌, ◌++◌, Bool, true, false, Option, Some, None, Result, Ok, Err, refl, ap, ◌∙◌, subst, IsSomeAnd, inl, inr, length, append-nil, cond}
+use Rattle.std.proofs.Common.{◌≡◌, ◌≢◌, ◌⊎◌, ◌==◌, ℕ, List, [], ◌∷◌, ◌++◌, Bool, true, false, IsTrue, Option, Some, None, Result, Ok, Err, refl, ap, ◌∙◌, subst, IsSomeAnd, inl, inr, length, append-nil, cond}
 use Rattle.std.proofs.lemmas.Bool.{cases_Bool, eqb-true}
 use Rattle.bar_outside.specs.Disk.{Content, Failure, readable, created}
 use Rattle.bar_outside.specs.Plan.{Outside, Plan, Names, Touches, content_after, accepting, ending, is_stop}
 use Rattle.bar_outside.specs.Plan.Action.{create, append, show}
 use Rattle.bar_outside.specs.Stages.{Went, IsUnchanged, ReadsFirst, EndsThere, NamesFirst}
 use Rattle.bar_outside.proofs.Contents.{put_at-same, put_at-other, appended-same, appended-other}
+use Rattle.bar_outside.proofs.Unlinked.{IsUnlinked, unlinked-accepting, unlinked-reading}
 use Rattle.bar_outside.proofs.Untouched.{untouched-reached}
 use Rattle.bar_roster.specs.declared.fault.SessionFault.{SessionFault}
 use Rattle.bar_roster.specs.KeyText.{key_text_of}
@@ -25,11 +26,21 @@ with-secret asked bytes = by-secret asked (secret_of bytes)
 abbrev by-leaves : Keygen → Result (Unit {0}) SessionFault → Content → Plan
 by-leaves asked leaves = accepting leaves (λ _. secret_plan asked) (λ fault. ending 4 (session_refused fault))
 
+-- nothing is done over the link
+pub unlinked-plan : (asked : Keygen) (content : Content) → IsUnlinked (keygen_plan asked content).actions
+unlinked-plan asked content =
+    unlinked-accepting (enough_leaves asked.rounds asked.params.height) (λ _. secret_plan asked) _ content
+    (λ enough. unlinked-reading asked.secret (with-secret asked) content
+    (λ bytes. unlinked-accepting (secret_of bytes) (making_plan asked) _ content (λ secret. tt) (λ len. tt))) (λ fault. tt)
+
 -- ---- a secret is of 32 bytes
 
 by-length : (bytes : List ℕ) → (length bytes ≡ 32) ⊎ (length bytes ≢ 32)
 by-length bytes =
-    elim (cases_Bool (length bytes == 32)) [ inl same ↦ inl (eqb-true (length bytes) 32 same) | inr other ↦ inr (differ (length bytes) 32 other) ]
+    elim (cases_Bool (length bytes == 32)) [
+      | inl same ↦ inl (eqb-true (length bytes) 32 same)
+      | inr other ↦ inr (differ (length bytes) 32 other)
+    ]
 
 taken : (bytes : List ℕ) → length bytes ≡ 32 → secret_of bytes ≡ Ok bytes
 taken bytes long =
@@ -55,11 +66,11 @@ Outcome asked old new status =
     (IsUnchanged status old new × ((is_stop status ≡ true) ⊎ IsRefused asked old.files.content status))
     ⊎ ((a : KeygenAccepted asked old.files.content) × Went (making_plan asked a.secret old.files.content) old new status)
 
-module _ (reads : ReadsFirst) (ends : EndsThere) (asked : Keygen) (old new : Outside) (status : ℕ) where
+module _ (reads : ReadsFirst) (ends : EndsThere) (asked : Keygen) (old new : Outside) (status : ℕ) (told : IsTrue old.files.told) where
   refused : (final : ℕ) (line : List ℕ) → Went (ending final line old.files.content) old new status →
       (status ≡ final → IsRefused asked old.files.content status) → Outcome asked old new status
   refused final line w why =
-      let e = ends final line old new status w in inl (e.0, elim e.1 [ inl same ↦ inr (why same) | inr stop ↦ inl stop ])
+      let e = ends final line old new status told w in inl (e.0, elim e.1 [ inl same ↦ inr (why same) | inr stop ↦ inl stop ])
 
   outcome-secret : (bytes : List ℕ) → HasEnoughLeaves asked → readable old.files.content asked.secret ≡ Some bytes →
       Went (with-secret asked bytes old.files.content) old new status → Outcome asked old new status
@@ -71,7 +82,8 @@ module _ (reads : ReadsFirst) (ends : EndsThere) (asked : Keygen) (old new : Out
               subst (λ x. Went (by-secret asked x old.files.content) old new status) (taken bytes long) w,
             )
         | inr other ↦
-            refused 8 (secret_refused (length bytes)) (subst (λ x. Went (by-secret asked x old.files.content) old new status) (untaken bytes other) w)
+            refused 8 (secret_refused (length bytes))
+            (subst (λ x. Went (by-secret asked x old.files.content) old new status) (untaken bytes other) w)
             (λ k. inr (k, (bytes, record { leaves = e; read = r; other_length = other })))
       ]
 
@@ -79,7 +91,7 @@ module _ (reads : ReadsFirst) (ends : EndsThere) (asked : Keygen) (old new : Out
       Went (by-leaves asked r old.files.content) old new status → Outcome asked old new status
   outcome-leaves (Err fault) e w = refused 4 (session_refused fault) w (λ k. inl (k, (fault, e)))
   outcome-leaves (Ok tt) e w =
-      elim (reads asked.secret (with-secret asked) old new status w) [
+      elim (reads asked.secret (with-secret asked) old new status told w) [
         | inl same ↦ inl (same.0, inl same.1)
         | inr on ↦ outcome-secret on.bytes e on.read on.rest
       ]
@@ -90,29 +102,33 @@ module _ (reads : ReadsFirst) (ends : EndsThere) (asked : Keygen) (old new : Out
 -- ---- the rows
 
 -- what the actions leave
-written : (key text lines : List ℕ) (content : Content) → content_after (create key ∷ append key text ∷ show lines ∷ []) content key ≡ Some text
+written : (key text lines : List ℕ) (content : Content) →
+    content_after (create key ∷ append key text ∷ show lines ∷ []) content key ≡ Some text
 written key text lines content = appended-same (created content key) key text [] (put_at-same content key [])
 
-unwritten : (key text lines : List ℕ) (content : Content) (path : List ℕ) → path ≢ key → content_after (create key ∷ append key text ∷ show lines ∷ []) content path ≡ content path
-unwritten key text lines content path differs = appended-other (created content key) key text path differs ∙ put_at-other content key [] path differs
+unwritten : (key text lines : List ℕ) (content : Content) (path : List ℕ) → path ≢ key →
+    content_after (create key ∷ append key text ∷ show lines ∷ []) content path ≡ content path
+unwritten key text lines content path differs =
+    appended-other (created content key) key text path differs ∙ put_at-other content key [] path differs
 
 module _ (asked : Keygen) (old new : Outside) where
   -- at 0 the key was made
-  pub made : Outcome asked old new 0 → KeyMade asked old new
-  made (inl r) = absurd (elim r.1 [
+  pub made : IsTrue old.files.told → Outcome asked old new 0 → KeyMade asked old new
+  made told (inl r) = absurd (elim r.1 [
     | inl stop ↦ go-on 0 refl stop
     | inr why ↦ elim why [ inl k ↦ differ 0 4 refl k.0 | inr k ↦ differ 0 8 refl k.0 ]
   ])
-  made (inr p) =
+  made told (inr p) =
       let a = p.0 in
       let ran = (p.1.carried refl).ran in
       let text : List ℕ = key_text_of (key_made asked a.secret) in
       let lines : List ℕ = lines_of asked a.secret in
       record {
         accepted = a;
-        written = ap (λ (holds : Content). holds asked.key) ran.files ∙ written asked.key text lines old.files.content;
+        written = ap (λ (holds : Content). holds asked.key) (ran.files told) ∙ written asked.key text lines old.files.content;
         printed = λ tells. ran.out tells ∙ ap (λ xs. old.out.bytes ++ xs) (append-nil lines);
-        others = λ path differs. ap (λ (holds : Content). holds path) ran.files ∙ unwritten asked.key text lines old.files.content path differs;
+        others = λ path differs. ap (λ (holds : Content). holds path) (ran.files told)
+            ∙ unwritten asked.key text lines old.files.content path differs;
       }
 
   -- at a refusal nothing was changed or printed
@@ -133,11 +149,13 @@ touched-all asked secret path (inr (inl e)) = e
 touched-all asked secret path (inr (inr h)) = absurd h
 
 -- whatever the status, no file but the key file was changed
-pub other-untouched : (asked : Keygen) (old new : Outside) (status : ℕ) (path : List ℕ) → (path ≡ asked.key → ⊥) → Outcome asked old new status →
+pub other-untouched : (asked : Keygen) (old new : Outside) (status : ℕ) (path : List ℕ) → IsTrue old.files.told → (path ≡ asked.key → ⊥) →
+    Outcome asked old new status →
     new.files.content path ≡ old.files.content path
-other-untouched asked old new status path differs (inl r) = ap (λ (holds : Content). holds path) r.0.files
-other-untouched asked old new status path differs (inr p) =
-    untouched-reached (keygen_actions asked p.0.secret) path old new status p.1.part (λ h. differs (touched-all asked p.0.secret path h))
+other-untouched asked old new status path told differs (inl r) = ap (λ (holds : Content). holds path) r.0.files
+other-untouched asked old new status path told differs (inr p) =
+    untouched-reached (keygen_actions asked p.0.secret) path old new status p.1.part told
+    (λ h. differs (touched-all asked p.0.secret path h))
 
 -- ---- the calls
 

@@ -4,13 +4,13 @@ pub mod UpToLemmas
 pub mod EndLemmas
 pub mod StatusLemmas
 pub mod MemberLemmas
-pub mod ManifestLemmas
 pub mod Rows
 pub mod EvidenceLemmas
 pub mod JudgeRows
 pub mod KeygenLemmas
 pub mod KeygenRows
 pub mod KeygenFronts
-pub mod PlayedSoFar
+pub mod CoreTurns
 pub mod WrittenOut
-pub mod PlayingLemmas
+pub mod RunLemmas
+pub mod WordLemmas

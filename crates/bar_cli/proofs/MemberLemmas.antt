@@ -9,15 +9,23 @@ use Rattle.bar_roster.specs.Sessions.{IsSession}
 use Rattle.bar_roster.specs.SessionText.{SessionData}
 use Rattle.bar_roster.specs.SessionText as text
 use Rattle.bar_rules.specs.Member.{Member, IsMember}
+use Rattle.bar_rules.specs.Members.{member_by}
 use Rattle.bar_window.specs.declared.exchange.Exchange.{Exchange}
 use Rattle.bar_wire.specs.Datagram.{Datagram}
 use Rattle.bar_rules.specs.Peer.Exchanges.{partner_in}
 use Rattle.bar_rules.specs.Peer.Log.{Log, kept}
-use Rattle.bar_rules.specs.Peer.Run.{log_after}
+use Rattle.bar_rules.specs.Peer.Run.{log_after, sends_of}
+use Rattle.std.specs.List.{AllByRecursion}
 use Rattle.bar_laws.specs.Always.{OfEachPeer}
+use Rattle.bar_laws.specs.Balance.{GoesToPartner, IsEven, totals_of}
+use Rattle.bar_laws.specs.Framing.{IsNotFramed}
+use Rattle.bar_laws.specs.Leaves.{KeepsLeaves}
+use Rattle.bar_laws.specs.Obedience.{IsRuled}
 use Rattle.bar_laws.specs.Evidence.{BadKeysLeaveEvidence, KeptEvidenceIsShown, OpensBadly}
-use Rattle.bar_cli.specs.Headline.{OfItsRun, HasProof}
-use Rattle.bar_cli.specs.Replay.{session_of, secrets_of_key}
+use Rattle.bar_cli.specs.Headline.{OfItsRun, OfItsRuns, HasProof, KeepsTheRules}
+use Rattle.bar_live.specs.Accepting.{fresh_key_of, session_of}
+use Rattle.bar_live.specs.PeerPlan.{PeerAccepted, PeerNames}
+use Rattle.bar_cli.specs.Replay.{secrets_of_key}
 use Rattle.bar_cli.specs.ReplayPlan.{ReplayFiles, Accepted, peer_of}
 
 -- a key text is accepted only where the session holds its key
@@ -37,17 +45,25 @@ pub in-range_here : AreInRange → (bytes : List ℕ) (s : SessionData) → sess
 unfolding session_of
 in-range_here ranged bytes s is = ranged bytes s is
 
+-- so the peer of an accepted key, fresh or not, is a member of its session
+member-of : AreHeld → AreInRange → (fresh : Bool) (text bytes : List ℕ) (s : SessionData) (k : Secrets) → session_of text ≡ Ok s →
+    key_file_of s false fresh bytes ≡ Ok k → IsMember (member_by s k)
+member-of held ranged fresh text bytes s k session key =
+    let holds = held s false fresh bytes k key in
+    let low : 1 ≤ k.party = holds.role in
+    let above : 0 < k.party = omega arith in
+    record { session = in-range_here ranged text s session; peer = (above, holds.party); fits = holds.fits }
+
 pub is-member : AreHeld → AreInRange → (names : ReplayFiles) (content : Content) (a : Accepted names content) →
     IsMember (peer_of names content a)
+unfolding secrets_of_key
 is-member held ranged names content a =
-    let holds = held-here held a.session a.by_key.bytes a.secrets a.by_key.is in
-    let low : 1 ≤ a.secrets.party = holds.role in
-    let above : 0 < a.secrets.party = omega arith in
-    record {
-      session = in-range_here ranged a.by_key.in_session.text a.session a.by_key.in_session.is;
-      peer = (above, holds.party);
-      fits = holds.fits;
-    }
+    member-of held ranged false a.by_key.in_session.text a.by_key.bytes a.session a.secrets a.by_key.in_session.is a.by_key.is
+
+pub is-live_member : AreHeld → AreInRange → (names : PeerNames) (content : Content) (s : SessionData) (k : Secrets) →
+    PeerAccepted names content s k → IsMember (member_by s k)
+unfolding fresh_key_of
+is-live_member held ranged names content s k a = member-of held ranged true a.in_session.text a.bytes s k a.in_session.is a.is
 
 pub of-its_run : AreHeld → AreInRange → (P : Member → List Input → Type 0) → OfEachPeer P →
     (names : ReplayFiles) (content : Content) → OfItsRun names content P
@@ -67,3 +83,22 @@ proves-bad_keys caught shown me inputs x key bad = from-kept (kept log (partner_
     from-kept None is some = absurd (false≢true (sym (ap (λ o. is_some o) is) ∙ some))
     from-kept (Some evidence) is some =
         record { evidence = evidence; held = is; shown = λ wider extends. shown me inputs (partner_in me x) evidence wider is extends }
+
+-- all of it of each list of inputs that the peer of a fresh key may take
+pub of-its_runs : AreHeld → AreInRange → (P : Member → List Input → Type 0) → OfEachPeer P →
+    (names : PeerNames) (content : Content) → OfItsRuns names content P
+of-its_runs held ranged P always names content = λ s k accepted inputs.
+    always (member_by s k) (is-live_member held ranged names content s k accepted) inputs
+
+pub keeps-rules : OfEachPeer IsRuled → OfEachPeer (λ me inputs. (x : Exchange) → IsEven (totals_of me inputs x)) →
+    OfEachPeer (λ me inputs. AllByRecursion (GoesToPartner me) (sends_of me inputs)) → BadKeysLeaveEvidence → KeptEvidenceIsShown →
+    OfEachPeer (λ me inputs. IsNotFramed me (log_after me [] inputs)) → OfEachPeer (λ me inputs. KeepsLeaves me (log_after me [] inputs)) →
+    OfEachPeer KeepsTheRules
+keeps-rules signed balance keys caught shown unframed leaves = λ me member inputs. record {
+  signed = signed me member inputs;
+  balance = balance me member inputs;
+  keys = keys me member inputs;
+  evidence = proves-bad_keys caught shown me inputs;
+  unframed = unframed me member inputs;
+  leaves = leaves me member inputs;
+}

@@ -1,19 +1,16 @@
 -- What the turns of a replay leave.
-use Rattle.std.proofs.Common.{Option, None, Ok, Err, option_map, ◌≡◌, ◌≢◌, ℕ, List, [], ◌∷◌, ◌++◌, Some, refl, sym, ap, ◌∙◌, map, append-nil, append_assoc, IsSome, subst}
+use Rattle.std.proofs.Common.{◌≡◌, ◌≢◌, ℕ, List, [], ◌∷◌, ◌++◌, Some, refl, sym, ap, ◌∙◌, map, append-nil, append_assoc, IsSome, subst}
 use Rattle.std.specs.List.{AllByRecursion, concat}
-use Rattle.std.specs.Option.{ok_or}
-use Rattle.bar_wire.specs.Inputs.{Input}
-use Rattle.bar_record.specs.Inputs.{inputs_left}
-use Rattle.bar_record.specs.declared.items.Items.{Items}
 use Rattle.bar_outside.specs.Disk.{Content, created}
 use Rattle.bar_outside.specs.Plan.{Action, CanRun, content_after, shown}
 use Rattle.bar_outside.specs.Plan.Action.{append, show}
 use Rattle.bar_outside.proofs.Contents.{put_at-same, put_at-other, put_at-there}
 use Rattle.bar_outside.proofs.ActionLists.{CanRun-append, content_after-append, shown-append}
 use Rattle.bar_outside.proofs.Appends.{appends-other, appends-same, can-appends, shown-appends}
+use Rattle.bar_outside.proofs.Unlinked.{IsUnlinked, unlinked-append, unlinked-appends, unlinked-shows}
 use Rattle.bar_cli.specs.Turns.{Turn, turn_actions, turns_actions, played_bytes, shown_bytes}
 use Rattle.bar_findings.specs.Findings.{Finding, findings_actions}
-use Rattle.bar_findings.proofs.Holding.{AreWritten, all-written, can-write, shown-findings, unwritten}
+use Rattle.bar_findings.proofs.Holding.{AreWritten, all-written, can-write, shown-findings, unlinked-findings, unwritten}
 use Rattle.bar_findings.proofs.Names.{AreDistinct}
 use Rattle.bar_cli.specs.ReplayPlan.{ReplayFiles, playing_actions, replay_actions}
 
@@ -36,6 +33,23 @@ can-replay names turns findings content =
     CanRun-append (playing_actions names.played turns) (findings_actions findings) content
     (can-turns names.played turns (created content names.played) (put_at-there content names.played []))
     (can-write findings (content_after (playing_actions names.played turns) content))
+
+-- and does nothing over the link
+
+unlinked-turns : (played : List ℕ) (turns : List Turn) → IsUnlinked (turns_actions played turns)
+unlinked-turns played [] = tt
+unlinked-turns played (t ∷ ts) =
+    unlinked-append (turn_actions played t) (turns_actions played ts)
+    (unlinked-append (map (append played) t.contents) (map show t.lines) (unlinked-appends played t.contents) (unlinked-shows t.lines))
+    (unlinked-turns played ts)
+
+pub unlinked-playing : (played : List ℕ) (turns : List Turn) → IsUnlinked (playing_actions played turns)
+unlinked-playing played turns = unlinked-turns played turns
+
+pub unlinked-replay : (names : ReplayFiles) (turns : List Turn) (findings : List Finding) → IsUnlinked (replay_actions names turns findings)
+unlinked-replay names turns findings =
+    unlinked-append (playing_actions names.played turns) (findings_actions findings) (unlinked-playing names.played turns)
+    (unlinked-findings findings)
 
 -- what is shown changes no file
 shows-leave : (lines : List (List ℕ)) (content : Content) → content_after (map show lines) content ≡ content
@@ -132,13 +146,3 @@ shown-replay names turns findings =
     ∙ ap (λ bytes. shown (playing_actions names.played turns) ++ bytes) (shown-findings findings)
     ∙ append-nil (shown (playing_actions names.played turns))
     ∙ shown-playing names.played turns
-
--- what was read stands for these inputs, and so it is accepted
-pub found : (result : Option Items) (items : Items) (meant : Option (List Input)) → result ≡ Some items → option_map inputs_left result ≡ meant →
-    ok_or {E = Unit {0}} meant tt ≡ Ok (inputs_left items)
-found result items meant is means = ap (λ (o : Option (List Input)). ok_or {E = Unit {0}} o tt) (sym means ∙ ap (option_map inputs_left) is)
-
--- nothing was read, and so it is refused
-pub unfound : (result : Option Items) (meant : Option (List Input)) → result ≡ None → option_map inputs_left result ≡ meant →
-    ok_or {E = Unit {0}} meant tt ≡ Err tt
-unfound result meant is means = ap (λ (o : Option (List Input)). ok_or {E = Unit {0}} o tt) (sym means ∙ ap (option_map inputs_left) is)

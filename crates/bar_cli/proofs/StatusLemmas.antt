@@ -1,121 +1,242 @@
 -- The statuses that each command has.
-use Rattle.std.proofs.Common.{◌≡◌, ◌≢◌, ◌⊎◌, ℕ, List, false, None, Some, Result, Ok, Err, IfOk, IsTrue, refl, sym, ap, ◌∙◌, subst, inl, inr, arith, true≢false}
+use Rattle.std.proofs.Common.{◌≡◌, ◌≢◌, ◌⊎◌, ◌==◌, ◌||◌, ℕ, Bool, true, false, List, [], Option, None, Some, Result, Ok, Err, IfOk, IsTrue, refl, sym, ap, ◌∙◌, subst, inl, inr, arith, true≢false}
+use Rattle.std.proofs.lemmas.Bool.{eqb-true}
 use Rattle.bar_outside.specs.Causes.{Rose}
-use Rattle.bar_outside.specs.Disk.{Disk}
+use Rattle.bar_outside.specs.Disk.{Content}
 use Rattle.bar_outside.specs.Stream.{Stream}
-use Rattle.bar_outside.specs.Plan.{outside, Action}
+use Rattle.bar_outside.specs.Wire.{no_traffic}
+use Rattle.bar_outside.specs.Plan.{Outside, with_out, Action, Plan}
 use Rattle.bar_outside.specs.Faults.{code_of_fault}
 use Rattle.bar_outside.specs.Follows.{Follows}
+use Rattle.bar_outside.specs.Ends.{EndsWith}
 use Rattle.bar_outside.specs.declared.fault.Fault.{Fault}
-use Rattle.bar_outside.specs.declared.fault.Fault.TheVariants.{File, Output, NoMemory as WantOfMemory}
+use Rattle.bar_outside.specs.declared.fault.Fault.TheVariants.{File, Link, Output, NoMemory as WantOfMemory}
+use Rattle.bar_live.specs.CasterPlan.{CasterNames}
+use Rattle.bar_live.specs.PeerPlan.{PeerNames}
+use Rattle.bar_live.specs.Views.{code_of_run as live_code_of_run}
+use Rattle.bar_live.specs.declared.ended.Ended.{Ended}
+use Rattle.bar_live.specs.declared.ended.Ended.TheVariants as live
 use Rattle.bar_cli.specs.JudgePlan.{JudgeFiles}
-use Rattle.bar_cli.specs.Line.{Line, replay, keygen, judge, is_status_of, may_print}
-use Rattle.bar_cli.specs.Printing.{keygen_may_print, judge_may_print}
-use Rattle.bar_cli.specs.Status.{code_of_run, is_replay_end, is_keygen_end, is_judge_end}
+use Rattle.bar_cli.specs.Line.{Line, peer, broadcaster, replay, keygen, judge, is_status_of, may_print, usage}
+use Rattle.bar_cli.specs.Printing.{keygen_may_print, judge_may_print, replay_may_print}
+use Rattle.bar_cli.specs.Status.{code_of, said_at, code_of_run, is_replay_end, is_keygen_end, is_judge_end}
 use Rattle.bar_cli.specs.declared.status.Status.{Status}
-use Rattle.bar_cli.specs.declared.status.Status.TheVariants.{Done, NoFault, Usage, FileFailed, SessionRefused, KeyRefused, OutputFailed, InputRefused, SecretRefused, TableRefused, EvidenceRefused, NoMemory}
+use Rattle.bar_cli.specs.declared.status.Status.TheVariants.{Done, NoFault, Usage, FileFailed, LinkFailed, SessionRefused, KeyRefused, OutputFailed, RecordingRefused, StreamRefused, SecretRefused, TableRefused, EvidenceRefused, NoMemory}
 use Rattle.bar_cli.specs.ReplayPlan.{ReplayFiles}
 use Rattle.bar_cli.specs.KeygenPlan.{Keygen}
 
-empty : Disk
-empty = record { told = false; reliable = false; content = λ path. None; failed = None; faults = 0 }
+-- an outside over which nothing failed
+abbrev pub quiet : Outside
+quiet = record {
+  files = record { told = false; reliable = false; content = λ path. None; failed = None; faults = 0 };
+  out = record { told = false; reliable = false; bytes = []; faults = 0 };
+  wire = record { told = false; reliable = false; traffic = no_traffic; faults = 0 };
+}
 
--- an action that holds over any files doesn't fail by them
-pub never-file : {T : Type 0} (plan : List Action) (old new : Stream) (r : Result T Fault) → ((files : Disk) → Follows plan (outside files old) (outside files new) r) → r ≡ Err File → ⊥
-unfolding empty
-never-file plan old new r follows e = let h : Rose 0 0 = ((follows empty).file (rw e refl)).rose in absurd (omega arith)
+-- what holds over any files doesn't fail by them
+pub never-file : {T : Type 0} (plan : List Action) (old new : Stream) (r : Result T Fault) →
+    ((w : Outside) → Follows plan (with_out w old) (with_out w new) r) → r ≡ Err File → ⊥
+never-file plan old new r follows e = let h : Rose 0 0 = ((follows quiet).file (rw e refl)).rose in absurd (omega arith)
+
+-- what was done where the count of the link stayed as it was doesn't fail by the link
+pub never-link : {T : Type 0} (plan : List Action) (old new : Outside) (r : Result T Fault) → old.wire.faults ≡ 0 → new.wire.faults ≡ 0 →
+    Follows plan old new r → r ≡ Err Link → ⊥
+never-link plan old new r before after follows e = let h = follows.link (rw e refl) in absurd (omega arith)
+
+-- nor does a command end so
+pub never-six : (plan : Content → Plan) (old new : Outside) (status : ℕ) (line : List ℕ) → old.wire.faults ≡ 0 → new.wire.faults ≡ 0 →
+    EndsWith plan old new status line → status ≡ 6 → ⊥
+never-six plan old new status line before after ends e = let h = ends.ends.link_rose e in absurd (omega arith)
+
+pub never-linked : (plan : Content → Plan) (old new : Outside) (ended : Result Status Fault) (line : List ℕ) → old.wire.faults ≡ 0 →
+    new.wire.faults ≡ 0 → EndsWith plan old new (code_of_run ended) line → ended ≡ Err Link → ⊥
+never-linked plan old new ended line before after ends e =
+    never-six plan old new (code_of_run ended) line before after ends (ap code_of_run e)
 
 -- a fault is no refusal
 pub no-refusal : (fault : Fault) → code_of_fault fault ≢ 4
 no-refusal File = λ e. absurd (omega arith)
+no-refusal Link = λ e. absurd (omega arith)
 no-refusal Output = λ e. absurd (omega arith)
 no-refusal WantOfMemory = λ e. absurd (omega arith)
 
--- of the faults only that of the files comes with nothing printed
-pub unprinted-at : (fault : Fault) (P : Type 0) → (fault ≡ File → P) → keygen_may_print (code_of_fault fault) ≡ false → P
-unprinted-at File P h e = h refl
-unprinted-at Output P h e = absurd cc
-unprinted-at WantOfMemory P h e = absurd cc
+-- of the faults only those of the files and of the link come with nothing printed at `keygen`
+pub unprinted-at : (fault : Fault) (P : Type 0) → (fault ≡ File → P) → (fault ≡ Link → P) →
+    keygen_may_print (code_of_fault fault) ≡ false → P
+unprinted-at File P h k e = h refl
+unprinted-at Link P h k e = k refl
+unprinted-at Output P h k e = absurd cc
+unprinted-at WantOfMemory P h k e = absurd cc
 
-pub unsaid-at : (fault : Fault) (P : Type 0) → (fault ≡ File → P) → judge_may_print (code_of_fault fault) ≡ false → P
-unsaid-at File P h e = h refl
-unsaid-at Output P h e = absurd cc
-unsaid-at WantOfMemory P h e = absurd cc
+-- at a replay only that of the link
+pub unshown-at : (fault : Fault) (P : Type 0) → (fault ≡ Link → P) → replay_may_print (code_of_fault fault) ≡ false → P
+unshown-at File P h e = absurd cc
+unshown-at Link P h e = h refl
+unshown-at Output P h e = absurd cc
+unshown-at WantOfMemory P h e = absurd cc
+
+-- at `judge` those of the files and of the link
+pub unsaid-at : (fault : Fault) (P : Type 0) → (fault ≡ File → P) → (fault ≡ Link → P) → judge_may_print (code_of_fault fault) ≡ false → P
+unsaid-at File P h k e = h refl
+unsaid-at Link P h k e = k refl
+unsaid-at Output P h k e = absurd cc
+unsaid-at WantOfMemory P h k e = absurd cc
 
 -- the statuses of a replay
 pub replay-statuses : (names : ReplayFiles) (ended : Result Status Fault) → IfOk ended (λ status. IsTrue (is_replay_end status)) →
+    (ended ≡ Err Link → ⊥) →
     IsTrue (is_status_of (Some (replay names)) (code_of_run ended))
-replay-statuses names (Ok Done) h = refl
-replay-statuses names (Ok Usage) h = absurd cc
-replay-statuses names (Ok NoFault) h = absurd cc
-replay-statuses names (Ok (TableRefused at)) h = absurd cc
-replay-statuses names (Ok EvidenceRefused) h = absurd cc
-replay-statuses names (Ok FileFailed) h = absurd cc
-replay-statuses names (Ok (SessionRefused fault)) h = refl
-replay-statuses names (Ok (KeyRefused fault)) h = refl
-replay-statuses names (Ok OutputFailed) h = absurd cc
-replay-statuses names (Ok InputRefused) h = refl
-replay-statuses names (Ok (SecretRefused len)) h = absurd cc
-replay-statuses names (Ok NoMemory) h = absurd cc
-replay-statuses names (Err File) h = refl
-replay-statuses names (Err Output) h = refl
-replay-statuses names (Err WantOfMemory) h = refl
+replay-statuses names (Ok Done) h other = refl
+replay-statuses names (Ok Usage) h other = absurd cc
+replay-statuses names (Ok NoFault) h other = absurd cc
+replay-statuses names (Ok (TableRefused at)) h other = absurd cc
+replay-statuses names (Ok EvidenceRefused) h other = absurd cc
+replay-statuses names (Ok FileFailed) h other = absurd cc
+replay-statuses names (Ok LinkFailed) h other = absurd cc
+replay-statuses names (Ok (SessionRefused fault)) h other = refl
+replay-statuses names (Ok (KeyRefused fault)) h other = refl
+replay-statuses names (Ok OutputFailed) h other = absurd cc
+replay-statuses names (Ok (RecordingRefused fault)) h other = refl
+replay-statuses names (Ok (StreamRefused have room)) h other = absurd cc
+replay-statuses names (Ok (SecretRefused len)) h other = absurd cc
+replay-statuses names (Ok NoMemory) h other = absurd cc
+replay-statuses names (Err File) h other = refl
+replay-statuses names (Err Link) h other = absurd (other refl)
+replay-statuses names (Err Output) h other = refl
+replay-statuses names (Err WantOfMemory) h other = refl
 
 -- those of `keygen`
 pub keygen-statuses : (asked : Keygen) (ended : Result Status Fault) → IfOk ended (λ status. IsTrue (is_keygen_end status)) →
+    (ended ≡ Err Link → ⊥) →
     IsTrue (is_status_of (Some (keygen asked)) (code_of_run ended))
-keygen-statuses asked (Ok Done) h = refl
-keygen-statuses asked (Ok Usage) h = absurd cc
-keygen-statuses asked (Ok NoFault) h = absurd cc
-keygen-statuses asked (Ok (TableRefused at)) h = absurd cc
-keygen-statuses asked (Ok EvidenceRefused) h = absurd cc
-keygen-statuses asked (Ok FileFailed) h = absurd cc
-keygen-statuses asked (Ok (SessionRefused fault)) h = refl
-keygen-statuses asked (Ok (KeyRefused fault)) h = absurd cc
-keygen-statuses asked (Ok OutputFailed) h = absurd cc
-keygen-statuses asked (Ok InputRefused) h = absurd cc
-keygen-statuses asked (Ok (SecretRefused len)) h = refl
-keygen-statuses asked (Ok NoMemory) h = absurd cc
-keygen-statuses asked (Err File) h = refl
-keygen-statuses asked (Err Output) h = refl
-keygen-statuses asked (Err WantOfMemory) h = refl
+keygen-statuses asked (Ok Done) h other = refl
+keygen-statuses asked (Ok Usage) h other = absurd cc
+keygen-statuses asked (Ok NoFault) h other = absurd cc
+keygen-statuses asked (Ok (TableRefused at)) h other = absurd cc
+keygen-statuses asked (Ok EvidenceRefused) h other = absurd cc
+keygen-statuses asked (Ok FileFailed) h other = absurd cc
+keygen-statuses asked (Ok LinkFailed) h other = absurd cc
+keygen-statuses asked (Ok (SessionRefused fault)) h other = refl
+keygen-statuses asked (Ok (KeyRefused fault)) h other = absurd cc
+keygen-statuses asked (Ok OutputFailed) h other = absurd cc
+keygen-statuses asked (Ok (RecordingRefused fault)) h other = absurd cc
+keygen-statuses asked (Ok (StreamRefused have room)) h other = absurd cc
+keygen-statuses asked (Ok (SecretRefused len)) h other = refl
+keygen-statuses asked (Ok NoMemory) h other = absurd cc
+keygen-statuses asked (Err File) h other = refl
+keygen-statuses asked (Err Link) h other = absurd (other refl)
+keygen-statuses asked (Err Output) h other = refl
+keygen-statuses asked (Err WantOfMemory) h other = refl
 
 -- those of `judge`
 pub judge-statuses : (names : JudgeFiles) (ended : Result Status Fault) → IfOk ended (λ status. IsTrue (is_judge_end status)) →
+    (ended ≡ Err Link → ⊥) →
     IsTrue (is_status_of (Some (judge names)) (code_of_run ended))
-judge-statuses names (Ok Done) h = refl
-judge-statuses names (Ok NoFault) h = refl
-judge-statuses names (Ok Usage) h = absurd cc
-judge-statuses names (Ok FileFailed) h = absurd cc
-judge-statuses names (Ok (SessionRefused fault)) h = refl
-judge-statuses names (Ok (KeyRefused fault)) h = absurd cc
-judge-statuses names (Ok OutputFailed) h = absurd cc
-judge-statuses names (Ok InputRefused) h = absurd cc
-judge-statuses names (Ok (SecretRefused len)) h = absurd cc
-judge-statuses names (Ok (TableRefused at)) h = refl
-judge-statuses names (Ok EvidenceRefused) h = refl
-judge-statuses names (Ok NoMemory) h = absurd cc
-judge-statuses names (Err File) h = refl
-judge-statuses names (Err Output) h = refl
-judge-statuses names (Err WantOfMemory) h = refl
+judge-statuses names (Ok Done) h other = refl
+judge-statuses names (Ok NoFault) h other = refl
+judge-statuses names (Ok Usage) h other = absurd cc
+judge-statuses names (Ok FileFailed) h other = absurd cc
+judge-statuses names (Ok LinkFailed) h other = absurd cc
+judge-statuses names (Ok (SessionRefused fault)) h other = refl
+judge-statuses names (Ok (KeyRefused fault)) h other = absurd cc
+judge-statuses names (Ok OutputFailed) h other = absurd cc
+judge-statuses names (Ok (RecordingRefused fault)) h other = absurd cc
+judge-statuses names (Ok (StreamRefused have room)) h other = absurd cc
+judge-statuses names (Ok (SecretRefused len)) h other = absurd cc
+judge-statuses names (Ok (TableRefused at)) h other = refl
+judge-statuses names (Ok EvidenceRefused) h other = refl
+judge-statuses names (Ok NoMemory) h other = absurd cc
+judge-statuses names (Err File) h other = refl
+judge-statuses names (Err Link) h other = absurd (other refl)
+judge-statuses names (Err Output) h other = refl
+judge-statuses names (Err WantOfMemory) h other = refl
 
--- want of memory may come in place of any
-pub or-memory : (line : Line) (status result : ℕ) → IsTrue (is_status_of (Some line) status) → (result ≡ status) ⊎ (result ≡ 70) → IsTrue (is_status_of (Some line) result)
+-- those of `peer`, which has no stream
+pub peer-statuses : (names : PeerNames) (ended : Result Ended Fault) → live_code_of_run ended ≢ 8 →
+    IsTrue (is_status_of (Some (peer names)) (live_code_of_run ended))
+peer-statuses names (Ok live.Done) h = refl
+peer-statuses names (Ok (live.SessionRefused fault)) h = refl
+peer-statuses names (Ok (live.KeyRefused fault)) h = refl
+peer-statuses names (Ok (live.StreamRefused have room)) h = absurd (h refl)
+peer-statuses names (Err File) h = refl
+peer-statuses names (Err Link) h = refl
+peer-statuses names (Err Output) h = refl
+peer-statuses names (Err WantOfMemory) h = refl
+
+-- those of `broadcaster`
+pub broadcaster-statuses : (names : CasterNames) (ended : Result Ended Fault) →
+    IsTrue (is_status_of (Some (broadcaster names)) (live_code_of_run ended))
+broadcaster-statuses names (Ok live.Done) = refl
+broadcaster-statuses names (Ok (live.SessionRefused fault)) = refl
+broadcaster-statuses names (Ok (live.KeyRefused fault)) = refl
+broadcaster-statuses names (Ok (live.StreamRefused have room)) = refl
+broadcaster-statuses names (Err File) = refl
+broadcaster-statuses names (Err Link) = refl
+broadcaster-statuses names (Err Output) = refl
+broadcaster-statuses names (Err WantOfMemory) = refl
+
+-- want of memory may come of all words
+pub memory-status : (line : Option Line) → IsTrue (is_status_of line 70)
+memory-status None = refl
+memory-status (Some (peer names)) = refl
+memory-status (Some (broadcaster names)) = refl
+memory-status (Some (replay names)) = refl
+memory-status (Some (keygen asked)) = refl
+memory-status (Some (judge names)) = refl
+
+-- and in place of any status
+pub or-memory : (line : Option Line) (status result : ℕ) → IsTrue (is_status_of line status) → (result ≡ status) ⊎ (result ≡ 70) →
+    IsTrue (is_status_of line result)
 or-memory line status result h (inl e) = rw e h
-or-memory (replay names) status result h (inr e) = rw e refl
-or-memory (keygen asked) status result h (inr e) = rw e refl
-or-memory (judge names) status result h (inr e) = rw e refl
+or-memory line status result h (inr e) = rw e (memory-status line)
+
+-- where words are no line, there are two statuses
+pub no-line : (status : ℕ) → IsTrue (is_status_of None status) → (status ≡ 2) ⊎ (status ≡ 70)
+no-line status h = by_test (status == 2) refl h
+  where
+    by_test : (b : Bool) → (status == 2) ≡ b → IsTrue (b || status == 70) → (status ≡ 2) ⊎ (status ≡ 70)
+    by_test true e h = inl (eqb-true status 2 e)
+    by_test false e h = inr (eqb-true status 70 h)
 
 -- a command has not the status of words that are no line
 pub no-usage : (line : Line) (status : ℕ) → IsTrue (is_status_of (Some line) status) → status ≡ 2 → ⊥
-no-usage (replay names) status h e = let k : IsTrue (is_status_of (Some (replay names)) 2) = subst (λ n. IsTrue (is_status_of (Some (replay names)) n)) e h in cc
-no-usage (keygen asked) status h e = let k : IsTrue (is_status_of (Some (keygen asked)) 2) = subst (λ n. IsTrue (is_status_of (Some (keygen asked)) n)) e h in cc
-no-usage (judge names) status h e = let k : IsTrue (is_status_of (Some (judge names)) 2) = subst (λ n. IsTrue (is_status_of (Some (judge names)) n)) e h in cc
+no-usage line status h e = at-two line (subst (λ n. IsTrue (is_status_of (Some line) n)) e h)
+  where
+    at-two : (line : Line) → IsTrue (is_status_of (Some line) 2) → ⊥
+    at-two (peer names) h = cc
+    at-two (broadcaster names) h = cc
+    at-two (replay names) h = cc
+    at-two (keygen asked) h = cc
+    at-two (judge names) h = cc
+
+-- this status has one line
+pub said-at_two : (status : Status) → code_of status ≡ 2 → said_at status ≡ usage
+said-at_two Done e = absurd (omega arith)
+said-at_two NoFault e = absurd (omega arith)
+said-at_two Usage e = refl
+said-at_two FileFailed e = absurd (omega arith)
+said-at_two LinkFailed e = absurd (omega arith)
+said-at_two (SessionRefused fault) e = absurd (omega arith)
+said-at_two (KeyRefused fault) e = absurd (omega arith)
+said-at_two OutputFailed e = absurd (omega arith)
+said-at_two (RecordingRefused fault) e = absurd (omega arith)
+said-at_two (StreamRefused have room) e = absurd (omega arith)
+said-at_two (SecretRefused len) e = absurd (omega arith)
+said-at_two (TableRefused at) e = absurd (omega arith)
+said-at_two EvidenceRefused e = absurd (omega arith)
+said-at_two NoMemory e = absurd (omega arith)
 
 -- a command whose status may show nothing shows nothing where want of memory comes in place of it
-pub unprinted-by : (line : Line) (status result : ℕ) (P : Type 0) → (may_print (Some line) status ≡ false → P) →
-    (result ≡ status) ⊎ (result ≡ 70) → may_print (Some line) result ≡ false → P
-unprinted-by line status result P h (inl e) none = h (ap (may_print (Some line)) (sym e) ∙ none)
-unprinted-by (replay names) status result P h (inr e) none = absurd (true≢false (sym (ap (may_print (Some (replay names))) e) ∙ none))
-unprinted-by (keygen asked) status result P h (inr e) none = absurd (true≢false (sym (ap (may_print (Some (keygen asked))) e) ∙ none))
-unprinted-by (judge names) status result P h (inr e) none = absurd (true≢false (sym (ap (may_print (Some (judge names))) e) ∙ none))
+pub unprinted-by : (line : Option Line) (status result : ℕ) (P : Type 0) → (may_print line status ≡ false → P) →
+    (result ≡ status) ⊎ (result ≡ 70) → may_print line result ≡ false → P
+unprinted-by line status result P h (inl e) none = h (ap (may_print line) (sym e) ∙ none)
+unprinted-by None status result P h (inr e) none = h refl
+unprinted-by (Some line) status result P h (inr e) none =
+    absurd (true≢false (sym (prints-at_memory line) ∙ sym (ap (may_print (Some line)) e) ∙ none))
+  where
+    prints-at_memory : (line : Line) → may_print (Some line) 70 ≡ true
+    prints-at_memory (peer names) = refl
+    prints-at_memory (broadcaster names) = refl
+    prints-at_memory (replay names) = refl
+    prints-at_memory (keygen asked) = refl
+    prints-at_memory (judge names) = refl

@@ -1,5 +1,5 @@
--- The turns of a replay and the rules of its peer: what a run leaves, and what a longer one does.
-use Rattle.std.proofs.Common.{◌≡◌, ℕ, ◌+◌, List, [], ◌∷◌, ◌++◌, refl, sym, ap, ◌∙◌, map, length, arith}
+-- The turns of a replay and the rules of its peer: what a run leaves.
+use Rattle.std.proofs.Common.{◌≡◌, ℕ, ◌+◌, List, [], ◌∷◌, ◌++◌, refl, sym, ap, ◌∙◌, map}
 use Rattle.std.specs.List.{concat}
 use Rattle.std.proofs.lemmas.Grind.{flat_map-append}
 use Rattle.bar_wire.specs.Datagram.{Datagram}
@@ -7,23 +7,9 @@ use Rattle.bar_wire.specs.Inputs.{Input}
 use Rattle.bar_rules.specs.Member.{Session, Member}
 use Rattle.bar_rules.specs.Runs.{played_from, sends_from}
 use Rattle.bar_rules.specs.Peer.Log.{Log}
-use Rattle.bar_rules.specs.Peer.Run.{step, log_after}
+use Rattle.bar_rules.specs.Peer.Run.{step}
 use Rattle.bar_cli.specs.Transcript.{line_of_sent, lines_of_sends, transcript}
-use Rattle.bar_cli.specs.Turns.{Turn, turn_of, turns_from, turn_actions, turns_actions, played_bytes, shown_bytes}
-
-pub turns_actions-append : (played : List ℕ) (xs ys : List Turn) →
-    turns_actions played (xs ++ ys) ≡ turns_actions played xs ++ turns_actions played ys
-turns_actions-append played xs ys = flat_map-append (turn_actions played) xs ys
-
--- the turns of some inputs, and behind them those of more
-pub turns_from-append : (me : Member) (n : ℕ) (log : Log) (xs ys : List Input) →
-    turns_from me n log (xs ++ ys) ≡ turns_from me n log xs ++ turns_from me (n + length xs) (log_after me log xs) ys
-turns_from-append me n log [] ys = let e : n ≡ n + 0 = omega arith in ap (λ k. turns_from me k log ys) e
-turns_from-append me n log (x ∷ xs) ys =
-    let e : (n + 1) + length xs ≡ n + length (x ∷ xs) = omega arith in
-    ap (λ turns. turn_of me.session n (step me log x) ∷ turns)
-    (turns_from-append me (n + 1) (step me log x).state xs ys
-    ∙ ap (λ k. turns_from me (n + 1) (step me log x).state xs ++ turns_from me k (log_after me (step me log x).state xs) ys) e)
+use Rattle.bar_cli.specs.Turns.{turns_from, played_bytes, shown_bytes}
 
 -- the turns have what the rules play
 pub played-turns : (me : Member) (n : ℕ) (log : Log) (inputs : List Input) →

@@ -1,5 +1,5 @@
 -- What a part of some turns leaves.
-use Rattle.std.proofs.Common.{Option, ◌≡◌, ◌⊎◌, ℕ, ◌+◌, List, [], ◌∷◌, ◌++◌, Some, refl, sym, ap, ◌∙◌, map, length, take, append-nil, append_assoc, inl, inr, subst, min}
+use Rattle.std.proofs.Common.{Option, ◌≡◌, ◌⊎◌, ℕ, ◌+◌, List, [], ◌∷◌, ◌++◌, Some, IsTrue, refl, sym, ap, ◌∙◌, map, length, take, append-nil, append_assoc, inl, inr, subst, min}
 use Rattle.std.proofs.lemmas.Grind.{flat_map-append}
 use Rattle.std.proofs.Math.Seq.{take-append-add, take-length}
 use Rattle.std.specs.List.{concat}
@@ -10,6 +10,7 @@ use Rattle.bar_outside.specs.Stages.{IsUnchanged}
 use Rattle.bar_outside.proofs.Contents.{put_at-same}
 use Rattle.bar_outside.proofs.ActionLists.{content_after-append, shown-append, nil-cons, Begun-first, Begun-both, Begun-none, files-next, show-next, no-next, part-create}
 use Rattle.bar_outside.proofs.Stages.{part-shown}
+use Rattle.bar_outside.proofs.Unlinked.{IsUnlinked, no-link, same-traffic}
 use Rattle.bar_cli.specs.Turns.{Turn, turn_actions, turns_actions, played_bytes, shown_bytes}
 use Rattle.bar_outside.proofs.Appends.{appends-same, begun-appends, no-show, shown-appends, take-more}
 use Rattle.bar_cli.proofs.ReplayLemmas.{turn-played, shown-turn}
@@ -212,11 +213,14 @@ pub quiet-none : (content : Content) (done next : List Action) → done ≡ [] �
 quiet-none content done next e none = record { files = ap (λ xs. content_after xs content) e; out = ap shown e; silent = none }
 
 -- so nothing was changed or printed
-pub unchanged-by : (plan : List Action) (status : ℕ) (old new : Outside) (d : Reached plan status old new) →
+pub unchanged-by : (plan : List Action) (status : ℕ) (old new : Outside) → IsTrue old.files.told → IsUnlinked plan →
+    (d : Reached plan status old new) →
     IsQuietAt old.files.content (content_after d.done old.files.content) (shown d.done) d.begun.rest → IsUnchanged status old new
-unchanged-by plan status old new d quiet = record {
-  files = d.ran.files ∙ quiet.files;
+unchanged-by plan status old new told unlinked d quiet = record {
+  files = d.ran.files told ∙ quiet.files;
   out = λ tells. d.ran.out tells ∙ ap (λ bytes. old.out.bytes ++ bytes) quiet.out ∙ append-nil old.out.bytes;
+  wire = same-traffic plan status old new unlinked d;
+  no_link = no-link plan status old new unlinked d;
   no_output = λ e. quiet.silent (d.at_output e);
 }
 

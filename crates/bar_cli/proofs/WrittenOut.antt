@@ -1,16 +1,21 @@
--- A replay is its turns, and then what was found.
-use Rattle.std.proofs.Common.{◌≡◌, ℕ, List, [], ◌∷◌, Result, Ok, Err, subst}
+-- A replay is the played file, and then a node's replay over the rules of its peer.
+use Rattle.std.proofs.Common.{◌≡◌, List, [], ◌∷◌, ◌++◌, Result, Ok, Err, ap, ◌∙◌, subst}
 use Rattle.bar_outside.specs.declared.fault.Fault.{Fault}
 use Rattle.bar_outside.specs.Plan.{Outside}
 use Rattle.bar_outside.specs.Plan.Action.{create}
 use Rattle.bar_outside.specs.Follows.{Follows}
 use Rattle.bar_outside.proofs.Following.{followed, stopped}
+use Rattle.bar_record.specs.Pacing.{paced}
 use Rattle.bar_wire.specs.Inputs.{Input}
-use Rattle.bar_rules.specs.Member.{Member}
+use Rattle.bar_rules.specs.Member.{Member, last_tick}
+use Rattle.bar_core.specs.Rules.{Rules}
 use Rattle.bar_findings.specs.Findings.{Finding, findings_actions}
+use Rattle.bar_node.specs.Runs.{replay_plan}
+use Rattle.bar_peer.specs.Core.{peer_rules}
 use Rattle.bar_cli.specs.Found.{found_by}
 use Rattle.bar_cli.specs.ReplayPlan.{ReplayFiles, playing_actions, replay_actions}
 use Rattle.bar_cli.specs.Turns.{Turn, turns_actions, turns_from}
+use Rattle.bar_cli.proofs.CoreTurns.{core-turns}
 
 -- the played file was not made
 pub unmade : (names : ReplayFiles) (turns : List Turn) (findings : List Finding) (old new : Outside) (fault : Fault) →
@@ -20,30 +25,23 @@ unmade names turns findings old new fault f =
     stopped (playing_actions names.played turns) (findings_actions findings) old new fault
     (stopped (create names.played ∷ []) (turns_actions names.played turns) old new fault f)
 
--- the turns of a peer, by who it is
-by-member : {r : Result (Unit {0}) Fault} (played : List ℕ) (me peer : Member) (inputs : List Input) (old new : Outside) → peer ≡ me →
-    Follows (turns_actions played (turns_from peer 1 [] inputs)) old new r → Follows (turns_actions played (turns_from me 1 [] inputs)) old new r
-by-member {r} played me peer inputs old new same f =
-    subst (λ (who : Member). Follows (turns_actions played (turns_from who 1 [] inputs)) old new r) same f
+-- the node's plan over the rules of a peer is what the turns and the findings leave
+plan-by_rules : (names : ReplayFiles) (me : Member) (inputs : List Input) →
+    replay_plan names.played names.found (peer_rules me) inputs
+    ≡ turns_actions names.played (turns_from me 1 [] (paced (last_tick me.session) inputs))
+    ++ findings_actions (found_by names.found me (paced (last_tick me.session) inputs))
+plan-by_rules names me inputs =
+    ap (λ acts. acts ++ findings_actions (found_by names.found me (paced (last_tick me.session) inputs)))
+    (core-turns names.played me [] (paced (last_tick me.session) inputs))
 
--- it was made, and the turns stopped
-pub unplayed : (names : ReplayFiles) (me peer : Member) (inputs : List Input) (findings : List Finding) (old mid new : Outside) (fault : Fault) →
-    peer ≡ me → Follows {T = Unit {0}} (create names.played ∷ []) old mid (Ok tt) →
-    Follows {T = Unit {0}} (turns_actions names.played (turns_from peer 1 [] inputs)) mid new (Err fault) →
-    Follows {T = Unit {0}} (replay_actions names (turns_from me 1 [] inputs) findings) old new (Err fault)
-unplayed names me peer inputs findings old mid new fault same made f =
-    stopped (playing_actions names.played (turns_from me 1 [] inputs)) (findings_actions findings) old new fault
-    (followed (create names.played ∷ []) (turns_actions names.played (turns_from me 1 [] inputs)) old mid new tt made (Err fault)
-    (by-member names.played me peer inputs mid new same f))
-
--- the turns were done, and what was found was written, maybe up to a fault
-pub written-out : (names : ReplayFiles) (me peer later : Member) (inputs : List Input) (old made mid new : Outside) (r : Result (Unit {0}) Fault) →
-    peer ≡ me → later ≡ me → Follows {T = Unit {0}} (create names.played ∷ []) old made (Ok tt) →
-    Follows {T = Unit {0}} (turns_actions names.played (turns_from peer 1 [] inputs)) made mid (Ok tt) →
-    Follows (findings_actions (found_by names.found later inputs)) mid new r →
-    Follows (replay_actions names (turns_from me 1 [] inputs) (found_by names.found me inputs)) old new r
-written-out names me peer later inputs old made mid new r same too create_f turns_f found_f =
-    followed (playing_actions names.played (turns_from me 1 [] inputs)) (findings_actions (found_by names.found me inputs)) old mid new tt
-    (followed (create names.played ∷ []) (turns_actions names.played (turns_from me 1 [] inputs)) old made mid tt create_f (Ok tt)
-    (by-member names.played me peer inputs made mid same turns_f)) r
-    (subst (λ (who : Member). Follows (findings_actions (found_by names.found who inputs)) mid new r) too found_f)
+-- it was made, and the node's replay was done, maybe up to a fault
+pub written-out : {T : Type 0} (names : ReplayFiles) (me : Member) (rules : Rules) (inputs : List Input) (old made new : Outside)
+    (r : Result T Fault) →
+    rules ≡ peer_rules me → Follows {T = Unit {0}} (create names.played ∷ []) old made (Ok tt) →
+    Follows (replay_plan names.played names.found rules inputs) made new r →
+    Follows (replay_actions names (turns_from me 1 [] (paced (last_tick me.session) inputs))
+    (found_by names.found me (paced (last_tick me.session) inputs))) old new r
+written-out names me rules inputs old made new r same first run =
+    let is = ap (λ (rules : Rules). replay_plan names.played names.found rules inputs) same ∙ plan-by_rules names me inputs in
+    followed (create names.played ∷ []) _ old made new tt first r
+    (subst (λ acts. Follows acts made new r) is run)

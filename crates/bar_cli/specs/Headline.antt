@@ -1,4 +1,5 @@
--- The headline: what holds of the run that a replay shows, of the peer of the key, whatever the inputs of the recording are.
+-- The headline: what holds of the run that a replay shows, and of every run of a peer over a link, of the peer of the key, whatever its
+-- inputs are.
 use Rattle.std.specs.Prelude.{◌≡◌, ℕ, List, [], ◌++◌, Some, IsTrue}
 use Rattle.std.specs.List.{AllByRecursion}
 use Rattle.bar_outside.specs.Disk.{Content}
@@ -8,7 +9,10 @@ use Rattle.bar_terms.specs.Table.{Table, Extends}
 use Rattle.bar_wire.specs.Datagram.{Datagram}
 use Rattle.bar_wire.specs.Inputs.{Input}
 use Rattle.bar_rules.specs.Judge.Verdict.{Fault, Shown, verdict}
+use Rattle.bar_seeds.specs.declared.secrets.Secrets.{Secrets}
+use Rattle.bar_roster.specs.SessionText.{SessionData}
 use Rattle.bar_rules.specs.Member.{Member}
+use Rattle.bar_rules.specs.Members.{member_by}
 use Rattle.bar_rules.specs.Peer.Exchanges.{partner_in}
 use Rattle.bar_rules.specs.Peer.Log.{Log, kept, table}
 use Rattle.bar_rules.specs.Peer.Run.{log_after, sends_of}
@@ -17,12 +21,19 @@ use Rattle.bar_laws.specs.Evidence.{OpensBadly}
 use Rattle.bar_laws.specs.Framing.{IsNotFramed}
 use Rattle.bar_laws.specs.Leaves.{KeepsLeaves}
 use Rattle.bar_laws.specs.Obedience.{IsRuled}
+use Rattle.bar_live.specs.PeerPlan.{PeerAccepted, PeerNames}
 use Rattle.bar_cli.specs.ReplayPlan.{ReplayFiles, Accepted, peer_of, transcript_of}
 
 -- at each moment of the run, where all files are accepted: of the peer, and the inputs up to then
 abbrev pub OfItsRun : ReplayFiles → Content → (Member → List Input → Type 0) → Type 0
 OfItsRun names content P =
-    (accepted : Accepted names content) (inputs later : List Input) → accepted.inputs ≡ inputs ++ later → P (peer_of names content accepted) inputs
+    (accepted : Accepted names content) (inputs later : List Input) → accepted.inputs ≡ inputs ++ later →
+    P (peer_of names content accepted) inputs
+
+-- of each list of inputs that the peer of a fresh key may take, where its session and its key are accepted
+abbrev pub OfItsRuns : PeerNames → Content → (Member → List Input → Type 0) → Type 0
+OfItsRuns names content P =
+    (s : SessionData) (k : Secrets) → PeerAccepted names content s k → (inputs : List Input) → P (member_by s k) inputs
 
 -- ---- 1. it sends exactly the datagrams of the rules
 
@@ -72,3 +83,14 @@ IsNeverFramed names content = OfItsRun names content (λ me inputs. IsNotFramed 
 -- no leaf of its key signed two messages, and each leaf is one of the key's
 abbrev pub KeepsItsLeaves : ReplayFiles → Content → Type 0
 KeepsItsLeaves names content = OfItsRun names content (λ me inputs. KeepsLeaves me (log_after me [] inputs))
+
+-- ---- all of it, of a peer and the inputs that it took
+
+pub record KeepsTheRules (me : Member) (inputs : List Input) : Type 0 where
+  pub signed : IsRuled me inputs
+  pub balance : (x : Exchange) → IsEven (totals_of me inputs x)
+  pub keys : AllByRecursion (GoesToPartner me) (sends_of me inputs)
+  pub evidence : (x : Exchange) (key : Datagram) → OpensBadly me (log_after me [] inputs) x key →
+      HasProof me (log_after me [] inputs) (partner_in me x)
+  pub unframed : IsNotFramed me (log_after me [] inputs)
+  pub leaves : KeepsLeaves me (log_after me [] inputs)

@@ -1,6 +1,10 @@
 -- The statuses at which something may have been printed on standard output.
 use Rattle.std.specs.Prelude.{◌==◌, ◌||◌, ℕ, Bool}
 
+-- `peer` and `broadcaster` print their summaries at their ends
+abbrev pub live_may_print : ℕ → Bool
+live_may_print status = status == 0 || status == 7 || status == 70
+
 -- a replay prints as it runs
 abbrev pub replay_may_print : ℕ → Bool
 replay_may_print status = status == 0 || status == 3 || status == 7 || status == 70

@@ -1,20 +1,21 @@
 -- The lines of refusals.
 use Rattle.std.specs.Prelude.{ℕ, List, [], ◌∷◌, ◌++◌, codes}
 use Rattle.std.specs.Fmt.{decimal}
-use Rattle.bar_roster.specs.declared.fault.SessionFault.{SessionFault}
-use Rattle.bar_roster.specs.declared.key_fault.KeyFileFault.{KeyFileFault}
-use Rattle.bar_roster.specs.FaultText.{fault_text}
-use Rattle.bar_roster.specs.KeyFaultText.{key_fault_text}
+use Rattle.bar_record.specs.declared.fault.RecordFault.{RecordFault}
+use Rattle.bar_record.specs.declared.fault.RecordFault.TheVariants.{BadHead, BadEntry, NoEnd, AfterEnd, AfterLast}
+pub use Rattle.bar_live.specs.Refusals.{session_refused, key_refused, stream_refused}
 
-abbrev pub session_refused : SessionFault → List ℕ
-session_refused fault = codes "bar: session refused: " ++ (fault_text fault ++ codes "\n")
-
-abbrev pub key_refused : KeyFileFault → List ℕ
-key_refused fault = codes "bar: key refused: " ++ (key_fault_text fault ++ codes "\n")
+-- the fault of a recording, with its place where it has one
+abbrev pub record_fault_text : RecordFault → List ℕ
+record_fault_text BadHead = codes "BadHead"
+record_fault_text (BadEntry at) = codes "BadEntry at " ++ decimal at
+record_fault_text NoEnd = codes "NoEnd"
+record_fault_text AfterEnd = codes "AfterEnd"
+record_fault_text (AfterLast at) = codes "AfterLast at " ++ decimal at
 
 -- a recording is refused
-abbrev pub input_refused : List ℕ
-input_refused = codes "bar: input refused" ++ 10 ∷ []
+abbrev pub recording_refused : RecordFault → List ℕ
+recording_refused fault = codes "bar: input refused: recording " ++ (record_fault_text fault ++ codes "\n")
 
 -- a table is refused at this place
 abbrev pub table_refused : ℕ → List ℕ

@@ -1,6 +1,5 @@
 -- What `replay` does.
-use Rattle.std.specs.Prelude.{◌≡◌, ◌≢◌, ◌⊎◌, ◌≤◌, ℕ, List, [], ◌∷◌, ◌++◌, Some, None, Ok, Err, IfSome, take, IsTrue}
-use Rattle.std.specs.Option.{ok_or}
+use Rattle.std.specs.Prelude.{◌≡◌, ◌≢◌, ◌⊎◌, ◌≤◌, ℕ, List, [], ◌∷◌, ◌++◌, Some, Ok, Err, IfSome, take, IsTrue}
 use Rattle.std.specs.List.{AllByRecursion, concat}
 use Rattle.bar_outside.specs.Disk.{Content, Failure, readable}
 use Rattle.bar_outside.specs.declared.files.CallKind.TheVariants.{Read}
@@ -12,15 +11,17 @@ use Rattle.bar_seeds.specs.declared.secrets.Secrets.{Secrets}
 use Rattle.bar_roster.specs.declared.fault.SessionFault.{SessionFault}
 use Rattle.bar_roster.specs.declared.key_fault.KeyFileFault.{KeyFileFault}
 use Rattle.bar_roster.specs.SessionText.{SessionData}
+use Rattle.bar_record.specs.declared.fault.RecordFault.{RecordFault}
 use Rattle.bar_roster.specs.KeyFile.{Fits}
 use Rattle.bar_rules.specs.Member.{Member}
 use Rattle.bar_rules.specs.Members.{member_by}
 use Rattle.bar_rules.specs.Peer.Run.{played_by, sends_of}
 use Rattle.bar_judge.specs.TableFile.{table_bytes}
 use Rattle.bar_findings.specs.Findings.{Finding, IsFindingName, IsWriteTo, IsWrittenUpTo, evidence_name, findings_actions, in_order, table_name}
-use Rattle.bar_cli.specs.Refusals.{session_refused, key_refused, input_refused}
+use Rattle.bar_cli.specs.Refusals.{session_refused, key_refused, recording_refused}
 use Rattle.bar_cli.specs.Found.{evidence_of, found_by, manifest_of}
-use Rattle.bar_cli.specs.Replay.{session_of, recording_of, secrets_of_key}
+use Rattle.bar_live.specs.Accepting.{session_of}
+use Rattle.bar_cli.specs.Replay.{recording_of, secrets_of_key}
 use Rattle.bar_cli.specs.Transcript.{transcript}
 use Rattle.bar_cli.specs.Turns.{Turn, turns_from, turns_actions, played_bytes, shown_bytes}
 
@@ -52,7 +53,7 @@ run_plan names session secrets inputs =
 abbrev pub recording_plan : ReplayFiles → SessionData → Secrets → Content → Plan
 recording_plan names session secrets =
     reading names.recording (λ bytes.
-    accepting (ok_or (recording_of session secrets.party bytes) (tt {0})) (run_plan names session secrets) (λ _. ending 8 input_refused))
+    accepting (recording_of session secrets.party bytes) (run_plan names session secrets) (λ fault. ending 8 (recording_refused fault)))
 
 -- the key file is read, and accepted or refused
 abbrev pub key_plan : ReplayFiles → SessionData → Content → Plan
@@ -78,7 +79,7 @@ pub record KeyAccepted (names : ReplayFiles) (content : Content) (session : Sess
   pub read : readable content names.key ≡ Some bytes
   pub is : secrets_of_key session bytes ≡ Ok secrets
 
--- and so is the recording, which holds these inputs
+-- and so is the recording, which holds these inputs, paced
 pub record Accepted (names : ReplayFiles) (content : Content) : Type 0 where
   pub session : SessionData
   pub secrets : Secrets
@@ -86,7 +87,7 @@ pub record Accepted (names : ReplayFiles) (content : Content) : Type 0 where
   pub by_key : KeyAccepted names content session secrets
   pub bytes : List ℕ
   pub read : readable content names.recording ≡ Some bytes
-  pub is : recording_of session secrets.party bytes ≡ Some inputs
+  pub is : recording_of session secrets.party bytes ≡ Ok inputs
 
 -- the session's text is there, and refused for this fault
 pub record SessionRefused (names : ReplayFiles) (content : Content) (text : List ℕ) (fault : SessionFault) : Type 0 where
@@ -100,12 +101,12 @@ pub record KeyRefused (names : ReplayFiles) (content : Content) (session : Sessi
   pub read : readable content names.key ≡ Some bytes
   pub is : secrets_of_key session bytes ≡ Err fault
 
--- both are accepted, and the recording is there and refused
-pub record InputRefused (names : ReplayFiles) (content : Content) (session : SessionData) (secrets : Secrets)
-    (bytes : List ℕ) : Type 0 where
+-- both are accepted, and the recording is there and refused for this fault
+pub record InputRefused (names : ReplayFiles) (content : Content) (session : SessionData) (secrets : Secrets) (bytes : List ℕ)
+    (fault : RecordFault) : Type 0 where
   pub by_key : KeyAccepted names content session secrets
   pub read : readable content names.recording ≡ Some bytes
-  pub is : recording_of session secrets.party bytes ≡ None
+  pub is : recording_of session secrets.party bytes ≡ Err fault
 
 -- the peer whose key it is
 abbrev pub peer_of : (names : ReplayFiles) (content : Content) → Accepted names content → Member
@@ -171,9 +172,9 @@ pub record IsMade (names : ReplayFiles) (old new : Outside) : Type 0 where
   pub others : OthersAreSame names old new
 
 -- All were accepted, and there is one input such that the played file has all that earlier inputs play and a front of what this one plays,
--- and the transcript all that earlier inputs send and a front of what this one sends. What is shown of an input comes behind all that it plays.
--- Where a call of the files failed, nothing is shown of it, and where a write failed, all that it plays stands. Nothing that was found is
--- written yet.
+-- and the transcript all that earlier inputs send and a front of what this one sends. What is shown of an input comes behind all that it
+-- plays. Where a call of the files failed, nothing is shown of it, and where a write failed, all that it plays stands. Nothing that was
+-- found is written yet.
 pub record PlayedUpTo (names : ReplayFiles) (status : ℕ) (old new : Outside) : Type 0 where
   pub accepted : Accepted names old.files.content
   pub earlier : List Turn

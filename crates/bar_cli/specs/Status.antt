@@ -4,9 +4,9 @@ use Rattle.bar_outside.specs.Plan as plan
 use Rattle.bar_outside.specs.Faults.{code_of_fault, line_of_fault}
 use Rattle.bar_outside.specs.declared.fault.Fault.{Fault}
 use Rattle.bar_cli.specs.declared.status.Status.{Status}
-use Rattle.bar_cli.specs.declared.status.Status.TheVariants.{Done, NoFault, Usage, FileFailed, SessionRefused, KeyRefused, OutputFailed, InputRefused, SecretRefused, TableRefused, EvidenceRefused, NoMemory}
+use Rattle.bar_cli.specs.declared.status.Status.TheVariants.{Done, NoFault, Usage, FileFailed, LinkFailed, SessionRefused, KeyRefused, OutputFailed, RecordingRefused, StreamRefused, SecretRefused, TableRefused, EvidenceRefused, NoMemory}
 use Rattle.bar_cli.specs.Line.{usage}
-use Rattle.bar_cli.specs.Refusals.{session_refused, key_refused, input_refused, secret_refused, table_refused, evidence_refused}
+use Rattle.bar_cli.specs.Refusals.{session_refused, key_refused, recording_refused, stream_refused, secret_refused, table_refused, evidence_refused}
 
 abbrev pub code_of : Status → ℕ
 code_of Done = 0
@@ -15,8 +15,10 @@ code_of Usage = 2
 code_of FileFailed = 3
 code_of (SessionRefused fault) = 4
 code_of (KeyRefused fault) = 5
+code_of LinkFailed = 6
 code_of OutputFailed = 7
-code_of InputRefused = 8
+code_of (RecordingRefused fault) = 8
+code_of (StreamRefused have room) = 8
 code_of (SecretRefused len) = 8
 code_of (TableRefused at) = 8
 code_of EvidenceRefused = 8
@@ -28,10 +30,12 @@ said_at Done = []
 said_at NoFault = []
 said_at Usage = usage
 said_at FileFailed = plan.file_failed
+said_at LinkFailed = plan.link_failed
 said_at (SessionRefused fault) = session_refused fault
 said_at (KeyRefused fault) = key_refused fault
 said_at OutputFailed = plan.output_failed
-said_at InputRefused = input_refused
+said_at (RecordingRefused fault) = recording_refused fault
+said_at (StreamRefused have room) = stream_refused have room
 said_at (SecretRefused len) = secret_refused len
 said_at (TableRefused at) = table_refused at
 said_at EvidenceRefused = evidence_refused
@@ -51,9 +55,11 @@ abbrev pub is_replay_end : Status → Bool
 is_replay_end Done = true
 is_replay_end (SessionRefused fault) = true
 is_replay_end (KeyRefused fault) = true
-is_replay_end InputRefused = true
+is_replay_end (RecordingRefused fault) = true
+is_replay_end (StreamRefused have room) = false
 is_replay_end Usage = false
 is_replay_end FileFailed = false
+is_replay_end LinkFailed = false
 is_replay_end OutputFailed = false
 is_replay_end (SecretRefused len) = false
 is_replay_end NoFault = false
@@ -67,12 +73,14 @@ is_keygen_end Done = true
 is_keygen_end (SessionRefused fault) = true
 is_keygen_end (SecretRefused len) = true
 is_keygen_end (KeyRefused fault) = false
-is_keygen_end InputRefused = false
+is_keygen_end (RecordingRefused fault) = false
+is_keygen_end (StreamRefused have room) = false
 is_keygen_end NoFault = false
 is_keygen_end (TableRefused at) = false
 is_keygen_end EvidenceRefused = false
 is_keygen_end Usage = false
 is_keygen_end FileFailed = false
+is_keygen_end LinkFailed = false
 is_keygen_end OutputFailed = false
 is_keygen_end NoMemory = false
 
@@ -84,9 +92,11 @@ is_judge_end (SessionRefused fault) = true
 is_judge_end (TableRefused at) = true
 is_judge_end EvidenceRefused = true
 is_judge_end (KeyRefused fault) = false
-is_judge_end InputRefused = false
+is_judge_end (RecordingRefused fault) = false
+is_judge_end (StreamRefused have room) = false
 is_judge_end (SecretRefused len) = false
 is_judge_end Usage = false
 is_judge_end FileFailed = false
+is_judge_end LinkFailed = false
 is_judge_end OutputFailed = false
 is_judge_end NoMemory = false

@@ -1,13 +1,16 @@
 -- What a command in the code stands for.
-use Rattle.bar_cli.specs.declared.line.ReplayNames.{ReplayNames}
+use Rattle.bar_live.specs.Views as live
+use Rattle.bar_live.specs.declared.caster_names.CasterNames.{CasterNames}
+use Rattle.bar_live.specs.declared.peer_names.PeerNames.{PeerNames}
+use Rattle.bar_cli.specs.declared.replay_names.ReplayNames.{ReplayNames}
 use Rattle.bar_cli.specs.declared.keygen_words.KeygenWords.{KeygenWords}
 use Rattle.bar_cli.specs.declared.judge_names.JudgeNames.{JudgeNames}
 use Rattle.bar_cli.specs.declared.line.Command.{Command}
-use Rattle.bar_cli.specs.declared.line.Command.TheVariants.{Replay, Keygen, Judge}
+use Rattle.bar_cli.specs.declared.line.Command.TheVariants.{Peer, Broadcaster, Replay, Keygen, Judge}
 use Rattle.bar_cli.specs.ReplayPlan.{ReplayFiles}
 use Rattle.bar_cli.specs.KeygenPlan as plan
 use Rattle.bar_cli.specs.JudgePlan.{JudgeFiles}
-use Rattle.bar_cli.specs.Line.{Line, replay, keygen, judge}
+use Rattle.bar_cli.specs.Line.{Line, peer, broadcaster, replay, keygen, judge}
 
 abbrev pub names_view : ReplayNames → ReplayFiles
 names_view names =
@@ -33,6 +36,12 @@ keygen_view asked =
 abbrev pub judge_view : JudgeNames → JudgeFiles
 judge_view names = record { session = names.session.now; table = names.table.now; evidence = names.evidence.now }
 
+abbrev pub peer_view : PeerNames → Line
+peer_view names = peer (live.peer_view names)
+
+abbrev pub broadcaster_view : CasterNames → Line
+broadcaster_view names = broadcaster (live.caster_view names)
+
 abbrev pub replay_view : ReplayNames → Line
 replay_view names = replay (names_view names)
 
@@ -43,6 +52,8 @@ abbrev pub judged_view : JudgeNames → Line
 judged_view names = judge (judge_view names)
 
 abbrev pub command_view : Command → Line
+command_view (Peer names) = peer_view names
+command_view (Broadcaster names) = broadcaster_view names
 command_view (Replay names) = replay_view names
 command_view (Keygen asked) = asked_view asked
 command_view (Judge names) = judged_view names

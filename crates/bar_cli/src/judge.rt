@@ -1,8 +1,6 @@
 //! The command `judge`.
 ghost use Rattle.std.specs.Prelude.{◌≡◌, ◌∷◌, [], false, IfOk, IsTrue, string_bytes};
-ghost use Rattle.bar_outside.specs.Disk.{Disk};
-ghost use Rattle.bar_outside.specs.Stream.{Stream};
-ghost use Rattle.bar_outside.specs.Plan.{outside};
+ghost use Rattle.bar_outside.specs.Plan.{Outside, with_files, with_out};
 ghost use Rattle.bar_outside.specs.Plan.Action.{show};
 ghost use Rattle.bar_outside.specs.Follows.{Follows};
 ghost use Rattle.bar_outside.specs.Ends.{EndsWith};
@@ -17,9 +15,9 @@ ghost use Rattle.bar_cli.specs.Views.{judge_view};
 
 use crate::judge_names::JudgeNames;
 use crate::judging::{judge_evidence, read_evidence, read_lists};
-use crate::reading::read_session;
 use crate::status::Status;
 use bar_judge::{TableFault, Verdict};
+use bar_live::read_session;
 use bar_outside::{Fault, Files, Sink, read_file, show_bytes};
 use bar_roster::{Session, SessionFault};
 use bar_terms::Table;
@@ -33,8 +31,8 @@ pub fn judge<F: Files, K: Sink>(
     files: &mut F,
     out: &mut K,
 ) -> Result<Status, Fault>
-    ensures ends { EndsWith (judge_plan (judge_view names.now))
-        (outside (F.disk files.old) (K.stream out.old)) (outside (F.disk files.new) (K.stream out.new))
+    ensures ends { (w : Outside) → EndsWith (judge_plan (judge_view names.now))
+        (with_out (with_files w (F.disk files.old)) (K.stream out.old)) (with_out (with_files w (F.disk files.new)) (K.stream out.new))
         (code_of_run result) (said_by_run result) }
     ensures answers { IfOk result (λ status. IsTrue (is_judge_end status)) }
     ensures unprinted { judge_may_print (code_of_run result) ≡ false → K.stream out.new ≡ K.stream out.old }
@@ -55,8 +53,8 @@ fn judge_session<F: Files, K: Sink>(
     files: &mut F,
     out: &mut K,
 ) -> Result<Status, Fault>
-    ensures ends { EndsWith (table_plan (judge_view names.now) session.now)
-        (outside (F.disk files.old) (K.stream out.old)) (outside (F.disk files.new) (K.stream out.new))
+    ensures ends { (w : Outside) → EndsWith (table_plan (judge_view names.now) session.now)
+        (with_out (with_files w (F.disk files.old)) (K.stream out.old)) (with_out (with_files w (F.disk files.new)) (K.stream out.new))
         (code_of_run result) (said_by_run result) }
     ensures answers { IfOk result (λ status. IsTrue (is_judge_end status)) }
     ensures unprinted { judge_may_print (code_of_run result) ≡ false → K.stream out.new ≡ K.stream out.old }
@@ -78,9 +76,9 @@ fn judge_table<F: Files, K: Sink>(
     files: &mut F,
     out: &mut K,
 ) -> Result<Status, Fault>
-    ensures ends { (lists : Lists) → digests_of table.now.lists ≡ digests_of lists →
+    ensures ends { (w : Outside) (lists : Lists) → digests_of table.now.lists ≡ digests_of lists →
         EndsWith (evidence_plan (judge_view names.now) session.now lists)
-        (outside (F.disk files.old) (K.stream out.old)) (outside (F.disk files.new) (K.stream out.new))
+        (with_out (with_files w (F.disk files.old)) (K.stream out.old)) (with_out (with_files w (F.disk files.new)) (K.stream out.new))
         (code_of_run result) (said_by_run result) }
     ensures answers { IfOk result (λ status. IsTrue (is_judge_end status)) }
     ensures unprinted { judge_may_print (code_of_run result) ≡ false → K.stream out.new ≡ K.stream out.old }
@@ -94,8 +92,8 @@ fn judge_table<F: Files, K: Sink>(
 
 // Prints the line of a verdict.
 fn say_verdict<K: Sink>(alloc: Global, verdict: &Verdict, out: &mut K) -> Result<Status, Fault>
-    ensures ends { (files : Disk) → EndsWith (saying_plan (plain_verdict verdict.now))
-        (outside files (K.stream out.old)) (outside files (K.stream out.new)) (code_of_run result) (said_by_run result) }
+    ensures ends { (w : Outside) → EndsWith (saying_plan (plain_verdict verdict.now))
+        (with_out w (K.stream out.old)) (with_out w (K.stream out.new)) (code_of_run result) (said_by_run result) }
     ensures answers { IfOk result (λ status. IsTrue (is_judge_end status)) }
     ensures unprinted { judge_may_print (code_of_run result) ≡ false → K.stream out.new ≡ K.stream out.old }
 {

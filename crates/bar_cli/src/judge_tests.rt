@@ -1,6 +1,6 @@
 //! Verdicts over files and sinks in memory. The public keys and anchors are by a program that shares nothing with this one.
 use crate::bar_run;
-use bar_outside::{MemFiles, MemSink};
+use bar_outside::{MemFiles, MemLink, MemSink};
 use std::alloc::{AllocError, Global};
 use std::test::Fail;
 
@@ -65,7 +65,8 @@ fn run(
     for word in ["judge", "--table", "t", "--evidence", "e", "--session", "s"] {
         words.push(String::from_str(alloc, word)?)?;
     }
-    let status = bar_run(alloc, &words, &mut files, &mut out, &mut err);
+    let mut link = MemLink::make(alloc, Vec::new(alloc), Vec::new(alloc));
+    let status = bar_run(alloc, &words, &mut files, &mut link, &mut out, &mut err);
     Ok(Left { status, out, err })
 }
 

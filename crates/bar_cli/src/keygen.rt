@@ -1,8 +1,6 @@
 //! The command `keygen`.
 ghost use Rattle.std.specs.Prelude.{◌≡◌, ◌≢◌, ◌↔◌, ◌++◌, ◌∷◌, ℕ, List, Ok, Err, [], None, false, length, IfOk, IfSome, IsTrue, string_bytes};
-ghost use Rattle.bar_outside.specs.Disk.{Disk};
-ghost use Rattle.bar_outside.specs.Stream.{Stream};
-ghost use Rattle.bar_outside.specs.Plan.{outside};
+ghost use Rattle.bar_outside.specs.Plan.{Outside, with_files, with_out};
 ghost use Rattle.bar_outside.specs.Plan.Action.{create, append, show};
 ghost use Rattle.bar_outside.specs.Follows.{Follows};
 ghost use Rattle.bar_outside.specs.Ends.{EndsWith};
@@ -36,9 +34,9 @@ pub fn keygen<F: Files, K: Sink>(
     files: &mut F,
     out: &mut K,
 ) -> Result<Status, Fault>
-    ensures ends { EndsWith (keygen_plan (keygen_view asked.now))
-        (outside (F.disk files.old) (K.stream out.old))
-        (outside (F.disk files.new) (K.stream out.new)) (code_of_run result) (said_by_run result) }
+    ensures ends { (w : Outside) → EndsWith (keygen_plan (keygen_view asked.now))
+        (with_out (with_files w (F.disk files.old)) (K.stream out.old))
+        (with_out (with_files w (F.disk files.new)) (K.stream out.new)) (code_of_run result) (said_by_run result) }
     ensures answers { IfOk result (λ status. IsTrue (is_keygen_end status)) }
     ensures leaves { (code_of_run result ≡ 4) ↔ HasFewLeaves (keygen_view asked.now) }
     ensures unprinted { keygen_may_print (code_of_run result) ≡ false → K.stream out.new ≡ K.stream out.old }
@@ -56,9 +54,9 @@ fn keygen_by_secret<F: Files, K: Sink>(
     files: &mut F,
     out: &mut K,
 ) -> Result<Status, Fault>
-    ensures ends { EndsWith (secret_plan (keygen_view asked.now))
-        (outside (F.disk files.old) (K.stream out.old))
-        (outside (F.disk files.new) (K.stream out.new)) (code_of_run result) (said_by_run result) }
+    ensures ends { (w : Outside) → EndsWith (secret_plan (keygen_view asked.now))
+        (with_out (with_files w (F.disk files.old)) (K.stream out.old))
+        (with_out (with_files w (F.disk files.new)) (K.stream out.new)) (code_of_run result) (said_by_run result) }
     ensures answers { IfOk result (λ status. IsTrue (is_keygen_end status)) }
     ensures enough { code_of_run result ≢ 4 }
     ensures unprinted { keygen_may_print (code_of_run result) ≡ false → K.stream out.new ≡ K.stream out.old }
@@ -88,8 +86,10 @@ fn write_key<F: Files, K: Sink>(
     out: &mut K,
 ) -> Result<(), Fault>
     ensures unprinted { result ≡ Err Fault.File → K.stream out.new ≡ K.stream out.old }
-    ensures follows { Follows (create key.now ∷ append key.now made.now.text.items ∷ show (string_bytes made.now.lines) ∷ [])
-        (outside (F.disk files.old) (K.stream out.old)) (outside (F.disk files.new) (K.stream out.new)) result }
+    ensures follows { (w : Outside) →
+        Follows (create key.now ∷ append key.now made.now.text.items ∷ show (string_bytes made.now.lines) ∷ [])
+        (with_out (with_files w (F.disk files.old)) (K.stream out.old))
+        (with_out (with_files w (F.disk files.new)) (K.stream out.new)) result }
 {
     create_file(files, key)?;
     append_file(files, key, &made.text)?;

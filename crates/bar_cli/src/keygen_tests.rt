@@ -1,6 +1,6 @@
 //! Keys over files and sinks in memory, and words that are no line. The expected texts are by programs that share nothing with this one.
 use crate::bar_run;
-use bar_outside::{MemFiles, MemSink};
+use bar_outside::{MemFiles, MemLink, MemSink};
 use std::alloc::{AllocError, Global};
 use std::test::Fail;
 
@@ -35,7 +35,8 @@ fn run(
     let mut out = MemSink::make(alloc, fail_out.to_vec(alloc)?);
     let mut err = MemSink::make(alloc, Vec::new(alloc));
     let all = words(alloc, line)?;
-    let status = bar_run(alloc, &all, &mut files, &mut out, &mut err);
+    let mut link = MemLink::make(alloc, Vec::new(alloc), Vec::new(alloc));
+    let status = bar_run(alloc, &all, &mut files, &mut link, &mut out, &mut err);
     Ok(Left {
         status,
         files,
@@ -59,7 +60,7 @@ const PEER_KEY: &str =
 
 // The broadcaster's key, from the secret of 32 bytes 7: it has no anchor.
 const CASTER: &str =
-    "keygen --key k --secret s --ots 4 --lms 5 --rounds 1 --id 0011223344556677 --party 0";
+    "keygen --key=k --secret s --ots=4 --lms 5 --rounds=1 --id 0011223344556677 --party 0";
 
 const CASTER_OUT: &str =
     "key = \"00000005000000048d1e3644fdcc75d960cb49ec9469684855d80022f946f6a3fe6e69fd38c4e6da8abc3355c589089eab49998762e7de01\"\n";
@@ -195,7 +196,7 @@ fn statuses_and_lines_of_keys(rt: HostRuntime) -> Result<(), Fail> {
     Ok(())
 }
 
-const NO_LINES: [&str; 26] = [
+const NO_LINES: [&str; 29] = [
     "",
     "judges --session s --table t --evidence e",
     "judge --session s --table t",
@@ -205,6 +206,10 @@ const NO_LINES: [&str; 26] = [
     "replay --recording r --session s --found f --played p --key k --key k",
     "replay --recording r --session s --found f --played p --played q",
     "replay --recording r --session s --found f --played p --key k x",
+    // a peer's time is none, and a broadcaster has no recording
+    "peer --session s --key k --begin -1 --played p --recording r --found f",
+    "peer --session s --key k --begin=18446744073709551616 --played p --recording r --found f",
+    "broadcaster --session=s --key=k --begin=0 --stream=t --found=f --recording=r",
     "keygen",
     "keygen --party 1 --id 0011223344556677 --rounds 1 --lms 5 --ots 1 --secret s",
     "keygen --party 1 --id 0011223344556677 --rounds 1 --lms 5 --ots 1 --secret s --secret s",

@@ -9,9 +9,10 @@ ghost use Rattle.bar_seeds.specs.declared.secrets.Secrets.{Secrets};
 ghost use Rattle.bar_roster.specs.declared.fault.SessionFault.{SessionFault};
 ghost use Rattle.bar_roster.specs.declared.key_fault.KeyFileFault.{KeyFileFault};
 ghost use Rattle.bar_roster.specs.SessionText.{SessionData};
+ghost use Rattle.bar_record.specs.declared.fault.RecordFault.{RecordFault};
 ghost use Rattle.bar_findings.specs.Findings.{IsFindingName};
 ghost use Rattle.bar_cli.specs.Line.{usage};
-ghost use Rattle.bar_cli.specs.Refusals.{session_refused, key_refused, input_refused};
+ghost use Rattle.bar_cli.specs.Refusals.{session_refused, key_refused, recording_refused};
 ghost use Rattle.bar_cli.specs.ReplayPlan.{ReplayFiles, SessionAccepted, SessionRefused, KeyAccepted, KeyRefused, InputRefused, Accepted, Replayed, PlayedFront, PlayedUpTo, FoundUpTo, IsUntouched, IsMade, IsReplayCall, replay_plan};
 
 use bar_outside::plans_go_in_order;
@@ -79,14 +80,17 @@ pub fn key_refused_exactly()
     plans_go_in_order();
 }
 
-/// 8 comes exactly where the session and the key are accepted, and the recording is there and refused, but for a fault or want of memory.
+/// 8 comes exactly where the session and the key are accepted, and the recording is there and refused, but for a fault or want of memory;
+/// its line has the first fault.
 pub fn input_refused_exactly()
     ensures only { (names : ReplayFiles) → AtEnd 8 (replay_plan names) (λ old new.
-        (session : SessionData) × (secrets : Secrets) × (bytes : List ℕ) × InputRefused names old.files.content session secrets bytes) }
-    ensures then { (names : ReplayFiles) (session : SessionData) (k : Secrets) (bytes : List ℕ) →
-        OfEachEnd (replay_plan names) (λ old new status. InputRefused names old.files.content session k bytes → UnlessStopped 8 status) }
-    ensures line { (names : ReplayFiles) (content : Content) (session : SessionData) (secrets : Secrets) (bytes : List ℕ) →
-        InputRefused names content session secrets bytes → line_at (replay_plan names content) 8 ≡ input_refused }
+        (session : SessionData) × (secrets : Secrets) × (bytes : List ℕ) × (fault : RecordFault)
+        × InputRefused names old.files.content session secrets bytes fault) }
+    ensures then { (names : ReplayFiles) (session : SessionData) (k : Secrets) (bytes : List ℕ) (fault : RecordFault) → OfEachEnd
+        (replay_plan names) (λ old new status. InputRefused names old.files.content session k bytes fault → UnlessStopped 8 status) }
+    ensures line { (names : ReplayFiles) (content : Content) (session : SessionData) (secrets : Secrets) (bytes : List ℕ)
+        (fault : RecordFault) → InputRefused names content session secrets bytes fault →
+        line_at (replay_plan names content) 8 ≡ recording_refused fault }
 {
     plans_go_in_order();
 }
@@ -101,9 +105,10 @@ pub fn output_failed_only()
     plans_go_in_order();
 }
 
-/// Where the files tell, this is how far a replay came, whatever stopped it: nothing was changed and nothing printed; or the played file was
-/// made and is empty; or there is one input such that the played file and the transcript have all that belongs to earlier inputs and nothing
-/// that belongs to later ones; or all that belongs to the inputs stands, and what was found behind them is written so far, in order.
+/// Where the files tell, this is how far a replay came, whatever stopped it: nothing was changed and nothing printed; or the played file
+/// was made and is empty; or there is one input such that the played file and the transcript have all that belongs to earlier inputs and
+/// nothing that belongs to later ones; or all that belongs to the inputs stands, and what was found behind them is written so far, in
+/// order.
 pub fn a_replay_stops_in_order()
     ensures { (names : ReplayFiles) → OfEachEnd (replay_plan names) (λ old new status.
         IsUntouched old new ⊎ (IsMade names old new ⊎ (PlayedUpTo names status old new ⊎ FoundUpTo names status old new))) }

@@ -1,7 +1,6 @@
 //! The commands of the program, over an outside that is handed in.
 #![tactic(auto)]
 
-mod found;
 mod judge;
 mod judge_laws;
 mod judge_names;
@@ -15,9 +14,9 @@ mod keygen_tests;
 mod keygen_words;
 mod laws;
 mod line;
-mod playing;
 mod reading;
 mod replay;
+mod replay_names;
 mod run;
 mod status;
 #[cfg(test)]

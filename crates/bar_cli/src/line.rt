@@ -1,57 +1,118 @@
 //! The words of the command line.
-ghost use Rattle.std.specs.Prelude.{◌≡◌, map, string_bytes};
+ghost use Rattle.std.specs.Prelude.{◌≡◌, Some, None, Err, IfOk, map, string_bytes};
 ghost use Rattle.std.specs.Option.{option_map};
-ghost use Rattle.bar_cli.specs.Line.{judge_line, keygen_line, line_of, replay_line};
-ghost use Rattle.bar_cli.specs.Views.{asked_view, command_view, judged_view, replay_view};
+ghost use Rattle.bar_words.specs.Options.{texts};
+ghost use Rattle.bar_words.specs.declared.options.WordsFault.TheVariants.{Usage};
+ghost use Rattle.bar_cli.specs.Line.{broadcaster_line, broadcaster_values, judge_files, judge_line, keygen_line, keygen_values, line_of, peer_line, peer_values, replay_files, replay_line};
+ghost use Rattle.bar_cli.specs.Views.{asked_view, broadcaster_view, command_view, judged_view, peer_view, replay_view};
 
 use crate::judge_names::JudgeNames;
 use crate::keygen_words::KeygenWords;
-use crate::words::{id_of, number_in, option_value, types_of};
+use crate::replay_names::ReplayNames;
+use crate::words::types_of;
+use bar_live::{CasterNames, PeerNames};
 use bar_roster::MOST_ROUNDS;
-
-/// The files of a replay.
-#[derive(Clone, Copy, Debug)]
-pub struct ReplayNames<'a> {
-    pub session: &'a str,
-    pub key: &'a str,
-    pub recording: &'a str,
-    pub played: &'a str,
-    pub found: &'a str,
-}
+use bar_words::{WordsFault, id_of, number_in, option_values};
+use std::alloc::Global;
 
 /// A command, with what its words say.
 #[derive(Clone, Copy, Debug)]
 pub enum Command<'a> {
+    Peer(PeerNames<'a>),
+    Broadcaster(CasterNames<'a>),
     Replay(ReplayNames<'a>),
     Keygen(KeygenWords<'a>),
     Judge(JudgeNames<'a>),
 }
 
+const PEER_OPTIONS: [&str; 6] = ["session", "key", "begin", "played", "recording", "found"];
+
+const BROADCASTER_OPTIONS: [&str; 5] = ["session", "key", "begin", "stream", "found"];
+
+const REPLAY_OPTIONS: [&str; 5] = ["session", "key", "recording", "played", "found"];
+
+const KEYGEN_OPTIONS: [&str; 7] = ["party", "id", "rounds", "lms", "ots", "secret", "key"];
+
+const JUDGE_OPTIONS: [&str; 3] = ["session", "table", "evidence"];
+
 /// The command that the words ask for, if they are a line. The first word names it.
-pub fn command_of(words: &[String]) -> Option<Command<'_>>
-    ensures { option_map command_view result ≡ line_of (map string_bytes words.now) }
+///
+/// # Errors
+///
+/// `Usage` where the words aren't a line, and `NoMemory`.
+pub fn command_of(alloc: Global, words: &[String]) -> Result<Command<'_>, WordsFault>
+    ensures line { IfOk result (λ command. line_of (map string_bytes words.now) ≡ Some (command_view command)) }
+    ensures usage { result ≡ Err Usage → line_of (map string_bytes words.now) ≡ None }
 {
-    let (name, options) = words.split_first()?;
+    let Some((name, options)) = words.split_first() else {
+        return Err(WordsFault::Usage);
+    };
     match name.as_str() {
-        "replay" => Some(Command::Replay(replay_words(options)?)),
-        "keygen" => Some(Command::Keygen(keygen_words(options)?)),
-        "judge" => Some(Command::Judge(judge_words(options)?)),
-        _ => None,
+        "peer" => Ok(Command::Peer(peer_words(alloc, options)?)),
+        "broadcaster" => Ok(Command::Broadcaster(broadcaster_words(alloc, options)?)),
+        "replay" => Ok(Command::Replay(replay_words(alloc, options)?)),
+        "keygen" => Ok(Command::Keygen(keygen_words(alloc, options)?)),
+        "judge" => Ok(Command::Judge(judge_words(alloc, options)?)),
+        _ => Err(WordsFault::Usage),
     }
 }
 
-// The options of a replay, each once and in any order.
-fn replay_words(words: &[String]) -> Option<ReplayNames<'_>>
-    ensures { option_map replay_view result ≡ replay_line (map string_bytes words.now) }
+/// The names of a peer's files and its time, from the values of its options.
+fn peer_of<'a>(values: &[&'a str]) -> Option<PeerNames<'a>>
+    ensures { option_map peer_view result ≡ peer_values (texts values.now) }
 {
-    if words.len() != 10 {
+    let [session, key, begin, played, recording, found] = *values else {
         return None;
-    }
-    let session = option_value(words, "--session")?;
-    let key = option_value(words, "--key")?;
-    let recording = option_value(words, "--recording")?;
-    let played = option_value(words, "--played")?;
-    let found = option_value(words, "--found")?;
+    };
+    Some(PeerNames {
+        session,
+        key,
+        begin_ms: number_in(begin, 0, u64::MAX)?,
+        played,
+        recording,
+        found,
+    })
+}
+
+fn peer_words(alloc: Global, words: &[String]) -> Result<PeerNames<'_>, WordsFault>
+    ensures line { IfOk result (λ names. peer_line (map string_bytes words.now) ≡ Some (peer_view names)) }
+    ensures usage { result ≡ Err Usage → peer_line (map string_bytes words.now) ≡ None }
+{
+    let values = option_values(alloc, &PEER_OPTIONS, words)?;
+    peer_of(&values).ok_or(WordsFault::Usage)
+}
+
+/// The names of a broadcaster's files and its time, from the values of its options.
+fn broadcaster_of<'a>(values: &[&'a str]) -> Option<CasterNames<'a>>
+    ensures { option_map broadcaster_view result ≡ broadcaster_values (texts values.now) }
+{
+    let [session, key, begin, stream, found] = *values else {
+        return None;
+    };
+    Some(CasterNames {
+        session,
+        key,
+        begin_ms: number_in(begin, 0, u64::MAX)?,
+        stream,
+        found,
+    })
+}
+
+fn broadcaster_words(alloc: Global, words: &[String]) -> Result<CasterNames<'_>, WordsFault>
+    ensures line { IfOk result (λ names. broadcaster_line (map string_bytes words.now) ≡ Some (broadcaster_view names)) }
+    ensures usage { result ≡ Err Usage → broadcaster_line (map string_bytes words.now) ≡ None }
+{
+    let values = option_values(alloc, &BROADCASTER_OPTIONS, words)?;
+    broadcaster_of(&values).ok_or(WordsFault::Usage)
+}
+
+/// The files of a replay, from the values of its options.
+fn replay_of<'a>(values: &[&'a str]) -> Option<ReplayNames<'a>>
+    ensures { option_map replay_view result ≡ replay_files (texts values.now) }
+{
+    let [session, key, recording, played, found] = *values else {
+        return None;
+    };
     Some(ReplayNames {
         session,
         key,
@@ -61,20 +122,21 @@ fn replay_words(words: &[String]) -> Option<ReplayNames<'_>>
     })
 }
 
-// The options of `keygen`, each once and in any order.
-fn keygen_words(words: &[String]) -> Option<KeygenWords<'_>>
-    ensures { option_map asked_view result ≡ keygen_line (map string_bytes words.now) }
+fn replay_words(alloc: Global, words: &[String]) -> Result<ReplayNames<'_>, WordsFault>
+    ensures line { IfOk result (λ names. replay_line (map string_bytes words.now) ≡ Some (replay_view names)) }
+    ensures usage { result ≡ Err Usage → replay_line (map string_bytes words.now) ≡ None }
 {
-    if words.len() != 14 {
+    let values = option_values(alloc, &REPLAY_OPTIONS, words)?;
+    replay_of(&values).ok_or(WordsFault::Usage)
+}
+
+/// The key that is asked for, from the values of the options of `keygen`.
+fn keygen_of<'a>(values: &[&'a str]) -> Option<KeygenWords<'a>>
+    ensures { option_map asked_view result ≡ keygen_values (texts values.now) }
+{
+    let [party, id, rounds, lms, ots, secret, key] = *values else {
         return None;
-    }
-    let party = option_value(words, "--party")?;
-    let id = option_value(words, "--id")?;
-    let rounds = option_value(words, "--rounds")?;
-    let lms = option_value(words, "--lms")?;
-    let ots = option_value(words, "--ots")?;
-    let secret = option_value(words, "--secret")?;
-    let key = option_value(words, "--key")?;
+    };
     let party = number_in(party, 0, 200)? as u16;
     let id = id_of(id)?;
     let rounds = number_in(rounds, 1, MOST_ROUNDS)? as u32;
@@ -89,19 +151,32 @@ fn keygen_words(words: &[String]) -> Option<KeygenWords<'_>>
     })
 }
 
-// The options of `judge`, each once and in any order.
-fn judge_words(words: &[String]) -> Option<JudgeNames<'_>>
-    ensures { option_map judged_view result ≡ judge_line (map string_bytes words.now) }
+fn keygen_words(alloc: Global, words: &[String]) -> Result<KeygenWords<'_>, WordsFault>
+    ensures line { IfOk result (λ asked. keygen_line (map string_bytes words.now) ≡ Some (asked_view asked)) }
+    ensures usage { result ≡ Err Usage → keygen_line (map string_bytes words.now) ≡ None }
 {
-    if words.len() != 6 {
+    let values = option_values(alloc, &KEYGEN_OPTIONS, words)?;
+    keygen_of(&values).ok_or(WordsFault::Usage)
+}
+
+/// The files of a judge, from the values of its options.
+fn judge_of<'a>(values: &[&'a str]) -> Option<JudgeNames<'a>>
+    ensures { option_map judged_view result ≡ judge_files (texts values.now) }
+{
+    let [session, table, evidence] = *values else {
         return None;
-    }
-    let session = option_value(words, "--session")?;
-    let table = option_value(words, "--table")?;
-    let evidence = option_value(words, "--evidence")?;
+    };
     Some(JudgeNames {
         session,
         table,
         evidence,
     })
+}
+
+fn judge_words(alloc: Global, words: &[String]) -> Result<JudgeNames<'_>, WordsFault>
+    ensures line { IfOk result (λ names. judge_line (map string_bytes words.now) ≡ Some (judged_view names)) }
+    ensures usage { result ≡ Err Usage → judge_line (map string_bytes words.now) ≡ None }
+{
+    let values = option_values(alloc, &JUDGE_OPTIONS, words)?;
+    judge_of(&values).ok_or(WordsFault::Usage)
 }

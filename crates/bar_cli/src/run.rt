@@ -1,9 +1,16 @@
 //! The top call.
-ghost use Rattle.std.specs.Prelude.{◌≡◌, ◌⊎◌, ◌↔◌, ◌||◌, None, Some, false, map, string_bytes, IsTrue};
+ghost use Rattle.std.specs.Prelude.{◌≡◌, ◌⊎◌, ◌↔◌, ◌||◌, ℕ, List, [], None, Some, false, map, string_bytes, IsTrue};
 ghost use Rattle.bar_outside.specs.Plan.{outside};
-ghost use Rattle.bar_outside.specs.Ends.{Ends, EndsWith, SameFiles, Says, is_plain};
-ghost use Rattle.bar_cli.specs.Headline.{SendsByTheRules, IsSignedByRule, OpensWhatIsPromised, GivesKeysToPartners, LeavesEvidence, IsNeverFramed, KeepsItsLeaves};
-ghost use Rattle.bar_cli.specs.Line.{line_of, plan_of, is_status_of, may_print};
+ghost use Rattle.bar_outside.specs.Ends.{SameFiles, SameTraffic, Says, is_plain};
+ghost use Rattle.bar_seeds.specs.declared.secrets.Secrets.{Secrets};
+ghost use Rattle.bar_roster.specs.SessionText.{SessionData};
+ghost use Rattle.bar_live.specs.CasterPlan.{CasterNames};
+ghost use Rattle.bar_live.specs.CasterStands as caster;
+ghost use Rattle.bar_live.specs.PeerPlan.{PeerNames};
+ghost use Rattle.bar_live.specs.PeerStands as peer;
+ghost use Rattle.bar_live.specs.Running.{RunEnds, RunEndsWith};
+ghost use Rattle.bar_cli.specs.Headline.{SendsByTheRules, IsSignedByRule, OpensWhatIsPromised, GivesKeysToPartners, LeavesEvidence, IsNeverFramed, KeepsItsLeaves, KeepsTheRules, OfItsRuns};
+ghost use Rattle.bar_cli.specs.Line.{line_of, plan_of, is_status_of, may_print, uses_link};
 ghost use Rattle.bar_cli.specs.Line as line;
 ghost use Rattle.bar_cli.specs.Status.{code_of, said_at};
 ghost use Rattle.bar_cli.specs.Views.{command_view};
@@ -15,21 +22,28 @@ use crate::judge::judge;
 use crate::keygen::keygen;
 use crate::line::{Command, command_of};
 use crate::replay::replay;
-use crate::status::{Status, report, status_of};
+use crate::status::{Status, report, status_of, status_of_live};
 use bar_laws::balance::balanced;
 use bar_laws::evidence::{bad_keys_leave_evidence, kept_evidence_is_shown};
 use bar_laws::framing::no_framing;
 use bar_laws::leaves::leaf_discipline;
 use bar_laws::obedience::signed_by_rule;
-use bar_outside::{Files, Sink, plans_go_in_order};
+use bar_live::{
+    a_bound_broadcaster_has_spent_its_key, a_bound_peer_has_spent_its_key, a_broadcaster_is_done,
+    a_broadcaster_stands, a_peer_is_done, a_peer_stands, broadcaster,
+    only_its_files_are_changed_by_a_broadcaster, only_its_files_are_changed_by_a_peer, peer,
+};
+use bar_outside::{Files, Link, Sink, plans_go_in_order};
 use bar_roster::laws::{accepted_secrets_are_held, accepted_sessions_are_in_range};
+use bar_words::WordsFault;
 use std::alloc::Global;
 
 /// Does what the words say, the first of which names the command, and answers the exit status.
-pub fn bar_run<F: Files, K: Sink>(
+pub fn bar_run<F: Files, L: Link, K: Sink>(
     alloc: Global,
     words: &[String],
     files: &mut F,
+    link: &mut L,
     out: &mut K,
     err: &mut K,
 ) -> u8
@@ -41,12 +55,13 @@ pub fn bar_run<F: Files, K: Sink>(
     ensures statuses { IsTrue (is_status_of (line_of (map string_bytes words.now)) result) }
 
     // what was done, and which status comes when
-    ensures ends { Ends (plan_of (line_of (map string_bytes words.now)))
-        (outside (F.disk files.old) (K.stream out.old)) (outside (F.disk files.new) (K.stream out.new)) result }
+    ensures ends { RunEnds (plan_of (line_of (map string_bytes words.now)))
+        (outside (F.disk files.old) (K.stream out.old) (L.wire link.old))
+        (outside (F.disk files.new) (K.stream out.new) (L.wire link.new)) result }
 
-    // what err has
+    // what err has; the line of a status is the same whatever the link gives
     ensures said { IsTrue ((F.disk files.old).told || is_plain result) →
-        Says (plan_of (line_of (map string_bytes words.now)) (F.disk files.old).content) result (K.stream err.old) (K.stream err.new) }
+        Says (plan_of (line_of (map string_bytes words.now)) [] (F.disk files.old).content) result (K.stream err.old) (K.stream err.new) }
 
     // 4 comes at `keygen` exactly where there are too few leaves, but for want of memory, whatever the files tell
     ensures few_leaves { (asked : Keygen) → line_of (map string_bytes words.now) ≡ Some (line.keygen asked) → result ≡ 4 →
@@ -57,16 +72,74 @@ pub fn bar_run<F: Files, K: Sink>(
     // nothing is printed where the words aren't a line, and none but at the statuses at which the command may print
     ensures unprinted { may_print (line_of (map string_bytes words.now)) result ≡ false → K.stream out.new ≡ K.stream out.old }
 
-    // a replay that ends with 0 has played and shown exactly what the rules of its peer play and send over the recording's inputs, and
-    // written what the peer found
+    // only `peer` and `broadcaster` use the link
+    ensures unlinked { uses_link (line_of (map string_bytes words.now)) ≡ false → L.wire link.new ≡ L.wire link.old }
+
+    // a peer that ends with 0 took what the link gave up to its end or to the last tick, has sent, played and recorded exactly what the
+    // rules have it over these inputs, paced, and has written and printed what it found
+    ensures peer_done { (names : PeerNames) → line_of (map string_bytes words.now) ≡ Some (line.peer names) →
+        IsTrue (F.disk files.old).told → result ≡ 0 → peer.PeerDone names
+        (outside (F.disk files.old) (K.stream out.old) (L.wire link.old))
+        (outside (F.disk files.new) (K.stream out.new) (L.wire link.new)) }
+
+    // whatever its status, a peer stands so far: nothing was changed, or its files are begun, or its run was done up to an input
+    ensures peer_stands { (names : PeerNames) → line_of (map string_bytes words.now) ≡ Some (line.peer names) →
+        IsTrue (F.disk files.old).told → peer.PeerStands names
+        (outside (F.disk files.old) (K.stream out.old) (L.wire link.old))
+        (outside (F.disk files.new) (K.stream out.new) (L.wire link.new)) }
+
+    // and its link is as it was, or bound to the key's party, and then the key is spent
+    ensures peer_bound { (names : PeerNames) → line_of (map string_bytes words.now) ≡ Some (line.peer names) →
+        IsTrue (F.disk files.old).told → peer.IsBoundOrUnused names
+        (outside (F.disk files.old) (K.stream out.old) (L.wire link.old))
+        (outside (F.disk files.new) (K.stream out.new) (L.wire link.new)) }
+
+    // and no file is changed but its own
+    ensures peer_files { (names : PeerNames) → line_of (map string_bytes words.now) ≡ Some (line.peer names) →
+        IsTrue (F.disk files.old).told → (path : List ℕ) → (peer.IsPeerFile names path → ⊥) →
+        (F.disk files.new).content path ≡ (F.disk files.old).content path }
+
+    // whatever inputs a peer takes: each datagram is signed by rule, its exchanges balance, its keys go to partners, bad keys leave
+    // evidence that is shown, nobody frames it, and no leaf signs twice
+    ensures peer_headline { (names : PeerNames) → line_of (map string_bytes words.now) ≡ Some (line.peer names) →
+        OfItsRuns names (F.disk files.old).content KeepsTheRules }
+
+    // a broadcaster that ends with 0 took what the link gave up to its end or to the last tick, has sent exactly what the rules have it
+    // over these inputs, paced, and has written and printed what it found
+    ensures broadcaster_done { (names : CasterNames) → line_of (map string_bytes words.now) ≡ Some (line.broadcaster names) →
+        IsTrue (F.disk files.old).told → result ≡ 0 → caster.CasterDone names
+        (outside (F.disk files.old) (K.stream out.old) (L.wire link.old))
+        (outside (F.disk files.new) (K.stream out.new) (L.wire link.new)) }
+
+    // whatever its status, a broadcaster stands so far
+    ensures broadcaster_stands { (names : CasterNames) → line_of (map string_bytes words.now) ≡ Some (line.broadcaster names) →
+        IsTrue (F.disk files.old).told → caster.CasterStands names
+        (outside (F.disk files.old) (K.stream out.old) (L.wire link.old))
+        (outside (F.disk files.new) (K.stream out.new) (L.wire link.new)) }
+
+    // and its link is as it was, or bound to party 0, and then the key is spent
+    ensures broadcaster_bound { (names : CasterNames) → line_of (map string_bytes words.now) ≡ Some (line.broadcaster names) →
+        IsTrue (F.disk files.old).told → caster.IsBoundOrUnused names
+        (outside (F.disk files.old) (K.stream out.old) (L.wire link.old))
+        (outside (F.disk files.new) (K.stream out.new) (L.wire link.new)) }
+
+    // and no file is changed but its own
+    ensures broadcaster_files { (names : CasterNames) → line_of (map string_bytes words.now) ≡ Some (line.broadcaster names) →
+        IsTrue (F.disk files.old).told → (path : List ℕ) → (caster.IsCasterFile names path → ⊥) →
+        (F.disk files.new).content path ≡ (F.disk files.old).content path }
+
+    // a replay that ends with 0 has played and shown exactly what the rules of its peer play and send over the recording's inputs, paced,
+    // and written what the peer found
     ensures headline { (names : ReplayFiles) → line_of (map string_bytes words.now) ≡ Some (line.replay names) →
-        IsTrue (F.disk files.old).told → result ≡ 0 →
-        Replayed names (outside (F.disk files.old) (K.stream out.old)) (outside (F.disk files.new) (K.stream out.new)) }
+        IsTrue (F.disk files.old).told → result ≡ 0 → Replayed names
+        (outside (F.disk files.old) (K.stream out.old) (L.wire link.old))
+        (outside (F.disk files.new) (K.stream out.new) (L.wire link.new)) }
 
     // so it sends exactly the datagrams of the rules
     ensures sends { (names : ReplayFiles) → line_of (map string_bytes words.now) ≡ Some (line.replay names) →
-        IsTrue (F.disk files.old).told → result ≡ 0 →
-        SendsByTheRules names (outside (F.disk files.old) (K.stream out.old)) (outside (F.disk files.new) (K.stream out.new)) }
+        IsTrue (F.disk files.old).told → result ≡ 0 → SendsByTheRules names
+        (outside (F.disk files.old) (K.stream out.old) (L.wire link.old))
+        (outside (F.disk files.new) (K.stream out.new) (L.wire link.new)) }
 
     // whatever the inputs are, at each moment, the peer signs by its rules, and sends what it signed
     ensures signed { (names : ReplayFiles) → line_of (map string_bytes words.now) ≡ Some (line.replay names) →
@@ -94,19 +167,26 @@ pub fn bar_run<F: Files, K: Sink>(
 
     // a key that was made has its file and its lines
     ensures key_made { (asked : Keygen) → line_of (map string_bytes words.now) ≡ Some (line.keygen asked) →
-        IsTrue (F.disk files.old).told → result ≡ 0 →
-        KeyMade asked (outside (F.disk files.old) (K.stream out.old)) (outside (F.disk files.new) (K.stream out.new)) }
+        IsTrue (F.disk files.old).told → result ≡ 0 → KeyMade asked
+        (outside (F.disk files.old) (K.stream out.old) (L.wire link.old))
+        (outside (F.disk files.new) (K.stream out.new) (L.wire link.new)) }
 
     // a judge that ends with 0 or 1 has printed the line of the rules' verdict on its files, which says a fault at 0 and none at 1
     ensures judged { (names : JudgeFiles) → line_of (map string_bytes words.now) ≡ Some (line.judge names) →
-        IsTrue (F.disk files.old).told → (result ≡ 0) ⊎ (result ≡ 1) →
-        HasJudged names result (outside (F.disk files.old) (K.stream out.old)) (outside (F.disk files.new) (K.stream out.new)) }
+        IsTrue (F.disk files.old).told → (result ≡ 0) ⊎ (result ≡ 1) → HasJudged names result
+        (outside (F.disk files.old) (K.stream out.old) (L.wire link.old))
+        (outside (F.disk files.new) (K.stream out.new) (L.wire link.new)) }
 
     // whatever its status, a judge changes no file
     ensures only_reads { (names : JudgeFiles) → line_of (map string_bytes words.now) ≡ Some (line.judge names) →
-        IsTrue (F.disk files.old).told →
-        SameFiles (outside (F.disk files.old) (K.stream out.old)) (outside (F.disk files.new) (K.stream out.new)) }
+        IsTrue (F.disk files.old).told → (F.disk files.new).content ≡ (F.disk files.old).content }
 {
+    a_bound_broadcaster_has_spent_its_key();
+    a_bound_peer_has_spent_its_key();
+    a_broadcaster_is_done();
+    a_broadcaster_stands();
+    a_peer_is_done();
+    a_peer_stands();
     accepted_secrets_are_held();
     accepted_sessions_are_in_range();
     bad_keys_leave_evidence();
@@ -114,29 +194,63 @@ pub fn bar_run<F: Files, K: Sink>(
     kept_evidence_is_shown();
     leaf_discipline();
     no_framing();
+    only_its_files_are_changed_by_a_broadcaster();
+    only_its_files_are_changed_by_a_peer();
     plans_go_in_order();
     signed_by_rule();
-    let Some(command) = command_of(words) else {
-        return report(alloc, &Status::Usage, err);
-    };
-    let status = run_command(alloc, &command, files, out);
+    let status = run_words(alloc, words, files, link, out);
     report(alloc, &status, err)
 }
 
-// Does a command, and says how it ended.
-fn run_command<F: Files, K: Sink>(
+/// Does what the words say, and tells how it ended.
+fn run_words<F: Files, L: Link, K: Sink>(
+    alloc: Global,
+    words: &[String],
+    files: &mut F,
+    link: &mut L,
+    out: &mut K,
+) -> Status
+    ensures ends { RunEndsWith (plan_of (line_of (map string_bytes words.now)))
+        (outside (F.disk files.old) (K.stream out.old) (L.wire link.old))
+        (outside (F.disk files.new) (K.stream out.new) (L.wire link.new)) (code_of result) (said_at result) }
+    ensures statuses { IsTrue (is_status_of (line_of (map string_bytes words.now)) (code_of result)) }
+    ensures few_leaves { (asked : Keygen) → line_of (map string_bytes words.now) ≡ Some (line.keygen asked) →
+        code_of result ≡ 4 → HasFewLeaves asked }
+    ensures leaves_refused { (asked : Keygen) → line_of (map string_bytes words.now) ≡ Some (line.keygen asked) → HasFewLeaves asked →
+        (code_of result ≡ 4) ⊎ (code_of result ≡ 70) }
+    ensures usage { code_of result ≡ 2 → line_of (map string_bytes words.now) ≡ None }
+    ensures unprinted { may_print (line_of (map string_bytes words.now)) (code_of result) ≡ false →
+        K.stream out.new ≡ K.stream out.old }
+    ensures unlinked { uses_link (line_of (map string_bytes words.now)) ≡ false → L.wire link.new ≡ L.wire link.old }
+{
+    match command_of(alloc, words) {
+        Ok(command) => run_command(alloc, &command, files, link, out),
+        Err(WordsFault::Usage) => Status::Usage,
+        Err(WordsFault::NoMemory) => Status::NoMemory,
+    }
+}
+
+/// Does a command, and tells how it ended.
+fn run_command<F: Files, L: Link, K: Sink>(
     alloc: Global,
     command: &Command<'_>,
     files: &mut F,
+    link: &mut L,
     out: &mut K,
 ) -> Status
-    ensures ends { EndsWith (plan_of (Some (command_view command.now)))
-        (outside (F.disk files.old) (K.stream out.old)) (outside (F.disk files.new) (K.stream out.new)) (code_of result) (said_at result) }
+    ensures ends { RunEndsWith (plan_of (Some (command_view command.now)))
+        (outside (F.disk files.old) (K.stream out.old) (L.wire link.old))
+        (outside (F.disk files.new) (K.stream out.new) (L.wire link.new)) (code_of result) (said_at result) }
     ensures statuses { IsTrue (is_status_of (Some (command_view command.now)) (code_of result)) }
     ensures leaves { (asked : Keygen) → command_view command.now ≡ line.keygen asked → (code_of result ≡ 4) ↔ HasFewLeaves asked }
     ensures unprinted { may_print (Some (command_view command.now)) (code_of result) ≡ false → K.stream out.new ≡ K.stream out.old }
+    ensures unlinked { uses_link (Some (command_view command.now)) ≡ false → L.wire link.new ≡ L.wire link.old }
 {
     match command {
+        Command::Peer(names) => status_of_live(peer(alloc, names, files, link, out)),
+        Command::Broadcaster(names) => {
+            status_of_live(broadcaster(alloc, names, files, link, out))
+        }
         Command::Replay(names) => status_of(replay(alloc, names, files, out)),
         Command::Keygen(asked) => status_of(keygen(alloc, asked, files, out)),
         Command::Judge(names) => status_of(judge(alloc, names, files, out)),

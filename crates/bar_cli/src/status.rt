@@ -1,10 +1,13 @@
 //! How the program ends, and what it says of it.
 ghost use Rattle.std.specs.Prelude.{◌≡◌, ◌⊎◌, ℕ, List, IfOk, Err, string_bytes};
 ghost use Rattle.bar_outside.specs.Ends.{Prints};
-ghost use Rattle.bar_cli.specs.Refusals.{session_refused, key_refused, secret_refused, table_refused};
+ghost use Rattle.bar_cli.specs.Refusals.{session_refused, key_refused, record_fault_text, recording_refused, stream_refused, secret_refused, table_refused};
+ghost use Rattle.bar_live.specs.Views.{code_of as live_code_of, said_at as live_said_at, code_of_run as live_code_of_run, said_by_run as live_said_by_run};
 ghost use Rattle.bar_cli.specs.Status.{code_of, said_at, code_of_run, said_by_run};
 
+use bar_live::Ended;
 use bar_outside::{Fault, Sink, SinkFault};
+use bar_record::RecordFault;
 use bar_roster::{KeyFileFault, SessionFault};
 use std::alloc::{AllocError, Global};
 
@@ -21,12 +24,14 @@ pub enum Status {
     /// The words aren't a line.
     Usage,
     FileFailed,
+    LinkFailed,
     /// The session's text is refused, or there are too few leaves for a key's rounds.
     SessionRefused(SessionFault),
     KeyRefused(KeyFileFault),
     OutputFailed,
-    /// The recording is refused.
-    InputRefused,
+    RecordingRefused(RecordFault),
+    /// The stream has so many bytes, and the session has room for so many.
+    StreamRefused { have: u64, room: u64 },
     /// The secret has so many bytes.
     SecretRefused(usize),
     /// The table has a bad entry at this place.
@@ -47,8 +52,10 @@ impl Status {
             Status::FileFailed => 3,
             Status::SessionRefused(_) => 4,
             Status::KeyRefused(_) => 5,
+            Status::LinkFailed => 6,
             Status::OutputFailed => 7,
-            Status::InputRefused => 8,
+            Status::RecordingRefused(_) => 8,
+            Status::StreamRefused { .. } => 8,
             Status::SecretRefused(_) => 8,
             Status::TableRefused(_) => 8,
             Status::EvidenceRefused => 8,
@@ -64,9 +71,35 @@ impl From<Fault> for Status {
     {
         match fault {
             Fault::File => Status::FileFailed,
+            Fault::Link => Status::LinkFailed,
             Fault::Output => Status::OutputFailed,
             Fault::NoMemory => Status::NoMemory,
         }
+    }
+}
+
+impl From<Ended> for Status {
+    fn from(ended: Ended) -> Self
+        ensures code { code_of result ≡ live_code_of ended }
+        ensures line { said_at result ≡ live_said_at ended }
+    {
+        match ended {
+            Ended::Done => Status::Done,
+            Ended::SessionRefused(fault) => Status::SessionRefused(fault),
+            Ended::KeyRefused(fault) => Status::KeyRefused(fault),
+            Ended::StreamRefused { have, room } => Status::StreamRefused { have, room },
+        }
+    }
+}
+
+/// How a command over a link ended that a fault may have stopped.
+pub fn status_of_live(ended: Result<Ended, Fault>) -> Status
+    ensures code { code_of result ≡ live_code_of_run ended }
+    ensures line { said_at result ≡ live_said_by_run ended }
+{
+    match ended {
+        Ok(ended) => Status::from(ended),
+        Err(fault) => Status::from(fault),
     }
 }
 
@@ -117,6 +150,32 @@ fn key_refusal(alloc: Global, fault: KeyFileFault) -> Result<String, AllocError>
     format!(in alloc; "bar: key refused: {fault}\n")
 }
 
+/// The fault of a recording, with its place where it has one.
+fn record_fault_text(alloc: Global, fault: RecordFault) -> Result<String, AllocError>
+    ensures { IfOk result (λ text. string_bytes text ≡ record_fault_text fault) }
+{
+    match fault {
+        RecordFault::BadHead => String::from_str(alloc, "BadHead"),
+        RecordFault::BadEntry { at } => format!(in alloc; "BadEntry at {at}"),
+        RecordFault::NoEnd => String::from_str(alloc, "NoEnd"),
+        RecordFault::AfterEnd => String::from_str(alloc, "AfterEnd"),
+        RecordFault::AfterLast { at } => format!(in alloc; "AfterLast at {at}"),
+    }
+}
+
+fn recording_refusal(alloc: Global, fault: RecordFault) -> Result<String, AllocError>
+    ensures { IfOk result (λ line. string_bytes line ≡ recording_refused fault) }
+{
+    let fault = record_fault_text(alloc, fault)?;
+    format!(in alloc; "bar: input refused: recording {fault}\n")
+}
+
+fn stream_refusal(alloc: Global, have: u64, room: u64) -> Result<String, AllocError>
+    ensures { IfOk result (λ line. string_bytes line ≡ stream_refused have room) }
+{
+    format!(in alloc; "bar: input refused: stream have {have} room {room}\n")
+}
+
 fn secret_refusal(alloc: Global, len: usize) -> Result<String, AllocError>
     ensures { IfOk result (λ line. string_bytes line ≡ secret_refused len) }
 {
@@ -140,10 +199,14 @@ pub fn report<K: Sink>(alloc: Global, status: &Status, err: &mut K) -> u8
         Status::NoFault => code,
         Status::Usage => print_line(b"bar: usage\n", code, err),
         Status::FileFailed => print_line(b"bar: file failed\n", code, err),
+        Status::LinkFailed => print_line(b"bar: link failed\n", code, err),
         Status::SessionRefused(fault) => print_text(session_refusal(alloc, fault), code, err),
         Status::KeyRefused(fault) => print_text(key_refusal(alloc, *fault), code, err),
         Status::OutputFailed => print_line(b"bar: output failed\n", code, err),
-        Status::InputRefused => print_line(b"bar: input refused\n", code, err),
+        Status::RecordingRefused(fault) => print_text(recording_refusal(alloc, *fault), code, err),
+        Status::StreamRefused { have, room } => {
+            print_text(stream_refusal(alloc, *have, *room), code, err)
+        }
         Status::SecretRefused(len) => print_text(secret_refusal(alloc, *len), code, err),
         Status::TableRefused(at) => print_text(table_refusal(alloc, *at), code, err),
         Status::EvidenceRefused => print_line(b"bar: input refused: evidence\n", code, err),

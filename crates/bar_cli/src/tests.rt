@@ -1,6 +1,6 @@
-//! Replays over files and sinks in memory. The keys and the signatures are by a Python program written from RFC 8554.
+//! Replays, and a peer, over files, links and sinks in memory. The keys and the signatures are by a Python program written from RFC 8554.
 use crate::bar_run;
-use bar_outside::{MemFiles, MemSink};
+use bar_outside::{MemFiles, MemLink, MemSink};
 use sha2::{Digest, Sha256};
 use std::alloc::{AllocError, Global};
 use std::test::Fail;
@@ -17,6 +17,22 @@ const LINE: [&str; 11] = [
     "p",
     "--key",
     "k",
+];
+
+const PEER_LINE: [&str; 13] = [
+    "peer",
+    "--session",
+    "ses",
+    "--key",
+    "k",
+    "--begin",
+    "0",
+    "--played",
+    "p",
+    "--recording",
+    "rec",
+    "--found",
+    "f",
 ];
 
 const ID: [u8; 8] = [0x00, 0x11, 0x22, 0x33, 0x44, 0x55, 0x66, 0x77];
@@ -281,11 +297,49 @@ fn recording(alloc: Global, streams: &Streams, entries: &[Entry]) -> Result<Vec<
 struct Left {
     status: u8,
     files: MemFiles,
+    is_bound: bool,
     out: MemSink,
     err: MemSink,
 }
 
-// A run of the line over these files, where these calls of the files and these writes to out and to err fail.
+// A run of a line over these files and a link that ends at once, where these writes to out and to err fail.
+fn run_line(
+    alloc: Global,
+    line: &[&str],
+    mut files: MemFiles,
+    fail_out: &[u64],
+    fail_err: &[u64],
+) -> Result<Left, AllocError> {
+    let mut link = MemLink::make(alloc, Vec::new(alloc), Vec::new(alloc));
+    let mut out = MemSink::make(alloc, fail_out.to_vec(alloc)?);
+    let mut err = MemSink::make(alloc, fail_err.to_vec(alloc)?);
+    let all = words(alloc, line)?;
+    let status = bar_run(alloc, &all, &mut files, &mut link, &mut out, &mut err);
+    Ok(Left {
+        status,
+        files,
+        is_bound: link.place().is_some(),
+        out,
+        err,
+    })
+}
+
+// The files of a session, of a key and of a recording, where these calls fail.
+fn files_of(
+    alloc: Global,
+    session: &str,
+    key: &str,
+    recording: &[u8],
+    fail: &[u64],
+) -> Result<MemFiles, AllocError> {
+    let mut files = MemFiles::make(alloc, fail.to_vec(alloc)?);
+    files.put("ses", session.as_bytes())?;
+    files.put("k", key.as_bytes())?;
+    files.put("rec", recording)?;
+    Ok(files)
+}
+
+// A replay over these files, where these calls of the files and these writes to out and to err fail.
 fn run(
     alloc: Global,
     session: &str,
@@ -295,20 +349,8 @@ fn run(
     fail_out: &[u64],
     fail_err: &[u64],
 ) -> Result<Left, AllocError> {
-    let mut files = MemFiles::make(alloc, fail_files.to_vec(alloc)?);
-    files.put("ses", session.as_bytes())?;
-    files.put("k", key.as_bytes())?;
-    files.put("rec", recording)?;
-    let mut out = MemSink::make(alloc, fail_out.to_vec(alloc)?);
-    let mut err = MemSink::make(alloc, fail_err.to_vec(alloc)?);
-    let all = words(alloc, &LINE)?;
-    let status = bar_run(alloc, &all, &mut files, &mut out, &mut err);
-    Ok(Left {
-        status,
-        files,
-        out,
-        err,
-    })
+    let files = files_of(alloc, session, key, recording, fail_files)?;
+    run_line(alloc, &LINE, files, fail_out, fail_err)
 }
 
 // How many lines bytes have that begin like this, from a blank on.
@@ -449,36 +491,45 @@ const SENT: [(&str, usize); 8] = [
     (" 1 ba47010600112233445566770002000100000002", 16),
 ];
 
-// The session's text and the key file, whether the recording is whole, the failing calls of the files, of out and of err, and the status,
-// what err has, what was played, and how many lines were begun.
-const ENDS: [(
-    &str,
-    &str,
-    bool,
-    &[u64],
-    &[u64],
-    &[u64],
-    u8,
-    &str,
-    &[u8],
-    usize,
-); 17] = [
-    (
-        SMALL_SESSION,
-        SPENT_KEY,
-        true,
-        &[],
-        &[],
-        &[],
-        0,
-        "",
-        b"hi",
-        16,
-    ),
+// What a recording of party 2 that is refused begins with.
+const BAD_ENTRY: &[u8] = b"BARL\x01\x00\x11\x22\x33\x44\x55\x66\x77\x00\x02\x03";
+
+const NO_END: &[u8] = b"BARL\x01\x00\x11\x22\x33\x44\x55\x66\x77\x00\x02\x01";
+
+const AFTER_END: &[u8] = b"BARL\x01\x00\x11\x22\x33\x44\x55\x66\x77\x00\x02\x00\x00";
+
+// A recording of party 1.
+const OTHER_PARTY: &[u8] = b"BARL\x01\x00\x11\x22\x33\x44\x55\x66\x77\x00\x01\x00";
+
+// Recordings that are refused, and the lines that say so.
+const REFUSED: [(&[u8], &str); 5] = [
+    (b"BARL", "bar: input refused: recording BadHead\n"),
+    (OTHER_PARTY, "bar: input refused: recording BadHead\n"),
+    (BAD_ENTRY, "bar: input refused: recording BadEntry at 15\n"),
+    (NO_END, "bar: input refused: recording NoEnd\n"),
+    (AFTER_END, "bar: input refused: recording AfterEnd\n"),
+];
+
+#[test]
+fn recordings_that_are_refused(rt: HostRuntime) -> Result<(), Fail> {
+    let alloc = rt.alloc();
+    for (bytes, said) in REFUSED {
+        let left = run(alloc, SMALL_SESSION, SMALL_KEY, bytes, &[], &[], &[])?;
+        assert_eq!(rt; left.status, 8);
+        assert_eq!(rt; left.err.bytes(), said.as_bytes());
+        assert_eq!(rt; left.out.bytes(), b"".as_slice());
+        assert_eq!(rt; left.files.get("p").is_none(), true);
+    }
+    Ok(())
+}
+
+// The session's text and the key file, the failing calls of the files, of out and of err, and the status, what err has, what was played, and
+// how many lines were begun.
+const ENDS: [(&str, &str, &[u64], &[u64], &[u64], u8, &str, &[u8], usize); 16] = [
+    (SMALL_SESSION, SPENT_KEY, &[], &[], &[], 0, "", b"hi", 16),
     (
         "version = 1",
         SMALL_KEY,
-        true,
         &[],
         &[],
         &[],
@@ -490,7 +541,6 @@ const ENDS: [(
     (
         "version",
         SMALL_KEY,
-        true,
         &[],
         &[],
         &[],
@@ -502,7 +552,6 @@ const ENDS: [(
     (
         SMALL_SESSION,
         "version",
-        true,
         &[],
         &[],
         &[],
@@ -514,7 +563,6 @@ const ENDS: [(
     (
         SMALL_SESSION,
         "version = 1",
-        true,
         &[],
         &[],
         &[],
@@ -526,7 +574,6 @@ const ENDS: [(
     (
         SMALL_SESSION,
         CASTER_KEY,
-        true,
         &[],
         &[],
         &[],
@@ -538,19 +585,6 @@ const ENDS: [(
     (
         SMALL_SESSION,
         SMALL_KEY,
-        false,
-        &[],
-        &[],
-        &[],
-        8,
-        "bar: input refused\n",
-        b"none",
-        0,
-    ),
-    (
-        SMALL_SESSION,
-        SMALL_KEY,
-        true,
         &[1],
         &[],
         &[],
@@ -562,7 +596,6 @@ const ENDS: [(
     (
         SMALL_SESSION,
         SMALL_KEY,
-        true,
         &[2],
         &[],
         &[],
@@ -574,7 +607,6 @@ const ENDS: [(
     (
         SMALL_SESSION,
         SMALL_KEY,
-        true,
         &[3],
         &[],
         &[],
@@ -586,7 +618,6 @@ const ENDS: [(
     (
         SMALL_SESSION,
         SMALL_KEY,
-        true,
         &[4],
         &[],
         &[],
@@ -598,7 +629,6 @@ const ENDS: [(
     (
         SMALL_SESSION,
         SMALL_KEY,
-        true,
         &[5],
         &[],
         &[],
@@ -610,7 +640,6 @@ const ENDS: [(
     (
         SMALL_SESSION,
         SMALL_KEY,
-        true,
         &[6],
         &[],
         &[],
@@ -622,7 +651,6 @@ const ENDS: [(
     (
         SMALL_SESSION,
         SMALL_KEY,
-        true,
         &[7],
         &[],
         &[],
@@ -634,7 +662,6 @@ const ENDS: [(
     (
         SMALL_SESSION,
         SMALL_KEY,
-        true,
         &[],
         &[1],
         &[],
@@ -646,7 +673,6 @@ const ENDS: [(
     (
         SMALL_SESSION,
         SMALL_KEY,
-        true,
         &[],
         &[16],
         &[],
@@ -658,7 +684,6 @@ const ENDS: [(
     (
         "version = 2",
         SMALL_KEY,
-        true,
         &[],
         &[],
         &[1],
@@ -670,10 +695,6 @@ const ENDS: [(
 ];
 
 const FAILED: &str = "bar: file failed\n";
-
-fn either<'a>(first: bool, one: &'a [u8], other: &'a [u8]) -> &'a [u8] {
-    if first { one } else { other }
-}
 
 // The table file has the manifest that was admitted, behind its length, and no evidence is kept.
 #[test]
@@ -701,19 +722,8 @@ fn statuses_and_lines(rt: HostRuntime) -> Result<(), Fail> {
     let streams = signed_streams(alloc, SMALL_SIGNATURE)?;
     let entries = [START, Entry::Manifest, Entry::Block, END];
     let whole = recording(alloc, &streams, &entries)?;
-    for (
-        session,
-        key,
-        is_whole,
-        fail_files,
-        fail_out,
-        fail_err,
-        status,
-        said,
-        played,
-        lines,
-    ) in ENDS {
-        let bytes = either(is_whole, &whole, b"BARL");
+    for (session, key, fail_files, fail_out, fail_err, status, said, played, lines) in ENDS {
+        let bytes = whole.as_slice();
         let left = run(alloc, session, key, bytes, fail_files, fail_out, fail_err)?;
         assert_eq!(rt; left.status, status);
         assert_eq!(rt; left.err.bytes(), said.as_bytes());
@@ -721,24 +731,6 @@ fn statuses_and_lines(rt: HostRuntime) -> Result<(), Fail> {
         assert_eq!(rt; lines_like(left.out.bytes(), b" "), lines);
         assert_eq!(rt; left.files.get("rec").unwrap_or(b"none".as_slice()), bytes);
     }
-    Ok(())
-}
-
-// The recording of party 1 is not that of party 2, whose key it is.
-#[test]
-fn recordings_of_other_parties_are_refused(rt: HostRuntime) -> Result<(), Fail> {
-    let recording = b"BARL\x01\x00\x11\x22\x33\x44\x55\x66\x77\x00\x01\x00";
-    let left = run(
-        rt.alloc(),
-        SMALL_SESSION,
-        SMALL_KEY,
-        recording,
-        &[],
-        &[],
-        &[],
-    )?;
-    assert_eq!(rt; left.status, 8);
-    assert_eq!(rt; left.err.bytes(), b"bar: input refused\n".as_slice());
     Ok(())
 }
 
@@ -754,11 +746,30 @@ fn files_that_are_not_there(rt: HostRuntime) -> Result<(), Fail> {
         let mut files = MemFiles::make(alloc, Vec::new(alloc));
         files.put(name, SMALL_SESSION.as_bytes())?;
         files.put(other, SMALL_KEY.as_bytes())?;
-        let mut out = MemSink::make(alloc, Vec::new(alloc));
-        let mut err = MemSink::make(alloc, Vec::new(alloc));
-        let all = words(alloc, &LINE)?;
-        assert_eq!(rt; bar_run(alloc, &all, &mut files, &mut out, &mut err), 3);
-        assert_eq!(rt; err.bytes(), FAILED.as_bytes());
+        let left = run_line(alloc, &LINE, files, &[], &[])?;
+        assert_eq!(rt; left.status, 3);
+        assert_eq!(rt; left.err.bytes(), FAILED.as_bytes());
     }
+    Ok(())
+}
+
+// A key that is spent is refused before the link is bound. Over a link that ends at once a peer does nothing, and so does a replay of the
+// recording that it left.
+#[test]
+fn a_peer_whose_link_ends_at_once(rt: HostRuntime) -> Result<(), Fail> {
+    let alloc = rt.alloc();
+    let files = files_of(alloc, SMALL_SESSION, SPENT_KEY, b"", &[])?;
+    let spent = run_line(alloc, &PEER_LINE, files, &[], &[])?;
+    assert_eq!(rt; spent.status, 5);
+    assert_eq!(rt; spent.err.bytes(), b"bar: key refused: Spent\n".as_slice());
+    assert_eq!(rt; spent.is_bound, false);
+    let files = files_of(alloc, SESSION, KEY, b"", &[])?;
+    let peer = run_line(alloc, &PEER_LINE, files, &[], &[])?;
+    assert_eq!(rt; peer.status, 0);
+    assert_eq!(rt; peer.out.bytes(), b"ticks 0 sent 0 played 0\n".as_slice());
+    assert_eq!(rt; peer.is_bound, true);
+    let replayed = run_line(alloc, &LINE, peer.files, &[], &[])?;
+    assert_eq!(rt; replayed.status, 0);
+    assert_eq!(rt; replayed.out.bytes(), b"".as_slice());
     Ok(())
 }

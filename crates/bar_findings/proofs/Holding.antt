@@ -8,6 +8,7 @@ use Rattle.bar_outside.specs.Plan.Action.{create, append}
 use Rattle.bar_outside.proofs.ActionLists.{Begun-both, Begun-first, Begun-none, Begun-whole, no-next, content_after-append, shown-append, part-create, show-next}
 use Rattle.bar_outside.proofs.Appends.{appends-same, begun-appends, can-appends, named-appends, no-show, shown-appends, touched-appends}
 use Rattle.bar_outside.proofs.Contents.{put_at-same, put_at-there}
+use Rattle.bar_outside.proofs.Unlinked.{IsUnlinked, unlinked-append, unlinked-appends}
 use Rattle.bar_outside.proofs.Untouched.{Touches-begun, Touches-split, content-untouched}
 use Rattle.bar_judge.specs.TableFile.{table_bytes}
 use Rattle.bar_wire.specs.Grammar.{entry as entry_bytes}
@@ -27,6 +28,12 @@ shown-findings [] = refl
 shown-findings (f ∷ fs) =
     shown-append (map (append f.name) f.pieces) (findings_actions fs)
     ∙ ap (λ bytes. bytes ++ shown (findings_actions fs)) (shown-appends f.name f.pieces) ∙ shown-findings fs
+
+-- nothing is done over the link
+pub unlinked-findings : (findings : List Finding) → IsUnlinked (findings_actions findings)
+unlinked-findings [] = tt
+unlinked-findings (f ∷ fs) =
+    unlinked-append (map (append f.name) f.pieces) (findings_actions fs) (unlinked-appends f.name f.pieces) (unlinked-findings fs)
 
 -- ---- which files are touched, and by which calls
 

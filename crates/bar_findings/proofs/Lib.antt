@@ -3,3 +3,4 @@ pub mod Writing
 pub mod Lists
 pub mod Names
 pub mod Holding
+pub mod SameFindings

@@ -1,9 +1,8 @@
 //! The files of the evidence.
 ghost use Rattle.std.specs.Prelude.{◌≡◌, ◌∷◌, [], IfOk, string_bytes};
 ghost use Rattle.bar_bytes.specs.Rooms.{kept_in};
-ghost use Rattle.bar_outside.specs.Plan.{outside};
+ghost use Rattle.bar_outside.specs.Plan.{Outside, with_files};
 ghost use Rattle.bar_outside.specs.Follows.{Follows};
-ghost use Rattle.bar_outside.specs.Stream.{Stream};
 ghost use Rattle.bar_findings.specs.Findings.{evidence_name, file_of, files_of, finding_actions, findings_actions};
 
 use bar_bytes::Rooms;
@@ -18,8 +17,8 @@ pub fn write_evidence<F: Files>(
     found: &str,
     files: &mut F,
 ) -> Result<(), Fault>
-    ensures { (out : Stream) → Follows (findings_actions (files_of found.now (kept_in evidence.now) parties))
-        (outside (F.disk files.old) out) (outside (F.disk files.new) out) result }
+    ensures { (w : Outside) → Follows (findings_actions (files_of found.now (kept_in evidence.now) parties))
+        (with_files w (F.disk files.old)) (with_files w (F.disk files.new)) result }
 {
     for before in 0..parties {
         write_party(alloc, evidence, before + 1, found, files)?;
@@ -35,8 +34,8 @@ fn write_party<F: Files>(
     found: &str,
     files: &mut F,
 ) -> Result<(), Fault>
-    ensures { (out : Stream) → Follows (findings_actions (file_of (evidence_name found.now party) (kept_in evidence.now party)))
-        (outside (F.disk files.old) out) (outside (F.disk files.new) out) result }
+    ensures { (w : Outside) → Follows (findings_actions (file_of (evidence_name found.now party) (kept_in evidence.now party)))
+        (with_files w (F.disk files.old)) (with_files w (F.disk files.new)) result }
 {
     match evidence.get(usize::from(party)) {
         Some(bytes) => write_file(files, evidence_name(alloc, found, party)?.as_str(), bytes),
@@ -53,8 +52,8 @@ fn evidence_name(alloc: Global, found: &str, party: u16) -> Result<String, Alloc
 
 /// Creates a file with these bytes.
 fn write_file<F: Files>(files: &mut F, name: &str, bytes: &[u8]) -> Result<(), Fault>
-    ensures { (out : Stream) → Follows (finding_actions (record { name = name.now; pieces = bytes.now ∷ [] }))
-        (outside (F.disk files.old) out) (outside (F.disk files.new) out) result }
+    ensures { (w : Outside) → Follows (finding_actions (record { name = name.now; pieces = bytes.now ∷ [] }))
+        (with_files w (F.disk files.old)) (with_files w (F.disk files.new)) result }
 {
     create_file(files, name)?;
     append_file(files, name, bytes)

@@ -1,8 +1,7 @@
 //! All that a party found.
 ghost use Rattle.bar_bytes.specs.Rooms.{kept_in};
-ghost use Rattle.bar_outside.specs.Plan.{outside};
+ghost use Rattle.bar_outside.specs.Plan.{Outside, with_files};
 ghost use Rattle.bar_outside.specs.Follows.{Follows};
-ghost use Rattle.bar_outside.specs.Stream.{Stream};
 ghost use Rattle.bar_findings.specs.Findings.{AreShort, findings_actions, findings_of};
 
 use crate::evidence::write_evidence;
@@ -22,9 +21,9 @@ pub fn write_findings<F: Files>(
     found: &str,
     files: &mut F,
 ) -> Result<(), Fault>
-    ensures { (out : Stream) → AreShort (kept_in manifests.now)
+    ensures { (w : Outside) → AreShort (kept_in manifests.now)
         → Follows (findings_actions (findings_of found.now (kept_in manifests.now) rounds (kept_in evidence.now) parties))
-        (outside (F.disk files.old) out) (outside (F.disk files.new) out) result }
+        (with_files w (F.disk files.old)) (with_files w (F.disk files.new)) result }
 {
     write_table(alloc, manifests, rounds, found, files)?;
     write_evidence(alloc, evidence, parties, found, files)

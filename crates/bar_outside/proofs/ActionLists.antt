@@ -1,8 +1,10 @@
 -- Laws of lists of actions.
 use Rattle.std.proofs.Common.{◌≡◌, ℕ, List, [], ◌∷◌, ◌++◌, refl, sym, ap, ◌∙◌, subst, append_assoc, append-nil, IsTrue, ◌⊎◌, inl, inr, arith}
 use Rattle.bar_outside.specs.Disk.{Content, Failure}
-use Rattle.bar_outside.specs.Plan.{Outside, Action, Ran, Begun, Reached, Names, CanRun, IsFilesNext, IsShowNext, IsPartOf, IsPartOfNext, content_after, content_by, shown, shown_by}
-use Rattle.bar_outside.specs.Plan.Action.{read, create, append, show}
+use Rattle.bar_outside.specs.Wire.{Traffic}
+use Rattle.bar_outside.specs.Follows.{IsLater}
+use Rattle.bar_outside.specs.Plan.{Outside, Action, Ran, Begun, Reached, Names, CanRun, IsFilesNext, IsLinkNext, IsShowNext, IsPartOf, IsPartOfNext, content_after, content_by, shown, shown_by, traffic_after, traffic_by}
+use Rattle.bar_outside.specs.Plan.Action.{read, create, append, show, link}
 
 pub content_after-append : (xs ys : List Action) (content : Content) → content_after (xs ++ ys) content ≡ content_after ys (content_after xs content)
 content_after-append [] ys content = refl
@@ -12,15 +14,27 @@ pub shown-append : (xs ys : List Action) → shown (xs ++ ys) ≡ shown xs ++ sh
 shown-append [] ys = refl
 shown-append (x ∷ xs) ys = ap (λ bytes. shown_by x ++ bytes) (shown-append xs ys) ∙ sym (append_assoc (shown_by x) (shown xs) (shown ys))
 
+pub traffic_after-append : (xs ys : List Action) (traffic : Traffic) →
+    traffic_after (xs ++ ys) traffic ≡ traffic_after ys (traffic_after xs traffic)
+traffic_after-append [] ys traffic = refl
+traffic_after-append (x ∷ xs) ys traffic = traffic_after-append xs ys (traffic_by x traffic)
+
 -- one run behind another
-pub Ran-append : (xs ys : List Action) (old mid new : Outside) → mid.out.told ≡ old.out.told → Ran xs old mid → Ran ys mid new → Ran (xs ++ ys) old new
-Ran-append xs ys old mid new told first second = record {
-  files = second.files ∙ ap (content_after ys) first.files ∙ sym (content_after-append xs ys old.files.content);
+pub Ran-append : (xs ys : List Action) (old mid new : Outside) → IsLater old mid → Ran xs old mid → Ran ys mid new → Ran (xs ++ ys) old new
+Ran-append xs ys old mid new later first second = record {
+  files = λ tells.
+      second.files (subst IsTrue (sym later.told) tells)
+      ∙ ap (content_after ys) (first.files tells)
+      ∙ sym (content_after-append xs ys old.files.content);
   out = λ tells.
-      second.out (subst IsTrue (sym told) tells)
+      second.out (subst IsTrue (sym later.out_told) tells)
       ∙ ap (λ bytes. bytes ++ shown ys) (first.out tells)
       ∙ append_assoc old.out.bytes (shown xs) (shown ys)
       ∙ ap (λ bytes. old.out.bytes ++ bytes) (sym (shown-append xs ys));
+  wire = λ tells.
+      second.wire (subst IsTrue (sym later.wire_told) tells)
+      ∙ ap (traffic_after ys) (first.wire tells)
+      ∙ sym (traffic_after-append xs ys old.wire.traffic);
 }
 
 abbrev pub Begun-behind : (front plan done : List Action) → Begun plan done → Begun (front ++ plan) (front ++ done)
@@ -67,6 +81,7 @@ Begun-whole plan = record {
 FilesNext-longer : (plan more : List Action) → IsFilesNext plan → IsFilesNext (plan ++ more)
 FilesNext-longer [] more h = absurd h
 FilesNext-longer (show bytes ∷ others) more h = absurd h
+FilesNext-longer (link call ∷ others) more h = absurd h
 FilesNext-longer (read path ∷ others) more h = tt
 FilesNext-longer (create path ∷ others) more h = tt
 FilesNext-longer (append path bytes ∷ others) more h = tt
@@ -77,6 +92,15 @@ ShowNext-longer (show bytes ∷ others) more h = tt
 ShowNext-longer (read path ∷ others) more h = absurd h
 ShowNext-longer (create path ∷ others) more h = absurd h
 ShowNext-longer (append path bytes ∷ others) more h = absurd h
+ShowNext-longer (link call ∷ others) more h = absurd h
+
+LinkNext-longer : (plan more : List Action) → IsLinkNext plan → IsLinkNext (plan ++ more)
+LinkNext-longer [] more h = absurd h
+LinkNext-longer (show bytes ∷ others) more h = absurd h
+LinkNext-longer (read path ∷ others) more h = absurd h
+LinkNext-longer (create path ∷ others) more h = absurd h
+LinkNext-longer (append path bytes ∷ others) more h = absurd h
+LinkNext-longer (link call ∷ others) more h = tt
 
 -- a longer plan was done as far
 pub Reached-longer : (plan more : List Action) (status : ℕ) (old new : Outside) → Reached plan status old new → Reached (plan ++ more) status old new
@@ -85,34 +109,47 @@ Reached-longer plan more status old new r = record {
   begun = Begun-longer plan more r.done r.begun;
   ran = r.ran;
   at_file = λ e. FilesNext-longer r.begun.rest more (r.at_file e);
+  at_link = λ e. LinkNext-longer r.begun.rest more (r.at_link e);
   at_output = λ e. ShowNext-longer r.begun.rest more (r.at_output e);
 }
 
 -- one behind another
-pub Reached-behind : (front plan : List Action) (status : ℕ) (old mid new : Outside) → mid.out.told ≡ old.out.told → Ran front old mid → Reached plan status mid new →
+pub Reached-behind : (front plan : List Action) (status : ℕ) (old mid new : Outside) → IsLater old mid → Ran front old mid →
+    Reached plan status mid new →
     Reached (front ++ plan) status old new
-Reached-behind front plan status old mid new told first r = record {
+Reached-behind front plan status old mid new later first r = record {
   done = front ++ r.done;
   begun = Begun-behind front plan r.done r.begun;
-  ran = Ran-append front r.done old mid new told first r.ran;
+  ran = Ran-append front r.done old mid new later first r.ran;
   at_file = r.at_file;
+  at_link = r.at_link;
   at_output = r.at_output;
 }
 
 -- all was done, and nothing failed
-pub Reached-whole : (plan : List Action) (status : ℕ) (old new : Outside) → (status ≡ 3 → ⊥) → (status ≡ 7 → ⊥) → Ran plan old new → Reached plan status old new
-Reached-whole plan status old new no_file no_output ran = record {
+pub Reached-whole : (plan : List Action) (status : ℕ) (old new : Outside) → (status ≡ 3 → ⊥) → (status ≡ 6 → ⊥) → (status ≡ 7 → ⊥) →
+    Ran plan old new → Reached plan status old new
+Reached-whole plan status old new no_file no_link no_output ran = record {
   done = plan;
   begun = Begun-whole plan;
   ran = ran;
   at_file = λ e. absurd (no_file e);
+  at_link = λ e. absurd (no_link e);
   at_output = λ e. absurd (no_output e);
 }
 
 -- nothing was done
-pub Reached-nothing : (plan : List Action) (status : ℕ) (old new : Outside) → (status ≡ 3 → IsFilesNext plan) → (status ≡ 7 → IsShowNext plan) → Ran [] old new →
-    Reached plan status old new
-Reached-nothing plan status old new file output ran = record { done = []; begun = Begun-nothing plan; ran = ran; at_file = file; at_output = output }
+pub Reached-nothing : (plan : List Action) (status : ℕ) (old new : Outside) → (status ≡ 3 → IsFilesNext plan) →
+    (status ≡ 6 → IsLinkNext plan) →
+    (status ≡ 7 → IsShowNext plan) → Ran [] old new → Reached plan status old new
+Reached-nothing plan status old new files wire out ran = record {
+  done = [];
+  begun = Begun-nothing plan;
+  ran = ran;
+  at_file = files;
+  at_link = wire;
+  at_output = out;
+}
 
 -- want of memory may come in place of any status
 pub Reached-memory : (plan : List Action) (status result : ℕ) (old new : Outside) → result ≡ 70 → Reached plan status old new → Reached plan result old new
@@ -121,6 +158,7 @@ Reached-memory plan status result old new e r = record {
   begun = r.begun;
   ran = r.ran;
   at_file = λ f. absurd (omega arith);
+  at_link = λ f. absurd (omega arith);
   at_output = λ f. absurd (omega arith);
 }
 
@@ -133,6 +171,7 @@ Names-longer (create path ∷ others) more call (inr h) = inr (Names-longer othe
 Names-longer (append path bytes ∷ others) more call (inl e) = inl e
 Names-longer (append path bytes ∷ others) more call (inr h) = inr (Names-longer others more call h)
 Names-longer (show bytes ∷ others) more call h = Names-longer others more call h
+Names-longer (link act ∷ others) more call h = Names-longer others more call h
 
 pub Names-behind : (front plan : List Action) (call : Failure) → Names plan call → Names (front ++ plan) call
 Names-behind [] plan call h = h
@@ -140,6 +179,7 @@ Names-behind (read path ∷ others) plan call h = inr (Names-behind others plan 
 Names-behind (create path ∷ others) plan call h = inr (Names-behind others plan call h)
 Names-behind (append path bytes ∷ others) plan call h = inr (Names-behind others plan call h)
 Names-behind (show bytes ∷ others) plan call h = Names-behind others plan call h
+Names-behind (link act ∷ others) plan call h = Names-behind others plan call h
 
 pub CanRun-front : (front rest : List Action) (content : Content) → CanRun (front ++ rest) content → CanRun front content
 CanRun-front [] rest content h = tt
@@ -147,6 +187,7 @@ CanRun-front (read path ∷ others) rest content h = CanRun-front others rest co
 CanRun-front (create path ∷ others) rest content h = CanRun-front others rest (content_by (create path) content) h
 CanRun-front (append path bytes ∷ others) rest content h = (h.0, CanRun-front others rest (content_by (append path bytes) content) h.1)
 CanRun-front (show bytes ∷ others) rest content h = CanRun-front others rest content h
+CanRun-front (link act ∷ others) rest content h = CanRun-front others rest content h
 
 pub CanRun-rest : (front rest : List Action) (content : Content) → CanRun (front ++ rest) content → CanRun rest (content_after front content)
 CanRun-rest [] rest content h = h
@@ -154,6 +195,7 @@ CanRun-rest (read path ∷ others) rest content h = CanRun-rest others rest cont
 CanRun-rest (create path ∷ others) rest content h = CanRun-rest others rest (content_by (create path) content) h
 CanRun-rest (append path bytes ∷ others) rest content h = CanRun-rest others rest (content_by (append path bytes) content) h.1
 CanRun-rest (show bytes ∷ others) rest content h = CanRun-rest others rest content h
+CanRun-rest (link act ∷ others) rest content h = CanRun-rest others rest content h
 
 -- what was done of a plan: nothing, a part of its first action, or the first action and then some of the rest
 pub Begun-first : (first : Action) (plan done : List Action) (b : Begun (first ∷ plan) done) →
@@ -217,18 +259,27 @@ Begun-both xs ys done b = by_front xs ys done b.front b.part b.rest b.plan_is b.
           | inr m ↦ inr (m.0, all ∙ ap (λ l. x ∷ l) m.1, m.2, m.3)
         ]
 
--- whether the next action prints or is one of the files shows at that action
+-- whether the next action prints, or is one of the files or of the link, shows at that action
 pub files-next : (a : Action) (xs ys : List Action) → IsFilesNext (a ∷ xs) → IsFilesNext (a ∷ ys)
 files-next (read path) xs ys h = tt
 files-next (create path) xs ys h = tt
 files-next (append path bytes) xs ys h = tt
 files-next (show bytes) xs ys h = absurd h
+files-next (link call) xs ys h = absurd h
 
 pub show-next : (a : Action) (xs ys : List Action) → IsShowNext (a ∷ xs) → IsShowNext (a ∷ ys)
 show-next (read path) xs ys h = absurd h
 show-next (create path) xs ys h = absurd h
 show-next (append path bytes) xs ys h = absurd h
 show-next (show bytes) xs ys h = tt
+show-next (link call) xs ys h = absurd h
+
+pub link-next : (a : Action) (xs ys : List Action) → IsLinkNext (a ∷ xs) → IsLinkNext (a ∷ ys)
+link-next (read path) xs ys h = absurd h
+link-next (create path) xs ys h = absurd h
+link-next (append path bytes) xs ys h = absurd h
+link-next (show bytes) xs ys h = absurd h
+link-next (link call) xs ys h = tt
 
 pub nil-cons : (x : Action) (xs : List Action) → ◌≡◌ {A = List Action} [] (x ∷ xs) → ⊥
 nil-cons x xs e = cc
@@ -238,6 +289,7 @@ no-part-read (read p) path h = h
 no-part-read (create p) path h = h
 no-part-read (append p bytes) path h = h
 no-part-read (show bytes) path h = h
+no-part-read (link call) path h = h
 
 -- a part of a create is the create
 pub part-create : (part : Action) (path : List ℕ) → IsPartOf part (create path) → part ≡ create path
@@ -245,6 +297,7 @@ part-create (read p) path h = absurd h
 part-create (create p) path h = ap create h
 part-create (append p bytes) path h = absurd h
 part-create (show bytes) path h = absurd h
+part-create (link call) path h = absurd h
 
 -- nothing is next in an empty plan
 pub no-next : (done : List Action) (b : Begun [] done) → b.rest ≡ []
@@ -275,6 +328,7 @@ Names-split (create path ∷ others) ys call (inr h) = elim (Names-split others 
 Names-split (append path bytes ∷ others) ys call (inl e) = inl (inl e)
 Names-split (append path bytes ∷ others) ys call (inr h) = elim (Names-split others ys call h) [ inl a ↦ inl (inr a) | inr b ↦ inr b ]
 Names-split (show bytes ∷ others) ys call h = Names-split others ys call h
+Names-split (link act ∷ others) ys call h = Names-split others ys call h
 
 pub CanRun-append : (xs ys : List Action) (content : Content) → CanRun xs content → CanRun ys (content_after xs content) → CanRun (xs ++ ys) content
 CanRun-append [] ys content h k = k
@@ -282,6 +336,7 @@ CanRun-append (read path ∷ others) ys content h k = CanRun-append others ys co
 CanRun-append (create path ∷ others) ys content h k = CanRun-append others ys (content_by (create path) content) h k
 CanRun-append (append path bytes ∷ others) ys content h k = (h.0, CanRun-append others ys (content_by (append path bytes) content) h.1 k)
 CanRun-append (show bytes ∷ others) ys content h k = CanRun-append others ys content h k
+CanRun-append (link act ∷ others) ys content h k = CanRun-append others ys content h k
 
 -- how far two plans in order came: within the first; or behind it, and so far in the second
 pub Reached-both : (xs ys : List Action) (status : ℕ) (old new : Outside) (d : Reached (xs ++ ys) status old new) →
@@ -295,6 +350,7 @@ Reached-both xs ys status old new d =
             begun = m.2;
             ran = d.ran;
             at_file = λ e. subst IsFilesNext (sym m.3) (files-next m.0 (m.1 ++ ys) m.1 (subst IsFilesNext m.4 (d.at_file e)));
+            at_link = λ e. subst IsLinkNext (sym m.3) (link-next m.0 (m.1 ++ ys) m.1 (subst IsLinkNext m.4 (d.at_link e)));
             at_output = λ e. subst IsShowNext (sym m.3) (show-next m.0 (m.1 ++ ys) m.1 (subst IsShowNext m.4 (d.at_output e)));
           })
       | inr m ↦ inr m

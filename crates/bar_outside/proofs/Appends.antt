@@ -6,7 +6,7 @@ use Rattle.std.specs.List.{concat}
 use Rattle.bar_outside.specs.Disk.{Content, Failure, appended}
 use Rattle.bar_outside.specs.declared.files.CallKind.TheVariants.{Append}
 use Rattle.bar_outside.specs.Plan.{Action, Begun, CanRun, IsPartOf, IsShowNext, Names, Touches, content_after, shown}
-use Rattle.bar_outside.specs.Plan.Action.{read, create, append, show}
+use Rattle.bar_outside.specs.Plan.Action.{read, create, append, show, link}
 use Rattle.bar_outside.proofs.Contents.{appended-same, appended-other, appended-stays}
 use Rattle.bar_outside.proofs.ActionLists.{Begun-first, Begun-none, nil-cons}
 
@@ -68,6 +68,7 @@ part-append (append q bytes) path x held content there h =
 part-append (read q) path x held content there h = absurd h
 part-append (create q) path x held content there h = absurd h
 part-append (show bytes) path x held content there h = absurd h
+part-append (link call) path x held content there h = absurd h
 
 -- what was done of them: a front of their bytes stands behind what was held
 pub begun-appends : (path held : List ℕ) (pieces : List (List ℕ)) (content : Content) (done : List Action) → content path ≡ Some held →

@@ -9,22 +9,22 @@ use Rattle.bar_outside.specs.declared.files.FileFault.{FileFault}
 use Rattle.bar_outside.specs.declared.files.FileFault.TheVariants as file
 use Rattle.bar_outside.specs.Faults.{fault_of_file, code_of_fault, line_of_fault, code_after, line_after}
 use Rattle.bar_outside.specs.declared.fault.Fault.{Fault}
-use Rattle.bar_outside.specs.declared.fault.Fault.TheVariants.{File, Output, NoMemory}
-use Rattle.bar_outside.specs.Plan.{Outside, outside, Action, Plan, reading, read_then, before, accepting, ending, doing, is_stop, line_at, no_memory, Ran, Reached, Names, CanRun, IsFilesNext}
+use Rattle.bar_outside.specs.declared.fault.Fault.TheVariants.{File, Link, Output, NoMemory}
+use Rattle.bar_outside.specs.Plan.{Outside, with_files, Action, Plan, reading, read_then, before, accepting, ending, doing, is_stop, line_at, no_memory, Ran, Reached, Names, CanRun, IsFilesNext}
 use Rattle.bar_outside.specs.Plan.Action.{read}
 use Rattle.bar_outside.specs.Follows.{IsLater, Follows}
 use Rattle.bar_outside.specs.Ends.{Ends, Carried, EndsWith, Prints, Says, is_plain}
 use Rattle.bar_outside.proofs.ActionLists.{Reached-whole, Reached-behind, Reached-nothing, Reached-memory, Ran-append, nil-cons}
-use Rattle.bar_outside.proofs.Following.{true-not_false, Ran-nothing, IsLater-trans, later-files, named-behind}
+use Rattle.bar_outside.proofs.Following.{true-not_false, Ran-nothing, IsLater-trans, later-same, later-files, named-behind}
 
 file-memory : {T : Type 0} → ◌≡◌ {A = Result T Fault} (Err File) (Err NoMemory) → ⊥
 file-memory e = cc
 
+link-memory : {T : Type 0} → ◌≡◌ {A = Result T Fault} (Err Link) (Err NoMemory) → ⊥
+link-memory e = cc
+
 output-memory : {T : Type 0} → ◌≡◌ {A = Result T Fault} (Err Output) (Err NoMemory) → ⊥
 output-memory e = cc
-
-nothing-done : (old : Outside) → IsLater old old
-nothing-done old = record { told = refl; reliable = refl; out_told = refl; out_reliable = refl; faults = omega arith; out_faults = omega arith }
 
 pub no_stop : (stop : ℕ) → is_stop stop ≡ true → (status : ℕ) → is_stop status ≡ false → status ≡ stop → ⊥
 no_stop stop t status f e = let h : is_stop stop ≡ false = subst (λ s. is_stop s ≡ false) e f in cc
@@ -32,13 +32,15 @@ no_stop stop t status f e = let h : is_stop stop ≡ false = subst (λ s. is_sto
 -- nothing more is done
 pub Ends-ending : (status : ℕ) (line : List ℕ) (old : Outside) → is_stop status ≡ false → Ends (ending status line) old old status
 Ends-ending status line old go = record {
-  later = nothing-done old;
+  later = later-same old;
   file_rose = λ e. absurd (no_stop 3 refl status go e);
   file_named = λ e told. absurd (no_stop 3 refl status go e);
+  link_rose = λ e. absurd (no_stop 6 refl status go e);
   output_rose = λ e. absurd (no_stop 7 refl status go e);
   carried = λ told go. record { is = refl; ran = Ran-nothing old };
   at_once = λ none go. refl;
-  part = λ told. Reached-whole [] status old old (no_stop 3 refl status go) (no_stop 7 refl status go) (Ran-nothing old);
+  part = λ told.
+      Reached-whole [] status old old (no_stop 3 refl status go) (no_stop 6 refl status go) (no_stop 7 refl status go) (Ran-nothing old);
   complete = λ reliable. inl refl;
 }
 
@@ -50,40 +52,56 @@ module _ (actions : List Action) (final : ℕ) (line : List ℕ) (old new : Outs
     later = f.later;
     file_rose = λ e. absurd (no_stop 3 refl final go e);
     file_named = λ e told. absurd (no_stop 3 refl final go e);
+    link_rose = λ e. absurd (no_stop 6 refl final go e);
     output_rose = λ e. absurd (no_stop 7 refl final go e);
-    carried = λ told go. record { is = refl; ran = f.done told };
+    carried = λ told go. record { is = refl; ran = f.done };
     at_once = λ none go. refl;
-    part = λ told. Reached-whole actions final old new (no_stop 3 refl final go) (no_stop 7 refl final go) (f.done told);
+    part = λ told.
+        Reached-whole actions final old new (no_stop 3 refl final go) (no_stop 6 refl final go) (no_stop 7 refl final go) f.done;
     complete = λ reliable. inl refl;
   }
   Ends-doing {T} (Err File) f = record {
     later = f.later;
     file_rose = λ e. (f.file refl).rose;
     file_named = λ e told. (f.file refl).named told;
+    link_rose = λ e. absurd (omega arith);
     output_rose = λ e. absurd (omega arith);
     carried = λ told go. cc;
     at_once = λ none go. cc;
-    part = f.part;
+    part = λ told. f.part;
     complete = λ reliable. absurd (file-memory {T = T} (f.complete reliable (can reliable.told)));
+  }
+  Ends-doing {T} (Err Link) f = record {
+    later = f.later;
+    file_rose = λ e. absurd (omega arith);
+    file_named = λ e. absurd (omega arith);
+    link_rose = λ e. f.link refl;
+    output_rose = λ e. absurd (omega arith);
+    carried = λ told go. cc;
+    at_once = λ none go. cc;
+    part = λ told. f.part;
+    complete = λ reliable. absurd (link-memory {T = T} (f.complete reliable (can reliable.told)));
   }
   Ends-doing {T} (Err Output) f = record {
     later = f.later;
     file_rose = λ e. absurd (omega arith);
     file_named = λ e. absurd (omega arith);
+    link_rose = λ e. absurd (omega arith);
     output_rose = λ e. f.output refl;
     carried = λ told go. cc;
     at_once = λ none go. cc;
-    part = f.part;
+    part = λ told. f.part;
     complete = λ reliable. absurd (output-memory {T = T} (f.complete reliable (can reliable.told)));
   }
   Ends-doing (Err NoMemory) f = record {
     later = f.later;
     file_rose = λ e. absurd (omega arith);
     file_named = λ e. absurd (omega arith);
+    link_rose = λ e. absurd (omega arith);
     output_rose = λ e. absurd (omega arith);
     carried = λ told go. cc;
     at_once = λ none go. cc;
-    part = f.part;
+    part = λ told. f.part;
     complete = λ reliable. inr refl;
   }
 
@@ -96,74 +114,92 @@ never-nothing : (path : List ℕ) (others : List ℕ → Content → Plan) (cont
 never-nothing path others content e = let b = begun-read path others content (readable content path) in nil-cons (read path) b.0 (sym e ∙ b.1)
 
 -- a file that was read, and what came after it
-module _ (path : List ℕ) (others : List ℕ → Content → Plan) (old mid : Disk) (out : Stream) (new : Outside) (bytes : Vec ℕ Global) (status : ℕ)
-    (reads : Reads path old mid (Ok bytes)) (ends : Ends (others bytes.items) (outside mid out) new status) where
+module _ (path : List ℕ) (others : List ℕ → Content → Plan) (old mid : Disk) (w new : Outside) (bytes : Vec ℕ Global) (status : ℕ)
+    (reads : Reads path old mid (Ok bytes)) (ends : Ends (others bytes.items) (with_files w mid) new status) where
   plan-is : IsTrue old.told → reading path others old.content ≡ before (read path) (others bytes.items mid.content)
   plan-is told = ap (read_then path others old.content) (reads.found told) ∙ ap (λ c. before (read path) (others bytes.items c)) (sym reads.same)
 
   told-mid : IsTrue old.told → IsTrue mid.told
   told-mid told = subst IsTrue (sym reads.call.told) told
 
-  first : Ran (read path ∷ []) (outside old out) (outside mid out)
-  first = record { files = reads.same; out = λ tells. sym (append-nil out.bytes) }
+  first : Ran (read path ∷ []) (with_files w old) (with_files w mid)
+  first = record { files = λ tells. reads.same; out = λ tells. sym (append-nil w.out.bytes); wire = λ tells. refl }
+
+  later-mid : IsLater (with_files w old) (with_files w mid)
+  later-mid = later-files old mid w reads.call.told reads.call.reliable reads.call.cause.later
 
   either-same : {a b : ℕ} → a ≡ b → (status ≡ a) ⊎ (status ≡ 70) → (status ≡ b) ⊎ (status ≡ 70)
   either-same e (inl h) = inl (h ∙ e)
   either-same e (inr h) = inr h
 
-  pub Ends-reading : Ends (reading path others) (outside old out) new status
+  pub Ends-reading : Ends (reading path others) (with_files w old) new status
   Ends-reading = record {
-    later = IsLater-trans (outside old out) (outside mid out) new (later-files old mid out reads.call.told reads.call.reliable reads.call.cause.later) ends.later;
+    later = IsLater-trans (with_files w old) (with_files w mid) new later-mid ends.later;
     file_rose = λ e. let h = ends.file_rose e in let k = reads.call.cause.later in omega arith;
     file_named = λ e told.
         subst (λ (p : Plan). IsSomeAnd new.files.failed (Names p.actions)) (sym (plan-is told))
         (named-behind (read path ∷ []) (others bytes.items mid.content).actions new.files.failed (ends.file_named e (told-mid told)));
+    link_rose = ends.link_rose;
     output_rose = ends.output_rose;
     carried = λ told go.
         let c = ends.carried (told-mid told) go in
-        subst (λ (p : Plan). Carried p (outside old out) new status) (sym (plan-is told))
-        (record { is = c.is; ran = Ran-append (read path ∷ []) (others bytes.items mid.content).actions (outside old out) (outside mid out) new refl first c.ran });
+        subst (λ (p : Plan). Carried p (with_files w old) new status) (sym (plan-is told))
+        (record {
+          is = c.is;
+          ran = Ran-append (read path ∷ []) (others bytes.items mid.content).actions (with_files w old) (with_files w mid) new later-mid
+              first c.ran;
+        });
     at_once = λ none go. absurd (never-nothing path others old.content (none old.content));
     part = λ told.
-        subst (λ (q : Plan). Reached q.actions status (outside old out) new) (sym (plan-is told))
-        (Reached-behind (read path ∷ []) (others bytes.items mid.content).actions status (outside old out) (outside mid out) new refl first (ends.part (told-mid told)));
+        subst (λ (q : Plan). Reached q.actions status (with_files w old) new) (sym (plan-is told))
+        (Reached-behind (read path ∷ []) (others bytes.items mid.content).actions status (with_files w old)
+        (with_files w mid) new later-mid first (ends.part (told-mid told)));
     complete = λ reliable.
         either-same (sym (ap (λ (q : Plan). q.status) (plan-is reliable.told)))
-        (ends.complete (record { told = told-mid reliable.told; files = subst IsTrue (sym reads.call.reliable) reliable.files; out = reliable.out }));
+        (ends.complete (record {
+          told = told-mid reliable.told;
+          files = subst IsTrue (sym reads.call.reliable) reliable.files;
+          out = reliable.out;
+          wire = reliable.wire;
+        }));
   }
 
 -- a file that wasn't read
-module _ (path : List ℕ) (others : List ℕ → Content → Plan) (old mid : Disk) (out : Stream) where
+module _ (path : List ℕ) (others : List ℕ → Content → Plan) (old mid : Disk) (w : Outside) where
   unread-next : IsFilesNext (reading path others old.content).actions
   unread-next = let b = begun-read path others old.content (readable old.content path) in subst IsFilesNext (sym b.1) tt
 
-  unread-part : (status : ℕ) → (status ≡ 7 → ⊥) → mid.content ≡ old.content → Reached (reading path others old.content).actions status (outside old out) (outside mid out)
-  unread-part status no_output same =
-      Reached-nothing (reading path others old.content).actions status _ _ (λ e. unread-next) (λ e. absurd (no_output e))
-      (record { files = same; out = λ tells. sym (append-nil out.bytes) })
+  unread-part : (status : ℕ) → (status ≡ 6 → ⊥) → (status ≡ 7 → ⊥) → mid.content ≡ old.content →
+      Reached (reading path others old.content).actions status (with_files w old) (with_files w mid)
+  unread-part status no_link no_output same =
+      Reached-nothing (reading path others old.content).actions status _ _ (λ e. unread-next) (λ e. absurd (no_link e))
+      (λ e. absurd (no_output e)) (record { files = λ tells. same; out = λ tells. sym (append-nil w.out.bytes); wire = λ tells. refl })
 
   unread-named : (call : Failure) → call ≡ record { kind = Read; path = path } → Names (reading path others old.content).actions call
   unread-named call e = let b = begun-read path others old.content (readable old.content path) in subst (λ xs. Names xs call) (sym b.1) (inl e)
 
-  pub Ends-unread : (cause : FileFault) → Reads path old mid (Err cause) → Ends (reading path others) (outside old out) (outside mid out) (code_of_fault (fault_of_file cause))
+  pub Ends-unread : (cause : FileFault) → Reads path old mid (Err cause) →
+      Ends (reading path others) (with_files w old) (with_files w mid) (code_of_fault (fault_of_file cause))
   Ends-unread file.Failed reads = record {
-    later = later-files old mid out reads.call.told reads.call.reliable reads.call.cause.later;
+    later = later-files old mid w reads.call.told reads.call.reliable reads.call.cause.later;
     file_rose = λ e. reads.call.cause.rose refl;
     file_named = λ e told. subst (λ o. IsSomeAnd o (Names (reading path others old.content).actions)) (sym (reads.call.failed told refl)) (unread-named _ refl);
+    link_rose = λ e. absurd (omega arith);
     output_rose = λ e. absurd (omega arith);
     carried = λ told go. cc;
     at_once = λ none go. cc;
-    part = λ told. unread-part 3 (λ e. absurd (omega arith)) reads.same;
+    part = λ told. unread-part 3 (λ e. absurd (omega arith)) (λ e. absurd (omega arith)) reads.same;
     complete = λ reliable. inl (sym (ap (λ o. (read_then path others old.content o).status) (reads.refused reliable.told reliable.files refl)));
   }
   Ends-unread file.NoMemory reads = record {
-    later = later-files old mid out reads.call.told reads.call.reliable reads.call.cause.later;
+    later = later-files old mid w reads.call.told reads.call.reliable reads.call.cause.later;
     file_rose = λ e. absurd (omega arith);
     file_named = λ e. absurd (omega arith);
+    link_rose = λ e. absurd (omega arith);
     output_rose = λ e. absurd (omega arith);
     carried = λ told go. cc;
     at_once = λ none go. cc;
-    part = λ told. unread-part 70 (λ e. absurd (omega arith)) reads.same;
+    part = λ told. unread-part 70 (λ e. absurd (omega arith)) (λ e. absurd (omega arith)) reads.same;
     complete = λ reliable. inr refl;
   }
 
@@ -174,6 +210,7 @@ Ends-or_memory plan old new status result (inr e) h = record {
   later = h.later;
   file_rose = λ f. absurd (omega arith);
   file_named = λ f. absurd (omega arith);
+  link_rose = λ f. absurd (omega arith);
   output_rose = λ f. absurd (omega arith);
   carried = λ told go. absurd (no_stop 70 refl result go e);
   at_once = λ none go. absurd (no_stop 70 refl result go e);
@@ -181,25 +218,28 @@ Ends-or_memory plan old new status result (inr e) h = record {
   complete = λ reliable. inr e;
 }
 
-else-cases : (a b c : Bool) (x y z p : List ℕ) → (a || b || c) ≡ false → cond a x (cond b y (cond c z p)) ≡ p
-else-cases true b c x y z p h = absurd (true-not_false h)
-else-cases false true c x y z p h = absurd (true-not_false h)
-else-cases false false true x y z p h = absurd (true-not_false h)
-else-cases false false false x y z p h = refl
+else-cases : (a b c d : Bool) (x y z u p : List ℕ) → (a || b || c || d) ≡ false → cond a x (cond b y (cond c z (cond d u p))) ≡ p
+else-cases true b c d x y z u p h = absurd (true-not_false h)
+else-cases false true c d x y z u p h = absurd (true-not_false h)
+else-cases false false true d x y z u p h = absurd (true-not_false h)
+else-cases false false false true x y z u p h = absurd (true-not_false h)
+else-cases false false false false x y z u p h = refl
 
 -- any other line is the plan's
 pub line_at-else : (plan : Plan) (status : ℕ) → is_stop status ≡ false → line_at plan status ≡ plan.line
-line_at-else plan status h = else-cases (status == 3) (status == 7) (status == 70) _ _ _ plan.line h
+line_at-else plan status h = else-cases (status == 3) (status == 6) (status == 7) (status == 70) _ _ _ _ plan.line h
 
-line-cases : (a b c : Bool) (x y z p q : List ℕ) → (a || b || c) ≡ true → cond a x (cond b y (cond c z p)) ≡ cond a x (cond b y (cond c z q))
-line-cases true b c x y z p q h = refl
-line-cases false true c x y z p q h = refl
-line-cases false false true x y z p q h = refl
-line-cases false false false x y z p q h = absurd (true-not_false (sym h))
+line-cases : (a b c d : Bool) (x y z u p q : List ℕ) → (a || b || c || d) ≡ true →
+    cond a x (cond b y (cond c z (cond d u p))) ≡ cond a x (cond b y (cond c z (cond d u q)))
+line-cases true b c d x y z u p q h = refl
+line-cases false true c d x y z u p q h = refl
+line-cases false false true d x y z u p q h = refl
+line-cases false false false true x y z u p q h = refl
+line-cases false false false false x y z u p q h = absurd (true-not_false (sym h))
 
 -- the line of a stop is that of any plan
 line_at-stop : (p q : Plan) (status : ℕ) → is_stop status ≡ true → line_at p status ≡ line_at q status
-line_at-stop p q status h = line-cases (status == 3) (status == 7) (status == 70) _ _ _ p.line q.line h
+line_at-stop p q status h = line-cases (status == 3) (status == 6) (status == 7) (status == 70) _ _ _ _ p.line q.line h
 
 -- nothing more is done
 pub EndsWith-ending : (status : ℕ) (line : List ℕ) (old : Outside) → is_stop status ≡ false → EndsWith (ending status line) old old status line
@@ -214,6 +254,10 @@ EndsWith-doing actions final line old new can go (Ok x) f = record {
   line_is = λ either. sym (line_at-else (doing actions final line old.files.content) final go);
 }
 EndsWith-doing actions final line old new can go (Err File) f = record { ends = Ends-doing actions final line old new can go (Err File) f; line_is = λ either. refl }
+EndsWith-doing actions final line old new can go (Err Link) f = record {
+  ends = Ends-doing actions final line old new can go (Err Link) f;
+  line_is = λ either. refl;
+}
 EndsWith-doing actions final line old new can go (Err Output) f = record { ends = Ends-doing actions final line old new can go (Err Output) f; line_is = λ either. refl }
 EndsWith-doing actions final line old new can go (Err NoMemory) f = record { ends = Ends-doing actions final line old new can go (Err NoMemory) f; line_is = λ either. refl }
 
@@ -229,24 +273,34 @@ or-stop true stop h = refl
 or-stop false stop h = h
 
 -- a file that was read, and what came after it
-pub EndsWith-reading : (path : List ℕ) (others : List ℕ → Content → Plan) (old mid : Disk) (out : Stream) (new : Outside) (bytes : Vec ℕ Global) (status : ℕ) (line : List ℕ) →
-    Reads path old mid (Ok bytes) → EndsWith (others bytes.items) (outside mid out) new status line → EndsWith (reading path others) (outside old out) new status line
-EndsWith-reading path others old mid out new bytes status line reads h = record {
-  ends = Ends-reading path others old mid out new bytes status reads h.ends;
+pub EndsWith-reading : (path : List ℕ) (others : List ℕ → Content → Plan) (old mid : Disk) (w new : Outside) (bytes : Vec ℕ Global)
+    (status : ℕ) (line : List ℕ) →
+    Reads path old mid (Ok bytes) → EndsWith (others bytes.items) (with_files w mid) new status line →
+    EndsWith (reading path others) (with_files w old) new status line
+EndsWith-reading path others old mid w new bytes status line reads h = record {
+  ends = Ends-reading path others old mid w new bytes status reads h.ends;
   line_is = λ either.
       elim (told-or old.told (is_stop status) either) [
         | inl told ↦
             h.line_is (or-told mid.told (is_stop status) (subst IsTrue (sym reads.call.told) told))
-            ∙ ap (λ (p : Plan). line_at p status) (sym (plan-is path others old mid out new bytes status reads h.ends told))
+            ∙ ap (λ (p : Plan). line_at p status) (sym (plan-is path others old mid w new bytes status reads h.ends told))
         | inr stop ↦ h.line_is (or-stop mid.told (is_stop status) stop) ∙ line_at-stop (others bytes.items mid.content) (reading path others old.content) status stop
       ];
 }
 
 -- a file that wasn't read
-pub EndsWith-unread : (path : List ℕ) (others : List ℕ → Content → Plan) (old mid : Disk) (out : Stream) (cause : FileFault) → Reads path old mid (Err cause) →
-    EndsWith (reading path others) (outside old out) (outside mid out) (code_of_fault (fault_of_file cause)) (line_of_fault (fault_of_file cause))
-EndsWith-unread path others old mid out file.Failed reads = record { ends = Ends-unread path others old mid out file.Failed reads; line_is = λ either. refl }
-EndsWith-unread path others old mid out file.NoMemory reads = record { ends = Ends-unread path others old mid out file.NoMemory reads; line_is = λ either. refl }
+pub EndsWith-unread : (path : List ℕ) (others : List ℕ → Content → Plan) (old mid : Disk) (w : Outside) (cause : FileFault) →
+    Reads path old mid (Err cause) →
+    EndsWith (reading path others) (with_files w old) (with_files w mid) (code_of_fault (fault_of_file cause))
+    (line_of_fault (fault_of_file cause))
+EndsWith-unread path others old mid w file.Failed reads = record {
+  ends = Ends-unread path others old mid w file.Failed reads;
+  line_is = λ either. refl;
+}
+EndsWith-unread path others old mid w file.NoMemory reads = record {
+  ends = Ends-unread path others old mid w file.NoMemory reads;
+  line_is = λ either. refl;
+}
 
 -- what was read stands for something
 pub EndsWith-accepted : {A E : Type 0} (r : Result A E) (meant : A) (others : A → Content → Plan) (refused : E → Content → Plan) (old new : Outside) (status : ℕ) (line : List ℕ) →
@@ -262,27 +316,30 @@ EndsWith-refused r fault others refused old new status line e h = subst (λ x. E
 pub EndsWith-memory : (plan : Content → Plan) (old : Outside) → EndsWith plan old old 70 no_memory
 EndsWith-memory plan old = record {
   ends = record {
-    later = nothing-done old;
+    later = later-same old;
     file_rose = λ e. absurd (omega arith);
     file_named = λ e. absurd (omega arith);
+    link_rose = λ e. absurd (omega arith);
     output_rose = λ e. absurd (omega arith);
     carried = λ told go. cc;
     at_once = λ none go. cc;
     part = λ told.
-        Reached-nothing (plan old.files.content).actions 70 old old (λ e. absurd (omega arith)) (λ e. absurd (omega arith)) (Ran-nothing old);
+        Reached-nothing (plan old.files.content).actions 70 old old (λ e. absurd (omega arith)) (λ e. absurd (omega arith))
+        (λ e. absurd (omega arith)) (Ran-nothing old);
     complete = λ reliable. inr refl;
   };
   line_is = λ either. refl;
 }
 
 plain-cases : (status : ℕ) → is_plain status ≡ true → (status ≡ 2) ⊎ (is_stop status ≡ true)
-plain-cases status h = by_tests (status == 2) (status == 3) (status == 7) (status == 70) refl h
+plain-cases status h = by_tests (status == 2) (status == 3) (status == 6) (status == 7) (status == 70) refl h
   where
-    by_tests : (a b c d : Bool) → (status == 2) ≡ a → (a || b || c) ≡ true → (status ≡ 2) ⊎ ((b || c || d) ≡ true)
-    by_tests true b c d e h = inl (eqb-true status 2 e)
-    by_tests false true c d e h = inr refl
-    by_tests false false true d e h = inr refl
-    by_tests false false false d e h = absurd (true-not_false (sym h))
+    by_tests : (a b c d e : Bool) → (status == 2) ≡ a → (a || b || c || d) ≡ true → (status ≡ 2) ⊎ ((b || c || d || e) ≡ true)
+    by_tests true b c d e is h = inl (eqb-true status 2 is)
+    by_tests false true c d e is h = inr refl
+    by_tests false false true d e is h = inr refl
+    by_tests false false false true e is h = inr refl
+    by_tests false false false false e is h = absurd (true-not_false (sym h))
 
 plain-memory : (status : ℕ) → is_plain status ≡ true → status ≡ 70 → ⊥
 plain-memory status h e = let k : is_plain 70 ≡ true = subst (λ n. is_plain n ≡ true) e h in cc

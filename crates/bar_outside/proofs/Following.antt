@@ -3,15 +3,18 @@ use Rattle.std.proofs.Common.{◌≡◌, ◌≤◌, ℕ, List, [], ◌∷◌, �
 use Rattle.bar_outside.specs.Causes.{Rose}
 use Rattle.bar_outside.specs.Disk.{Disk, Failure, Appends, Creates, created, appended}
 use Rattle.bar_outside.specs.Stream.{Stream, Writes}
+use Rattle.bar_outside.specs.Wire.{Wire, Traffic, Acts}
 use Rattle.bar_outside.specs.declared.files.FileFault.{FileFault}
 use Rattle.bar_outside.specs.declared.files.FileFault.TheVariants as file
 use Rattle.bar_outside.specs.declared.sink.SinkFault.{SinkFault}
 use Rattle.bar_outside.specs.declared.sink.SinkFault.TheVariants as sink
+use Rattle.bar_outside.specs.declared.link.LinkFault.{LinkFault}
+use Rattle.bar_outside.specs.declared.link.LinkFault.TheVariants as wire
 use Rattle.bar_outside.specs.declared.fault.Fault.{Fault}
-use Rattle.bar_outside.specs.declared.fault.Fault.TheVariants.{File, Output, NoMemory}
-use Rattle.bar_outside.specs.Faults.{fault_of_file, fault_of_sink, code_of_fault}
-use Rattle.bar_outside.specs.Plan.{Outside, outside, Action, Ran, Reached, Names, CanRun}
-use Rattle.bar_outside.specs.Plan.Action.{create, append, show}
+use Rattle.bar_outside.specs.declared.fault.Fault.TheVariants.{File, Link, Output, NoMemory}
+use Rattle.bar_outside.specs.Faults.{fault_of_file, fault_of_sink, fault_of_link, code_of_fault}
+use Rattle.bar_outside.specs.Plan.{Outside, with_files, with_out, with_wire, Action, LinkCall, Ran, Reached, Names, CanRun}
+use Rattle.bar_outside.specs.Plan.Action.{create, append, show, link}
 use Rattle.bar_outside.specs.Follows.{IsLater, IsReliable, FilesFailed, Follows}
 use Rattle.bar_outside.proofs.ActionLists.{Ran-append, Reached-behind, Reached-longer, Reached-nothing, Names-longer, Names-behind, CanRun-front, CanRun-rest}
 
@@ -21,8 +24,11 @@ IsLater-trans old mid new p q = record {
   reliable = q.reliable ∙ p.reliable;
   out_told = q.out_told ∙ p.out_told;
   out_reliable = q.out_reliable ∙ p.out_reliable;
+  wire_told = q.wire_told ∙ p.wire_told;
+  wire_reliable = q.wire_reliable ∙ p.wire_reliable;
   faults = omega arith;
   out_faults = omega arith;
+  wire_faults = omega arith;
 }
 
 named-longer : (plan more : List Action) (o : Option Failure) → IsSomeAnd o (Names plan) → IsSomeAnd o (Names (plan ++ more))
@@ -39,9 +45,10 @@ pub stopped : {T : Type 0} (plan more : List Action) (old new : Outside) (fault 
 stopped plan more old new fault f = record {
   later = f.later;
   file = λ e. record { rose = (f.file e).rose; named = λ told. named-longer plan more new.files.failed ((f.file e).named told) };
+  link = f.link;
   output = f.output;
-  done = λ told. tt;
-  part = λ told. Reached-longer plan more (code_of_fault fault) old new (f.part told);
+  done = tt;
+  part = Reached-longer plan more (code_of_fault fault) old new f.part;
   complete = λ reliable can. f.complete reliable (CanRun-front plan more old.files.content can);
 }
 
@@ -51,16 +58,20 @@ module _ {S : Type 0} (front plan : List Action) (old mid new : Outside) (x : S)
     told = subst IsTrue (sym first.later.told) r.told;
     files = subst IsTrue (sym first.later.reliable) r.files;
     out = subst IsTrue (sym first.later.out_reliable) r.out;
+    wire = subst IsTrue (sym first.later.wire_reliable) r.wire;
   }
 
   can-mid : IsTrue old.files.told → CanRun (front ++ plan) old.files.content → CanRun plan mid.files.content
-  can-mid told can = subst (CanRun plan) (sym (first.done told).files) (CanRun-rest front plan old.files.content can)
+  can-mid told can = subst (CanRun plan) (sym (first.done.files told)) (CanRun-rest front plan old.files.content can)
 
   file-then : {T : Type 0} {r : Result T Fault} → Follows plan mid new r → IsErrOf r File → FilesFailed (front ++ plan) old new
   file-then second e = record {
     rose = let before = first.later.faults in let rose = (second.file e).rose in omega arith;
     named = λ told. named-behind front plan new.files.failed ((second.file e).named (subst IsTrue (sym first.later.told) told));
   }
+
+  link-then : {T : Type 0} {r : Result T Fault} → Follows plan mid new r → IsErrOf r Link → Rose old.wire.faults new.wire.faults
+  link-then second e = let before = first.later.wire_faults in let rose = second.link e in omega arith
 
   output-then : {T : Type 0} {r : Result T Fault} → Follows plan mid new r → IsErrOf r Output → Rose old.out.faults new.out.faults
   output-then second e = let before = first.later.out_faults in let rose = second.output e in omega arith
@@ -70,19 +81,19 @@ module _ {S : Type 0} (front plan : List Action) (old mid new : Outside) (x : S)
   followed (Ok y) second = record {
     later = IsLater-trans old mid new first.later second.later;
     file = file-then second;
+    link = link-then second;
     output = output-then second;
-    done = λ told. Ran-append front plan old mid new first.later.out_told (first.done told) (second.done (subst IsTrue (sym first.later.told) told));
-    part = λ told. tt;
+    done = Ran-append front plan old mid new first.later first.done second.done;
+    part = tt;
     complete = λ reliable can. tt;
   }
   followed (Err fault) second = record {
     later = IsLater-trans old mid new first.later second.later;
     file = file-then second;
+    link = link-then second;
     output = output-then second;
-    done = λ told. tt;
-    part = λ told.
-        Reached-behind front plan (code_of_fault fault) old mid new first.later.out_told (first.done told)
-        (second.part (subst IsTrue (sym first.later.told) told));
+    done = tt;
+    part = Reached-behind front plan (code_of_fault fault) old mid new first.later first.done second.part;
     complete = λ reliable can. second.complete (reliable-mid reliable) (can-mid reliable.told can);
   }
 
@@ -90,48 +101,120 @@ nothing_shown : (out : Stream) → out.bytes ≡ out.bytes ++ []
 nothing_shown out = sym (append-nil out.bytes)
 
 pub Ran-nothing : (old : Outside) → Ran [] old old
-Ran-nothing old = record { files = refl; out = λ tells. nothing_shown old.out }
+Ran-nothing old = record { files = λ told. refl; out = λ tells. nothing_shown old.out; wire = λ told. refl }
 
--- no action was to be done
-pub nothing_done : (old : Outside) → Follows {T = Unit {0}} [] old old (Ok tt)
-nothing_done old = record {
-  later = record { told = refl; reliable = refl; out_told = refl; out_reliable = refl; faults = omega arith; out_faults = omega arith };
-  file = λ e. cc;
-  output = λ e. cc;
-  done = λ told. Ran-nothing old;
-  part = λ told. tt;
-  complete = λ reliable can. tt;
+pub later-same : (old : Outside) → IsLater old old
+later-same old = record {
+  told = refl;
+  reliable = refl;
+  out_told = refl;
+  out_reliable = refl;
+  wire_told = refl;
+  wire_reliable = refl;
+  faults = omega arith;
+  out_faults = omega arith;
+  wire_faults = omega arith;
 }
 
-pub later-files : (old new : Disk) (out : Stream) → new.told ≡ old.told → new.reliable ≡ old.reliable → old.faults ≤ new.faults → IsLater (outside old out) (outside new out)
-later-files old new out told reliable faults = record {
+pub later-files : (old new : Disk) (w : Outside) → new.told ≡ old.told → new.reliable ≡ old.reliable → old.faults ≤ new.faults →
+    IsLater (with_files w old) (with_files w new)
+later-files old new w told reliable faults = record {
   told = told;
   reliable = reliable;
   out_told = refl;
   out_reliable = refl;
+  wire_told = refl;
+  wire_reliable = refl;
   faults = faults;
   out_faults = omega arith;
+  wire_faults = omega arith;
 }
 
-later-out : (files : Disk) (old new : Stream) → new.told ≡ old.told → new.reliable ≡ old.reliable → old.faults ≤ new.faults → IsLater (outside files old) (outside files new)
-later-out files old new told reliable faults = record {
+later-out : (w : Outside) (old new : Stream) → new.told ≡ old.told → new.reliable ≡ old.reliable → old.faults ≤ new.faults →
+    IsLater (with_out w old) (with_out w new)
+later-out w old new told reliable faults = record {
   told = refl;
   reliable = refl;
   out_told = told;
   out_reliable = reliable;
+  wire_told = refl;
+  wire_reliable = refl;
   faults = omega arith;
   out_faults = faults;
+  wire_faults = omega arith;
+}
+
+later-wire : (w : Outside) (old new : Wire) → new.told ≡ old.told → new.reliable ≡ old.reliable → old.faults ≤ new.faults →
+    IsLater (with_wire w old) (with_wire w new)
+later-wire w old new told reliable faults = record {
+  told = refl;
+  reliable = refl;
+  out_told = refl;
+  out_reliable = refl;
+  wire_told = told;
+  wire_reliable = reliable;
+  faults = omega arith;
+  out_faults = omega arith;
+  wire_faults = faults;
+}
+
+-- no action was to be done
+pub nothing_done : (old : Outside) → Follows {T = Unit {0}} [] old old (Ok tt)
+nothing_done old = record {
+  later = later-same old;
+  file = λ e. cc;
+  link = λ e. cc;
+  output = λ e. cc;
+  done = Ran-nothing old;
+  part = tt;
+  complete = λ reliable can. tt;
 }
 
 -- nothing was done, for want of memory
 pub no_memory : {T : Type 0} (plan : List Action) (old : Outside) → Follows {T = T} plan old old (Err NoMemory)
 no_memory plan old = record {
-  later = record { told = refl; reliable = refl; out_told = refl; out_reliable = refl; faults = omega arith; out_faults = omega arith };
+  later = later-same old;
   file = λ e. cc;
+  link = λ e. cc;
   output = λ e. cc;
-  done = λ told. tt;
-  part = λ told. Reached-nothing plan 70 old old (λ e. absurd (omega arith)) (λ e. absurd (omega arith)) (Ran-nothing old);
+  done = tt;
+  part =
+      Reached-nothing plan 70 old old (λ e. absurd (omega arith)) (λ e. absurd (omega arith)) (λ e. absurd (omega arith))
+      (Ran-nothing old);
   complete = λ reliable can. refl;
+}
+
+-- the answer of what was done may be another value
+pub answered : {S T : Type 0} (plan : List Action) (old new : Outside) (x : S) (y : T) → Follows plan old new (Ok x) →
+    Follows plan old new (Ok y)
+answered plan old new x y f = record {
+  later = f.later;
+  file = λ e. cc;
+  link = λ e. cc;
+  output = λ e. cc;
+  done = f.done;
+  part = tt;
+  complete = λ reliable can. tt;
+}
+
+same-fault : {T : Type 0} (fault other : Fault) → ◌≡◌ {A = Result T Fault} (Err fault) (Err other) → fault ≡ other
+same-fault fault other e = cc
+
+same-stop : {S T : Type 0} (fault other : Fault) → IsErrOf (let r : Result T Fault = Err fault in r) other →
+    IsErrOf (let r : Result S Fault = Err fault in r) other
+same-stop fault other e = ap (λ (x : Fault). Err x) (same-fault fault other e)
+
+-- a fault is handed on
+pub handed : {S T : Type 0} (plan : List Action) (old new : Outside) (fault : Fault) → Follows {T = S} plan old new (Err fault) →
+    Follows {T = T} plan old new (Err fault)
+handed plan old new fault f = record {
+  later = f.later;
+  file = λ e. f.file (same-stop fault File e);
+  link = λ e. f.link (same-stop fault Link e);
+  output = λ e. f.output (same-stop fault Output e);
+  done = tt;
+  part = f.part;
+  complete = λ reliable can. ap (λ (e : Fault). Err e) (same-fault fault NoMemory (f.complete reliable can));
 }
 
 some-none : {A : Type 0} (o : Option A) → IsSome o → IsNone o → ⊥
@@ -140,108 +223,167 @@ some-none o h k = cc
 pub named-one : (plan : List Action) (o : Option Failure) (call : Failure) → o ≡ Some call → Names plan call → IsSomeAnd o (Names plan)
 named-one plan o call e h = subst (λ x. IsSomeAnd x (Names plan)) (sym e) h
 
-reached-append : (path bytes : List ℕ) (status : ℕ) (old new : Disk) (out : Stream) → (status ≡ 7 → ⊥) → (k : ℕ) × (new.content ≡ appended old.content path (take k bytes)) →
-    Reached (append path bytes ∷ []) status (outside old out) (outside new out)
-reached-append path bytes status old new out no_output p = record {
-  done = append path (take p.0 bytes) ∷ [];
-  begun = record {
-    front = [];
-    part = append path (take p.0 bytes) ∷ [];
-    rest = append path bytes ∷ [];
-    plan_is = refl;
-    done_is = refl;
-    part_is = (refl, (p.0, refl));
-  };
-  ran = record { files = p.1; out = λ tells. nothing_shown out };
-  at_file = λ e. tt;
-  at_output = λ e. absurd (no_output e);
-}
-
--- an append that failed
-pub failed_append : {S T : Type 0} (path bytes : List ℕ) (old new : Disk) (out : Stream) (e : FileFault) →
-    Appends {T = S} path bytes old new (Err e) → Follows {T = T} (append path bytes ∷ []) (outside old out) (outside new out) (Err (fault_of_file e))
-failed_append path bytes old new out file.Failed a = record {
-  later = later-files old new out a.call.told a.call.reliable a.call.cause.later;
-  file = λ e. record { rose = a.call.cause.rose refl; named = λ told. named-one (append path bytes ∷ []) new.failed _ (a.call.failed told refl) (inl refl) };
-  output = λ e. cc;
-  done = λ told. tt;
-  part = λ told. reached-append path bytes 3 old new out (λ e. absurd (omega arith)) (a.fault told);
-  complete = λ reliable can. absurd (some-none (old.content path) can.0 (a.refused reliable.told reliable.files refl));
-}
-failed_append path bytes old new out file.NoMemory a = record {
-  later = later-files old new out a.call.told a.call.reliable a.call.cause.later;
-  file = λ e. cc;
-  output = λ e. cc;
-  done = λ told. tt;
-  part = λ told. reached-append path bytes 70 old new out (λ e. absurd (omega arith)) (a.fault told);
-  complete = λ reliable can. refl;
-}
-
-reached-create : (path : List ℕ) (status : ℕ) (old new : Disk) (out : Stream) → (status ≡ 7 → ⊥) → (new.content ≡ old.content) ⊎ (new.content ≡ created old.content path) →
-    Reached (create path ∷ []) status (outside old out) (outside new out)
-reached-create path status old new out no_output (inl same) =
-    Reached-nothing (create path ∷ []) status _ _ (λ e. tt) (λ e. absurd (no_output e)) (record { files = same; out = λ tells. nothing_shown out })
-reached-create path status old new out no_output (inr made) = record {
-  done = create path ∷ [];
-  begun = record { front = []; part = create path ∷ []; rest = create path ∷ []; plan_is = refl; done_is = refl; part_is = refl };
-  ran = record { files = made; out = λ tells. nothing_shown out };
-  at_file = λ e. tt;
-  at_output = λ e. absurd (no_output e);
-}
-
--- a create that failed
-pub failed_create : {S T : Type 0} (path : List ℕ) (old new : Disk) (out : Stream) (e : FileFault) →
-    Creates {T = S} path old new (Err e) → Follows {T = T} (create path ∷ []) (outside old out) (outside new out) (Err (fault_of_file e))
-failed_create path old new out file.Failed a = record {
-  later = later-files old new out a.call.told a.call.reliable a.call.cause.later;
-  file = λ e. record { rose = a.call.cause.rose refl; named = λ told. named-one (create path ∷ []) new.failed _ (a.call.failed told refl) (inl refl) };
-  output = λ e. cc;
-  done = λ told. tt;
-  part = λ told. reached-create path 3 old new out (λ e. absurd (omega arith)) (a.fault told);
-  complete = λ reliable can. absurd (a.refused reliable.told reliable.files refl);
-}
-failed_create path old new out file.NoMemory a = record {
-  later = later-files old new out a.call.told a.call.reliable a.call.cause.later;
-  file = λ e. cc;
-  output = λ e. cc;
-  done = λ told. tt;
-  part = λ told. reached-create path 70 old new out (λ e. absurd (omega arith)) (a.fault told);
-  complete = λ reliable can. refl;
-}
-
 pub true-not_false : true ≡ false → ⊥
 true-not_false e = cc
 
-reached-write : (piece : List ℕ) (status : ℕ) (files : Disk) (old new : Stream) → (status ≡ 3 → ⊥) →
+reached-append : (path bytes : List ℕ) (status : ℕ) (old new : Disk) (w : Outside) → (status ≡ 6 → ⊥) → (status ≡ 7 → ⊥) →
+    (IsTrue old.told → (k : ℕ) × (new.content ≡ appended old.content path (take k bytes))) → (b : Bool) → old.told ≡ b →
+    Reached (append path bytes ∷ []) status (with_files w old) (with_files w new)
+reached-append path bytes status old new w no_link no_output p true told = let q = p told in record {
+  done = append path (take q.0 bytes) ∷ [];
+  begun = record {
+    front = [];
+    part = append path (take q.0 bytes) ∷ [];
+    rest = append path bytes ∷ [];
+    plan_is = refl;
+    done_is = refl;
+    part_is = (refl, (q.0, refl));
+  };
+  ran = record { files = λ tells. q.1; out = λ tells. nothing_shown w.out; wire = λ tells. refl };
+  at_file = λ e. tt;
+  at_link = λ e. absurd (no_link e);
+  at_output = λ e. absurd (no_output e);
+}
+reached-append path bytes status old new w no_link no_output p false untold =
+    Reached-nothing (append path bytes ∷ []) status _ _ (λ e. tt) (λ e. absurd (no_link e)) (λ e. absurd (no_output e)) (record {
+      files = λ tells. absurd (true-not_false (sym tells ∙ untold));
+      out = λ tells. nothing_shown w.out;
+      wire = λ tells. refl;
+    })
+
+-- an append that failed
+pub failed_append : {S T : Type 0} (path bytes : List ℕ) (old new : Disk) (w : Outside) (e : FileFault) →
+    Appends {T = S} path bytes old new (Err e) → Follows {T = T} (append path bytes ∷ []) (with_files w old) (with_files w new)
+    (Err (fault_of_file e))
+failed_append path bytes old new w file.Failed a = record {
+  later = later-files old new w a.call.told a.call.reliable a.call.cause.later;
+  file = λ e. record { rose = a.call.cause.rose refl; named = λ told. named-one (append path bytes ∷ []) new.failed _ (a.call.failed told refl) (inl refl) };
+  link = λ e. cc;
+  output = λ e. cc;
+  done = tt;
+  part = reached-append path bytes 3 old new w (λ e. absurd (omega arith)) (λ e. absurd (omega arith)) a.fault old.told refl;
+  complete = λ reliable can. absurd (some-none (old.content path) can.0 (a.refused reliable.told reliable.files refl));
+}
+failed_append path bytes old new w file.NoMemory a = record {
+  later = later-files old new w a.call.told a.call.reliable a.call.cause.later;
+  file = λ e. cc;
+  link = λ e. cc;
+  output = λ e. cc;
+  done = tt;
+  part = reached-append path bytes 70 old new w (λ e. absurd (omega arith)) (λ e. absurd (omega arith)) a.fault old.told refl;
+  complete = λ reliable can. refl;
+}
+
+reached-create : (path : List ℕ) (status : ℕ) (old new : Disk) (w : Outside) → (status ≡ 6 → ⊥) → (status ≡ 7 → ⊥) →
+    (IsTrue old.told → (new.content ≡ old.content) ⊎ (new.content ≡ created old.content path)) → (b : Bool) → old.told ≡ b →
+    Reached (create path ∷ []) status (with_files w old) (with_files w new)
+reached-create path status old new w no_link no_output p true told =
+    elim (p told) [
+      | inl same ↦
+          Reached-nothing (create path ∷ []) status _ _ (λ e. tt) (λ e. absurd (no_link e)) (λ e. absurd (no_output e))
+          (record { files = λ tells. same; out = λ tells. nothing_shown w.out; wire = λ tells. refl })
+      | inr made ↦
+          record {
+            done = create path ∷ [];
+            begun = record { front = []; part = create path ∷ []; rest = create path ∷ []; plan_is = refl; done_is = refl; part_is = refl };
+            ran = record { files = λ tells. made; out = λ tells. nothing_shown w.out; wire = λ tells. refl };
+            at_file = λ e. tt;
+            at_link = λ e. absurd (no_link e);
+            at_output = λ e. absurd (no_output e);
+          }
+    ]
+reached-create path status old new w no_link no_output p false untold =
+    Reached-nothing (create path ∷ []) status _ _ (λ e. tt) (λ e. absurd (no_link e)) (λ e. absurd (no_output e)) (record {
+      files = λ tells. absurd (true-not_false (sym tells ∙ untold));
+      out = λ tells. nothing_shown w.out;
+      wire = λ tells. refl;
+    })
+
+-- a create that failed
+pub failed_create : {S T : Type 0} (path : List ℕ) (old new : Disk) (w : Outside) (e : FileFault) →
+    Creates {T = S} path old new (Err e) → Follows {T = T} (create path ∷ []) (with_files w old) (with_files w new) (Err (fault_of_file e))
+failed_create path old new w file.Failed a = record {
+  later = later-files old new w a.call.told a.call.reliable a.call.cause.later;
+  file = λ e. record { rose = a.call.cause.rose refl; named = λ told. named-one (create path ∷ []) new.failed _ (a.call.failed told refl) (inl refl) };
+  link = λ e. cc;
+  output = λ e. cc;
+  done = tt;
+  part = reached-create path 3 old new w (λ e. absurd (omega arith)) (λ e. absurd (omega arith)) a.fault old.told refl;
+  complete = λ reliable can. absurd (a.refused reliable.told reliable.files refl);
+}
+failed_create path old new w file.NoMemory a = record {
+  later = later-files old new w a.call.told a.call.reliable a.call.cause.later;
+  file = λ e. cc;
+  link = λ e. cc;
+  output = λ e. cc;
+  done = tt;
+  part = reached-create path 70 old new w (λ e. absurd (omega arith)) (λ e. absurd (omega arith)) a.fault old.told refl;
+  complete = λ reliable can. refl;
+}
+
+reached-write : (piece : List ℕ) (status : ℕ) (w : Outside) (old new : Stream) → (status ≡ 3 → ⊥) → (status ≡ 6 → ⊥) →
     (IsTrue old.told → (k : ℕ) × (new.bytes ≡ old.bytes ++ take k piece)) → (b : Bool) → old.told ≡ b →
-    Reached (show piece ∷ []) status (outside files old) (outside files new)
-reached-write piece status files old new no_file p true told = let q = p told in record {
+    Reached (show piece ∷ []) status (with_out w old) (with_out w new)
+reached-write piece status w old new no_file no_link p true told = let q = p told in record {
   done = show (take q.0 piece) ∷ [];
   begun = record { front = []; part = show (take q.0 piece) ∷ []; rest = show piece ∷ []; plan_is = refl; done_is = refl; part_is = (q.0, refl) };
-  ran = record { files = refl; out = λ tells. q.1 ∙ ap (λ bytes. old.bytes ++ bytes) (sym (append-nil (take q.0 piece))) };
+  ran = record {
+    files = λ tells. refl;
+    out = λ tells. q.1 ∙ ap (λ bytes. old.bytes ++ bytes) (sym (append-nil (take q.0 piece)));
+    wire = λ tells. refl;
+  };
   at_file = λ e. absurd (no_file e);
+  at_link = λ e. absurd (no_link e);
   at_output = λ e. tt;
 }
-reached-write piece status files old new no_file p false untold =
-    Reached-nothing (show piece ∷ []) status _ _ (λ e. absurd (no_file e)) (λ e. tt)
-    (record { files = refl; out = λ tells. absurd (true-not_false (sym tells ∙ untold)) })
+reached-write piece status w old new no_file no_link p false untold =
+    Reached-nothing (show piece ∷ []) status _ _ (λ e. absurd (no_file e)) (λ e. absurd (no_link e)) (λ e. tt)
+    (record { files = λ tells. refl; out = λ tells. absurd (true-not_false (sym tells ∙ untold)); wire = λ tells. refl })
 
 -- a write that failed
-pub failed_write : {S T : Type 0} (piece : List ℕ) (files : Disk) (old new : Stream) (e : SinkFault) →
-    Writes {T = S} piece old new (Err e) → Follows {T = T} (show piece ∷ []) (outside files old) (outside files new) (Err (fault_of_sink e))
-failed_write piece files old new sink.Failed a = record {
-  later = later-out files old new a.told a.reliable a.cause.later;
+pub failed_write : {S T : Type 0} (piece : List ℕ) (w : Outside) (old new : Stream) (e : SinkFault) →
+    Writes {T = S} piece old new (Err e) → Follows {T = T} (show piece ∷ []) (with_out w old) (with_out w new) (Err (fault_of_sink e))
+failed_write piece w old new sink.Failed a = record {
+  later = later-out w old new a.told a.reliable a.cause.later;
   file = λ e. cc;
+  link = λ e. cc;
   output = λ e. a.cause.rose refl;
-  done = λ told. tt;
-  part = λ told. reached-write piece 7 files old new (λ e. absurd (omega arith)) a.fault old.told refl;
+  done = tt;
+  part = reached-write piece 7 w old new (λ e. absurd (omega arith)) (λ e. absurd (omega arith)) a.fault old.told refl;
   complete = λ reliable can. absurd (a.refused reliable.out refl);
 }
-failed_write piece files old new sink.NoMemory a = record {
-  later = later-out files old new a.told a.reliable a.cause.later;
+failed_write piece w old new sink.NoMemory a = record {
+  later = later-out w old new a.told a.reliable a.cause.later;
   file = λ e. cc;
+  link = λ e. cc;
   output = λ e. cc;
-  done = λ told. tt;
-  part = λ told. reached-write piece 70 files old new (λ e. absurd (omega arith)) a.fault old.told refl;
+  done = tt;
+  part = reached-write piece 70 w old new (λ e. absurd (omega arith)) (λ e. absurd (omega arith)) a.fault old.told refl;
+  complete = λ reliable can. refl;
+}
+
+-- a call of the link that failed, which did nothing
+pub failed_call : {S T : Type 0} (call : LinkCall) (change : Traffic → Traffic) (w : Outside) (old new : Wire) (e : LinkFault) →
+    Acts {T = S} change old new (Err e) → Follows {T = T} (link call ∷ []) (with_wire w old) (with_wire w new) (Err (fault_of_link e))
+failed_call call change w old new wire.Failed a = record {
+  later = later-wire w old new a.told a.reliable a.cause.later;
+  file = λ e. cc;
+  link = λ e. a.cause.rose refl;
+  output = λ e. cc;
+  done = tt;
+  part =
+      Reached-nothing (link call ∷ []) 6 _ _ (λ e. absurd (omega arith)) (λ e. tt) (λ e. absurd (omega arith))
+      (record { files = λ tells. refl; out = λ tells. nothing_shown w.out; wire = a.fault });
+  complete = λ reliable can. absurd (a.refused reliable.wire refl);
+}
+failed_call call change w old new wire.NoMemory a = record {
+  later = later-wire w old new a.told a.reliable a.cause.later;
+  file = λ e. cc;
+  link = λ e. cc;
+  output = λ e. cc;
+  done = tt;
+  part =
+      Reached-nothing (link call ∷ []) 70 _ _ (λ e. absurd (omega arith)) (λ e. tt) (λ e. absurd (omega arith))
+      (record { files = λ tells. refl; out = λ tells. nothing_shown w.out; wire = a.fault });
   complete = λ reliable can. refl;
 }

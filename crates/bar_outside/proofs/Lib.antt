@@ -1,7 +1,9 @@
 pub mod Contents
+mod MemLists
 pub mod ActionLists
 pub mod Following
 pub mod Ending
 pub mod Untouched
 pub mod Stages
 pub mod Appends
+pub mod Unlinked

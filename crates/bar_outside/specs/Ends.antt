@@ -17,9 +17,11 @@ pub record Ends (plan : Content → Plan) (old new : Outside) (status : ℕ) : T
   -- 3 only where the files' count rose, and where they tell, by a call of the plan
   pub file_rose : status ≡ 3 → Rose old.files.faults new.files.faults
   pub file_named : status ≡ 3 → IsTrue old.files.told → IsSomeAnd new.files.failed (Names (plan old.files.content).actions)
+  -- 6 only where the link's count rose
+  pub link_rose : status ≡ 6 → Rose old.wire.faults new.wire.faults
   -- 7 only where the count of out rose
   pub output_rose : status ≡ 7 → Rose old.out.faults new.out.faults
-  -- any status but 3, 7 and 70 is the plan's, and all of it was done
+  -- any status but 3, 6, 7 and 70 is the plan's, and all of it was done
   pub carried : IsTrue old.files.told → is_stop status ≡ false → Carried (plan old.files.content) old new status
   -- so it is, whatever the files tell, where nothing is to be done whatever they hold
   pub at_once : ((content : Content) → (plan content).actions ≡ []) → is_stop status ≡ false → status ≡ (plan old.files.content).status
@@ -49,7 +51,7 @@ pub record Says (plan : Plan) (status : ℕ) (old new : Stream) : Type 0 where
 
 -- the statuses that tell their line whatever the files hold
 abbrev pub is_plain : ℕ → Bool
-is_plain status = status == 2 || status == 3 || status == 7
+is_plain status = status == 2 || status == 3 || status == 6 || status == 7
 
 -- ---- words for laws on how a plan ends, where the files tell what they hold
 
@@ -68,6 +70,10 @@ UnlessStopped expected status = (status ≡ expected) ⊎ (is_stop status ≡ tr
 -- no file holds anything else than before
 abbrev pub SameFiles : Outside → Outside → Type 0
 SameFiles old new = new.files.content ≡ old.files.content
+
+-- nothing was done over the link, where it tells
+abbrev pub SameTraffic : Outside → Outside → Type 0
+SameTraffic old new = IsTrue old.wire.told → new.wire.traffic ≡ old.wire.traffic
 
 -- nothing was printed, where the output tells
 abbrev pub NothingPrinted : Outside → Outside → Type 0

@@ -6,7 +6,7 @@ use Rattle.std.specs.declared.alloc.Global.{Global}
 use Rattle.bar_outside.specs.declared.files.FileFault.{FileFault}
 use Rattle.bar_outside.specs.Faults.{fault_of_file, code_of_fault}
 use Rattle.bar_outside.specs.declared.fault.Fault.{Fault}
-use Rattle.bar_outside.specs.declared.fault.Fault.TheVariants.{File, Output, NoMemory}
+use Rattle.bar_outside.specs.declared.fault.Fault.TheVariants.{File, Link, Output, NoMemory}
 use Rattle.bar_outside.specs.Plan.{Outside, Action, Ran, Reached, Names, CanRun}
 
 -- no count fell, and the outside tells as much as before
@@ -15,8 +15,11 @@ pub record IsLater (old new : Outside) : Type 0 where
   pub reliable : new.files.reliable ≡ old.files.reliable
   pub out_told : new.out.told ≡ old.out.told
   pub out_reliable : new.out.reliable ≡ old.out.reliable
+  pub wire_told : new.wire.told ≡ old.wire.told
+  pub wire_reliable : new.wire.reliable ≡ old.wire.reliable
   pub faults : old.files.faults ≤ new.files.faults
   pub out_faults : old.out.faults ≤ new.out.faults
+  pub wire_faults : old.wire.faults ≤ new.wire.faults
 
 -- the files' count rose, and where they tell, their last failed call is one of the plan
 pub record FilesFailed (plan : List Action) (old new : Outside) : Type 0 where
@@ -28,14 +31,16 @@ pub record IsReliable (outside : Outside) : Type 0 where
   pub told : IsTrue outside.files.told
   pub files : IsTrue outside.files.reliable
   pub out : IsTrue outside.out.reliable
+  pub wire : IsTrue outside.wire.reliable
 
 -- the actions were done in order; at Err up to a fault
 pub record Follows {T : Type 0} (plan : List Action) (old new : Outside) (result : Result T Fault) : Type 0 where
   pub later : IsLater old new
   pub file : IsErrOf result File → FilesFailed plan old new
+  pub link : IsErrOf result Link → Rose old.wire.faults new.wire.faults
   pub output : IsErrOf result Output → Rose old.out.faults new.out.faults
-  pub done : IsTrue old.files.told → OnOk result (Ran plan old new)
-  pub part : IsTrue old.files.told → IfErr result (λ fault. Reached plan (code_of_fault fault) old new)
+  pub done : OnOk result (Ran plan old new)
+  pub part : IfErr result (λ fault. Reached plan (code_of_fault fault) old new)
   pub complete : IsReliable old → CanRun plan old.files.content → OnErr result (result ≡ Err NoMemory)
 
 -- a read of a file, whose fault is handed on

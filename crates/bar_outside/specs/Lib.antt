@@ -3,6 +3,9 @@ pub mod Disk
 pub mod Stream
 pub mod Schedule
 pub mod MemSink
+pub mod Wire
+pub mod MemTaken
+pub mod MemLink
 pub mod MemFiles
 pub mod Faults
 pub mod Plan

@@ -2,21 +2,41 @@
 use Rattle.std.specs.Prelude.{◌≡◌, ◌⊎◌, ℕ, List, [], ◌∷◌, ◌++◌, IsTrue, IsSome, take, Bool, Option, None, Some, Result, Ok, Err, ◌==◌, ◌||◌, if◌then◌else◌, codes}
 use Rattle.bar_outside.specs.Disk.{Disk, Content, Failure, readable, created, appended}
 use Rattle.bar_outside.specs.Stream.{Stream}
+use Rattle.bar_outside.specs.Wire.{Arrival, Bound, Traffic, Wire, bound_to, gave_if, sent_to}
 use Rattle.bar_outside.specs.declared.files.CallKind.TheVariants.{Read, Create, Append}
 
--- the files, and what is printed
+-- the files, what is printed, and the link
 pub record Outside : Type 0 where
   pub files : Disk
   pub out : Stream
+  pub wire : Wire
 
-abbrev pub outside : Disk → Stream → Outside
-outside files out = record { files = files; out = out }
+abbrev pub outside : Disk → Stream → Wire → Outside
+outside files out wire = record { files = files; out = out; wire = wire }
+
+-- the same with other files, another output, another link
+
+abbrev pub with_files : Outside → Disk → Outside
+with_files rest files = outside files rest.out rest.wire
+
+abbrev pub with_out : Outside → Stream → Outside
+with_out rest out = outside rest.files out rest.wire
+
+abbrev pub with_wire : Outside → Wire → Outside
+with_wire rest wire = outside rest.files rest.out wire
+
+-- a call of the link: what comes next is asked for, and comes or doesn't
+pub data LinkCall : Type 0 where
+  bind : (to : Bound) → LinkCall
+  receive : (came : Option Arrival) → LinkCall
+  send : (to : ℕ) → (bytes : List ℕ) → LinkCall
 
 pub data Action : Type 0 where
   read : (path : List ℕ) → Action
   create : (path : List ℕ) → Action
   append : (path bytes : List ℕ) → Action
   show : (bytes : List ℕ) → Action
+  link : (call : LinkCall) → Action
 
 -- what the files hold after an action
 abbrev pub content_by : Action → Content → Content
@@ -24,6 +44,7 @@ content_by (read path) content = content
 content_by (create path) content = created content path
 content_by (append path bytes) content = appended content path bytes
 content_by (show bytes) content = content
+content_by (link call) content = content
 
 abbrev pub content_after : List Action → Content → Content
 content_after [] content = content
@@ -35,15 +56,35 @@ shown_by (read path) = []
 shown_by (create path) = []
 shown_by (append path bytes) = []
 shown_by (show bytes) = bytes
+shown_by (link call) = []
 
 abbrev pub shown : List Action → List ℕ
 shown [] = []
 shown (a ∷ others) = shown_by a ++ shown others
 
+-- what the link did after an action
+
+abbrev pub traffic_by_call : LinkCall → Traffic → Traffic
+traffic_by_call (bind to) traffic = bound_to to traffic
+traffic_by_call (receive came) traffic = gave_if came traffic
+traffic_by_call (send to bytes) traffic = sent_to to bytes traffic
+
+abbrev pub traffic_by : Action → Traffic → Traffic
+traffic_by (read path) traffic = traffic
+traffic_by (create path) traffic = traffic
+traffic_by (append path bytes) traffic = traffic
+traffic_by (show bytes) traffic = traffic
+traffic_by (link call) traffic = traffic_by_call call traffic
+
+abbrev pub traffic_after : List Action → Traffic → Traffic
+traffic_after [] traffic = traffic
+traffic_after (a ∷ others) traffic = traffic_after others (traffic_by a traffic)
+
 -- these actions, and nothing else, were done between old and new
 pub record Ran (done : List Action) (old new : Outside) : Type 0 where
-  pub files : new.files.content ≡ content_after done old.files.content
+  pub files : IsTrue old.files.told → new.files.content ≡ content_after done old.files.content
   pub out : IsTrue old.out.told → new.out.bytes ≡ old.out.bytes ++ shown done
+  pub wire : IsTrue old.wire.told → new.wire.traffic ≡ traffic_after done old.wire.traffic
 
 -- the action was done in part: a front of its bytes stands, or the file that it makes
 abbrev pub IsPartOf : Action → Action → Type 0
@@ -71,6 +112,7 @@ pub record Begun (plan done : List Action) : Type 0 where
 abbrev pub IsFilesNext : List Action → Type 0
 IsFilesNext [] = ⊥
 IsFilesNext (show bytes ∷ others) = ⊥
+IsFilesNext (link call ∷ others) = ⊥
 IsFilesNext _ = Unit {0}
 
 -- the next action prints
@@ -78,12 +120,19 @@ abbrev pub IsShowNext : List Action → Type 0
 IsShowNext (show bytes ∷ others) = Unit {0}
 IsShowNext _ = ⊥
 
--- how far a plan was done that ended with this status; a fault comes at the next action: 3 at one of the files, 7 at one that prints
+-- the next action is a call of the link
+abbrev pub IsLinkNext : List Action → Type 0
+IsLinkNext (link call ∷ others) = Unit {0}
+IsLinkNext _ = ⊥
+
+-- how far a plan was done that ended with this status; a fault comes at the next action: 3 at one of the files, 6 at one of the link, 7 at
+-- one that prints
 pub record Reached (plan : List Action) (status : ℕ) (old new : Outside) : Type 0 where
   pub done : List Action
   pub begun : Begun plan done
   pub ran : Ran done old new
   pub at_file : status ≡ 3 → IsFilesNext begun.rest
+  pub at_link : status ≡ 6 → IsLinkNext begun.rest
   pub at_output : status ≡ 7 → IsShowNext begun.rest
 
 -- the failed call is one of the plan
@@ -93,6 +142,7 @@ Names (read path ∷ others) call = (call ≡ record { kind = Read; path = path 
 Names (create path ∷ others) call = (call ≡ record { kind = Create; path = path }) ⊎ Names others call
 Names (append path bytes ∷ others) call = (call ≡ record { kind = Append; path = path }) ⊎ Names others call
 Names (show bytes ∷ others) call = Names others call
+Names (link done ∷ others) call = Names others call
 
 -- each append is to a file that is there then
 abbrev pub CanRun : List Action → Content → Type 0
@@ -104,6 +154,9 @@ CanRun (a ∷ others) content = CanRun others (content_by a content)
 
 abbrev pub file_failed : List ℕ
 file_failed = codes "bar: file failed" ++ 10 ∷ []
+
+abbrev pub link_failed : List ℕ
+link_failed = codes "bar: link failed" ++ 10 ∷ []
 
 abbrev pub output_failed : List ℕ
 output_failed = codes "bar: output failed" ++ 10 ∷ []
@@ -145,12 +198,13 @@ doing actions status line content = record { actions = actions; status = status;
 
 -- the statuses that a fault has, or want of memory
 abbrev pub is_stop : ℕ → Bool
-is_stop status = status == 3 || status == 7 || status == 70
+is_stop status = status == 3 || status == 6 || status == 7 || status == 70
 
 -- the line that is printed at a status: that of the stop, or else the plan's
 abbrev pub line_at : Plan → ℕ → List ℕ
 line_at plan status =
     if status == 3 then file_failed
+    else if status == 6 then link_failed
     else if status == 7 then output_failed
     else if status == 70 then no_memory
     else plan.line
@@ -162,3 +216,4 @@ Touches (create name ∷ others) path = (path ≡ name) ⊎ Touches others path
 Touches (append name bytes ∷ others) path = (path ≡ name) ⊎ Touches others path
 Touches (read name ∷ others) path = Touches others path
 Touches (show bytes ∷ others) path = Touches others path
+Touches (link call ∷ others) path = Touches others path

@@ -1,12 +1,13 @@
 //! The actions of a command, one call each. A fault of the outside is handed on as a fault of the command.
-ghost use Rattle.std.specs.Prelude.{◌∷◌, []};
-ghost use Rattle.bar_outside.specs.Disk.{Disk};
-ghost use Rattle.bar_outside.specs.Stream.{Stream};
-ghost use Rattle.bar_outside.specs.Plan.{outside};
-ghost use Rattle.bar_outside.specs.Plan.Action.{create, append, show};
+//! Each clause speaks of any outside whose other parts stay as they are.
+ghost use Rattle.std.specs.Prelude.{◌∷◌, ◌≤◌, [], IfOk, length};
+ghost use Rattle.bar_outside.specs.Plan.{Outside, with_files, with_out, with_wire};
+ghost use Rattle.bar_outside.specs.Plan.Action.{create, append, show, link as call};
+ghost use Rattle.bar_outside.specs.Plan.LinkCall.{bind, receive, send};
+ghost use Rattle.bar_outside.specs.Wire.{arrived, bound_by, largest_packet, len_of};
 ghost use Rattle.bar_outside.specs.Follows.{Follows, ReadsFile};
 
-use crate::{Fault, Files, Sink};
+use crate::{Fault, Files, Link, Sink, Taken};
 
 /// The bytes of a file.
 pub fn read_file<F: Files>(files: &mut F, path: &str) -> Result<Vec<u8>, Fault>
@@ -17,7 +18,7 @@ pub fn read_file<F: Files>(files: &mut F, path: &str) -> Result<Vec<u8>, Fault>
 
 /// Leaves an empty file of this name.
 pub fn create_file<F: Files>(files: &mut F, path: &str) -> Result<(), Fault>
-    ensures { (out : Stream) → Follows (create path.now ∷ []) (outside (F.disk files.old) out) (outside (F.disk files.new) out) result }
+    ensures { (w : Outside) → Follows (create path.now ∷ []) (with_files w (F.disk files.old)) (with_files w (F.disk files.new)) result }
 {
     files.create(path)?;
     Ok(())
@@ -25,8 +26,8 @@ pub fn create_file<F: Files>(files: &mut F, path: &str) -> Result<(), Fault>
 
 /// Adds bytes to a file.
 pub fn append_file<F: Files>(files: &mut F, path: &str, bytes: &[u8]) -> Result<(), Fault>
-    ensures { (out : Stream) →
-        Follows (append path.now bytes.now ∷ []) (outside (F.disk files.old) out) (outside (F.disk files.new) out) result }
+    ensures { (w : Outside) →
+        Follows (append path.now bytes.now ∷ []) (with_files w (F.disk files.old)) (with_files w (F.disk files.new)) result }
 {
     files.append(path, bytes)?;
     Ok(())
@@ -34,8 +35,42 @@ pub fn append_file<F: Files>(files: &mut F, path: &str, bytes: &[u8]) -> Result<
 
 /// Prints bytes.
 pub fn show_bytes<K: Sink>(out: &mut K, bytes: &[u8]) -> Result<(), Fault>
-    ensures { (files : Disk) → Follows (show bytes.now ∷ []) (outside files (K.stream out.old)) (outside files (K.stream out.new)) result }
+    ensures { (w : Outside) → Follows (show bytes.now ∷ []) (with_out w (K.stream out.old)) (with_out w (K.stream out.new)) result }
 {
     out.write(bytes)?;
+    Ok(())
+}
+
+/// Binds the link to a party of a session with this port.
+pub fn bind_link<L: Link>(
+    link: &mut L,
+    me: u16,
+    port: u16,
+    begin_ms: u64,
+    tick_ms: u32,
+) -> Result<(), Fault>
+    ensures { (w : Outside) → Follows (call (bind (bound_by me port begin_ms tick_ms)) ∷ [])
+        (with_wire w (L.wire link.old)) (with_wire w (L.wire link.new)) result }
+{
+    link.bind(me, port, begin_ms, tick_ms)?;
+    Ok(())
+}
+
+/// Takes what comes next from the link. The buffer has room for the largest datagram.
+pub fn receive_next<L: Link>(link: &mut L, buf: &mut [u8]) -> Result<Taken, Fault>
+    requires { largest_packet ≤ length buf.old }
+    ensures follows { (w : Outside) → Follows (call (receive (arrived buf.new result)) ∷ [])
+        (with_wire w (L.wire link.old)) (with_wire w (L.wire link.new)) result }
+    ensures within { IfOk result (λ taken. len_of taken ≤ largest_packet) }
+{
+    Ok(link.next(buf)?)
+}
+
+/// Sends a datagram to a party.
+pub fn send_datagram<L: Link>(link: &mut L, to: u16, bytes: &[u8]) -> Result<(), Fault>
+    ensures { (w : Outside) → Follows (call (send to bytes.now) ∷ [])
+        (with_wire w (L.wire link.old)) (with_wire w (L.wire link.new)) result }
+{
+    link.send(to, bytes)?;
     Ok(())
 }

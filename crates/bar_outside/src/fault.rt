@@ -1,5 +1,5 @@
 //! What may stop a command.
-use crate::{FileFault, SinkFault};
+use crate::{FileFault, LinkFault, SinkFault};
 use std::alloc::AllocError;
 
 /// What may stop a command.
@@ -7,6 +7,8 @@ use std::alloc::AllocError;
 pub enum Fault {
     /// A call of the files failed.
     File,
+    /// A call of the link failed.
+    Link,
     /// A write to the output failed.
     Output,
     NoMemory,
@@ -22,6 +24,20 @@ impl From<FileFault> for Fault {
         match cause {
             FileFault::Failed => Fault::File,
             FileFault::NoMemory => Fault::NoMemory,
+        }
+    }
+}
+
+impl From<LinkFault> for Fault {
+    ghost use Rattle.std.specs.Prelude.{◌≡◌};
+    ghost use Rattle.bar_outside.specs.Faults.{fault_of_link};
+
+    ghost from_gives = { λ cause fault. fault ≡ fault_of_link cause };
+
+    fn from(cause: LinkFault) -> Self {
+        match cause {
+            LinkFault::Failed => Fault::Link,
+            LinkFault::NoMemory => Fault::NoMemory,
         }
     }
 }

@@ -22,7 +22,7 @@ pub fn carried_or_stopped()
 pub fn done_without_faults()
     ensures { (plan : Content → Plan) → OfEachEnd plan (λ old new status.
         (Rose old.files.faults new.files.faults → ⊥) → (Rose old.out.faults new.out.faults → ⊥) →
-        Carried (plan old.files.content) old new status ⊎ (status ≡ 70)) }
+        (Rose old.wire.faults new.wire.faults → ⊥) → Carried (plan old.files.content) old new status ⊎ (status ≡ 70)) }
 {}
 
 /// What was done tells how far each part of a plan came: from these the statuses of a command follow, part by part.

@@ -1,7 +1,8 @@
-//! Files and sinks in memory.
+//! Files, sinks and links in memory.
 use crate::{
-    Fault, FileFault, Files, MemFiles, MemSink, Sink, SinkFault, append_file, create_file,
-    read_file, show_bytes,
+    Fault, FileFault, Files, Link, LinkFault, MemFiles, MemLink, MemSink, MemTaken, Place, Sink,
+    SinkFault, Taken, append_file, bind_link, create_file, read_file, receive_next, send_datagram,
+    show_bytes,
 };
 use std::test::Fail;
 
@@ -37,5 +38,31 @@ fn a_sink_in_memory(rt: HostRuntime) -> Result<(), Fail> {
     assert_eq!(rt; sink.write(b"cdef"), Err(SinkFault::Failed));
     assert_eq!(rt; show_bytes(&mut sink, b"g").is_ok(), true);
     assert_eq!(rt; sink.bytes(), b"abcdg".as_slice());
+    Ok(())
+}
+
+#[test]
+fn a_link_in_memory(rt: HostRuntime) -> Result<(), Fail> {
+    let alloc = rt.alloc();
+    let mut list = Vec::new(alloc);
+    list.push(MemTaken::Tick)?;
+    let mut link = MemLink::make(alloc, list, [4].to_vec(alloc)?);
+    assert_eq!(rt; bind_link(&mut link, 2, 4000, 7, 250).is_ok(), true);
+    assert_eq!(rt;
+        link.place(),
+        Some(Place {
+            me: 2,
+            port: 4000,
+            begin_ms: 7,
+            tick_ms: 250
+        })
+    );
+    let mut buf = Vec::new(alloc);
+    buf.resize(65_507, 0)?;
+    assert_eq!(rt; receive_next(&mut link, &mut buf), Ok(Taken::Tick));
+    assert_eq!(rt; send_datagram(&mut link, 1, b"ab").is_ok(), true);
+    assert_eq!(rt; link.next(&mut buf), Err(LinkFault::Failed));
+    assert_eq!(rt; link.next(&mut buf), Ok(Taken::End));
+    assert_eq!(rt; link.sent().len(), 1);
     Ok(())
 }

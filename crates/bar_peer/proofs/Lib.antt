@@ -39,3 +39,4 @@ pub mod Plays
 pub mod Stepped
 pub mod Totals
 pub mod Tries
+mod Short

@@ -1,13 +1,12 @@
 -- What is given out for an order.
-use Rattle.std.specs.Prelude.{◌≡◌, ℕ, ◌<◌, ◌≤◌, ◌^◌, List, [], Option, Some, None, length, take, IfSome}
+use Rattle.std.specs.Prelude.{◌≡◌, ℕ, ◌<◌, ◌^◌, List, [], Some, IfSome}
 use Rattle.std.specs.Bool.{MatchBool}
 use Rattle.bar_lms.specs.Params.{levels}
 use Rattle.bar_wire.specs.Datagram.{Datagram, kind_of, part_of, place_of}
 use Rattle.bar_wire.specs.Grammar.{IsRound}
 use Rattle.bar_wire.specs.Kinds.{is_signed_kind}
 use Rattle.bar_wire.specs.Limits.{seats_a_round}
-use Rattle.bar_rules.specs.Member.{Session, Member}
-use Rattle.bar_rules.specs.Values.{datagram_bytes}
+use Rattle.bar_rules.specs.Member.{Member}
 use Rattle.bar_rules.specs.Peer.Agreement.{IsRecent}
 use Rattle.bar_rules.specs.Peer.Exchanges.{role_of, partner_in}
 use Rattle.bar_rules.specs.Peer.Knowledge.{Knowledge}

@@ -12,3 +12,6 @@ pub mod Playing
 pub mod Telling
 pub mod Trying
 pub mod Orders
+pub mod Core
+pub mod Time
+pub mod Runs

@@ -1,9 +1,8 @@
 -- What a peer stands for: a list of inputs, of which its memory holds what its log tells, and what is still to be given out.
-use Rattle.std.specs.Prelude.{◌≡◌, ℕ, ◌-◌, List, [], ◌∷◌, Option, Some, None}
+use Rattle.std.specs.Prelude.{ℕ, ◌-◌, List, []}
 use Rattle.std.specs.List.{flat_map, range_with_len}
 use Rattle.bar_wire.specs.Datagram.{Datagram}
 use Rattle.bar_wire.specs.Inputs.{Input}
-use Rattle.bar_rules.specs.Member.{Session}
 use Rattle.bar_rules.specs.Peer.Knowledge.{known}
 use Rattle.bar_rules.specs.Peer.Run.{log_after}
 use Rattle.bar_rules.specs.Peer.Ticks.{content_of}
@@ -15,7 +14,6 @@ use Rattle.bar_peer.specs.Orders.{Orders}
 use Rattle.bar_peer.specs.declared.playing.Playing.{Playing}
 use Rattle.bar_peer.specs.Memory.{Tells, member_of}
 use Rattle.bar_store.specs.Orders.{left_in}
-use Rattle.bar_rules.specs.Giving.{IsGiven}
 use Rattle.bar_peer.specs.Sending.{AreFor}
 
 abbrev pub Inputs : Type 0

@@ -3,6 +3,7 @@
 
 mod admission;
 mod answering;
+mod as_core;
 mod asking;
 mod credentials;
 mod evictions;
@@ -17,6 +18,7 @@ mod playing;
 mod repeats;
 mod replying;
 mod reports;
+mod runs;
 mod saying;
 mod starting;
 mod steps;
@@ -28,6 +30,7 @@ mod weighed;
 
 pub use credentials::Credentials;
 pub use peer::Peer;
+pub use runs::rules_give_the_run;
 
 #[cfg(test)]
 mod tests;

@@ -4,6 +4,7 @@ ghost use Rattle.bar_bytes.specs.Rooms.{kept_in};
 ghost use Rattle.bar_terms.specs.Windows.{AreAligned};
 ghost use Rattle.bar_ledger.specs.Totals.{AreSound};
 ghost use Rattle.bar_wire.specs.Evidence.{evidence_bytes};
+ghost use Rattle.bar_roster.specs.Sessions.{IsSession};
 ghost use Rattle.bar_rules.specs.Member.{last_tick};
 ghost use Rattle.bar_rules.specs.Values.{datagram_bytes};
 ghost use Rattle.bar_rules.specs.Peer.Knowledge.{Knowledge, known};
@@ -25,6 +26,7 @@ use bar_ledger::Totals;
 use bar_seal::Scheme;
 use bar_terms::can_promise;
 use bar_window::{Exchange, Terms};
+use bar_wire::Shape;
 
 /// Whether the windows of terms are of the same rounds.
 fn have_same_rounds(terms: &Terms) -> bool
@@ -73,6 +75,14 @@ impl Memory {
 }
 
 impl<S: Scheme> Peer<S> {
+    /// The numbers of the session's datagrams.
+    pub fn shape(&self) -> Shape
+        ensures value { result ≡ self.now.memory.who.session.shape }
+        ensures session { IsSession self.now.memory.who.session }
+    {
+        self.memory.who.session.shape()
+    }
+
     /// How many ticks were taken.
     pub fn ticks(&self) -> u32
         ensures { (inputs : Inputs) → StandsFor self.now.memory inputs

@@ -20,12 +20,14 @@ eight (a ∷ b ∷ c ∷ d ∷ e ∷ f ∷ []) long = absurd (omega arith)
 eight (a ∷ b ∷ c ∷ d ∷ e ∷ f ∷ g ∷ []) long = absurd (omega arith)
 eight (a ∷ b ∷ c ∷ d ∷ e ∷ f ∷ g ∷ h ∷ i ∷ js) long = absurd (omega arith)
 
+pub length_head : (id : List ℕ) (party : ℕ) → length id ≡ 8 → length (head_bytes id party) ≡ 15
+length_head id party long = simp (length-append, length_u16) (omega (arith, long))
+
 -- fewer bytes than a head has don't begin with it
 pub no_head : (bytes id : List ℕ) (party : ℕ) → length id ≡ 8 → length bytes < 15 → bytes_eq (take 15 bytes) (head_bytes id party) ≡ false
 no_head bytes id party long short = elim (cases_Bool (bytes_eq (take 15 bytes) (head_bytes id party))) [
   | inl same ↦
       let is : take 15 bytes ≡ head_bytes id party = (bytes_eq-Decides (take 15 bytes) (head_bytes id party)).0 same in
-      let head : length (head_bytes id party) ≡ 15 = simp (length-append, length_u16) (omega (arith, long)) in
-      absurd (omega (arith, ap length is, head, length-take {A = ℕ}))
+      absurd (omega (arith, ap length is, length_head id party long, length-take {A = ℕ}))
   | inr other ↦ other
 ]

@@ -11,8 +11,9 @@ use Rattle.bar_wire.specs.Limits.{largest_datagram}
 use Rattle.bar_wire.specs.Inputs.{Input}
 use Rattle.bar_wire.specs.Inputs as event
 use Rattle.bar_record.specs.declared.fault.RecordFault.{RecordFault}
-use Rattle.bar_record.specs.declared.fault.RecordFault.TheVariants.{NoEnd}
-use Rattle.bar_record.specs.Recording.{First, Entry, NoEntry, End, entry_bytes, datagram_first, sized_first, marked_first, first_of, inputs_from, inputs_by, before, ticks_in}
+use Rattle.bar_record.specs.declared.fault.RecordFault.TheVariants.{NoEnd, AfterLast}
+use Rattle.bar_record.specs.Recording.{First, Entry, NoEntry, End, entry_bytes, datagram_first, sized_first, marked_first, first_of, inputs_from, inputs_by, before, ticks_put}
+use Rattle.bar_record.specs.Pacing.{is_datagram, is_due, run_after, ticks_in, ticks_of, with_tick}
 use Rattle.bar_record.specs.Items.{entries}
 
 -- inputs before those of a reading
@@ -32,10 +33,10 @@ le_of_test : (a b : ℕ) → nat_le a b ≡ true → a ≤ b
 le_of_test a b h = grind (arith, nat_tests)
 
 -- one more step of a reading
-pub reads_by : (most last ticks at : ℕ) (bytes : List ℕ) → 0 < most → inputs_from most last ticks at bytes ≡ inputs_by (inputs_from (most - 1) last) last ticks at (first_of bytes)
+pub reads_by : (most last ticks run at : ℕ) (bytes : List ℕ) → 0 < most → inputs_from most last ticks run at bytes ≡ inputs_by (inputs_from (most - 1) last) last ticks run at (first_of bytes)
 unfolding inputs_from
-reads_by zero last ticks at bytes some = absurd (omega arith)
-reads_by (suc most) last ticks at bytes some = let e : suc most - 1 ≡ most = omega arith in rw e refl
+reads_by zero last ticks run at bytes some = absurd (omega arith)
+reads_by (suc most) last ticks run at bytes some = let e : suc most - 1 ≡ most = omega arith in rw e refl
 
 -- ---- an entry takes as many bytes as it has
 
@@ -84,72 +85,101 @@ unfolding first_of
 length_entry [] rest input is = absurd cc
 length_entry (mark ∷ bytes) rest input is = omega (arith, length_marked mark bytes rest input is)
 
+-- ---- the ticks of an entry
+
+-- an input's ticks are those that are put before it and its own
+pub ticks_with : (run : ℕ) (input : Input) → ticks_of (with_tick run input) ≡ ticks_put run input + ticks_in input
+ticks_with run input = elim (cases_Bool (is_due run (is_datagram input))) [
+  | inl due ↦ rw due (omega arith)
+  | inr none ↦ rw none (omega arith)
+]
+
+-- an input and what is put before it have one tick at most
+pub few_with : (run : ℕ) (input : Input) → ticks_put run input + ticks_in input ≤ 1
+few_with run event.Tick = omega arith
+few_with run (event.Datagram bytes) = elim (cases_Bool (run == 65536)) [ inl due ↦ rw due (omega arith) | inr none ↦ rw none (omega arith) ]
+
 -- ---- how far a reading has come
 
 -- what is read of the whole is the entries so far and what is read of the rest
-pub record IsReadTo (whole : List ℕ) (last i ticks : ℕ) (rest : List ℕ) : Type 0 where
-  pub read : inputs_from (suc (length whole)) last 0 15 whole
-      ≡ after (entries i whole) (inputs_from (suc (length whole) - i) last ticks (15 + (length whole - length rest)) rest)
+pub record IsReadTo (whole : List ℕ) (last i ticks run : ℕ) (rest : List ℕ) : Type 0 where
+  pub read : inputs_from (suc (length whole)) last 0 0 15 whole
+      ≡ after (entries i whole) (inputs_from (suc (length whole) - i) last ticks run (15 + (length whole - length rest)) rest)
   pub front : (m : ℕ) → entries (i + m) whole ≡ entries i whole ++ entries m rest
   pub within : length rest ≤ length whole
+  pub early : ticks ≤ last
 
 -- nothing is read yet
-pub read_none : (whole : List ℕ) (last : ℕ) → IsReadTo whole last 0 0 whole
+pub read_none : (whole : List ℕ) (last : ℕ) → IsReadTo whole last 0 0 0 whole
 read_none whole last =
     let e : suc (length whole) - 0 ≡ suc (length whole) = omega arith in
     let f : 15 + (length whole - length whole) ≡ 15 = omega arith in
     record {
-      read = rw (entries_zero whole, e, f) (sym (after-none (inputs_from (suc (length whole)) last 0 15 whole)));
+      read = rw (entries_zero whole, e, f) (sym (after-none (inputs_from (suc (length whole)) last 0 0 15 whole)));
       front = λ m. let g : 0 + m ≡ m = omega arith in rw (g, entries_zero whole) refl;
       within = omega arith;
+      early = omega arith;
     }
 
 -- the reading ends by what the rest begins with
-pub read_by : (whole rest : List ℕ) (last i ticks : ℕ) (first : First) → IsReadTo whole last i ticks rest → i < length whole + 1 → first_of rest ≡ first
-    → inputs_from (suc (length whole)) last 0 15 whole
-    ≡ after (entries i whole) (inputs_by (inputs_from (suc (length whole) - i - 1) last) last ticks (15 + (length whole - length rest)) first)
-read_by whole rest last i ticks first h below is =
+pub read_by : (whole rest : List ℕ) (last i ticks run : ℕ) (first : First) → IsReadTo whole last i ticks run rest → i < length whole + 1
+    → first_of rest ≡ first
+    → inputs_from (suc (length whole)) last 0 0 15 whole
+    ≡ after (entries i whole) (inputs_by (inputs_from (suc (length whole) - i - 1) last) last ticks run (15 + (length whole - length rest)) first)
+read_by whole rest last i ticks run first h below is =
     let some : 0 < suc (length whole) - i = omega arith in
     h.read ∙ ap (after (entries i whole))
-    (reads_by (suc (length whole) - i) last ticks (15 + (length whole - length rest)) rest some
-    ∙ ap (inputs_by (inputs_from (suc (length whole) - i - 1) last) last ticks (15 + (length whole - length rest))) is)
+    (reads_by (suc (length whole) - i) last ticks run (15 + (length whole - length rest)) rest some
+    ∙ ap (inputs_by (inputs_from (suc (length whole) - i - 1) last) last ticks run (15 + (length whole - length rest))) is)
+
+-- an entry that stands after the last tick ends the reading
+pub read_late : (whole rest others : List ℕ) (last i ticks run put : ℕ) (input : Input) → IsReadTo whole last i ticks run rest → i < length whole + 1
+    → put ≡ ticks_put run input → last - ticks ≤ put → first_of rest ≡ Entry input others
+    → inputs_from (suc (length whole)) last 0 0 15 whole ≡ Err (AfterLast (15 + (length whole - length rest)))
+read_late whole rest others last i ticks run put input h below is_put late is =
+    let test : nat_le last (ticks + ticks_put run input) ≡ true = grind (arith, nat_tests) in
+    read_by whole rest last i ticks run (Entry input others) h below is ∙ rw test refl
 
 -- one more entry is read
-pub read_more : (whole rest others : List ℕ) (last i ticks : ℕ) (input : Input) → IsReadTo whole last i ticks rest → i < length whole + 1 → ticks < last
-    → first_of rest ≡ Entry input others → IsReadTo whole last (i + 1) (ticks + ticks_in input) others
-read_more whole rest others last i ticks input h below early is =
-    let test : nat_le last ticks ≡ false = grind (arith, nat_tests) in
+pub read_more : (whole rest others : List ℕ) (last i ticks run put : ℕ) (input : Input) → IsReadTo whole last i ticks run rest → i < length whole + 1
+    → put ≡ ticks_put run input → (last - ticks ≤ put → ⊥) → first_of rest ≡ Entry input others
+    → IsReadTo whole last (i + 1) (ticks + (put + ticks_in input)) (run_after run (is_datagram input)) others
+read_more whole rest others last i ticks run put input h below is_put early is =
+    let test : nat_le last (ticks + ticks_put run input) ≡ false = grind (arith, nat_tests) in
     let long : length rest ≡ length (entry_bytes input) + length others = length_entry rest others input is in
     let at : 15 + (length whole - length rest) + length (entry_bytes input) ≡ 15 + (length whole - length others) = omega (arith, h.within) in
     let most : suc (length whole) - i - 1 ≡ suc (length whole) - (i + 1) = omega arith in
+    let count : ticks + ticks_of (with_tick run input) ≡ ticks + (put + ticks_in input) = omega (arith, ticks_with run input) in
     let one : entries (i + 1) whole ≡ entries i whole ++ input ∷ [] =
     h.front 1 ∙ ap (λ es. entries i whole ++ es) (entries_entry 1 rest others input (omega arith) is ∙ ap (λ es. input ∷ es) (entries_zero others))
     in
     let end : Result (List Input) RecordFault =
-    inputs_from (suc (length whole) - (i + 1)) last (ticks + ticks_in input) (15 + (length whole - length others)) others
+    inputs_from (suc (length whole) - (i + 1)) last (ticks + (put + ticks_in input)) (run_after run (is_datagram input)) (15 + (length whole - length others)) others
     in
-    let here : inputs_by (inputs_from (suc (length whole) - i - 1) last) last ticks (15 + (length whole - length rest)) (Entry input others) ≡ before input end =
-    rw (test, at, most) refl
+    let here : inputs_by (inputs_from (suc (length whole) - i - 1) last) last ticks run (15 + (length whole - length rest)) (Entry input others) ≡ before input end =
+    rw (test, at, most, count) refl
     in
     let longer : after (entries i whole ++ input ∷ []) end ≡ after (entries (i + 1) whole) end = rw one refl in
     record {
       read =
-          read_by whole rest last i ticks (Entry input others) h below is
+          read_by whole rest last i ticks run (Entry input others) h below is
           ∙ (ap (after (entries i whole)) here ∙ (after_before (entries i whole) input end ∙ longer));
       front = λ m.
           let shift : i + 1 + m ≡ i + (m + 1) = omega arith in
           let less : m + 1 - 1 ≡ m = omega arith in
           rw (shift, h.front (m + 1), entries_entry (m + 1) rest others input (omega arith) is, less, one) (sym (append_assoc (entries i whole) (input ∷ []) (entries m others)));
       within = omega (arith, h.within);
+      early = omega (arith, few_with run input);
     }
 
 -- as many entries as may be read are read, and no end
-pub read_out : (whole rest : List ℕ) (last ticks : ℕ) → IsReadTo whole last (length whole + 1) ticks rest → inputs_from (suc (length whole)) last 0 15 whole ≡ Err NoEnd
+pub read_out : (whole rest : List ℕ) (last ticks run : ℕ) → IsReadTo whole last (length whole + 1) ticks run rest
+    → inputs_from (suc (length whole)) last 0 0 15 whole ≡ Err NoEnd
 unfolding inputs_from
-read_out whole rest last ticks h = let none : suc (length whole) - (length whole + 1) ≡ 0 = omega arith in rw none at h.read
+read_out whole rest last ticks run h = let none : suc (length whole) - (length whole + 1) ≡ 0 = omega arith in rw none at h.read
 
 -- the end, with nothing behind it
-pub read_end : (whole rest others : List ℕ) (last i ticks : ℕ) → IsReadTo whole last i ticks rest → i < length whole + 1 → first_of rest ≡ End others
-    → (length others == 0) ≡ true → inputs_from (suc (length whole)) last 0 15 whole ≡ Ok (entries i whole)
-read_end whole rest others last i ticks h below is empty =
-    read_by whole rest last i ticks (End others) h below is ∙ rw empty (ap Ok (append-nil (entries i whole)))
+pub read_end : (whole rest others : List ℕ) (last i ticks run : ℕ) → IsReadTo whole last i ticks run rest → i < length whole + 1 → first_of rest ≡ End others
+    → (length others == 0) ≡ true → inputs_from (suc (length whole)) last 0 0 15 whole ≡ Ok (entries i whole)
+read_end whole rest others last i ticks run h below is empty =
+    read_by whole rest last i ticks run (End others) h below is ∙ rw empty (ap Ok (append-nil (entries i whole)))

@@ -1,10 +1,11 @@
 -- Recordings: a head, an entry for each input, and an end.
-use Rattle.std.specs.Prelude.{ℕ, zero, suc, ◌+◌, ◌≤◌, nat_le, ◌==◌, List, [], ◌∷◌, ◌++◌, codes, length, take, drop, bytes_eq, Result, Ok, Err, if◌then◌else◌}
-use Rattle.std.specs.List.{flat_map}
+use Rattle.std.specs.Prelude.{◌≡◌, ℕ, zero, suc, ◌+◌, ◌≤◌, nat_le, ◌==◌, List, [], ◌∷◌, ◌++◌, codes, length, take, drop, bytes_eq, Result, Ok, Err, if◌then◌else◌}
+use Rattle.std.specs.List.{flat_map, AllByRecursion}
 use Rattle.bar_bytes.specs.Bytes.{u16_bytes, first_u16}
 use Rattle.bar_wire.specs.Limits.{largest_datagram}
 use Rattle.bar_wire.specs.Inputs.{Input}
 use Rattle.bar_wire.specs.Inputs as event
+use Rattle.bar_record.specs.Pacing.{is_datagram, is_due, run_after, ticks_of, with_tick, with_ticks, paced}
 use Rattle.bar_record.specs.declared.fault.RecordFault.{RecordFault}
 use Rattle.bar_record.specs.declared.fault.RecordFault.TheVariants.{BadHead, BadEntry, NoEnd, AfterEnd, AfterLast}
 
@@ -56,32 +57,46 @@ unfoldable pub first_of : List ℕ → First
 first_of [] = NoByte
 first_of (mark ∷ rest) = marked_first mark rest
 
-abbrev pub ticks_in : Input → ℕ
-ticks_in event.Tick = 1
-ticks_in (event.Datagram bytes) = 0
+-- how many ticks are put before an input, after so many datagrams in a row
+abbrev pub ticks_put : ℕ → Input → ℕ
+ticks_put run input = if is_due run (is_datagram input) then 1 else 0
 
 -- an input before others
 abbrev pub before : Input → Result (List Input) RecordFault → Result (List Input) RecordFault
 before input (Ok inputs) = Ok (input ∷ inputs)
 before input (Err fault) = Err fault
 
--- The inputs by what some bytes begin with, where these bytes begin at a place; nothing but the end may follow the last tick.
-abbrev pub inputs_by : (ℕ → ℕ → List ℕ → Result (List Input) RecordFault) → ℕ → ℕ → ℕ → First → Result (List Input) RecordFault
-inputs_by rest_of last ticks at NoByte = Err NoEnd
-inputs_by rest_of last ticks at (End rest) = if length rest == 0 then Ok [] else Err AfterEnd
-inputs_by rest_of last ticks at NoEntry = Err (BadEntry at)
-inputs_by rest_of last ticks at (Entry input rest) =
-    if nat_le last ticks then Err (AfterLast at)
-    else before input (rest_of (ticks + ticks_in input) (at + length (entry_bytes input)) rest)
+-- The inputs by what some bytes begin with, where these bytes begin at a place, after so many ticks and so many datagrams in a row. Ticks
+-- count as paced: nothing but the end may follow the last of them, be it in the bytes or put before an entry.
+abbrev pub inputs_by : (ℕ → ℕ → ℕ → List ℕ → Result (List Input) RecordFault) → ℕ → ℕ → ℕ → ℕ → First → Result (List Input) RecordFault
+inputs_by rest_of last ticks run at NoByte = Err NoEnd
+inputs_by rest_of last ticks run at (End rest) = if length rest == 0 then Ok [] else Err AfterEnd
+inputs_by rest_of last ticks run at NoEntry = Err (BadEntry at)
+inputs_by rest_of last ticks run at (Entry input rest) =
+    if nat_le last (ticks + ticks_put run input) then Err (AfterLast at)
+    else before input
+    (rest_of (ticks + ticks_of (with_tick run input)) (run_after run (is_datagram input)) (at + length (entry_bytes input)) rest)
 
 -- the inputs whose entries and end stand in the bytes, of which so many at most are read
-unfoldable pub inputs_from : ℕ → ℕ → ℕ → ℕ → List ℕ → Result (List Input) RecordFault
-inputs_from zero last ticks at bytes = Err NoEnd
-inputs_from (suc most) last ticks at bytes = inputs_by (inputs_from most last) last ticks at (first_of bytes)
+unfoldable pub inputs_from : ℕ → ℕ → ℕ → ℕ → ℕ → List ℕ → Result (List Input) RecordFault
+inputs_from zero last ticks run at bytes = Err NoEnd
+inputs_from (suc most) last ticks run at bytes = inputs_by (inputs_from most last) last ticks run at (first_of bytes)
 
 -- The inputs of a recording, or its first fault from the left. Each entry has a byte at least, so no more entries are read than there are
 -- bytes.
 abbrev pub recording_of : List ℕ → ℕ → ℕ → List ℕ → Result (List Input) RecordFault
 recording_of id party last bytes =
     if bytes_eq (take 15 bytes) (head_bytes id party)
-    then inputs_from (suc (length (drop 15 bytes))) last 0 15 (drop 15 bytes) else Err BadHead
+    then inputs_from (suc (length (drop 15 bytes))) last 0 0 15 (drop 15 bytes) else Err BadHead
+
+-- Pacing leaves out nothing of a recording: it puts in the ticks that are due, and no more.
+abbrev pub IsTakenWhole : Type 0
+IsTakenWhole =
+    (id bytes : List ℕ) (party last : ℕ) (inputs : List Input) → recording_of id party last bytes ≡ Ok inputs →
+    paced last inputs ≡ with_ticks 0 inputs
+
+-- What is written of paced inputs is read back as these.
+abbrev pub ReadsBack : Type 0
+ReadsBack =
+    (id : List ℕ) (party last : ℕ) (inputs : List Input) → length id ≡ 8 → AllByRecursion IsInRange inputs →
+    recording_of id party last (recording_bytes id party (paced last inputs)) ≡ Ok (paced last inputs)

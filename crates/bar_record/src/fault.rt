@@ -17,7 +17,7 @@ pub enum RecordFault {
     /// Bytes follow the end.
     #[error("AfterEnd")]
     AfterEnd,
-    /// At this place, from 0, an entry other than the end follows the last tick.
+    /// At this place, from 0, an entry other than the end follows the last tick, where the ticks that pacing puts count too.
     #[error("AfterLast")]
     AfterLast { at: u64 },
 }

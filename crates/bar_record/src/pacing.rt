@@ -6,7 +6,7 @@ use std::marker::Model;
 const MOST_IN_A_ROW: u32 = 65_536;
 
 /// Counts the datagrams that stand in a row.
-#[derive(Debug)]
+#[derive(Debug, Drop)]
 pub struct Paced {
     run: u32,
 }

@@ -1,11 +1,12 @@
 //! Reading a recording.
 ghost use Rattle.std.specs.Prelude.{◌≡◌, ◌≤◌, ◌^◌, Ok, Err, IfOk, IfErr, suc, length, drop};
 ghost use Rattle.bar_record.specs.Inputs.{inputs_left};
-ghost use Rattle.bar_record.specs.Recording.{head_bytes, inputs_from, recording_of, ticks_in};
+ghost use Rattle.bar_record.specs.Pacing.{is_datagram, run_after, ticks_in};
+ghost use Rattle.bar_record.specs.Recording.{head_bytes, inputs_from, recording_of, ticks_put};
 ghost use Rattle.bar_wire.specs.Inputs.{plain_input};
 
 use crate::first::{First, first_of};
-use crate::{Items, RecordFault};
+use crate::{Items, Paced, RecordFault};
 use bar_wire::Input;
 
 /// How many bytes a head has.
@@ -31,13 +32,24 @@ fn ticks_in(input: &Input<'_>) -> u32
     }
 }
 
+/// How many ticks are put before an input, which is counted.
+fn ticks_put(paced: &mut Paced, input: &Input<'_>) -> u32
+    ensures value { result ≡ ticks_put paced.old (plain_input input.now) }
+    ensures one { result ≤ 1 }
+    ensures count { paced.new ≡ run_after paced.old (is_datagram (plain_input input.now)) }
+{
+    let is_datagram = matches!(input, Input::Datagram(_));
+    u32::from(paced.due(is_datagram))
+}
+
 /// The inputs of the entries behind a head, with their end.
 fn entries_of(bytes: &[u8], last: u32) -> Result<Items<'_>, RecordFault>
-    ensures ok { IfOk result (λ items. inputs_from (suc (length bytes.now)) last 0 15 bytes.now ≡ Ok (inputs_left items)) }
-    ensures err { IfErr result (λ fault. inputs_from (suc (length bytes.now)) last 0 15 bytes.now ≡ Err fault) }
+    ensures ok { IfOk result (λ items. inputs_from (suc (length bytes.now)) last 0 0 15 bytes.now ≡ Ok (inputs_left items)) }
+    ensures err { IfErr result (λ fault. inputs_from (suc (length bytes.now)) last 0 0 15 bytes.now ≡ Err fault) }
 {
     let mut rest = bytes;
     let mut ticks: u32 = 0;
+    let mut paced = Paced::new();
     'entries: for left in 0..bytes.len() + 1 {
         let at = (HEAD_LEN + (bytes.len() - rest.len())) as u64;
         match first_of(rest) {
@@ -50,10 +62,12 @@ fn entries_of(bytes: &[u8], last: u32) -> Result<Items<'_>, RecordFault>
             }
             First::NoEntry => return Err(RecordFault::BadEntry { at }),
             First::Entry(input, others) => {
-                if ticks >= last {
+                let put = ticks_put(&mut paced, &input);
+                if last - ticks <= put {
                     return Err(RecordFault::AfterLast { at });
                 }
-                ticks += ticks_in(&input);
+                let own = ticks_in(&input);
+                ticks += put + own;
                 rest = others;
             }
         }
@@ -61,7 +75,8 @@ fn entries_of(bytes: &[u8], last: u32) -> Result<Items<'_>, RecordFault>
     Err(RecordFault::NoEnd)
 }
 
-/// Reads a party's recording, or tells its first fault from the left; `last` is the number of the session's last tick.
+/// Reads a party's recording, or tells its first fault from the left; `last` is the number of the session's last tick. Ticks count as
+/// paced: with those that are put before datagrams.
 pub fn read<'a>(
     bytes: &'a [u8],
     id: &[u8; 8],

@@ -6,4 +6,4 @@ pub returns : goal.returns
 returns c = λ names old new status ends told.
     let law = c.plans_go_in_order.ensures in
     front_or_nothing names old new status
-    (outcome law.reads law.ends law.shows names old new status (law.went (judge_plan names) old new status ends told))
+    (outcome law.reads law.ends law.shows names old new status told (law.went (judge_plan names) old new status ends told))

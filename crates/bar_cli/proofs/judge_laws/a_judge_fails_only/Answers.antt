@@ -10,4 +10,5 @@ returns-clause-named c = λ names old new ends told.
 pub returns-clause-in_order : goal.returns-clause-in_order
 returns-clause-in_order c = λ names old new ends told.
     let law = c.plans_go_in_order.ensures in
-    front_at_output names old new (outcome law.reads law.ends law.shows names old new 7 (law.went (judge_plan names) old new 7 ends told))
+    front_at_output names old new
+    (outcome law.reads law.ends law.shows names old new 7 told (law.went (judge_plan names) old new 7 ends told))

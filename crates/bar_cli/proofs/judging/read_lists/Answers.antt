@@ -9,4 +9,5 @@ pub returns-clause-ok : goal.returns-clause-ok
 returns-clause-ok c =
     let s = c.args.session.now in
     let bytes = c.args.bytes.now in
-    IfOk-weaker c.read_counted.result _ _ (λ table. has-lists s bytes (digests_of table.lists) (table_of s bytes) refl) c.read_counted.ensures.ok
+    IfOk-weaker c.read_counted.result _ _
+    (λ table. has-lists s bytes (digests_of table.lists) (table_of s bytes) refl) c.read_counted.ensures.ok

@@ -1,60 +1,74 @@
 use Rattle.std.proofs.Common.{◌≡◌, ◌∙◌, [], Ok, Err, refl, ap, sym, length, arith}
 use Rattle.std.proofs.lemmas.Result.{err_from_is_err_and}
+use Rattle.bar_outside.specs.Plan.{with_out}
 use Rattle.bar_outside.proofs.Ending.{EndsWith-reading, EndsWith-accepted, EndsWith-refused, EndsWith-doing, EndsWith-ending, EndsWith-memory, EndsWith-unread}
 use Rattle.bar_cli.specs.KeygenPlan.{keygen_actions}
 use Rattle.bar_cli.specs.Refusals.{secret_refused}
 use Rattle.bar_cli.specs.Views.{keygen_view}
 use Rattle.bar_cli.proofs.KeygenLemmas.{can-keygen, as-asked}
-use Rattle.bar_cli.proofs.StatusLemmas.{no-refusal, unprinted-at}
+use Rattle.bar_cli.proofs.StatusLemmas.{never-link, no-refusal, quiet, unprinted-at}
 use Rattle.bar_cli.proofs.keygen.keygen_by_secret.Goals as goal
 
 pub returns-in_err-bytes-clause-ends : goal.returns-in_err-bytes-clause-ends
-returns-in_err-bytes-clause-ends g c =
+returns-in_err-bytes-clause-ends g c = λ w.
     let p = err_from_is_err_and c.from_residual.result c.from_residual.ensures.1 in
     let r = c.in_err-bytes.ensures in
-    rw (p.1, p.2, r.2) (EndsWith-unread _ _ _ _ _ r.0 r.1)
+    rw (p.1, p.2, r.2) (EndsWith-unread _ _ _ _ (with_out w (g.K.Sink.stream c.args.out.now)) r.0 r.1)
 
 pub returns-in_err-write_key-clause-ends : goal.returns-in_err-write_key-clause-ends
-returns-in_err-write_key-clause-ends g c =
+returns-in_err-write_key-clause-ends g c = λ w.
     let p = err_from_is_err_and c.from_residual-in_err-write_key.result c.from_residual-in_err-write_key.ensures.1 in
     let accepted = rw c.deref.ensures.value at c.in-Some.ensures.some in
-    rw (p.1, p.2) (EndsWith-reading _ _ (g.F.Files.disk c.args.files.now) (g.F.Files.disk c.read_file.new.files) (g.K.Sink.stream c.args.out.now)
+    rw (p.1, p.2) (EndsWith-reading _ _ (g.F.Files.disk c.args.files.now) (g.F.Files.disk c.read_file.new.files)
+    (with_out w (g.K.Sink.stream c.args.out.now))
     _ c.in_ok-bytes.bytes _ _ c.in_ok-bytes.ensures (EndsWith-accepted _ _ _ _ _ _ _ _ accepted
-    (EndsWith-doing (keygen_actions (keygen_view c.args.asked.now) c.in-Some.secret) 0 [] _ _ (λ told. can-keygen (keygen_view c.args.asked.now) c.in-Some.secret _) refl
+    (EndsWith-doing (keygen_actions (keygen_view c.args.asked.now) c.in-Some.secret) 0 [] _ _
+    (λ told. can-keygen (keygen_view c.args.asked.now) c.in-Some.secret _) refl
     (Err c.in_err-write_key.field-0.0)
-    (as-asked (keygen_view c.args.asked.now) c.in-Some.secret _ _ _ _ _ c.in_ok-made.ensures.text c.in_ok-made.ensures.lines c.in_err-write_key.ensures.follows))))
+    (as-asked (keygen_view c.args.asked.now) c.in-Some.secret _ _ _ _ _ c.in_ok-made.ensures.text c.in_ok-made.ensures.lines
+    (c.in_err-write_key.ensures.follows w)))))
 
 pub returns-clause-ends : goal.returns-clause-ends
-returns-clause-ends g c =
+returns-clause-ends g c = λ w.
     let accepted = rw c.deref.ensures.value at c.in-Some.ensures.some in
-    EndsWith-reading _ _ (g.F.Files.disk c.args.files.now) (g.F.Files.disk c.read_file.new.files) (g.K.Sink.stream c.args.out.now)
+    EndsWith-reading _ _ (g.F.Files.disk c.args.files.now) (g.F.Files.disk c.read_file.new.files)
+    (with_out w (g.K.Sink.stream c.args.out.now))
     _ c.in_ok-bytes.bytes _ _ c.in_ok-bytes.ensures (EndsWith-accepted _ _ _ _ _ _ _ _ accepted
-    (EndsWith-doing (keygen_actions (keygen_view c.args.asked.now) c.in-Some.secret) 0 [] _ _ (λ told. can-keygen (keygen_view c.args.asked.now) c.in-Some.secret _) refl
+    (EndsWith-doing (keygen_actions (keygen_view c.args.asked.now) c.in-Some.secret) 0 [] _ _
+    (λ told. can-keygen (keygen_view c.args.asked.now) c.in-Some.secret _) refl
     (Ok tt)
-    (as-asked (keygen_view c.args.asked.now) c.in-Some.secret _ _ _ _ _ c.in_ok-made.ensures.text c.in_ok-made.ensures.lines c.in_ok-write_key.ensures.follows)))
+    (as-asked (keygen_view c.args.asked.now) c.in-Some.secret _ _ _ _ _ c.in_ok-made.ensures.text c.in_ok-made.ensures.lines
+    (c.in_ok-write_key.ensures.follows w))))
 
 pub returns-in_err-bytes-clause-enough : goal.returns-in_err-bytes-clause-enough
-returns-in_err-bytes-clause-enough g c = let p = err_from_is_err_and c.from_residual.result c.from_residual.ensures.1 in rw p.1 (no-refusal p.0)
+returns-in_err-bytes-clause-enough g c =
+    let p = err_from_is_err_and c.from_residual.result c.from_residual.ensures.1 in rw p.1 (no-refusal p.0)
 
 pub returns-in_err-write_key-clause-enough : goal.returns-in_err-write_key-clause-enough
-returns-in_err-write_key-clause-enough g c = let p = err_from_is_err_and c.from_residual-in_err-write_key.result c.from_residual-in_err-write_key.ensures.1 in rw p.1 (no-refusal p.0)
+returns-in_err-write_key-clause-enough g c =
+    let p = err_from_is_err_and c.from_residual-in_err-write_key.result c.from_residual-in_err-write_key.ensures.1 in
+    rw p.1 (no-refusal p.0)
 
 pub returns-in_err-write_key-clause-unprinted : goal.returns-in_err-write_key-clause-unprinted
 returns-in_err-write_key-clause-unprinted g c =
     let p = err_from_is_err_and c.from_residual-in_err-write_key.result c.from_residual-in_err-write_key.ensures.1 in
-    rw p.1 (unprinted-at p.0 _ (λ e. c.in_err-write_key.ensures.unprinted (ap Err (sym p.2 ∙ e))))
+    rw p.1 (unprinted-at p.0 _ (λ e. c.in_err-write_key.ensures.unprinted (ap Err (sym p.2 ∙ e)))
+    (λ e. absurd (never-link _ _ _ _ refl refl (c.in_err-write_key.ensures.follows quiet) (ap Err (sym p.2 ∙ e)))))
 
 pub returns-in_default-clause-ends : goal.returns-in_default-clause-ends
-returns-in_default-clause-ends g c =
+returns-in_default-clause-ends g c = λ w.
     let long : length c.deref.result.now ≡ c.len.result = grind (arith, c.deref.ensures.len, c.len.ensures) in
     let other = c.secret_of.ensures.none c.in_default.is ∙ ap Err long in
     let refused = rw c.deref.ensures.value at other in
-    EndsWith-reading _ _ (g.F.Files.disk c.args.files.now) (g.F.Files.disk c.read_file.new.files) (g.K.Sink.stream c.args.out.now)
-    _ c.in_ok-bytes.bytes _ _ c.in_ok-bytes.ensures (EndsWith-refused _ c.len.result _ _ _ _ _ _ refused (EndsWith-ending 8 (secret_refused c.len.result) _ refl))
+    EndsWith-reading _ _ (g.F.Files.disk c.args.files.now) (g.F.Files.disk c.read_file.new.files)
+    (with_out w (g.K.Sink.stream c.args.out.now))
+    _ c.in_ok-bytes.bytes _ _ c.in_ok-bytes.ensures
+    (EndsWith-refused _ c.len.result _ _ _ _ _ _ refused (EndsWith-ending 8 (secret_refused c.len.result) _ refl))
 
 pub returns-in_err-made-clause-ends : goal.returns-in_err-made-clause-ends
-returns-in_err-made-clause-ends g c =
+returns-in_err-made-clause-ends g c = λ w.
     let p = err_from_is_err_and c.from_residual-in_err-made.result c.from_residual-in_err-made.ensures.1 in
     let accepted = rw c.deref.ensures.value at c.in-Some.ensures.some in
-    rw (p.1, p.2) (EndsWith-reading _ _ (g.F.Files.disk c.args.files.now) (g.F.Files.disk c.read_file.new.files) (g.K.Sink.stream c.args.out.now)
+    rw (p.1, p.2) (EndsWith-reading _ _ (g.F.Files.disk c.args.files.now) (g.F.Files.disk c.read_file.new.files)
+    (with_out w (g.K.Sink.stream c.args.out.now))
     _ c.in_ok-bytes.bytes _ _ c.in_ok-bytes.ensures (EndsWith-accepted _ _ _ _ _ _ _ _ accepted (EndsWith-memory _ _)))

@@ -5,4 +5,5 @@ use Rattle.bar_cli.proofs.laws.a_replay_stops_in_order.Goals as goal
 pub returns : goal.returns
 returns c = λ names old new status ends told.
     let law = c.plans_go_in_order.ensures in
-    stopped-replay c.accepted_sessions_are_in_range.ensures names old new status (outcome law.reads law.ends names old new status (law.went (replay_plan names) old new status ends told))
+    stopped-replay c.accepted_sessions_are_in_range.ensures names old new status told
+    (outcome law.reads law.ends names old new status told (law.went (replay_plan names) old new status ends told))

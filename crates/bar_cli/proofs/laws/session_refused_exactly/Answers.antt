@@ -5,4 +5,4 @@ use Rattle.bar_cli.proofs.laws.session_refused_exactly.Goals as goal
 pub returns-clause-only : goal.returns-clause-only
 returns-clause-only c = λ names old new ends told.
     let law = c.plans_go_in_order.ensures in
-    refused-session names old new (outcome law.reads law.ends names old new 4 (law.went (replay_plan names) old new 4 ends told))
+    refused-session names old new (outcome law.reads law.ends names old new 4 told (law.went (replay_plan names) old new 4 ends told))

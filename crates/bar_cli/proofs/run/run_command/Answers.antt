@@ -1,57 +1,137 @@
-use Rattle.std.proofs.Common.{◌≡◌, ◌↔◌, ◌∙◌, ap, sym, subst}
+use Rattle.std.proofs.Common.{◌≡◌, ◌↔◌, ◌∙◌, refl, ap, sym, subst, true≢false}
+use Rattle.bar_outside.specs.Plan.{with_wire}
+use Rattle.bar_live.specs.CasterPlan.{CasterNames}
+use Rattle.bar_live.specs.PeerPlan.{PeerNames}
+use Rattle.bar_live.specs.Views.{peer_view, caster_view}
 use Rattle.bar_cli.specs.KeygenPlan.{Keygen, HasFewLeaves}
 use Rattle.bar_cli.specs.JudgePlan.{JudgeFiles}
-use Rattle.bar_cli.specs.Line.{Line, replay, keygen, judge}
+use Rattle.bar_cli.specs.Line.{Line, peer, broadcaster, replay, keygen, judge}
 use Rattle.bar_cli.specs.ReplayPlan.{ReplayFiles}
 use Rattle.bar_cli.specs.Status.{code_of_run}
 use Rattle.bar_cli.specs.Views.{names_view, keygen_view, judge_view, command_view}
-use Rattle.bar_cli.proofs.StatusLemmas.{replay-statuses, keygen-statuses, judge-statuses}
+use Rattle.bar_cli.proofs.RunLemmas.{over-no_link}
+use Rattle.bar_cli.proofs.StatusLemmas.{never-linked, never-six, quiet, peer-statuses, broadcaster-statuses, replay-statuses, keygen-statuses, judge-statuses}
 use Rattle.bar_cli.proofs.run.run_command.Goals as goal
 
-other-line : (names : ReplayFiles) (asked : Keygen) → ◌≡◌ {A = Line} (replay names) (keygen asked) → ⊥
-other-line names asked e = cc
+-- the other commands are not `keygen`
 
-judge-line : (names : JudgeFiles) (asked : Keygen) → ◌≡◌ {A = Line} (judge names) (keygen asked) → ⊥
-judge-line names asked e = cc
+peer-other : (names : PeerNames) (asked : Keygen) → ◌≡◌ {A = Line} (peer names) (keygen asked) → ⊥
+peer-other names asked e = cc
+
+broadcaster-other : (names : CasterNames) (asked : Keygen) → ◌≡◌ {A = Line} (broadcaster names) (keygen asked) → ⊥
+broadcaster-other names asked e = cc
+
+replay-other : (names : ReplayFiles) (asked : Keygen) → ◌≡◌ {A = Line} (replay names) (keygen asked) → ⊥
+replay-other names asked e = cc
+
+judge-other : (names : JudgeFiles) (asked : Keygen) → ◌≡◌ {A = Line} (judge names) (keygen asked) → ⊥
+judge-other names asked e = cc
 
 same-line : (a b : Keygen) → ◌≡◌ {A = Line} (keygen a) (keygen b) → a ≡ b
 same-line a b e = cc
 
+-- `peer`
+
+pub returns-in-Peer-clause-ends : goal.returns-in-Peer-clause-ends
+returns-in-Peer-clause-ends g c = rw (c.in-Peer.is, c.status_of_live.ensures.code, c.status_of_live.ensures.line) c.peer.ensures.ends
+
+pub returns-in-Peer-clause-statuses : goal.returns-in-Peer-clause-statuses
+returns-in-Peer-clause-statuses g c =
+    rw (c.in-Peer.is, c.status_of_live.ensures.code) (peer-statuses (peer_view c.in-Peer.names) c.peer.result c.peer.ensures.answers)
+
+pub returns-in-Peer-clause-leaves : goal.returns-in-Peer-clause-leaves
+returns-in-Peer-clause-leaves g c =
+    λ asked is. absurd (peer-other (peer_view c.in-Peer.names) asked (sym (ap command_view c.in-Peer.is) ∙ is))
+
+pub returns-in-Peer-clause-unprinted : goal.returns-in-Peer-clause-unprinted
+returns-in-Peer-clause-unprinted g c = rw (c.in-Peer.is, c.status_of_live.ensures.code) c.peer.ensures.unprinted
+
+pub returns-in-Peer-clause-unlinked : goal.returns-in-Peer-clause-unlinked
+returns-in-Peer-clause-unlinked g c = rw c.in-Peer.is (λ none. absurd (true≢false none))
+
+-- `broadcaster`
+
+pub returns-in-Broadcaster-clause-ends : goal.returns-in-Broadcaster-clause-ends
+returns-in-Broadcaster-clause-ends g c =
+    rw (c.in-Broadcaster.is, c.status_of_live-in-Broadcaster.ensures.code, c.status_of_live-in-Broadcaster.ensures.line)
+    c.broadcaster.ensures.ends
+
+pub returns-in-Broadcaster-clause-statuses : goal.returns-in-Broadcaster-clause-statuses
+returns-in-Broadcaster-clause-statuses g c =
+    rw (c.in-Broadcaster.is, c.status_of_live-in-Broadcaster.ensures.code)
+    (broadcaster-statuses (caster_view c.in-Broadcaster.names) c.broadcaster.result)
+
+pub returns-in-Broadcaster-clause-leaves : goal.returns-in-Broadcaster-clause-leaves
+returns-in-Broadcaster-clause-leaves g c =
+    λ asked is. absurd (broadcaster-other (caster_view c.in-Broadcaster.names) asked (sym (ap command_view c.in-Broadcaster.is) ∙ is))
+
+pub returns-in-Broadcaster-clause-unprinted : goal.returns-in-Broadcaster-clause-unprinted
+returns-in-Broadcaster-clause-unprinted g c =
+    rw (c.in-Broadcaster.is, c.status_of_live-in-Broadcaster.ensures.code) c.broadcaster.ensures.unprinted
+
+pub returns-in-Broadcaster-clause-unlinked : goal.returns-in-Broadcaster-clause-unlinked
+returns-in-Broadcaster-clause-unlinked g c = rw c.in-Broadcaster.is (λ none. absurd (true≢false none))
+
+-- `replay`
+
 pub returns-in-Replay-clause-ends : goal.returns-in-Replay-clause-ends
-returns-in-Replay-clause-ends g c = rw (c.in-Replay.is, c.status_of.ensures.code, c.status_of.ensures.line) c.replay.ensures.ends
+returns-in-Replay-clause-ends g c =
+    rw (c.in-Replay.is, c.status_of.ensures.code, c.status_of.ensures.line)
+    (over-no_link _ _ _ _ _ (g.L.Link.wire c.args.link.now) _ _ (never-six _ _ _ _ _ refl refl (c.replay.ensures.ends quiet))
+    (c.replay.ensures.ends (with_wire quiet (g.L.Link.wire c.args.link.now))))
 
 pub returns-in-Replay-clause-statuses : goal.returns-in-Replay-clause-statuses
 returns-in-Replay-clause-statuses g c =
-    rw (c.in-Replay.is, c.status_of.ensures.code) (replay-statuses (names_view c.in-Replay.names) c.replay.result c.replay.ensures.answers)
+    rw (c.in-Replay.is, c.status_of.ensures.code) (replay-statuses (names_view c.in-Replay.names) c.replay.result c.replay.ensures.answers
+    (never-linked _ _ _ _ _ refl refl (c.replay.ensures.ends quiet)))
+
+pub returns-in-Replay-clause-leaves : goal.returns-in-Replay-clause-leaves
+returns-in-Replay-clause-leaves g c =
+    λ asked is. absurd (replay-other (names_view c.in-Replay.names) asked (sym (ap command_view c.in-Replay.is) ∙ is))
 
 pub returns-in-Replay-clause-unprinted : goal.returns-in-Replay-clause-unprinted
 returns-in-Replay-clause-unprinted g c = rw (c.in-Replay.is, c.status_of.ensures.code) c.replay.ensures.unprinted
 
-pub returns-in-Keygen-clause-unprinted : goal.returns-in-Keygen-clause-unprinted
-returns-in-Keygen-clause-unprinted g c = rw (c.in-Keygen.is, c.status_of-in-Keygen.ensures.code) c.keygen.ensures.unprinted
+-- `keygen`
 
 pub returns-in-Keygen-clause-ends : goal.returns-in-Keygen-clause-ends
-returns-in-Keygen-clause-ends g c = rw (c.in-Keygen.is, c.status_of-in-Keygen.ensures.code, c.status_of-in-Keygen.ensures.line) c.keygen.ensures.ends
+returns-in-Keygen-clause-ends g c =
+    rw (c.in-Keygen.is, c.status_of-in-Keygen.ensures.code, c.status_of-in-Keygen.ensures.line)
+    (over-no_link _ _ _ _ _ (g.L.Link.wire c.args.link.now) _ _ (never-six _ _ _ _ _ refl refl (c.keygen.ensures.ends quiet))
+    (c.keygen.ensures.ends (with_wire quiet (g.L.Link.wire c.args.link.now))))
 
 pub returns-in-Keygen-clause-statuses : goal.returns-in-Keygen-clause-statuses
-returns-in-Keygen-clause-statuses g c = rw (c.in-Keygen.is, c.status_of-in-Keygen.ensures.code) (keygen-statuses (keygen_view c.in-Keygen.asked) c.keygen.result c.keygen.ensures.answers)
-
-pub returns-in-Replay-clause-leaves : goal.returns-in-Replay-clause-leaves
-returns-in-Replay-clause-leaves g c = λ asked is. absurd (other-line (names_view c.in-Replay.names) asked (sym (ap command_view c.in-Replay.is) ∙ is))
+returns-in-Keygen-clause-statuses g c =
+    rw (c.in-Keygen.is, c.status_of-in-Keygen.ensures.code)
+    (keygen-statuses (keygen_view c.in-Keygen.asked) c.keygen.result c.keygen.ensures.answers
+    (never-linked _ _ _ _ _ refl refl (c.keygen.ensures.ends quiet)))
 
 pub returns-in-Keygen-clause-leaves : goal.returns-in-Keygen-clause-leaves
 returns-in-Keygen-clause-leaves g c = λ asked is.
     let same : keygen_view c.in-Keygen.asked ≡ asked = same-line _ _ (sym (ap command_view c.in-Keygen.is) ∙ is) in
-    rw c.status_of-in-Keygen.ensures.code (subst (λ (a : Keygen). (code_of_run c.keygen.result ≡ 4) ↔ HasFewLeaves a) same c.keygen.ensures.leaves)
+    rw c.status_of-in-Keygen.ensures.code
+    (subst (λ (a : Keygen). (code_of_run c.keygen.result ≡ 4) ↔ HasFewLeaves a) same c.keygen.ensures.leaves)
+
+pub returns-in-Keygen-clause-unprinted : goal.returns-in-Keygen-clause-unprinted
+returns-in-Keygen-clause-unprinted g c = rw (c.in-Keygen.is, c.status_of-in-Keygen.ensures.code) c.keygen.ensures.unprinted
+
+-- `judge`
 
 pub returns-in-Judge-clause-ends : goal.returns-in-Judge-clause-ends
-returns-in-Judge-clause-ends g c = rw (c.in-Judge.is, c.status_of-in-Judge.ensures.code, c.status_of-in-Judge.ensures.line) c.judge.ensures.ends
+returns-in-Judge-clause-ends g c =
+    rw (c.in-Judge.is, c.status_of-in-Judge.ensures.code, c.status_of-in-Judge.ensures.line)
+    (over-no_link _ _ _ _ _ (g.L.Link.wire c.args.link.now) _ _ (never-six _ _ _ _ _ refl refl (c.judge.ensures.ends quiet))
+    (c.judge.ensures.ends (with_wire quiet (g.L.Link.wire c.args.link.now))))
 
 pub returns-in-Judge-clause-statuses : goal.returns-in-Judge-clause-statuses
-returns-in-Judge-clause-statuses g c = rw (c.in-Judge.is, c.status_of-in-Judge.ensures.code) (judge-statuses (judge_view c.in-Judge.names) c.judge.result c.judge.ensures.answers)
+returns-in-Judge-clause-statuses g c =
+    rw (c.in-Judge.is, c.status_of-in-Judge.ensures.code)
+    (judge-statuses (judge_view c.in-Judge.names) c.judge.result c.judge.ensures.answers
+    (never-linked _ _ _ _ _ refl refl (c.judge.ensures.ends quiet)))
+
+pub returns-in-Judge-clause-leaves : goal.returns-in-Judge-clause-leaves
+returns-in-Judge-clause-leaves g c =
+    λ asked is. absurd (judge-other (judge_view c.in-Judge.names) asked (sym (ap command_view c.in-Judge.is) ∙ is))
 
 pub returns-in-Judge-clause-unprinted : goal.returns-in-Judge-clause-unprinted
 returns-in-Judge-clause-unprinted g c = rw (c.in-Judge.is, c.status_of-in-Judge.ensures.code) c.judge.ensures.unprinted
-
-pub returns-in-Judge-clause-leaves : goal.returns-in-Judge-clause-leaves
-returns-in-Judge-clause-leaves g c = λ asked is. absurd (judge-line (judge_view c.in-Judge.names) asked (sym (ap command_view c.in-Judge.is) ∙ is))

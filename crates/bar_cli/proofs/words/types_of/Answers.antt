@@ -8,7 +8,8 @@ use Rattle.bar_lms.specs.declared.params.Ots.TheVariants.{W1, W2, W4, W8}
 use Rattle.bar_lms.specs.declared.params.Params.{Params}
 use Rattle.bar_lms.specs.Params.{lms_type, ots_type}
 use Rattle.bar_roster.specs.Shapes.{height_of, ots_of, params_of}
-use Rattle.bar_cli.specs.Words.{number_in, types_of}
+use Rattle.bar_words.specs.Numbers.{number_in}
+use Rattle.bar_cli.specs.Words.{types_of}
 use Rattle.bar_cli.proofs.words.types_of.Goals as goal
 
 height-named : (lms : ℕ) → 5 ≤ lms → lms ≤ 7 → lms ≡ lms_type (height_of lms)
@@ -29,7 +30,8 @@ ots-named ots low high = by_tests (ots == 1) (ots == 2) (ots == 3) refl refl ref
     by_tests false false false e f h = grind (arith, nat_tests)
 
 -- the types of two numbers in their ranges
-named : (lms_word ots_word : List ℕ) (lms ots : ℕ) (r : Result Params BadType) → Some lms ≡ number_in 5 7 lms_word → Some ots ≡ number_in 1 4 ots_word →
+named : (lms_word ots_word : List ℕ) (lms ots : ℕ) (r : Result Params BadType) → Some lms ≡ number_in 5 7 lms_word →
+    Some ots ≡ number_in 1 4 ots_word →
     (5 ≤ lms) × (lms ≤ 7) → (1 ≤ ots) × (ots ≤ 4) → ((p : Params) → (r ≡ Ok p) ↔ ((lms ≡ lms_type p.height) × (ots ≡ ots_type p.ots))) →
     result_ok r ≡ types_of lms_word ots_word
 named lms_word ots_word lms ots r e f l o found =
@@ -40,5 +42,6 @@ named lms_word ots_word lms ots r e f l o found =
 pub returns : goal.returns
 returns c =
     c.ok.ensures.value
-    ∙ named c.args.lms.now c.args.ots.now c.in_ok-lms.field-0 c.in_ok-ots.field-0 c.of_types.result c.in_ok-lms.ensures.value c.in_ok-ots.ensures.value
+    ∙ named c.args.lms.now c.args.ots.now c.in_ok-lms.field-0 c.in_ok-ots.field-0 c.of_types.result c.in_ok-lms.ensures.value
+    c.in_ok-ots.ensures.value
     c.in_ok-lms.ensures.within c.in_ok-ots.ensures.within c.of_types.ensures.found

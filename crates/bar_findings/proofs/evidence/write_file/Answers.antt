@@ -5,12 +5,12 @@ use Rattle.bar_outside.proofs.Following.{followed, stopped}
 use Rattle.bar_findings.proofs.evidence.write_file.Goals as goal
 
 pub returns-in_err-create_file : goal.returns-in_err-create_file
-returns-in_err-create_file g c = λ out.
+returns-in_err-create_file g c = λ w.
     let p = err_from_is_err_and c.from_residual.result c.from_residual.ensures.1 in
     rw (p.1, p.2)
-    (stopped (create c.args.name.now ∷ []) (append c.args.name.now c.args.bytes.now ∷ []) _ _ _ (c.in_err-create_file.ensures out))
+    (stopped (create c.args.name.now ∷ []) (append c.args.name.now c.args.bytes.now ∷ []) _ _ _ (c.in_err-create_file.ensures w))
 
 pub returns : goal.returns
-returns g c = λ out.
+returns g c = λ w.
     followed (create c.args.name.now ∷ []) (append c.args.name.now c.args.bytes.now ∷ []) _ _ _ _
-    (c.in_ok-create_file.ensures out) _ (c.append_file.ensures out)
+    (c.in_ok-create_file.ensures w) _ (c.append_file.ensures w)

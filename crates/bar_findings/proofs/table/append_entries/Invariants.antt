@@ -1,9 +1,8 @@
 use Rattle.std.proofs.Common.{Ok, map}
 use Rattle.bar_bytes.specs.Rooms.{kept_in}
-use Rattle.bar_outside.specs.Plan.{outside}
+use Rattle.bar_outside.specs.Plan.{Outside, with_files}
 use Rattle.bar_outside.specs.Plan.Action.{append}
 use Rattle.bar_outside.specs.Follows.{Follows}
-use Rattle.bar_outside.specs.Stream.{Stream}
 use Rattle.bar_wire.specs.Grammar.{entry as entry_bytes}
 use Rattle.bar_findings.specs.Findings.{AreShort, in_order}
 use Rattle.bar_findings.proofs.table.append_entries.Given as goal
@@ -11,6 +10,6 @@ use Rattle.bar_findings.proofs.table.append_entries.Given as goal
 -- the entries of the rounds so far were appended
 abbrev pub invariant-loop-before : goal.invariant-loop-before
 invariant-loop-before g l =
-    (out : Stream) → AreShort (kept_in l.manifests) →
+    (w : Outside) → AreShort (kept_in l.manifests) →
     Follows {T = Unit {0}} (map (append l.name) (map entry_bytes (in_order (kept_in l.manifests) l.before)))
-    (outside (g.F.Files.disk l.fn.files) out) (outside (g.F.Files.disk l.files) out) (Ok tt)
+    (with_files w (g.F.Files.disk l.fn.files)) (with_files w (g.F.Files.disk l.files)) (Ok tt)

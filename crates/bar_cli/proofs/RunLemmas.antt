@@ -1,0 +1,157 @@
+-- How a command ends over a link.
+use Rattle.std.proofs.Common.{◌≡◌, ◌⊎◌, ◌||◌, ℕ, true, false, List, [], ◌++◌, Option, None, Some, Result, Ok, Err, IsTrue, refl, sym, ap, ◌∙◌, subst, take, inl, inr, arith}
+use Rattle.bar_outside.specs.Disk.{Content, Disk, readable}
+use Rattle.bar_outside.specs.Ends.{EndsWith, Prints, Says, is_plain}
+use Rattle.bar_outside.specs.Plan.{Outside, Plan, accepting, ending, line_at, no_memory, outside, read_then, reading}
+use Rattle.bar_outside.specs.Stream.{Stream}
+use Rattle.bar_outside.specs.Wire.{Arrival, Wire}
+use Rattle.bar_outside.proofs.Ending.{EndsWith-memory, Ends-or_memory, said}
+use Rattle.bar_seeds.specs.declared.secrets.Secrets.{Secrets}
+use Rattle.bar_roster.specs.SessionText.{SessionData}
+use Rattle.bar_live.specs.Accepting.{fresh_key_of, room_of, session_of, stream_in}
+use Rattle.bar_live.specs.CasterPlan.{CasterNames, caster_key_plan, caster_plan, caster_run_plan, caster_stream_plan}
+use Rattle.bar_live.specs.PeerPlan.{PeerNames, peer_key_plan, peer_plan, peer_run_plan}
+use Rattle.bar_live.specs.Refusals.{key_refused, session_refused, stream_refused}
+use Rattle.bar_live.specs.Running.{RunEnds, RunEndsWith}
+use Rattle.bar_live.proofs.RunFollowing.{heard-nothing}
+use Rattle.bar_cli.specs.Line.{Line, peer, broadcaster, replay, keygen, judge, plan_of, usage}
+
+-- ---- which plan it was
+
+-- a command without a link took nothing from it
+pub over-no_link : (plan : Content → Plan) (files files_new : Disk) (out out_new : Stream) (wire : Wire) (status : ℕ) (line : List ℕ) →
+    (status ≡ 6 → ⊥) → EndsWith plan (outside files out wire) (outside files_new out_new wire) status line →
+    RunEndsWith (λ given. plan) (outside files out wire) (outside files_new out_new wire) status line
+over-no_link plan files files_new out out_new wire status line other ends = record {
+  given = [];
+  heard = heard-nothing (outside files out wire) (outside files_new out_new wire) (λ told. refl);
+  ends = ends;
+  answers = λ reliable. other;
+}
+
+-- memory was wanting before anything was done
+pub no-memory : (plan : List Arrival → Content → Plan) (old : Outside) → RunEndsWith plan old old 70 no_memory
+no-memory plan old = record {
+  given = [];
+  heard = heard-nothing old old (λ told. refl);
+  ends = EndsWith-memory (plan []) old;
+  answers = λ reliable e. absurd (omega arith);
+}
+
+-- want of memory may come in place of any status
+pub run-ends : (plan : List Arrival → Content → Plan) (old new : Outside) (status result : ℕ) (line : List ℕ) →
+    (result ≡ status) ⊎ (result ≡ 70) → RunEndsWith plan old new status line → RunEnds plan old new result
+run-ends plan old new status result line code r = record {
+  given = r.given;
+  heard = r.heard;
+  ends = Ends-or_memory (plan r.given) old new status result code r.ends.ends;
+  answers = λ reliable e. elim code [ inl same ↦ r.answers reliable (sym same ∙ e) | inr seventy ↦ absurd (omega arith) ];
+}
+
+-- the plan of these words is that of this line
+pub ends-as : (words : Option Line) (line : Line) (old new : Outside) (status result : ℕ) (text : List ℕ) → words ≡ Some line →
+    (result ≡ status) ⊎ (result ≡ 70) → RunEndsWith (plan_of words) old new status text → RunEnds (plan_of (Some line)) old new result
+ends-as words line old new status result text is code r =
+    subst (λ asked. RunEnds (plan_of asked) old new result) is (run-ends (plan_of words) old new status result text code r)
+
+-- ---- the line of its end is the same whatever the link gives
+
+reading-line : (path : List ℕ) (some others : List ℕ → Content → Plan) (content : Content) →
+    ((bytes : List ℕ) → (some bytes content).line ≡ (others bytes content).line) →
+    (reading path some content).line ≡ (reading path others content).line
+reading-line path some others content h = by_bytes (readable content path)
+  where
+    by_bytes : (o : Option (List ℕ)) → (read_then path some content o).line ≡ (read_then path others content o).line
+    by_bytes None = refl
+    by_bytes (Some bytes) = h bytes
+
+accepting-line : {A E : Type 0} (r : Result A E) (some others : A → Content → Plan) (refused : E → Content → Plan) (content : Content) →
+    ((meant : A) → (some meant content).line ≡ (others meant content).line) →
+    (accepting r some refused content).line ≡ (accepting r others refused content).line
+accepting-line (Ok meant) some others refused content h = h meant
+accepting-line (Err fault) some others refused content h = refl
+
+-- what comes behind each read, by what the link gives
+
+abbrev peer-with_session : PeerNames → List Arrival → List ℕ → Content → Plan
+peer-with_session names given text =
+    accepting (session_of text) (peer_key_plan names given) (λ fault. ending 4 (session_refused fault))
+
+abbrev peer-with_key : PeerNames → List Arrival → SessionData → List ℕ → Content → Plan
+peer-with_key names given s bytes =
+    accepting (fresh_key_of false s bytes) (peer_run_plan names s given) (λ fault. ending 5 (key_refused fault))
+
+abbrev caster-with_session : CasterNames → List Arrival → List ℕ → Content → Plan
+caster-with_session names given text =
+    accepting (session_of text) (caster_key_plan names given) (λ fault. ending 4 (session_refused fault))
+
+abbrev caster-with_key : CasterNames → List Arrival → SessionData → List ℕ → Content → Plan
+caster-with_key names given s bytes =
+    accepting (fresh_key_of true s bytes) (caster_stream_plan names s given) (λ fault. ending 5 (key_refused fault))
+
+abbrev caster-with_stream : CasterNames → List Arrival → SessionData → Secrets → List ℕ → Content → Plan
+caster-with_stream names given s k bytes =
+    accepting (stream_in s bytes) (caster_run_plan names s k given) (λ have. ending 8 (stream_refused have (room_of s)))
+
+peer-line : (names : PeerNames) (given : List Arrival) (content : Content) →
+    (peer_plan names given content).line ≡ (peer_plan names [] content).line
+peer-line names given content =
+    reading-line names.session (peer-with_session names given) (peer-with_session names []) content (λ text.
+    accepting-line (session_of text) (peer_key_plan names given) (peer_key_plan names [])
+    (λ fault. ending 4 (session_refused fault)) content
+    (λ s.
+    reading-line names.key (peer-with_key names given s) (peer-with_key names [] s) content (λ bytes.
+    accepting-line (fresh_key_of false s bytes) (peer_run_plan names s given) (peer_run_plan names s [])
+    (λ fault. ending 5 (key_refused fault)) content (λ k. refl))))
+
+broadcaster-line : (names : CasterNames) (given : List Arrival) (content : Content) →
+    (caster_plan names given content).line ≡ (caster_plan names [] content).line
+broadcaster-line names given content =
+    reading-line names.session (caster-with_session names given) (caster-with_session names []) content (λ text.
+    accepting-line (session_of text) (caster_key_plan names given) (caster_key_plan names [])
+    (λ fault. ending 4 (session_refused fault)) content
+    (λ s.
+    reading-line names.key (caster-with_key names given s) (caster-with_key names [] s) content (λ bytes.
+    accepting-line (fresh_key_of true s bytes) (caster_stream_plan names s given) (caster_stream_plan names s [])
+    (λ fault. ending 5 (key_refused fault)) content (λ k.
+    reading-line names.stream (caster-with_stream names given s k) (caster-with_stream names [] s k) content (λ stream.
+    accepting-line (stream_in s stream) (caster_run_plan names s k given) (caster_run_plan names s k [])
+    (λ have. ending 8 (stream_refused have (room_of s))) content (λ fits. refl))))))
+
+plan-line : (words : Option Line) (given : List Arrival) (content : Content) →
+    (plan_of words given content).line ≡ (plan_of words [] content).line
+plan-line None given content = refl
+plan-line (Some (peer names)) given content = peer-line names given content
+plan-line (Some (broadcaster names)) given content = broadcaster-line names given content
+plan-line (Some (replay names)) given content = refl
+plan-line (Some (keygen asked)) given content = refl
+plan-line (Some (judge names)) given content = refl
+
+line-same : (p q : Plan) (status : ℕ) → p.line ≡ q.line → line_at p status ≡ line_at q status
+line-same p q status e = ap (λ line. line_at (record { actions = []; status = 0; line = line }) status) e
+
+says-same : (p q : Plan) (status : ℕ) (old new : Stream) → p.line ≡ q.line → Says p status old new → Says q status old new
+says-same p q status old new e h = record {
+  later = h.later;
+  whole = λ told other none. h.whole told other none ∙ ap (λ line. old.bytes ++ line) (line-same p q status e);
+  front = λ told other.
+      let f = h.front told other in (f.0, f.1 ∙ ap (λ line. old.bytes ++ take f.0 line) (line-same p q status e));
+  no_memory = λ told is.
+      let f = h.no_memory told is in (f.0, f.1, f.2 ∙ ap (λ line. old.bytes ++ take f.0 line) (line-same p q f.1 e));
+}
+
+-- the line that words have that are no line
+usage-line : (words : Option Line) (given : List Arrival) (content : Content) (text : List ℕ) → words ≡ None → text ≡ usage →
+    text ≡ (plan_of words given content).line
+usage-line words given content text none is = is ∙ sym (ap (λ asked. (plan_of asked given content).line) none)
+
+-- what err has of it
+pub run-said : (words : Option Line) (old new : Outside) (status result : ℕ) (text : List ℕ) (err err_new : Stream) →
+    RunEndsWith (plan_of words) old new status text → Prints text result err err_new → (status ≡ 2 → words ≡ None) →
+    (status ≡ 2 → text ≡ usage) → (result ≡ status) ⊎ (result ≡ 70) → IsTrue (old.files.told || is_plain result) →
+    Says (plan_of words [] old.files.content) result err err_new
+run-said words old new status result text err err_new r prints none is code either =
+    says-same (plan_of words r.given old.files.content) (plan_of words [] old.files.content) result err err_new
+    (plan-line words r.given old.files.content)
+    (said (plan_of words r.given) old new status result text err err_new r.ends prints
+    (λ two. usage-line words r.given old.files.content text (none two) (is two)) code either)

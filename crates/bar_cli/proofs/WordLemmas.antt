@@ -1,0 +1,100 @@
+-- A command's line, from the values of its options.
+use Rattle.std.proofs.Common.{◌≡◌, ℕ, Bool, true, false, List, [], ◌∷◌, Option, None, Some, Result, Ok, Err, IfOk, refl, sym, ap, ◌∙◌, length, arith, slice_index_or, if◌then◌else◌, codes}
+use Rattle.std.proofs.lemmas.Slice.Eq.{bytes_eq-Decides}
+use Rattle.std.specs.Str.{bytes_eq}
+use Rattle.std.specs.Borrow.{Bor}
+use Rattle.std.specs.Option.{ok_or, option_and_then, option_map}
+use Rattle.bar_lms.specs.declared.params.Params.{Params}
+use Rattle.bar_roster.specs.NumberRanges.{most_rounds}
+use Rattle.bar_words.specs.Numbers.{id_of, number_in}
+use Rattle.bar_words.specs.Options.{texts}
+use Rattle.bar_words.specs.declared.options.WordsFault.{WordsFault}
+use Rattle.bar_words.specs.declared.options.WordsFault.TheVariants.{Usage}
+use Rattle.bar_cli.specs.Line.{Line, broadcaster_line, judge_line, keygen, keygen_line, keygen_values, line_of, peer_line, replay_line}
+use Rattle.bar_cli.specs.Words.{types_of}
+
+-- the values are found, and say what is asked for
+pub line-found : {A : Type 0} (view : A → Line) (meant : List (List ℕ) → Option Line) (values : List (List ℕ))
+    (given : Option (List (List ℕ)))
+    (found : Option A) (r : Result A WordsFault) → given ≡ Some values → option_map view found ≡ meant values → r ≡ ok_or found Usage →
+    IfOk r (λ names. option_and_then meant given ≡ Some (view names))
+line-found view meant values given (Some a) (Ok b) is says e =
+    let same : a ≡ b = cc in ap (option_and_then meant) is ∙ sym says ∙ ap (λ x. Some (view x)) same
+line-found view meant values given (Some a) (Err fault) is says e = absurd cc
+line-found view meant values given None (Ok b) is says e = absurd cc
+line-found view meant values given None (Err fault) is says e = tt
+
+-- or they say nothing
+pub line-missed : {A : Type 0} (view : A → Line) (meant : List (List ℕ) → Option Line) (values : List (List ℕ))
+    (given : Option (List (List ℕ)))
+    (found : Option A) (r : Result A WordsFault) → given ≡ Some values → option_map view found ≡ meant values → r ≡ ok_or found Usage →
+    r ≡ Err Usage → option_and_then meant given ≡ None
+line-missed view meant values given (Some a) r is says e usage = absurd cc
+line-missed view meant values given None r is says e usage = ap (option_and_then meant) is ∙ sym says
+
+-- ---- the name of the command
+
+differs : (a b : List ℕ) → (a ≡ b → ⊥) → bytes_eq a b ≡ false
+differs a b h = by_test (bytes_eq a b) refl
+  where
+    by_test : (t : Bool) → bytes_eq a b ≡ t → bytes_eq a b ≡ false
+    by_test true e = absurd (h ((bytes_eq-Decides a b).0 e))
+    by_test false e = e
+
+none-of : (p b r k j : Bool) (P B R K J : Option Line) → p ≡ false → b ≡ false → r ≡ false → k ≡ false → j ≡ false →
+    (if p then P else if b then B else if r then R else if k then K else if j then J else None) ≡ None
+none-of p b r k j P B R K J e f g h i = rw (e, f, g, h, i) refl
+
+-- another name is none of a command
+pub no-command : (name : List ℕ) (options : List (List ℕ)) → (name ≡ codes "peer" → ⊥) → (name ≡ codes "broadcaster" → ⊥) →
+    (name ≡ codes "replay" → ⊥) → (name ≡ codes "keygen" → ⊥) → (name ≡ codes "judge" → ⊥) → line_of (name ∷ options) ≡ None
+no-command name options p b r k j =
+    none-of (bytes_eq name (codes "peer")) (bytes_eq name (codes "broadcaster")) (bytes_eq name (codes "replay"))
+    (bytes_eq name (codes "keygen")) (bytes_eq name (codes "judge")) (peer_line options) (broadcaster_line options) (replay_line options)
+    (keygen_line options) (judge_line options) (differs name (codes "peer") p) (differs name (codes "broadcaster") b)
+    (differs name (codes "replay") r) (differs name (codes "keygen") k) (differs name (codes "judge") j)
+
+-- ---- the values of `keygen`
+
+-- seven values
+pub seven-are : (xs : List (Bor (List ℕ))) (d : Bor (List ℕ)) → length xs ≡ 7 →
+    texts xs
+    ≡ (slice_index_or xs 0 d).now ∷ (slice_index_or xs 1 d).now ∷ (slice_index_or xs 2 d).now ∷ (slice_index_or xs 3 d).now
+    ∷ (slice_index_or xs 4 d).now ∷ (slice_index_or xs 5 d).now ∷ (slice_index_or xs 6 d).now ∷ []
+seven-are [] d e = absurd (omega arith)
+seven-are (p ∷ []) d e = absurd (omega arith)
+seven-are (p ∷ i ∷ []) d e = absurd (omega arith)
+seven-are (p ∷ i ∷ r ∷ []) d e = absurd (omega arith)
+seven-are (p ∷ i ∷ r ∷ l ∷ []) d e = absurd (omega arith)
+seven-are (p ∷ i ∷ r ∷ l ∷ o ∷ []) d e = absurd (omega arith)
+seven-are (p ∷ i ∷ r ∷ l ∷ o ∷ s ∷ []) d e = absurd (omega arith)
+seven-are (p ∷ i ∷ r ∷ l ∷ o ∷ s ∷ k ∷ []) d e = refl
+seven-are (p ∷ i ∷ r ∷ l ∷ o ∷ s ∷ k ∷ x ∷ xs) d e = absurd (omega arith)
+
+-- more or fewer ask for nothing
+pub not-seven : (xs : List (Bor (List ℕ))) → (length xs ≡ 7 → ⊥) → None ≡ keygen_values (texts xs)
+not-seven [] h = refl
+not-seven (p ∷ []) h = refl
+not-seven (p ∷ i ∷ []) h = refl
+not-seven (p ∷ i ∷ r ∷ []) h = refl
+not-seven (p ∷ i ∷ r ∷ l ∷ []) h = refl
+not-seven (p ∷ i ∷ r ∷ l ∷ o ∷ []) h = refl
+not-seven (p ∷ i ∷ r ∷ l ∷ o ∷ s ∷ []) h = refl
+not-seven (p ∷ i ∷ r ∷ l ∷ o ∷ s ∷ k ∷ []) h = absurd (h refl)
+not-seven (p ∷ i ∷ r ∷ l ∷ o ∷ s ∷ k ∷ x ∷ xs) h = refl
+
+-- what they ask for, where each is in its range
+pub keygen-asked : (party_word id_word rounds_word lms ots secret key : List ℕ) (party : ℕ) (id : List ℕ) (rounds : ℕ) (params : Params) →
+    Some party ≡ number_in 0 200 party_word → Some id ≡ id_of id_word → Some rounds ≡ number_in 1 most_rounds rounds_word →
+    Some params ≡ types_of lms ots →
+    Some (keygen (record { party = party; id = id; rounds = rounds; params = params; secret = secret; key = key }))
+    ≡ keygen_values (party_word ∷ id_word ∷ rounds_word ∷ lms ∷ ots ∷ secret ∷ key ∷ [])
+keygen-asked party_word id_word rounds_word lms ots secret key party id rounds params p i r t =
+    let asked : ℕ → List ℕ → ℕ → Params → Line = λ q j n m.
+    keygen (record { party = q; id = j; rounds = n; params = m; secret = secret; key = key }) in
+    ap (option_and_then (λ m. Some (asked party id rounds m))) t
+    ∙ ap (option_and_then (λ n. option_and_then (λ m. Some (asked party id n m)) (types_of lms ots))) r
+    ∙ ap (option_and_then (λ j. option_and_then (λ n. option_and_then (λ m. Some (asked party j n m)) (types_of lms ots))
+    (number_in 1 most_rounds rounds_word))) i
+    ∙ ap (option_and_then (λ q. option_and_then (λ j. option_and_then (λ n. option_and_then (λ m. Some (asked q j n m)) (types_of lms ots))
+    (number_in 1 most_rounds rounds_word)) (id_of id_word))) p

@@ -1,0 +1,3 @@
+pub mod Stepwise
+pub mod Mapped
+pub mod OverLists

@@ -1,0 +1,164 @@
+-- How commands end that run over a link.
+use Rattle.std.proofs.Common.{◌≡◌, ◌⊎◌, ℕ, List, [], Vec, Result, Ok, Err, IsTrue, false, if◌then◌else◌, refl, sym, ap, subst, inl, inr}
+use Rattle.std.proofs.Common.{arith}
+use Rattle.std.specs.declared.alloc.Global.{Global}
+use Rattle.bar_outside.specs.Disk.{Content, Disk, Reads}
+use Rattle.bar_outside.specs.Stream.{Stream}
+use Rattle.bar_outside.specs.declared.files.FileFault.{FileFault}
+use Rattle.bar_outside.specs.declared.files.FileFault.TheVariants as file
+use Rattle.bar_outside.specs.declared.fault.Fault.{Fault}
+use Rattle.bar_outside.specs.declared.fault.Fault.TheVariants.{File, Link, NoMemory, Output}
+use Rattle.bar_outside.specs.Ends.{EndsWith}
+use Rattle.bar_outside.specs.Follows.{IsReliable}
+use Rattle.bar_outside.specs.Faults.{code_after, code_of_fault, fault_of_file, line_after, line_of_fault}
+use Rattle.bar_outside.specs.Plan.{Action, CanRun, Outside, Plan, accepting, doing, is_stop, line_at, no_memory, outside, reading}
+use Rattle.bar_outside.specs.Wire.{Arrival, Wire}
+use Rattle.bar_outside.proofs.Ending.{EndsWith-accepted, EndsWith-doing, EndsWith-memory, EndsWith-reading, EndsWith-refused}
+use Rattle.bar_outside.proofs.Ending.{EndsWith-unread, no_stop}
+use Rattle.bar_core.specs.Rules.{Rules}
+use Rattle.bar_live.specs.Running.{RunEndsWith, RunFollows, status_of}
+use Rattle.bar_live.proofs.RunFollowing.{heard-nothing}
+
+-- a fault that isn't want of memory
+pub other-fault : {E : Type 0} (fault memory : E) (P : Type 0) → (fault ≡ memory) ⊎ P → (fault ≡ memory → ⊥) → P
+other-fault fault memory P (inl e) other = absurd (other e)
+other-fault fault memory P (inr p) other = p
+
+-- the run wasn't begun
+unbegun : (plan : List Arrival → Content → Plan) (old new : Outside) (status : ℕ) (line : List ℕ) → new.wire ≡ old.wire →
+    (status ≡ 6 → ⊥) → EndsWith (plan []) old new status line → RunEndsWith plan old new status line
+unbegun plan old new status line same other h = record {
+  given = [];
+  heard = heard-nothing old new (λ told. ap (λ (w : Wire). w.traffic.taken) same);
+  ends = h;
+  answers = λ reliable. other;
+}
+
+-- a read that isn't answered is no fault of the link
+no-link-read : (cause : FileFault) → code_of_fault (fault_of_file cause) ≡ 6 → ⊥
+no-link-read file.Failed e = absurd (omega arith)
+no-link-read file.NoMemory e = absurd (omega arith)
+
+-- the files are as reliable behind a read
+still-reliable : (path : List ℕ) (old mid : Disk) (out : Stream) (wire : Wire) (result : Result (Vec ℕ Global) FileFault) →
+    Reads path old mid result → IsReliable (outside old out wire) → IsReliable (outside mid out wire)
+still-reliable path old mid out wire result reads r = record {
+  told = subst IsTrue (sym reads.call.told) r.told;
+  files = subst IsTrue (sym reads.call.reliable) r.files;
+  out = r.out;
+  wire = r.wire;
+}
+
+-- ---- a file that is read, and the rest goes by what it stands for
+
+module _ {A E : Type 0} (path : List ℕ) (meaning : List ℕ → Result A E) (others : List Arrival → A → Content → Plan)
+    (refused : E → Content → Plan) (old mid : Disk) (out : Stream) (wire : Wire) where
+  abbrev plan : List Arrival → Content → Plan
+  plan given = reading path (λ text. accepting (meaning text) (others given) refused)
+
+  abbrev EndsSo : Outside → ℕ → List ℕ → Type 0
+  EndsSo new status line = RunEndsWith plan (outside old out wire) new status line
+
+  abbrev was : Outside
+  was = outside mid out wire
+
+  -- it wasn't read
+  pub unread : (cause : FileFault) → Reads path old mid (Err cause) →
+      EndsSo was (code_of_fault (fault_of_file cause)) (line_of_fault (fault_of_file cause))
+  unread cause reads =
+      unbegun plan (outside old out wire) was _ _ refl (no-link-read cause)
+      (EndsWith-unread path (λ text. accepting (meaning text) (others []) refused) old mid was cause reads)
+
+  module _ (bytes : Vec ℕ Global) (reads : Reads path old mid (Ok bytes)) where
+    -- memory was wanting
+    pub unmeant : EndsSo was 70 no_memory
+    unmeant =
+        unbegun plan (outside old out wire) was 70 no_memory refl (λ e. absurd (omega arith))
+        (EndsWith-reading path (λ text. accepting (meaning text) (others []) refused) old mid was was bytes 70 no_memory reads
+        (EndsWith-memory (accepting (meaning bytes.items) (others []) refused) was))
+
+    -- it is refused
+    pub refused-so : (fault : E) (status : ℕ) (line : List ℕ) → meaning bytes.items ≡ Err fault → is_stop status ≡ false →
+        EndsWith (refused fault) was was status line → EndsSo was status line
+    refused-so fault status line e go h =
+        unbegun plan (outside old out wire) was status line refl (no_stop 6 refl status go)
+        (EndsWith-reading path (λ text. accepting (meaning text) (others []) refused) old mid was was bytes status line reads
+        (EndsWith-refused (meaning bytes.items) fault (others []) refused was was status line e h))
+
+    -- it is accepted
+    pub accepted-so : (meant : A) (new : Outside) (status : ℕ) (line : List ℕ) → meaning bytes.items ≡ Ok meant →
+        RunEndsWith (λ given. others given meant) was new status line → EndsSo new status line
+    accepted-so meant new status line e h = record {
+      given = h.given;
+      heard = record { taken = h.heard.taken; told_end = h.heard.told_end };
+      ends =
+          EndsWith-reading path (λ text. accepting (meaning text) (others h.given) refused) old mid was new bytes status line reads
+          (EndsWith-accepted (meaning bytes.items) meant (others h.given) refused was new status line e h.ends);
+      answers = λ reliable. h.answers (still-reliable path old mid out wire (Ok bytes) reads reliable);
+    }
+
+-- ---- actions that go by what the link gave
+
+-- a fault ends a plan of these actions at any status
+at-fault : (actions : List Action) (first final : ℕ) (line : List ℕ) (old new : Outside) (fault : Fault) →
+    (code_of_fault fault ≡ first → ⊥) → EndsWith (doing actions first line) old new (code_of_fault fault) (line_of_fault fault) →
+    EndsWith (doing actions final line) old new (code_of_fault fault) (line_of_fault fault)
+at-fault actions first final line old new fault other h = record {
+  ends = record {
+    later = h.ends.later;
+    file_rose = h.ends.file_rose;
+    file_named = h.ends.file_named;
+    link_rose = h.ends.link_rose;
+    output_rose = h.ends.output_rose;
+    carried = λ told go. absurd (no-end fault go);
+    at_once = λ none go. absurd (no-end fault go);
+    part = h.ends.part;
+    complete = λ reliable. elim (h.ends.complete reliable) [ inl e ↦ absurd (other e) | inr e ↦ inr e ];
+  };
+  line_is = λ either. same-line fault;
+}
+  where
+    no-end : (stop : Fault) → is_stop (code_of_fault stop) ≡ false → ⊥
+    no-end File e = cc
+    no-end Link e = cc
+    no-end Output e = cc
+    no-end NoMemory e = cc
+
+    same-line : (stop : Fault) → line_of_fault stop ≡ line_at (doing actions final line old.files.content) (code_of_fault stop)
+    same-line File = refl
+    same-line Link = refl
+    same-line Output = refl
+    same-line NoMemory = refl
+
+no-zero : (fault : Fault) → code_of_fault fault ≡ 0 → ⊥
+no-zero File e = absurd (omega arith)
+no-zero Link e = absurd (omega arith)
+no-zero Output e = absurd (omega arith)
+no-zero NoMemory e = absurd (omega arith)
+
+no-link-fault : {T : Type 0} (fault : Fault) → ◌≡◌ {A = Result T Fault} (Err fault) (Err NoMemory) → code_of_fault fault ≡ 6 → ⊥
+no-link-fault File e six = absurd (omega arith)
+no-link-fault Link e six = cc
+no-link-fault Output e six = absurd (omega arith)
+no-link-fault NoMemory e six = absurd (omega arith)
+
+-- so a command ends that follows them
+pub following : {T : Type 0} (actions : List Arrival → List Action) (r : Rules) (old new : Outside) (result : Result T Fault) →
+    ((given : List Arrival) (content : Content) → CanRun (actions given) content) → RunFollows actions r old new result →
+    RunEndsWith (λ given. doing (actions given) (status_of r given) []) old new (code_after 0 result) (line_after [] result)
+following actions r old new (Ok x) can h = record {
+  given = h.given;
+  heard = h.heard;
+  ends =
+      subst (λ b. EndsWith (doing (actions h.given) (if b then 0 else 6) []) old new 0 []) (sym h.ended)
+      (EndsWith-doing (actions h.given) 0 [] old new (λ told. can h.given old.files.content) refl (Ok x) h.follows);
+  answers = λ reliable e. absurd (omega arith);
+}
+following {T} actions r old new (Err fault) can h = record {
+  given = h.given;
+  heard = h.heard;
+  ends =
+      at-fault (actions h.given) 0 (status_of r h.given) [] old new fault (no-zero fault)
+      (EndsWith-doing (actions h.given) 0 [] old new (λ told. can h.given old.files.content) refl (Err fault) h.follows);
+  answers = λ reliable. no-link-fault {T = T} fault (h.follows.complete reliable (can h.given old.files.content));
+}

@@ -1,0 +1,76 @@
+-- How a command ends that runs over a link.
+use Rattle.std.specs.Prelude.{◌≡◌, ◌≢◌, ℕ, List, ◌∷◌, [], ◌++◌, IsTrue, OnOk, Result, true, if◌then◌else◌}
+use Rattle.bar_lms.specs.Params.{lms_type, ots_type}
+use Rattle.bar_outside.specs.Disk.{Content}
+use Rattle.bar_outside.specs.Ends.{Ends, EndsWith}
+use Rattle.bar_outside.specs.Follows.{Follows, IsReliable}
+use Rattle.bar_outside.specs.declared.fault.Fault.{Fault}
+use Rattle.bar_outside.specs.Plan.{Action, Outside, Plan}
+use Rattle.bar_outside.specs.Plan.Action.{append, create, link}
+use Rattle.bar_outside.specs.Plan.LinkCall.{bind}
+use Rattle.bar_outside.specs.Wire.{Arrival, Bound, bound_by}
+use Rattle.bar_seeds.specs.declared.secrets.Secrets.{Secrets}
+use Rattle.bar_roster.specs.KeyText.{key_data, key_text_of}
+use Rattle.bar_roster.specs.SessionText.{SessionData}
+use Rattle.bar_core.specs.Rules.{Rules}
+use Rattle.bar_node.specs.Runs.{has_end, heard, is_ended}
+
+-- This is what the link gave: it tells it as taken, and tells its end where it gave it.
+pub record HasHeard (given : List Arrival) (old new : Outside) : Type 0 where
+  pub taken : IsTrue old.wire.told → new.wire.traffic.taken ≡ old.wire.traffic.taken ++ heard given
+  pub told_end : IsTrue old.wire.told → has_end given ≡ true → new.wire.traffic.ended ≡ true
+
+-- A command whose plan goes by what the link gives, and by what the files held, ended with this status.
+pub record RunEnds (plan : List Arrival → Content → Plan) (old new : Outside) (status : ℕ) : Type 0 where
+  pub given : List Arrival
+  pub heard : HasHeard given old new
+  pub ends : Ends (plan given) old new status
+  -- where nothing fails by itself, the link is never refused
+  pub answers : IsReliable old → status ≢ 6
+
+-- it ended so, and this is the line of its end
+pub record RunEndsWith (plan : List Arrival → Content → Plan) (old new : Outside) (status : ℕ) (line : List ℕ) : Type 0 where
+  pub given : List Arrival
+  pub heard : HasHeard given old new
+  pub ends : EndsWith (plan given) old new status line
+  -- where nothing fails by itself, the link is never refused
+  pub answers : IsReliable old → status ≢ 6
+
+-- ---- what `peer` and `broadcaster` have in common
+
+-- the text of a key that is spent
+abbrev pub spent_text : SessionData → Secrets → List ℕ
+spent_text s k =
+    key_text_of (key_data k.party s.shape.id s.shape.rounds (lms_type s.params.height) (ots_type s.params.ots) k.secret true)
+
+-- the key file is written anew, as spent
+abbrev pub spending : List ℕ → SessionData → Secrets → List Action
+spending key s k = create key ∷ append key (spent_text s k) ∷ []
+
+-- what the link of a party is bound to
+abbrev pub place_of : ℕ → SessionData → Secrets → Bound
+place_of begin_ms s k = bound_by k.party s.port begin_ms s.tick_ms
+
+abbrev pub binding : ℕ → SessionData → Secrets → Action
+binding begin_ms s k = link (bind (place_of begin_ms s k))
+
+-- The status of a run that is done. One that isn't at its end asks the link again, and ends only where that is refused.
+abbrev pub status_of : Rules → List Arrival → ℕ
+status_of r given = if is_ended r given then 0 else 6
+
+-- A list of actions that goes by what the link gives was followed.
+pub record RunFollows {T : Type 0} (actions : List Arrival → List Action) (r : Rules) (old new : Outside) (result : Result T Fault) : Type 0 where
+  pub given : List Arrival
+  pub heard : HasHeard given old new
+  pub follows : Follows (actions given) old new result
+  pub ended : OnOk result (IsTrue (is_ended r given))
+
+-- ---- words for laws on how such a command ends, where the files tell what they hold
+
+-- at whatever status it ended
+abbrev pub OfEachRun : (List Arrival → Content → Plan) → (Outside → Outside → ℕ → Type 0) → Type 0
+OfEachRun plan P = (old new : Outside) (status : ℕ) → RunEnds plan old new status → IsTrue old.files.told → P old new status
+
+-- where it ended with this status
+abbrev pub AtRunEnd : ℕ → (List Arrival → Content → Plan) → (Outside → Outside → Type 0) → Type 0
+AtRunEnd status plan P = (old new : Outside) → RunEnds plan old new status → IsTrue old.files.told → P old new

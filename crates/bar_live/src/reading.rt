@@ -1,0 +1,31 @@
+//! Reading the files of a command.
+ghost use Rattle.std.specs.Prelude.{◌≡◌, ◌⊎◌, Ok, Err, IfOk, IfErr};
+ghost use Rattle.bar_roster.specs.KeyFile.{IsKeyFileOf};
+ghost use Rattle.bar_live.specs.Accepting.{fresh_key_of, session_of};
+
+use bar_roster::{KeyFile, KeyFileFault, Session, SessionFault};
+use std::alloc::Global;
+
+/// The session that a text spells.
+#[tactic(auto, unfolding(crate::specs::Accepting::session_of))]
+pub fn read_session(alloc: Global, text: &[u8]) -> Result<Session, SessionFault>
+    ensures ok { IfOk result (λ session. session_of text.now ≡ Ok session) }
+    ensures err { IfErr result (λ fault. (fault ≡ SessionFault.NoMemory) ⊎ (session_of text.now ≡ Err fault)) }
+{
+    Session::read(alloc, text)
+}
+
+/// The fresh key file of the session's broadcaster, or of one of its peers.
+#[tactic(auto, unfolding(crate::specs::Accepting::fresh_key_of))]
+pub fn read_fresh_key(
+    alloc: Global,
+    bytes: &[u8],
+    session: &Session,
+    caster: bool,
+) -> Result<KeyFile, KeyFileFault>
+    ensures ok { IfOk result (λ key. fresh_key_of caster session.now bytes.now ≡ Ok key.secrets) }
+    ensures err { IfErr result (λ fault. (fault ≡ KeyFileFault.NoMemory) ⊎ (fresh_key_of caster session.now bytes.now ≡ Err fault)) }
+    ensures fits { IfOk result (IsKeyFileOf session.now caster) }
+{
+    KeyFile::read(alloc, bytes, session, caster, true)
+}

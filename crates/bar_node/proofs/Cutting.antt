@@ -1,0 +1,287 @@
+-- Where a plan of turns was stopped.
+use Rattle.std.proofs.Common.{◌≡◌, ◌≢◌, ◌≤◌, ◌⊎◌, ℕ, ◌+◌, ◌==◌, nat_le, not, Bool, true, false, cond, List, [], ◌∷◌, ◌++◌, length, refl, sym, ap, ◌∙◌, subst, inl, inr, arith, append-nil, append_assoc, length-append, Option, Some, None}
+use Rattle.std.specs.List.{flat_map}
+use Rattle.std.proofs.lemmas.Grind.{flat_map-append}
+use Rattle.std.proofs.lemmas.List.{append_cancel_left}
+use Rattle.bar_wire.specs.Inputs.{Input}
+use Rattle.bar_wire.specs.Inputs as plain
+use Rattle.bar_record.specs.Pacing.{paced_from, ticks_of}
+use Rattle.bar_outside.specs.Wire.{Arrival, Datagram, End, Tick}
+use Rattle.bar_outside.specs.Plan.{Action, Begun, IsPartOf, IsPartOfNext, LinkCall}
+use Rattle.bar_outside.specs.Plan.Action.{append, create, link, read, show}
+use Rattle.bar_outside.specs.Plan.LinkCall.{receive}
+use Rattle.bar_outside.proofs.ActionLists.{Begun-both, Begun-first}
+use Rattle.bar_core.specs.Rules.{Rules}
+use Rattle.bar_node.specs.Turns.{Layout, turn, turns}
+use Rattle.bar_node.specs.Runs.{due_if, heard, input_of, inputs_of, node_from, run_if, taken_of}
+use Rattle.bar_node.specs.Stops.{Cut, IsFront}
+use Rattle.bar_node.proofs.TurnLists.{paced-step, received, received_by}
+use Rattle.bar_node.proofs.Receiving.{TakeNothing, received-nothing, take-nothing-begun}
+use Rattle.bar_node.proofs.Yields.{Yields, cons-nil, front-behind, front-none, front-same, front-trans, front-gives, over, own, own-then, own_of, same-gives, turns-give}
+
+-- ---- one input after another
+
+-- the inputs over which some turns were done, and the one that was done in part
+pub record InTurn (lay : Layout) (r : Rules) (before inputs : List Input) (tail done : List Action) : Type 0 where
+  pub whole : List Input
+  pub last : List Input
+  pub left : List Input
+  pub part : List Action
+  pub rest : List Action
+  pub is : inputs ≡ whole ++ (last ++ left)
+  pub one : length last ≤ 1
+  pub done_is : done ≡ turns lay r before whole ++ part
+  pub begun : Begun (turns lay r (before ++ whole) last ++ rest) part
+  pub rest_is : (rest ≡ []) ⊎ (rest ≡ tail)
+  pub begins : (length last ≡ 1) ⊎ (left ≡ [])
+
+begun-one : (plan part : List Action) → Begun plan part → Begun ((plan ++ []) ++ []) part
+begun-one plan part b = subst (λ xs. Begun xs part) (sym (append-nil (plan ++ []) ∙ append-nil plan)) b
+
+pub in-turn : (lay : Layout) (r : Rules) (before inputs : List Input) (tail done : List Action) →
+    Begun (turns lay r before inputs ++ tail) done → InTurn lay r before inputs tail done
+in-turn lay r before [] tail done b = record {
+  whole = [];
+  last = [];
+  left = [];
+  part = done;
+  rest = tail;
+  is = refl;
+  one = omega arith;
+  done_is = refl;
+  begun = b;
+  rest_is = inr refl;
+  begins = inr refl;
+}
+in-turn lay r before (x ∷ xs) tail done b =
+    elim (Begun-both (turn lay r before x) (turns lay r (before ++ x ∷ []) xs ++ tail) done
+    (subst (λ plan. Begun plan done) (append_assoc (turn lay r before x) (turns lay r (before ++ x ∷ []) xs) tail) b)) [
+      | inl m ↦ record {
+        whole = [];
+        last = x ∷ [];
+        left = xs;
+        part = done;
+        rest = [];
+        is = refl;
+        one = omega arith;
+        done_is = refl;
+        begun = subst (λ h. Begun (turns lay r h (x ∷ []) ++ []) done) (sym (append-nil before)) (begun-one (turn lay r before x) done m.2);
+        rest_is = inl refl;
+        begins = inl refl;
+      }
+      | inr m ↦
+          let i = in-turn lay r (before ++ x ∷ []) xs tail m.0 m.2 in
+          record {
+            whole = x ∷ i.whole;
+            last = i.last;
+            left = i.left;
+            part = i.part;
+            rest = i.rest;
+            is = ap (λ zs. x ∷ zs) i.is;
+            one = i.one;
+            done_is = m.1 ∙ ap (λ zs. turn lay r before x ++ zs) i.done_is
+                ∙ sym (append_assoc (turn lay r before x) (turns lay r (before ++ x ∷ []) i.whole) i.part);
+            begun = subst (λ h. Begun (turns lay r h i.last ++ i.rest) i.part) (append_assoc before (x ∷ []) i.whole) i.begun;
+            rest_is = i.rest_is;
+            begins = i.begins;
+          }
+    ]
+
+-- of two inputs at most, one is left at most
+most-left : (inputs whole last left : List Input) → length inputs ≤ 2 → inputs ≡ whole ++ (last ++ left) →
+    (length last ≡ 1) ⊎ (left ≡ []) → length left ≤ 1
+most-left inputs whole last left few is (inr none) = rw none (omega arith)
+most-left inputs whole last left few is (inl one) =
+    let n = length-append whole (last ++ left) in
+    let m = length-append last left in
+    let k : length inputs ≡ length (whole ++ (last ++ left)) = ap length is in
+    omega arith
+
+-- ---- what was received
+
+no-part-link : (part : Action) (call : LinkCall) → IsPartOf part (link call) → ⊥
+no-part-link (read path) call h = h
+no-part-link (create path) call h = h
+no-part-link (append path bytes) call h = h
+no-part-link (show bytes) call h = h
+no-part-link (link other) call h = h
+
+heard-cons : (a : Arrival) (rest : List Arrival) → heard (a ∷ rest) ≡ heard (a ∷ []) ++ heard rest
+heard-cons Tick rest = refl
+heard-cons (Datagram bytes) rest = refl
+heard-cons End rest = refl
+
+few-due : (last ticks run : ℕ) (o : Option Input) → length (due_if last ticks run o) ≤ 2
+few-due last ticks run None = omega arith
+few-due last ticks run (Some plain.Tick) = by_test (nat_le last ticks)
+  where
+    by_test : (b : Bool) → length (cond b [] (plain.Tick ∷ [])) ≤ 2
+    by_test true = omega arith
+    by_test false = omega arith
+few-due last ticks run (Some (plain.Datagram bytes)) = by_tests (nat_le last ticks) (not (run == 65536)) (nat_le last (ticks + 1))
+  where
+    by_tests : (a b d : Bool) →
+        length (cond a [] (cond b (plain.Datagram bytes ∷ []) (cond d (plain.Tick ∷ []) (plain.Tick ∷ plain.Datagram bytes ∷ [])))) ≤ 2
+    by_tests true b d = omega arith
+    by_tests false true d = omega arith
+    by_tests false false true = omega arith
+    by_tests false false false = omega arith
+
+-- ---- one arrival after another
+
+nil-or-not : {X : Type 0} (xs : List X) → (xs ≡ []) ⊎ (xs ≢ [])
+nil-or-not [] = inl refl
+nil-or-not (x ∷ xs) = inr (λ e. cc)
+
+-- where all that is given is the end, no input is due and nothing is done
+ends-only : (lay : Layout) (r : Rules) (before : List Input) (run : ℕ) (given : List Arrival) → heard given ≡ [] →
+    (inputs_of given ≡ []) × (own (node_from lay r before run given) ≡ [])
+ends-only lay r before run [] e = (refl, refl)
+ends-only lay r before run (Tick ∷ given) e = absurd (cons-nil Tick (heard given) e)
+ends-only lay r before run (Datagram bytes ∷ given) e = absurd (cons-nil (Datagram bytes) (heard given) e)
+ends-only lay r before run (End ∷ given) e = ends-only lay r (before ++ []) run given e
+
+-- The turns of the inputs of all arrivals that are told but the last were done, and the last was received.
+pub record Late (lay : Layout) (r : Rules) (before now : List Input) (run : ℕ) (given : List Arrival)
+    (tail done : List Action) : Type 0 where
+  pub earlier : List Input
+  pub due_now : List Input
+  pub few : length due_now ≤ 2
+  pub is : now ++ paced_from r.last (ticks_of (before ++ now)) run (inputs_of given) ≡ earlier ++ due_now
+  pub more : List Action
+  pub rest : List Action
+  pub done_is : own done ≡ own (turns lay r before earlier ++ more)
+  pub rest_is : own rest ≡ own tail
+  pub begun : Begun (turns lay r (before ++ earlier) due_now ++ rest) more
+
+module _ (lay : Layout) (r : Rules) (silent : (before inputs : List Input) → TakeNothing (turns lay r before inputs))
+    (tail : List Action) where
+  -- some inputs are due, and no more come
+  late-end : (before now : List Input) (run : ℕ) (given : List Arrival) (done : List Action) → length now ≤ 2 → heard given ≡ [] →
+      Begun (turns lay r before now ++ (node_from lay r (before ++ now) run given ++ tail)) done → Late lay r before now run given tail done
+  late-end before now run given done few none b =
+      let acts : List Action = node_from lay r (before ++ now) run given in
+      let e = ends-only lay r (before ++ now) run given none in
+      record {
+        earlier = [];
+        due_now = now;
+        few = few;
+        is = ap (λ inputs. now ++ paced_from r.last (ticks_of (before ++ now)) run inputs) e.0 ∙ append-nil now;
+        more = done;
+        rest = acts ++ tail;
+        done_is = refl;
+        rest_is = flat_map-append own_of acts tail ∙ ap (λ xs. xs ++ own tail) e.1;
+        begun = subst (λ h. Begun (turns lay r h now ++ (acts ++ tail)) done) (sym (append-nil before)) b;
+      }
+
+  -- some inputs are due, and others come with what the link gave
+  pub late : (before now : List Input) (run : ℕ) (given : List Arrival) (done : List Action) → length now ≤ 2 →
+      received done ≡ heard given → Begun (turns lay r before now ++ (node_from lay r (before ++ now) run given ++ tail)) done →
+      Late lay r before now run given tail done
+  late before now run [] done few all b = late-end before now run [] done few refl b
+  late before now run (a ∷ given) done few all b =
+      let last : ℕ = r.last in
+      let then : List Input = due_if last (ticks_of (before ++ now)) run (input_of a) in
+      let next : ℕ = run_if run (input_of a) in
+      let others : List Action = node_from lay r ((before ++ now) ++ then) next given in
+      let first : Action = link (receive (Some a)) in
+      let plan : List Action = (turns lay r (before ++ now) then ++ others) ++ tail in
+      elim (nil-or-not (heard (a ∷ given))) [
+        | inl none ↦ late-end before now run (a ∷ given) done few none b
+        | inr some ↦ elim (Begun-both (turns lay r before now) (first ∷ plan) done b) [
+          | inl m ↦
+              let none : received done ≡ [] =
+              received-nothing done (take-nothing-begun (turns lay r before now) done (silent before now) m.2) in
+              absurd (some (sym all ∙ none))
+          | inr m ↦
+              let received_is : received m.0 ≡ heard (a ∷ given) =
+              ap (λ xs. xs ++ received m.0) (sym (received-nothing (turns lay r before now) (silent before now)))
+              ∙ sym (flat_map-append received_by (turns lay r before now) m.0)
+              ∙ sym (ap received m.1) ∙ all in
+              elim (Begun-first first plan m.0 m.2) [
+                | inl e ↦ absurd (some (sym received_is ∙ ap received e.0))
+                | inr two ↦ elim two [
+                  | inl part ↦ absurd (no-part-link part.0 (receive (Some a)) part.2)
+                  | inr n ↦
+                      let rest : received n.0 ≡ heard given =
+                      append_cancel_left (heard (a ∷ [])) (received n.0) (heard given)
+                      (sym (ap received n.1) ∙ received_is ∙ heard-cons a given) in
+                      let i =
+                      late (before ++ now) then next given n.0 (few-due last (ticks_of (before ++ now)) run (input_of a)) rest
+                      (subst (λ p. Begun p n.0) (append_assoc (turns lay r (before ++ now) then) others tail) n.2) in
+                      record {
+                        earlier = now ++ i.earlier;
+                        due_now = i.due_now;
+                        few = i.few;
+                        is = ap (λ xs. now ++ xs) (paced-step last (before ++ now) run a given ∙ i.is)
+                            ∙ sym (append_assoc now i.earlier i.due_now);
+                        more = i.more;
+                        rest = i.rest;
+                        done_is = own-then lay r before now i.earlier done m.0 i.more (ap own m.1) (ap own n.1 ∙ i.done_is);
+                        rest_is = i.rest_is;
+                        begun = subst (λ h. Begun (turns lay r h i.due_now ++ i.rest) i.more) (append_assoc before now i.earlier) i.begun;
+                      }
+                ]
+              ]
+        ]
+      ]
+
+-- ---- where a run was stopped
+
+-- The turns of all inputs that were begun but the last were done, and the last one's in part; or all turns, and some of what comes behind.
+pub record StopAt (lay : Layout) (r : Rules) (given : List Arrival) (tail done : List Action) : Type 0 where
+  pub cut : Cut (taken_of r given)
+  pub part : List Action
+  pub rest : List Action
+  pub done_is : own done ≡ own (turns lay r [] cut.whole ++ part)
+  pub begun : Begun (turns lay r cut.whole cut.last ++ rest) part
+  pub rest_is : (rest ≡ []) ⊎ (own rest ≡ own tail)
+
+stop-late : (lay : Layout) (r : Rules) (tail : List Action) (given : List Arrival) (done : List Action)
+    (l : Late lay r [] [] 0 given tail done) → InTurn lay r l.earlier l.due_now l.rest l.more → StopAt lay r given tail done
+stop-late lay r tail given done l t = record {
+  cut = record {
+    whole = l.earlier ++ t.whole;
+    last = t.last;
+    left = t.left;
+    is = l.is ∙ ap (λ xs. l.earlier ++ xs) t.is ∙ sym (append_assoc l.earlier t.whole (t.last ++ t.left));
+    one = t.one;
+    most = most-left l.due_now t.whole t.last t.left l.few t.is t.begins;
+  };
+  part = t.part;
+  rest = t.rest;
+  done_is = own-then lay r [] l.earlier t.whole done l.more t.part l.done_is (ap own t.done_is);
+  begun = t.begun;
+  rest_is = elim t.rest_is [ inl none ↦ inl none | inr same ↦ inr (ap own same ∙ l.rest_is) ];
+}
+
+-- where a run was stopped that tells all that was given
+pub stop-at : (lay : Layout) (r : Rules) (silent : (before inputs : List Input) → TakeNothing (turns lay r before inputs))
+    (tail : List Action) (given : List Arrival) (done : List Action) → received done ≡ heard given →
+    Begun (node_from lay r [] 0 given ++ tail) done → StopAt lay r given tail done
+stop-at lay r silent tail given done all b =
+    let l = late lay r silent tail [] [] 0 given done (omega arith) all b in
+    stop-late lay r tail given done l (in-turn lay r l.earlier l.due_now l.rest l.more l.begun)
+
+-- what was given until then
+module _ {X : Type 0} (lay : Layout) (r : Rules) (gives : Action → List X) (one : List Input → Input → List X) (y : Yields lay r gives one)
+    (given : List Arrival) (tail done : List Action) (s : StopAt lay r given tail done) where
+  pub given-whole : flat_map gives done ≡ over one [] s.cut.whole ++ flat_map gives s.part
+  given-whole =
+      same-gives gives y.none done (turns lay r [] s.cut.whole ++ s.part) s.done_is
+      ∙ flat_map-append gives (turns lay r [] s.cut.whole) s.part
+      ∙ ap (λ xs. xs ++ flat_map gives s.part) (turns-give lay r gives one y [] s.cut.whole)
+
+  pub given-part : (end : List X) → flat_map gives tail ≡ end → IsFront (flat_map gives s.part) (over one s.cut.whole s.cut.last ++ end)
+  given-part end e =
+      front-trans _ _ _
+      (subst (IsFront (flat_map gives s.part))
+      (flat_map-append gives (turns lay r s.cut.whole s.cut.last) s.rest
+      ∙ ap (λ xs. xs ++ flat_map gives s.rest) (turns-give lay r gives one y s.cut.whole s.cut.last))
+      (front-gives lay r gives one y (turns lay r s.cut.whole s.cut.last ++ s.rest) s.part s.begun))
+      (front-behind (over one s.cut.whole s.cut.last) (flat_map gives s.rest) end
+      (elim s.rest_is [
+        | inl none ↦ subst (λ acts. IsFront (flat_map gives acts) end) (sym none) (front-none end)
+        | inr same ↦
+            subst (IsFront (flat_map gives s.rest)) (same-gives gives y.none s.rest tail same ∙ e) (front-same (flat_map gives s.rest))
+      ]))

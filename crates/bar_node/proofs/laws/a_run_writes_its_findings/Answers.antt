@@ -1,0 +1,8 @@
+use Rattle.bar_node.proofs.FoundFiles.{found-whole}
+use Rattle.bar_node.proofs.Stopping.{beside, whole-run}
+use Rattle.bar_node.proofs.laws.a_run_writes_its_findings.Goals as goal
+
+pub returns : goal.returns
+returns g c = λ recording played found r core files files_new wire wire_new summary ran.
+    found-whole recording played found r ran.given (beside files wire) (beside files_new wire_new)
+    (whole-run recording played found r (g.C.Core.stands core) files files_new wire wire_new summary ran) ran.ended

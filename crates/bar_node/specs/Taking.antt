@@ -1,0 +1,17 @@
+-- What a core is after it took inputs.
+use Rattle.std.specs.Prelude.{◌≡◌, List, ◌++◌}
+use Rattle.std.specs.Option.{option_copied}
+use Rattle.bar_wire.specs.Inputs.{Input}
+use Rattle.bar_core.specs.Rules.{Rules}
+use Rattle.bar_node.specs.Turns.{Layout, node_layout}
+use Rattle.bar_node.specs.Counting.{counts_over}
+use Rattle.bar_node.specs.declared.counts.Counts.{Counts}
+use Rattle.bar_node.specs.declared.kept.Kept.{Kept}
+
+-- Behind those that were taken before, these inputs were taken, and all that they play and send was counted.
+pub record Took (before : List Input) (now : List Input → Type 0) (r : Rules) (inputs : List Input) (counts : Counts) : Type 0 where
+  pub stands : now (before ++ inputs)
+  pub counted : counts ≡ counts_over r before inputs
+
+abbrev pub layout_of : Kept → Layout
+layout_of kept = node_layout (option_copied kept.recording) (option_copied kept.played)

@@ -1,0 +1,71 @@
+//! Giving out what an input plays and sends.
+ghost use Rattle.std.specs.Prelude.{◌≡◌, ◌≤◌, ℕ, [], List, length, IfOk, OnOk};
+ghost use Rattle.std.specs.List.{concat, flat_map};
+ghost use Rattle.std.specs.Option.{option_copied};
+ghost use Rattle.bar_outside.specs.Plan.{Outside, with_files, with_wire};
+ghost use Rattle.bar_outside.specs.Follows.{Follows};
+ghost use Rattle.bar_wire.specs.Inputs as plain;
+ghost use Rattle.bar_wire.specs.Limits.{largest_content, largest_datagram};
+ghost use Rattle.bar_core.specs.Face.{Keeps};
+ghost use Rattle.bar_core.specs.Rules.{Send};
+ghost use Rattle.bar_node.specs.Turns.{kept, sent};
+ghost use Rattle.bar_node.specs.Counting.{capped};
+
+use bar_core::Core;
+use bar_outside::{Fault, Files, Link, append_file, send_datagram};
+
+/// Adds bytes to a file, where one is kept.
+pub fn keep_bytes<F: Files>(files: &mut F, path: Option<&str>, bytes: &[u8]) -> Result<(), Fault>
+    ensures { (w : Outside) → Follows (kept (option_copied path.entry) bytes.now)
+        (with_files w (F.disk files.old)) (with_files w (F.disk files.new)) result }
+{
+    match path {
+        Some(path) => append_file(files, path, bytes),
+        None => Ok(()),
+    }
+}
+
+/// Plays the contents of the last input that are still to be given out, and answers how many bytes they have.
+pub fn play_all<C: Core, F: Files>(
+    core: &mut C,
+    files: &mut F,
+    played: Option<&str>,
+    buf: &mut [u8],
+) -> Result<u64, Fault>
+    requires { largest_content ≤ length buf.old }
+    ensures follows { (w : Outside) → Follows (flat_map (kept (option_copied played.entry)) (C.face core.old).plays)
+        (with_files w (F.disk files.old)) (with_files w (F.disk files.new)) result }
+    ensures count { IfOk result (λ count. count ≡ capped (length (concat (C.face core.old).plays))) }
+    ensures keeps { OnOk result (Keeps (C.stands core.old) (C.stands core.new) (C.face core.old) (C.face core.new)) }
+    ensures played { OnOk result ((C.face core.new).plays ≡ []) }
+    ensures left { OnOk result ((C.face core.new).left ≡ (C.face core.old).left) }
+    ensures owes { OnOk result ((inputs : List plain.Input) (sends : List Send) →
+        C.owes core.old inputs sends → C.owes core.new inputs sends) }
+{
+    let mut count: u64 = 0;
+    'contents: while let Some(len) = core.give_content(buf) {
+        keep_bytes(files, played, &buf[..len])?;
+        count = count.saturating_add(len as u64);
+    }
+    Ok(count)
+}
+
+/// Sends the datagrams of the last input that are still to be given out, and answers how many they are.
+pub fn send_all<C: Core, L: Link>(core: &mut C, link: &mut L, buf: &mut [u8]) -> Result<u64, Fault>
+    requires { largest_datagram ≤ length buf.old }
+    ensures follows { (inputs : List plain.Input) (sends : List Send) → C.stands core.old inputs → C.owes core.old inputs sends →
+        (w : Outside) (number : ℕ) → Follows (flat_map (sent number) sends)
+        (with_wire w (L.wire link.old)) (with_wire w (L.wire link.new)) result }
+    ensures count { (inputs : List plain.Input) (sends : List Send) → C.stands core.old inputs → C.owes core.old inputs sends →
+        IfOk result (λ count. count ≡ capped (length sends)) }
+    ensures keeps { OnOk result (Keeps (C.stands core.old) (C.stands core.new) (C.face core.old) (C.face core.new)) }
+    ensures sent { OnOk result ((C.face core.new).left ≡ 0) }
+    ensures plays { OnOk result ((C.face core.new).plays ≡ (C.face core.old).plays) }
+{
+    let mut count: u64 = 0;
+    'datagrams: while let Some((to, len)) = core.give_datagram(buf) {
+        send_datagram(link, to, &buf[..len])?;
+        count = count.saturating_add(1);
+    }
+    Ok(count)
+}

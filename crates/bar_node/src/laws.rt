@@ -1,0 +1,110 @@
+//! What stands after a run over a link.
+ghost use Rattle.std.specs.Prelude.{◌≡◌, ◌++◌, ◌<◌, ◌^◌, [], ℕ, List, Option, Result, Some, Ok, Err, IsTrue, false};
+ghost use Rattle.bar_outside.specs.Disk.{Disk};
+ghost use Rattle.bar_outside.specs.Plan.{Outside, Ran, Touches};
+ghost use Rattle.bar_outside.specs.Wire.{Arrival, Wire};
+ghost use Rattle.bar_outside.specs.declared.fault.Fault.{Fault};
+ghost use Rattle.bar_core.specs.Rules.{Rules};
+ghost use Rattle.bar_core.specs.Runs.{sends_over};
+ghost use Rattle.bar_node.specs.Runs.{RanNode, found_after, is_ended, node_plan, taken_of};
+ghost use Rattle.bar_node.specs.Stops.{AreApart, DonePeer, FoundBy, HasRun, IsOther, StoppedPeer, StoppedSending};
+ghost use Rattle.bar_node.specs.declared.summary.Summary.{Summary};
+
+use bar_core::Core;
+
+/// A run that ends has sent exactly what the list taken sends.
+pub fn a_run_sends<C: Core>()
+    ensures { (recording played : Option (List ℕ)) (found : List ℕ) (r : Rules) (core : C) (files files_new : Disk)
+        (wire wire_new : Wire) (summary : Summary) →
+        (ran : RanNode recording played found r (C.stands core) files files_new wire wire_new (Ok summary)) → IsTrue wire.told →
+        wire_new.traffic.sent ≡ wire.traffic.sent ++ sends_over r [] (taken_of r ran.given) }
+{}
+
+/// A run that is stopped has sent what all inputs begun but the last one send, and a front of what the last one sends; at most one input
+/// that is due wasn't begun.
+pub fn a_stopped_run_sent<C: Core>()
+    ensures { (recording played : Option (List ℕ)) (found : List ℕ) (r : Rules) (core : C) (files files_new : Disk)
+        (wire wire_new : Wire) (fault : Fault) →
+        (ran : RanNode recording played found r (C.stands core) files files_new wire wire_new (Err fault)) → IsTrue wire.told →
+        StoppedSending r ran.given wire wire_new }
+{}
+
+/// A peer that ends has sent and played all, and its recording is that of the list taken, with its end.
+pub fn a_peer_keeps<C: Core>()
+    ensures { (recording played found : List ℕ) (r : Rules) (core : C) (files files_new : Disk) (wire wire_new : Wire)
+        (summary : Summary) →
+        (ran : RanNode (Some recording) (Some played) found r (C.stands core) files files_new wire wire_new (Ok summary)) →
+        AreApart recording played found → DonePeer recording played r ran.given files files_new wire wire_new }
+{}
+
+/// A peer that is stopped has sent, played and recorded all of the inputs begun but the last one, and a front of the last one's.
+pub fn a_stopped_peer_kept<C: Core>()
+    ensures { (recording played found : List ℕ) (r : Rules) (core : C) (files files_new : Disk) (wire wire_new : Wire)
+        (fault : Fault) →
+        (ran : RanNode (Some recording) (Some played) found r (C.stands core) files files_new wire wire_new (Err fault)) →
+        IsTrue wire.told → AreApart recording played found →
+        StoppedPeer recording played r ran.given files files_new wire wire_new }
+{}
+
+/// A run that ends has written what was found of the list taken, and changed no file but these, the recording and the played file.
+pub fn a_run_writes_its_findings<C: Core>()
+    ensures { (recording played : Option (List ℕ)) (found : List ℕ) (r : Rules) (core : C) (files files_new : Disk) (wire wire_new : Wire)
+        (summary : Summary) →
+        (ran : RanNode recording played found r (C.stands core) files files_new wire wire_new (Ok summary)) → IsTrue files.told →
+        r.peers < 2 ^ 64 → FoundBy recording played found r (taken_of r ran.given) files.content files_new.content }
+{}
+
+/// However a run ends, it changed no file but the recording, the played file and those of what was found.
+pub fn a_run_changes_its_files<C: Core>()
+    ensures { (recording played : Option (List ℕ)) (found : List ℕ) (r : Rules) (core : C) (files files_new : Disk) (wire wire_new : Wire)
+        (result : Result Summary Fault) →
+        (ran : RanNode recording played found r (C.stands core) files files_new wire wire_new result) → IsTrue files.told →
+        (path : List ℕ) → IsOther recording played (found_after found r (taken_of r ran.given)) path →
+        files_new.content path ≡ files.content path }
+{}
+
+// ---- a run as a part of another plan
+
+/// A run that was done has sent exactly what the list taken sends.
+pub fn a_whole_run_sent()
+    ensures { (recording played : Option (List ℕ)) (found : List ℕ) (r : Rules) (given : List Arrival) (old new : Outside) →
+        Ran (node_plan recording played found r given) old new → IsTrue old.wire.told →
+        new.wire.traffic.sent ≡ old.wire.traffic.sent ++ sends_over r [] (taken_of r given) }
+{}
+
+/// A peer's run that was done, up to its end, has sent and played all, and its recording is that of the list taken, with its end.
+pub fn a_whole_peer_kept()
+    ensures { (recording played found : List ℕ) (r : Rules) (given : List Arrival) (old new : Outside) →
+        Ran (node_plan (Some recording) (Some played) found r given) old new → IsTrue (is_ended r given) → AreApart recording played found →
+        DonePeer recording played r given old.files new.files old.wire new.wire }
+{}
+
+/// A run that was done, up to its end, has written what was found of the list taken, and changed no file but these, the recording and the
+/// played file.
+pub fn a_run_finds()
+    ensures { (recording played : Option (List ℕ)) (found : List ℕ) (r : Rules) (given : List Arrival) (old new : Outside) →
+        Ran (node_plan recording played found r given) old new → IsTrue (is_ended r given) → IsTrue old.files.told → r.peers < 2 ^ 64 →
+        FoundBy recording played found r (taken_of r given) old.files.content new.files.content }
+{}
+
+/// A run of which so much was done has sent what all inputs begun but the last one send, and a front of what the last one sends.
+pub fn a_part_of_a_run_sent()
+    ensures { (recording played : Option (List ℕ)) (found : List ℕ) (r : Rules) (given : List Arrival) (old new : Outside) →
+        HasRun recording played found r given old new → IsTrue old.wire.told → old.wire.traffic.ended ≡ false →
+        StoppedSending r given old.wire new.wire }
+{}
+
+/// A peer's run of which so much was done has sent, played and recorded all of the inputs begun but the last one, and a front of the last
+/// one's.
+pub fn a_part_of_a_peer_kept()
+    ensures { (recording played found : List ℕ) (r : Rules) (given : List Arrival) (old new : Outside) →
+        HasRun (Some recording) (Some played) found r given old new → IsTrue old.wire.told → old.wire.traffic.ended ≡ false →
+        AreApart recording played found → StoppedPeer recording played r given old.files new.files old.wire new.wire }
+{}
+
+/// A run creates and adds to no file but the recording, the played file and those of what was found.
+pub fn a_run_touches_its_files()
+    ensures { (recording played : Option (List ℕ)) (found : List ℕ) (r : Rules) (given : List Arrival) (path : List ℕ) →
+        IsOther recording played (found_after found r (taken_of r given)) path →
+        Touches (node_plan recording played found r given) path → ⊥ }
+{}

@@ -1,0 +1,119 @@
+//! What a node does with an input.
+ghost use Rattle.std.specs.Prelude.{◌≡◌, ◌≤◌, ◌<◌, ◌∷◌, [], List, length, IfOk, OnOk};
+ghost use Rattle.std.specs.Option.{option_copied};
+ghost use Rattle.bar_wire.specs.Inputs as plain;
+ghost use Rattle.bar_outside.specs.Plan.{Outside, with_files, with_wire};
+ghost use Rattle.bar_outside.specs.Follows.{Follows};
+ghost use Rattle.bar_record.specs.Recording.{entry_bytes, IsInRange};
+ghost use Rattle.bar_record.specs.Pacing.{due, is_datagram, run_after};
+ghost use Rattle.bar_core.specs.Face.{IsIdle};
+ghost use Rattle.bar_node.specs.Turns.{kept, turns};
+ghost use Rattle.bar_node.specs.Taking.{Took, layout_of};
+
+use crate::counts::Counts;
+use crate::giving::{play_all, send_all};
+use crate::kept::Kept;
+use bar_core::Core;
+use bar_outside::{Fault, Files, Link, append_file};
+use bar_record::{Paced, entry};
+use bar_wire::Input;
+
+/// Whether an input is a datagram.
+pub fn is_datagram(input: &Input<'_>) -> bool
+    ensures { result ≡ is_datagram (plain.plain_input input.now) }
+{
+    match input {
+        Input::Tick => false,
+        Input::Datagram(_) => true,
+    }
+}
+
+// Adds an input's entry to the recording, where one is kept.
+fn keep_entry<F: Files>(
+    files: &mut F,
+    recording: Option<&str>,
+    input: &Input<'_>,
+    buf: &mut [u8],
+) -> Result<(), Fault>
+    requires room { 65510 ≤ length buf.old }
+    requires datagram { IsInRange (plain.plain_input input.now) }
+    ensures { (w : Outside) → Follows (kept (option_copied recording.entry) (entry_bytes (plain.plain_input input.now)))
+        (with_files w (F.disk files.old)) (with_files w (F.disk files.new)) result }
+{
+    match recording {
+        Some(path) => {
+            let len = entry(input, buf);
+            append_file(files, path, &buf[..len])
+        }
+        None => Ok(()),
+    }
+}
+
+/// Takes an input: its entry is kept, what it plays is kept, and what it sends is sent.
+pub fn take_input<C: Core, L: Link, F: Files>(
+    core: &mut C,
+    input: Input<'_>,
+    link: &mut L,
+    files: &mut F,
+    kept: &Kept<'_>,
+    buf: &mut [u8],
+) -> Result<Counts, Fault>
+    requires idle { IsIdle (C.face core.old) }
+    requires room { 65510 ≤ length buf.old }
+    requires datagram { IsInRange (plain.plain_input input) }
+    ensures follows { (before : List plain.Input) → C.stands core.old before → (w : Outside) →
+        Follows (turns (layout_of kept.now) (C.face core.old).rules before (plain.plain_input input.entry ∷ []))
+        (with_wire (with_files w (F.disk files.old)) (L.wire link.old))
+        (with_wire (with_files w (F.disk files.new)) (L.wire link.new)) result }
+    ensures took { (before : List plain.Input) → C.stands core.old before →
+        IfOk result (Took before (C.stands core.new) (C.face core.old).rules (plain.plain_input input.entry ∷ [])) }
+    ensures idle { OnOk result (IsIdle (C.face core.new)) }
+    ensures rules { OnOk result ((C.face core.new).rules ≡ (C.face core.old).rules) }
+{
+    keep_entry(files, kept.recording, &input, buf)?;
+    core.take(input);
+    let played = play_all(core, files, kept.played, buf)?;
+    let sent = send_all(core, link, buf)?;
+    Ok(Counts {
+        inputs: 1,
+        sent,
+        played,
+    })
+}
+
+/// Takes an input that came, with a tick before it where one is due. After the last tick nothing is taken.
+pub fn take_paced<C: Core, L: Link, F: Files>(
+    core: &mut C,
+    input: Input<'_>,
+    paced: &mut Paced,
+    link: &mut L,
+    files: &mut F,
+    kept: &Kept<'_>,
+    buf: &mut [u8],
+) -> Result<Counts, Fault>
+    requires idle { IsIdle (C.face core.old) }
+    requires goes { (C.face core.old).ticks < (C.face core.old).rules.last }
+    requires room { 65510 ≤ length buf.old }
+    requires datagram { IsInRange (plain.plain_input input) }
+    ensures follows { (before : List plain.Input) → C.stands core.old before → (w : Outside) →
+        Follows (turns (layout_of kept.now) (C.face core.old).rules before
+        (due (C.face core.old).rules.last (C.face core.old).ticks paced.old (plain.plain_input input.entry)))
+        (with_wire (with_files w (F.disk files.old)) (L.wire link.old))
+        (with_wire (with_files w (F.disk files.new)) (L.wire link.new)) result }
+    ensures took { (before : List plain.Input) → C.stands core.old before →
+        IfOk result (Took before (C.stands core.new) (C.face core.old).rules
+        (due (C.face core.old).rules.last (C.face core.old).ticks paced.old (plain.plain_input input.entry))) }
+    ensures idle { OnOk result (IsIdle (C.face core.new)) }
+    ensures rules { OnOk result ((C.face core.new).rules ≡ (C.face core.old).rules) }
+    ensures run { OnOk result (paced.new ≡ run_after paced.old (is_datagram (plain.plain_input input.entry))) }
+{
+    if !paced.due(is_datagram(&input)) {
+        return take_input(core, input, link, files, kept, buf);
+    }
+    let first = take_input(core, Input::Tick, link, files, kept, buf)?;
+    if core.is_over() {
+        return Ok(first);
+    }
+    let second = take_input(core, input, link, files, kept, buf)?;
+    Ok(first.with(second))
+}

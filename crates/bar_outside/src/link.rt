@@ -1,0 +1,45 @@
+//! Where ticks and datagrams come from, and where datagrams go.
+
+/// The most bytes of a datagram over a link.
+pub const LARGEST_PACKET: usize = 65_507;
+
+/// Why a call of the link failed.
+#[derive(Clone, Copy, Debug, PartialEq, Eq)]
+pub enum LinkFault {
+    /// The link refused the call. The count of faults rose.
+    Failed,
+    NoMemory,
+}
+
+/// What a link gave.
+#[derive(Clone, Copy, Debug, PartialEq, Eq)]
+pub enum Taken {
+    Tick,
+    /// A datagram of so many bytes, which stand at the front of the buffer.
+    Datagram(usize),
+    /// Nothing comes any more.
+    End,
+}
+
+/// A link. What it is bound to, gave and sent is told where `wire` says so.
+pub trait Link {
+    ghost use Rattle.std.specs.Prelude.{◌≤◌, length};
+    ghost use Rattle.bar_outside.specs.Wire.{Wire, Acts, Takes, bound_by, bound_to, largest_packet, sent_to};
+
+    ghost wire: { Self → Wire };
+
+    /// Binds the link to a party of a session with this port. The first tick is due at `begin_ms` of Unix time, and then one each `tick_ms`.
+    /// After a fault it is bound as it was.
+    fn bind(&mut self, me: u16, port: u16, begin_ms: u64, tick_ms: u32) -> Result<(), LinkFault>
+        ensures { Acts (bound_to (bound_by me port begin_ms tick_ms)) (wire self.old) (wire self.new) result };
+
+    /// Takes what comes next: a tick, a datagram, which is written to the front of the buffer and has at most 65,507 bytes, or the end. The
+    /// buffer has room for the largest datagram. After a fault nothing was taken.
+    fn next(&mut self, buf: &mut [u8]) -> Result<Taken, LinkFault>
+        requires { largest_packet ≤ length buf.old }
+        ensures { Takes buf.new (wire self.old) (wire self.new) result };
+
+    /// Sends a datagram to a party. After a fault nothing was sent.
+    fn send(&mut self, to: u16, bytes: &[u8]) -> Result<(), LinkFault>
+        ensures { Acts (sent_to to bytes.now) (wire self.old) (wire self.new) result };
+}

@@ -1,0 +1,6 @@
+/// A datagram that a link in memory sent, and its receiver.
+#[derive(Drop)]
+pub struct Sent {
+    pub to: u16,
+    pub bytes: Vec<u8>,
+}

@@ -1,0 +1,7 @@
+/// What a link in memory is to give.
+#[derive(Drop)]
+pub enum MemTaken {
+    Tick,
+    /// A datagram of at most 65,507 bytes.
+    Datagram(Vec<u8>),
+}
