@@ -27,6 +27,19 @@ pub record SessionData : Type 0 where
   pub keys : List (List ℕ)
   pub anchors : List (List ℕ)
 
+-- the session with these numbers, keys and anchors
+abbrev pub session_of_parts : Shape → ℕ → ℕ → ℕ → ℕ → Params → List (List ℕ) → List (List ℕ) → SessionData
+session_of_parts shape cap fanout port tick_ms params keys anchors = record {
+  shape = shape;
+  cap = cap;
+  fanout = fanout;
+  port = port;
+  tick_ms = tick_ms;
+  params = params;
+  keys = keys;
+  anchors = anchors;
+}
+
 -- ---- the numbers, in the order of their checks
 
 abbrev pub numbers_of : Members → Result Numbers SessionFault

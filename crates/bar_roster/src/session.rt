@@ -13,7 +13,7 @@ use crate::parties::{caster_key, entries_at, peers};
 use crate::{Key, SessionFault};
 use bar_lms::{Height, Ots, Params};
 use bar_wire::{LEAVES_A_ROUND, Shape};
-use std::alloc::Global;
+use std::alloc::{AllocError, Global};
 use std::marker::Model;
 use toml::Table;
 
@@ -139,6 +139,7 @@ fn parties_at(alloc: Global, table: &Table, numbers: &Numbers) -> Result<Session
 
 impl Session {
     ghost use Rattle.bar_roster.specs.Sessions.{IsSession};
+    ghost use Rattle.bar_roster.specs.SessionText.{session_of_parts};
 
     /// Reads a session text, or tells its first fault.
     pub fn read(alloc: Global, bytes: &[u8]) -> Result<Session, SessionFault>
@@ -148,6 +149,53 @@ impl Session {
         let table = document_table(alloc, bytes)?;
         let numbers = numbers_at(&table)?;
         parties_at(alloc, &table, &numbers)
+    }
+
+    /// The session with these numbers, the keys of its parties from 0 on, and the anchors of its peers from 1 on. They are those of a session,
+    /// but that keys may be equal.
+    pub fn made(
+        shape: Shape,
+        cap: u8,
+        fanout: u16,
+        port: u16,
+        tick_ms: u32,
+        params: Params,
+        keys: Vec<[u8; 56]>,
+        anchors: Vec<[u8; 32]>,
+    ) -> Session
+        requires { IsSession (session_of_parts shape cap fanout port tick_ms params keys.items anchors.items) }
+        ensures { result ≡ session_of_parts shape cap fanout port tick_ms params keys.items anchors.items }
+    {
+        Session {
+            shape,
+            cap,
+            fanout,
+            port,
+            tick_ms,
+            params,
+            keys,
+            anchors,
+        }
+    }
+
+    /// The same session once more.
+    pub fn copied(&self, alloc: Global) -> Result<Session, AllocError>
+        ensures { IfOk result (λ s. s ≡ self.now) }
+    {
+        let mut keys = vec![in alloc; [0u8; 56]; self.keys.len()]?;
+        keys.copy_from_slice(&self.keys);
+        let mut anchors = vec![in alloc; [0u8; 32]; self.anchors.len()]?;
+        anchors.copy_from_slice(&self.anchors);
+        Ok(Session {
+            shape: self.shape,
+            cap: self.cap,
+            fanout: self.fanout,
+            port: self.port,
+            tick_ms: self.tick_ms,
+            params: self.params,
+            keys,
+            anchors,
+        })
     }
 
     /// The numbers of the session's datagrams.

@@ -48,10 +48,10 @@ fn fault_of(alloc: Global, text: &str) -> Option<SessionFault> {
 }
 
 #[test]
-fn the_smallest_session_is_read(rt: HostRuntime) -> Result<(), Fail> {
+fn the_smallest_session_is_read_and_copied(rt: HostRuntime) -> Result<(), Fail> {
     let alloc = rt.alloc();
     let text = with_parties(alloc, small_numbers(alloc)?.as_str(), 5, 2)?;
-    let session = Session::read(alloc, text.as_bytes())?;
+    let session = Session::read(alloc, text.as_bytes())?.copied(alloc)?;
     let shape = session.shape();
     let wanted = Shape {
         version: 1,
