@@ -12,3 +12,7 @@ pub mod Plan
 pub mod Follows
 pub mod Ends
 pub mod Stages
+pub mod Children
+pub mod MemCalls
+pub mod MemSpawner
+pub mod OpenChildren

@@ -1,0 +1,167 @@
+-- Children that a spawner in memory has started, and those that aren't waited for.
+use Rattle.std.proofs.Common.{◌≡◌, ◌≤◌, ◌<◌, ◌+◌, ◌∙◌, ◌++◌, ◌∷◌, ◌==◌, ◌||◌, ◌&&◌, [], ℕ, zero, suc, ℤ, Bool, true, false, List, Option, nat_lt, if◌then◌else◌, refl, sym, ap, subst, inl, inr, arith}
+use Rattle.std.specs.List.{list_any, list_all}
+use Rattle.std.proofs.lemmas.List.Folds.{list_any-append}
+use Rattle.std.proofs.lemmas.Bool.{cases_Bool}
+use Rattle.std.proofs.lemmas.Bool.Decides.{nat_tests}
+use Rattle.bar_outside.specs.Children.{ChildCall, Started, Waited, child_of, is_named, is_started, is_waited, starts, waits}
+use Rattle.bar_outside.specs.OpenChildren.{are_below, open_below}
+
+-- ---- tests
+
+or-false : (b : Bool) → (b || false) ≡ b
+or-false true = refl
+or-false false = refl
+
+or-none : (a b : Bool) → a ≡ false → b ≡ false → (a || b) ≡ false
+or-none true b h k = h
+or-none false b h k = k
+
+and-left : (a b : Bool) → (a && b) ≡ true → a ≡ true
+and-left true b h = refl
+and-left false b h = h
+
+and-right : (a b : Bool) → (a && b) ≡ true → b ≡ true
+and-right true b h = h
+and-right false b h = absurd (false-true h)
+  where
+    false-true : false ≡ true → ⊥
+    false-true e = cc
+
+and-both : (a b : Bool) → a ≡ true → b ≡ true → (a && b) ≡ true
+and-both true b h k = k
+and-both false b h k = h
+
+is-same : (a b : ℕ) → (a == b) ≡ true → a ≡ b
+is-same a b h = grind (arith, nat_tests)
+
+is-below : (a b : ℕ) → nat_lt a b ≡ true → a < b
+is-below a b h = grind (arith, nat_tests)
+
+to-below : (a b : ℕ) → a < b → nat_lt a b ≡ true
+to-below a b h = grind (arith, nat_tests)
+
+is-other : (a b : ℕ) → a < b → (a == b) ≡ false
+is-other a b h = grind (arith, nat_tests)
+
+is-before : (a b : ℕ) → a < suc b → (a == b) ≡ false → a < b
+is-before a b h k = grind (arith, nat_tests)
+
+-- ---- a call more
+
+waited-started : (k : ℕ) (calls : List ChildCall) (words : List (List ℕ)) (child : ℕ) →
+    is_waited k (calls ++ Started words child ∷ []) ≡ is_waited k calls
+waited-started k calls words child = list_any-append (waits k) calls (Started words child ∷ []) ∙ or-false (is_waited k calls)
+
+waited-waited : (k : ℕ) (calls : List ChildCall) (child : ℕ) (status : Option ℤ) →
+    is_waited k (calls ++ Waited child status ∷ []) ≡ (is_waited k calls || (child == k))
+waited-waited k calls child status =
+    list_any-append (waits k) calls (Waited child status ∷ []) ∙ ap (λ b. is_waited k calls || b) (or-false (child == k))
+
+-- ---- how many are open
+
+few-flag : (b : Bool) (m n : ℕ) → m ≤ n → (if b then 0 else 1) + m ≤ suc n
+few-flag true m n h = omega (arith, h)
+few-flag false m n h = omega (arith, h)
+
+-- at most as many as there are
+pub open-few : (n : ℕ) (calls : List ChildCall) → open_below n calls ≤ n
+open-few zero calls = omega arith
+open-few (suc n) calls = few-flag (is_waited n calls) (open_below n calls) n (open-few n calls)
+
+less-flag : (a b : Bool) (m n : ℕ) → m ≤ n → (if a || b then 0 else 1) + m ≤ (if a then 0 else 1) + n
+less-flag true b m n h = omega (arith, h)
+less-flag false true m n h = omega (arith, h)
+less-flag false false m n h = omega (arith, h)
+
+open-less : (n : ℕ) (calls : List ChildCall) (child : ℕ) (status : Option ℤ) →
+    open_below n (calls ++ Waited child status ∷ []) ≤ open_below n calls
+open-less zero calls child status = omega arith
+open-less (suc n) calls child status =
+    subst (λ (f : Bool). (if f then 0 else 1) + open_below n (calls ++ Waited child status ∷ []) ≤ open_below (suc n) calls)
+    (sym (waited-waited n calls child status))
+    (less-flag (is_waited n calls) (child == n) _ _ (open-less n calls child status))
+
+at-flag : (a b : Bool) (m n : ℕ) → a ≡ false → b ≡ true → m ≤ n → (if a || b then 0 else 1) + m + 1 ≤ (if a then 0 else 1) + n
+at-flag true b m n h k l = absurd (true-false h)
+  where
+    true-false : true ≡ false → ⊥
+    true-false e = cc
+at-flag false true m n h k l = omega (arith, l)
+at-flag false false m n h k l = absurd (false-true k)
+  where
+    false-true : false ≡ true → ⊥
+    false-true e = cc
+
+past-flag : (a b : Bool) (m n : ℕ) → b ≡ false → m + 1 ≤ n → (if a || b then 0 else 1) + m + 1 ≤ (if a then 0 else 1) + n
+past-flag true b m n h l = omega (arith, l)
+past-flag false false m n h l = omega (arith, l)
+past-flag false true m n h l = absurd (true-false h)
+  where
+    true-false : true ≡ false → ⊥
+    true-false e = cc
+
+-- one less, where an open one is waited for
+pub open-waited : (n : ℕ) (calls : List ChildCall) (child : ℕ) (status : Option ℤ) → child < n → is_waited child calls ≡ false →
+    open_below n (calls ++ Waited child status ∷ []) + 1 ≤ open_below n calls
+open-waited zero calls child status below unwaited = absurd (omega (arith, below))
+open-waited (suc n) calls child status below unwaited =
+    subst (λ (f : Bool). (if f then 0 else 1) + open_below n (calls ++ Waited child status ∷ []) + 1 ≤ open_below (suc n) calls)
+    (sym (waited-waited n calls child status)) (by-place (open-waited n calls child status))
+  where
+    by-place : (child < n → is_waited child calls ≡ false →
+        open_below n (calls ++ Waited child status ∷ []) + 1 ≤ open_below n calls) →
+        (if is_waited n calls || (child == n) then 0 else 1) + open_below n (calls ++ Waited child status ∷ []) + 1
+        ≤ (if is_waited n calls then 0 else 1) + open_below n calls
+    by-place earlier = elim (cases_Bool (child == n)) [
+      | inl same ↦ at-flag (is_waited n calls) (child == n) _ _
+        (subst (λ (k : ℕ). is_waited k calls ≡ false) (is-same child n same) unwaited) same (open-less n calls child status)
+      | inr other ↦ past-flag (is_waited n calls) (child == n) _ _ other
+        (earlier (is-before child n below other) unwaited)
+    ]
+
+-- ---- the children of the calls
+
+below-more : (n m : ℕ) (calls : List ChildCall) → n ≤ m → are_below n calls ≡ true → are_below m calls ≡ true
+below-more n m [] h below = refl
+below-more n m (call ∷ calls) h below =
+    let first : child_of call < n = is-below (child_of call) n (and-left _ (are_below n calls) below) in
+    and-both (nat_lt (child_of call) m) (are_below m calls) (to-below (child_of call) m (omega (arith, h, first)))
+    (below-more n m calls h (and-right (nat_lt (child_of call) n) _ below))
+
+-- a call of a child below
+pub below-call : (n m : ℕ) (calls : List ChildCall) (call : ChildCall) → n ≤ m → child_of call < m → are_below n calls ≡ true →
+    are_below m (calls ++ call ∷ []) ≡ true
+below-call n m [] call h last below = and-both (nat_lt (child_of call) m) true (to-below (child_of call) m last) refl
+below-call n m (first ∷ calls) call h last below =
+    let small : child_of first < n = is-below (child_of first) n (and-left _ (are_below n calls) below) in
+    and-both (nat_lt (child_of first) m) (are_below m (calls ++ call ∷ [])) (to-below (child_of first) m (omega (arith, h, small)))
+    (below-call n m calls call h last (and-right (nat_lt (child_of first) n) _ below))
+
+-- the next child is new
+pub next-new : (n : ℕ) (calls : List ChildCall) → are_below n calls ≡ true → is_named n calls ≡ false
+next-new n [] below = refl
+next-new n (call ∷ calls) below =
+    or-none (child_of call == n) (is_named n calls)
+    (is-other (child_of call) n (is-below (child_of call) n (and-left _ (are_below n calls) below)))
+    (next-new n calls (and-right (nat_lt (child_of call) n) _ below))
+
+-- a child that was started is below
+pub started-below : (n : ℕ) (calls : List ChildCall) (child : ℕ) → are_below n calls ≡ true → is_started child calls ≡ true → child < n
+started-below n [] child below started = absurd (false-true started)
+  where
+    false-true : false ≡ true → ⊥
+    false-true e = cc
+started-below n (Waited other status ∷ calls) child below started =
+    started-below n calls child (and-right (nat_lt other n) _ below) started
+started-below n (Started words other ∷ calls) child below started = elim (cases_Bool (other == child)) [
+    | inl same ↦ subst (λ (k : ℕ). k < n) (is-same other child same) (is-below other n (and-left _ (are_below n calls) below))
+    | inr differs ↦ started-below n calls child (and-right (nat_lt other n) _ below) (rest (other == child) (is_started child calls) differs started)
+  ]
+  where
+    rest : (a b : Bool) → a ≡ false → (a || b) ≡ true → b ≡ true
+    rest true b h k = absurd (true-false h)
+      where
+        true-false : true ≡ false → ⊥
+        true-false e = cc
+    rest false b h k = k

@@ -1,0 +1,73 @@
+-- Child programs: the calls that were made, and what each call does to them.
+use Rattle.std.specs.Prelude.{◌≡◌, ◌≢◌, ◌++◌, ◌∷◌, ◌==◌, [], ℕ, ℤ, Bool, true, false, List, Option, Some, None, Result, Err, IsTrue, IfOk, OnErr}
+use Rattle.std.specs.List.{list_any}
+use Rattle.bar_outside.specs.Causes.{HasCause}
+use Rattle.bar_outside.specs.declared.spawner.ChildFault.{ChildFault}
+use Rattle.bar_outside.specs.declared.spawner.ChildFault.TheVariants.{Failed}
+
+-- a program that was started by these words, the first of which names it; or a child that was waited for, with the status that it ended with,
+-- or with none where the wait was refused
+pub data ChildCall : Type 0 where
+  Started : (words : List (List ℕ)) → (child : ℕ) → ChildCall
+  Waited : (child : ℕ) → (status : Option ℤ) → ChildCall
+
+-- child programs, as far as they are told
+pub record Children : Type 0 where
+  -- calls is told
+  pub told : Bool
+  -- no call fails
+  pub reliable : Bool
+  -- the calls in order; a refused start is none
+  pub calls : List ChildCall
+  pub faults : ℕ
+
+-- ---- what calls say of a child
+
+abbrev pub child_of : ChildCall → ℕ
+child_of (Started words child) = child
+child_of (Waited child status) = child
+
+abbrev pub starts : ℕ → ChildCall → Bool
+starts child (Started words other) = other == child
+starts child (Waited other status) = false
+
+abbrev pub waits : ℕ → ChildCall → Bool
+waits child (Started words other) = false
+waits child (Waited other status) = other == child
+
+abbrev pub is_started : ℕ → List ChildCall → Bool
+is_started child calls = list_any (starts child) calls
+
+abbrev pub is_waited : ℕ → List ChildCall → Bool
+is_waited child calls = list_any (waits child) calls
+
+-- a call is of this child
+abbrev pub is_named : ℕ → List ChildCall → Bool
+is_named child calls = list_any (λ call. child_of call == child) calls
+
+-- it was started, and not waited for
+pub record IsRunning (child : ℕ) (calls : List ChildCall) : Type 0 where
+  pub started : is_started child calls ≡ true
+  pub unwaited : is_waited child calls ≡ false
+
+-- ---- what each call changes
+
+-- what every call says of faults
+pub record Calls {T : Type 0} (old new : Children) (result : Result T ChildFault) : Type 0 where
+  pub told : new.told ≡ old.told
+  pub reliable : new.reliable ≡ old.reliable
+  pub cause : HasCause Failed old.faults new.faults result
+  pub refused : IsTrue old.reliable → result ≢ Err Failed
+
+-- a start; its child is new, and a refused start is no call
+pub record Starts (words : List (List ℕ)) (old new : Children) (result : Result ℕ ChildFault) : Type 0 where
+  pub call : Calls old new result
+  pub added : IsTrue old.told → IfOk result (λ child. new.calls ≡ old.calls ++ Started words child ∷ [])
+  pub new_child : IsTrue old.told → IfOk result (λ child. is_named child old.calls ≡ false)
+  pub left : IsTrue old.told → OnErr result (new.calls ≡ old.calls)
+
+-- a wait; a refused one is a call, too
+pub record Waits (child : ℕ) (old new : Children) (result : Result ℤ ChildFault) : Type 0 where
+  pub call : Calls old new result
+  pub added : IsTrue old.told → IfOk result (λ status. new.calls ≡ old.calls ++ Waited child (Some status) ∷ [])
+  pub refused : IsTrue old.told → OnErr result (new.calls ≡ old.calls ++ Waited child None ∷ [])

@@ -1,0 +1,25 @@
+-- What a spawner in memory tells.
+use Rattle.std.specs.Prelude.{ℕ, ℤ, pos, true, map, slice_get, unwrap_or}
+use Rattle.bar_outside.specs.Children.{Children}
+use Rattle.bar_outside.specs.MemCalls.{call_in}
+use Rattle.bar_outside.specs.Schedule.{fails_never}
+use Rattle.bar_outside.specs.declared.schedule.Schedule.{Schedule}
+use Rattle.bar_outside.specs.declared.mem_spawner.MemSpawner.{MemSpawner}
+
+-- which of its calls are to fail
+abbrev pub schedule_of : MemSpawner → Schedule
+schedule_of spawner = spawner.schedule
+
+-- what it did; it tells, and is reliable where no call is to fail
+abbrev pub children_of : MemSpawner → Children
+children_of spawner =
+    record {
+      told = true;
+      reliable = fails_never spawner.schedule;
+      calls = map call_in spawner.calls.items;
+      faults = spawner.faults;
+    }
+
+-- the status that a child ends with, by its number from 0
+abbrev pub status_of : MemSpawner → ℕ → ℤ
+status_of spawner child = unwrap_or (slice_get spawner.statuses.items child) (pos 0)
