@@ -1,0 +1,11 @@
+/// What a session is made of: its text, the front of its key files' names, its stream, the Unix time of its first tick in milliseconds as a
+/// word, the front of its results' names, and the program that its children are.
+#[derive(Clone, Copy, Debug)]
+pub struct SessionNames<'a> {
+    pub session: &'a str,
+    pub keys: &'a str,
+    pub stream: &'a str,
+    pub begin: &'a str,
+    pub results: &'a str,
+    pub program: &'a str,
+}
