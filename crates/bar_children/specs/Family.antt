@@ -1,10 +1,8 @@
 -- What came of the children of a session.
-use Rattle.std.specs.Prelude.{◌≡◌, ◌≢◌, ◌≤◌, ◌==◌, ◌&&◌, ℕ, ℤ, pos, Bool, true, false, not, List, [], ◌∷◌, ◌++◌, codes, map, take, Option, Some, None, Result, Ok, Err, IsTrue, if◌then◌else◌}
+use Rattle.std.specs.Prelude.{◌&&◌, ℕ, zero, ℤ, pos, Bool, true, false, not, List, [], ◌∷◌, ◌++◌, codes, map, Option, Some, None, Result, Ok, Err, if◌then◌else◌}
 use Rattle.std.specs.List.{concat}
 use Rattle.std.specs.Fmt.{decimal, signed_decimal}
-use Rattle.bar_outside.specs.Causes.{Rose}
-use Rattle.bar_outside.specs.Children.{ChildCall, Children, Started, Waited}
-use Rattle.bar_outside.specs.Stream.{Stream}
+use Rattle.bar_outside.specs.Children.{ChildCall, Started, Waited}
 use Rattle.bar_outside.specs.declared.spawner.ChildFault.{ChildFault}
 use Rattle.bar_outside.specs.declared.spawner.ChildFault.TheVariants as fault
 use Rattle.bar_outside.specs.declared.sink.SinkFault.{SinkFault}
