@@ -1,1 +1,3 @@
 mod WordLemmas
+mod Codes
+mod OneChild
