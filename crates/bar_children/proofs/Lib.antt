@@ -1,3 +1,5 @@
 mod WordLemmas
 mod Codes
 mod OneChild
+mod MoreChildren
+mod Running
