@@ -3,3 +3,4 @@ mod Codes
 mod OneChild
 mod MoreChildren
 mod Running
+mod Starting

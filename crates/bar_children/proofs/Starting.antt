@@ -1,0 +1,98 @@
+-- Children that were started so far.
+use Rattle.std.proofs.Common.{◌≡◌, ◌≤◌, ◌⊎◌, ◌+◌, ◌∷◌, ◌++◌, [], ℕ, suc, List, Bool, true, false, IsTrue, Result, Ok, Err, map, length, length-append, refl, sym, ap, ◌∙◌, subst, append-nil, append_assoc, inl, inr, arith}
+use Rattle.std.proofs.lemmas.List.{length_push, map-append}
+use Rattle.bar_outside.specs.Causes.{Rose}
+use Rattle.bar_outside.specs.Children.{ChildCall, Children, Started, Starts}
+use Rattle.bar_outside.specs.declared.spawner.ChildFault.{ChildFault}
+use Rattle.bar_outside.specs.declared.spawner.ChildFault.TheVariants as fault
+use Rattle.bar_children.specs.Names.{SessionNames}
+use Rattle.bar_children.specs.Outcomes.{code_of_fault}
+use Rattle.bar_children.specs.Sessions.{AreRunning, StartsAll}
+use Rattle.bar_children.specs.Words.{first_parties, party_at, words_of}
+use Rattle.bar_children.proofs.MoreChildren.{rose-behind}
+use Rattle.bar_children.proofs.Running.{running-started}
+
+-- the start of a child of this party and number
+abbrev pub start_in : SessionNames → ℕ × ℕ → ChildCall
+start_in names key = Started (words_of names key.0) key.1
+
+-- the first parties were started, as children of these numbers
+pub record Starting (names : SessionNames) (peers : ℕ) (started : List (ℕ × ℕ)) (old new : Children) : Type 0 where
+  pub parties : map (λ key. key.0) started ≡ first_parties peers (length started)
+  pub told : new.told ≡ old.told
+  pub reliable : new.reliable ≡ old.reliable
+  pub later : old.faults ≤ new.faults
+  pub calls : IsTrue old.told → new.calls ≡ old.calls ++ map (start_in names) started
+  pub running : IsTrue old.told → AreRunning new.calls (map (λ key. key.1) started)
+
+pub starting-none : (names : SessionNames) (peers : ℕ) (children : Children) → Starting names peers [] children children
+starting-none names peers children = record {
+  parties = refl;
+  told = refl;
+  reliable = refl;
+  later = omega arith;
+  calls = λ told. sym (append-nil children.calls);
+  running = λ told. tt;
+}
+
+-- one more
+pub starting-more : (names : SessionNames) (peers : ℕ) (started : List (ℕ × ℕ)) (old mid new : Children) (party number : ℕ) →
+    Starting names peers started old mid → Starts (words_of names party) mid new (Ok number) → party ≡ party_at peers (length started) →
+    Starting names peers (started ++ (party, number) ∷ []) old new
+starting-more names peers started old mid new party number s one here =
+    let key : ℕ × ℕ = (party, number) in
+    let longer : length (started ++ key ∷ []) ≡ suc (length started) = length-append started (key ∷ []) ∙ omega arith in
+    record {
+      parties = map-append (λ (k : ℕ × ℕ). k.0) started (key ∷ [])
+        ∙ (ap (λ parties. parties ++ party ∷ []) s.parties
+        ∙ (ap (λ p. first_parties peers (length started) ++ p ∷ []) here ∙ ap (first_parties peers) (sym longer)));
+      told = one.call.told ∙ s.told;
+      reliable = one.call.reliable ∙ s.reliable;
+      later = let h = s.later in let k = one.call.cause.later in omega arith;
+      calls = λ told. one.added (s.told ∙ told)
+        ∙ (ap (λ calls. calls ++ start_in names key ∷ []) (s.calls told)
+        ∙ (append_assoc old.calls (map (start_in names) started) (start_in names key ∷ [])
+        ∙ ap (λ calls. old.calls ++ calls) (sym (map-append (start_in names) started (key ∷ [])))));
+      running = λ told.
+        rw (one.added (s.told ∙ told), map-append (λ (k : ℕ × ℕ). k.1) started (key ∷ []))
+        (running-started mid.calls (words_of names party) number (map (λ (k : ℕ × ℕ). k.1) started) (one.new_child (s.told ∙ told))
+        (s.running told));
+    }
+
+-- all were started
+pub all-started : (names : SessionNames) (peers : ℕ) (started : List (ℕ × ℕ)) (old new : Children) →
+    Starting names peers started old new → length started ≡ peers + 1 → StartsAll names peers started old new 0
+all-started names peers started old new s all = record {
+  parties = s.parties;
+  all = inl (refl, all);
+  told = s.told;
+  reliable = s.reliable;
+  later = s.later;
+  rose = λ e. absurd (omega (arith, e));
+  refused = λ reliable e. omega (arith, e);
+  calls = s.calls;
+  running = s.running;
+}
+
+-- a start was refused
+pub start-refused : (names : SessionNames) (peers : ℕ) (started : List (ℕ × ℕ)) (old mid new : Children) (words : List (List ℕ)) (f : ChildFault) →
+    Starting names peers started old mid → Starts words mid new (Err f) → length started ≤ peers →
+    StartsAll names peers started old new (code_of_fault f)
+start-refused names peers started old mid new words f s one few = record {
+  parties = s.parties;
+  all = inr (code f, few);
+  told = one.call.told ∙ s.told;
+  reliable = one.call.reliable ∙ s.reliable;
+  later = let h = s.later in let k = one.call.cause.later in omega arith;
+  rose = λ e. rose-behind old.faults mid.faults new.faults s.later (one.call.cause.rose (ap Err (failed f e)));
+  refused = λ reliable e. one.call.refused (s.reliable ∙ reliable) (ap Err (failed f e));
+  calls = λ told. one.left (s.told ∙ told) ∙ s.calls told;
+  running = λ told. rw (one.left (s.told ∙ told)) (s.running told);
+}
+  where
+    code : (f : ChildFault) → (code_of_fault f ≡ 9) ⊎ (code_of_fault f ≡ 70)
+    code fault.Failed = inl refl
+    code fault.NoMemory = inr refl
+    failed : (f : ChildFault) → code_of_fault f ≡ 9 → f ≡ fault.Failed
+    failed fault.Failed e = refl
+    failed fault.NoMemory e = absurd (omega (arith, e))
