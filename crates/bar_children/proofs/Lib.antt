@@ -4,3 +4,4 @@ mod OneChild
 mod MoreChildren
 mod Running
 mod Starting
+mod Whole

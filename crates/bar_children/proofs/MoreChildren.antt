@@ -1,7 +1,7 @@
 -- What came of some children, and then of others.
-use Rattle.std.proofs.Common.{◌≡◌, ◌≤◌, ◌⊎◌, ◌∷◌, ◌++◌, ◌||◌, ◌&&◌, [], ℕ, zero, suc, ℤ, List, Bool, true, false, not, true≢false, Result, IsTrue, if◌then◌else◌, map, take, refl, sym, ap, ap₂, ◌∙◌, subst, append-nil, append_assoc, inl, inr, arith}
+use Rattle.std.proofs.Common.{◌≡◌, ◌≤◌, ◌∷◌, ◌++◌, ◌&&◌, [], ℕ, zero, suc, List, Bool, true, false, not, true≢false, IsTrue, if◌then◌else◌, map, take, refl, sym, ap, ap₂, ◌∙◌, subst, append-nil, append_assoc, inl, inr, arith}
 use Rattle.std.specs.List.{concat, list_any}
-use Rattle.std.proofs.lemmas.Bool.{cases_Bool, or_cases, or_from, and_parts}
+use Rattle.std.proofs.lemmas.Bool.{or_cases, or_from, and_parts}
 use Rattle.std.proofs.lemmas.List.{map-append}
 use Rattle.std.proofs.lemmas.List.Folds.{concat-append, list_any-append}
 use Rattle.bar_outside.specs.Causes.{Rose}

@@ -1,10 +1,10 @@
 -- Children that are running, while others are started and waited for.
-use Rattle.std.proofs.Common.{◌≡◌, ◌∷◌, ◌++◌, ◌||◌, ◌==◌, [], ℕ, ℤ, List, Bool, true, false, true≢false, Option, map, refl, sym, ap, ◌∙◌, subst, arith}
+use Rattle.std.proofs.Common.{◌≡◌, ◌∷◌, ◌++◌, ◌==◌, [], ℕ, ℤ, List, Bool, true, false, true≢false, Option, map, refl, sym, ap, ◌∙◌, subst, arith}
 use Rattle.std.specs.List.{list_any}
-use Rattle.std.proofs.lemmas.Bool.{cases_Bool, or_from, or_left, or_parts, or_right}
+use Rattle.std.proofs.lemmas.Bool.{or_from, or_left, or_parts, or_right}
 use Rattle.std.proofs.lemmas.Bool.Decides.{nat_tests}
 use Rattle.std.proofs.lemmas.List.Folds.{list_any-append}
-use Rattle.bar_outside.specs.Children.{ChildCall, IsRunning, Started, Waited, child_of, is_named, is_started, is_waited, starts, waits}
+use Rattle.bar_outside.specs.Children.{ChildCall, IsRunning, Started, Waited, is_named, is_started, is_waited, starts, waits}
 use Rattle.bar_children.specs.Family.{Child, wait_of, status_in}
 use Rattle.bar_children.specs.Sessions.{AreRunning, key_of}
 

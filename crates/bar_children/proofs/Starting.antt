@@ -1,7 +1,6 @@
 -- Children that were started so far.
-use Rattle.std.proofs.Common.{◌≡◌, ◌≤◌, ◌⊎◌, ◌+◌, ◌∷◌, ◌++◌, [], ℕ, suc, List, Bool, true, false, IsTrue, Result, Ok, Err, map, length, length-append, refl, sym, ap, ◌∙◌, subst, append-nil, append_assoc, inl, inr, arith}
-use Rattle.std.proofs.lemmas.List.{length_push, map-append}
-use Rattle.bar_outside.specs.Causes.{Rose}
+use Rattle.std.proofs.Common.{◌≡◌, ◌≤◌, ◌⊎◌, ◌+◌, ◌∷◌, ◌++◌, [], ℕ, suc, List, IsTrue, Ok, Err, map, length, length-append, refl, sym, ap, ◌∙◌, append-nil, append_assoc, inl, inr, arith}
+use Rattle.std.proofs.lemmas.List.{map-append}
 use Rattle.bar_outside.specs.Children.{ChildCall, Children, Started, Starts}
 use Rattle.bar_outside.specs.declared.spawner.ChildFault.{ChildFault}
 use Rattle.bar_outside.specs.declared.spawner.ChildFault.TheVariants as fault
@@ -58,41 +57,3 @@ starting-more names peers started old mid new party number s one here =
         (running-started mid.calls (words_of names party) number (map (λ (k : ℕ × ℕ). k.1) started) (one.new_child (s.told ∙ told))
         (s.running told));
     }
-
--- all were started
-pub all-started : (names : SessionNames) (peers : ℕ) (started : List (ℕ × ℕ)) (old new : Children) →
-    Starting names peers started old new → length started ≡ peers + 1 → StartsAll names peers started old new 0
-all-started names peers started old new s all = record {
-  parties = s.parties;
-  all = inl (refl, all);
-  told = s.told;
-  reliable = s.reliable;
-  later = s.later;
-  rose = λ e. absurd (omega (arith, e));
-  refused = λ reliable e. omega (arith, e);
-  calls = s.calls;
-  running = s.running;
-}
-
--- a start was refused
-pub start-refused : (names : SessionNames) (peers : ℕ) (started : List (ℕ × ℕ)) (old mid new : Children) (words : List (List ℕ)) (f : ChildFault) →
-    Starting names peers started old mid → Starts words mid new (Err f) → length started ≤ peers →
-    StartsAll names peers started old new (code_of_fault f)
-start-refused names peers started old mid new words f s one few = record {
-  parties = s.parties;
-  all = inr (code f, few);
-  told = one.call.told ∙ s.told;
-  reliable = one.call.reliable ∙ s.reliable;
-  later = let h = s.later in let k = one.call.cause.later in omega arith;
-  rose = λ e. rose-behind old.faults mid.faults new.faults s.later (one.call.cause.rose (ap Err (failed f e)));
-  refused = λ reliable e. one.call.refused (s.reliable ∙ reliable) (ap Err (failed f e));
-  calls = λ told. one.left (s.told ∙ told) ∙ s.calls told;
-  running = λ told. rw (one.left (s.told ∙ told)) (s.running told);
-}
-  where
-    code : (f : ChildFault) → (code_of_fault f ≡ 9) ⊎ (code_of_fault f ≡ 70)
-    code fault.Failed = inl refl
-    code fault.NoMemory = inr refl
-    failed : (f : ChildFault) → code_of_fault f ≡ 9 → f ≡ fault.Failed
-    failed fault.Failed e = refl
-    failed fault.NoMemory e = absurd (omega (arith, e))

@@ -1,5 +1,5 @@
 -- What a session does with its children.
-use Rattle.std.specs.Prelude.{◌≡◌, ◌≢◌, ◌≤◌, ◌+◌, ◌⊎◌, ◌||◌, ◌==◌, ℕ, ℤ, Bool, true, false, not, List, [], ◌∷◌, ◌++◌, Ok, length, map, take, IsTrue}
+use Rattle.std.specs.Prelude.{◌≡◌, ◌≢◌, ◌≤◌, ◌+◌, ◌⊎◌, ◌||◌, ◌==◌, ℕ, ℤ, true, false, not, List, [], ◌∷◌, ◌++◌, Ok, length, map, take, IsTrue}
 use Rattle.std.specs.List.{list_any}
 use Rattle.bar_outside.specs.Causes.{Rose}
 use Rattle.bar_outside.specs.Children.{ChildCall, Children, IsRunning, Started}

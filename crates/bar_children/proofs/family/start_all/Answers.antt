@@ -1,9 +1,9 @@
-use Rattle.std.proofs.Common.{rules, ◌≡◌, ◌≤◌, ◌∙◌, ◌+◌, ◌∷◌, ◌++◌, [], map, length, length-append, vec_capacity, sym, ap, subst, arith}
+use Rattle.std.proofs.Common.{rules, ◌≡◌, ◌∙◌, ◌+◌, ◌∷◌, ◌++◌, [], map, length, length-append, sym, ap, arith}
 use Rattle.std.proofs.lemmas.List.{length-map, map-append}
 use Rattle.bar_children.specs.declared.child.Child.{Child}
 use Rattle.bar_children.specs.Views.{key_in, names_view}
 use Rattle.bar_children.specs.Words.{party_at}
-use Rattle.bar_children.proofs.Starting.{Starting, all-started, start-refused, starting-more, starting-none}
+use Rattle.bar_children.proofs.Starting.{starting-more}
 use Rattle.bar_children.proofs.family.start_all.Goals as goal
 
 pub loop-place-preserved : goal.loop-place-preserved
