@@ -1,16 +1,33 @@
 -- The statuses of children and of sessions.
-use Rattle.std.proofs.Common.{◌≡◌, ℕ, zero, suc, ℤ, pos, negsuc, Bool, true, false, Ok, Err, if◌then◌else◌, refl, ap, ap₂, ◌∙◌, arith}
+use Rattle.std.proofs.Common.{◌≡◌, ◌≢◌, ◌⊎◌, ℕ, zero, suc, ℤ, pos, negsuc, Bool, true, false, true≢false, Ok, Err, if◌then◌else◌, refl, sym, ap, ap₂, ◌∙◌, arith}
 use Rattle.std.proofs.lemmas.Bool.Decides.{nat_tests}
 use Rattle.bar_outside.specs.declared.spawner.ChildFault.{ChildFault}
 use Rattle.bar_children.specs.Family.{Shown, Whole, code_of_end, code_of_shown, is_zero}
 use Rattle.bar_children.specs.Outcomes.{joined}
 
+-- ---- joined statuses
+
 -- nothing was refused later
 pub joined-none : (first : ℕ) → joined first 0 ≡ first
 joined-none first = grind (arith, nat_tests)
 
-pub none-joined : (later : ℕ) → joined 0 later ≡ later
-none-joined later = grind (arith, nat_tests)
+-- a status comes from one of two
+pub joined-from : (first later n : ℕ) → joined first later ≡ n → (first ≡ n) ⊎ (later ≡ n)
+joined-from first later n h = grind (arith, nat_tests)
+
+pub joined-zero : (first later : ℕ) → joined first later ≡ 0 → (first ≡ 0) × (later ≡ 0)
+joined-zero first later h = grind (arith, nat_tests)
+
+-- want of memory before the others
+pub joined-memory : (first later : ℕ) → joined first later ≢ 70 → (first ≢ 70) × (later ≢ 70)
+joined-memory first later h = grind (arith, nat_tests)
+
+-- ---- a child's status
+
+pub zero-is : (status : ℤ) → is_zero status ≡ true → status ≡ pos 0
+zero-is (pos zero) h = refl
+zero-is (pos (suc n)) h = absurd (true≢false (sym h))
+zero-is (negsuc n) h = absurd (true≢false (sym h))
 
 other-status : (status : ℤ) → (status ≡ pos 0 → ⊥) → is_zero status ≡ false
 other-status (pos zero) h = absurd (h refl)

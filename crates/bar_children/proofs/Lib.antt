@@ -5,3 +5,6 @@ mod MoreChildren
 mod Running
 mod Starting
 mod Whole
+mod Causes
+mod Told
+mod LawLemmas

@@ -20,7 +20,7 @@ rose-behind old mid new h k = omega arith
 
 -- ---- lists of children
 
-whole_lines-append : (xs ys : List Child) → whole_lines (xs ++ ys) ≡ whole_lines xs ++ whole_lines ys
+pub whole_lines-append : (xs ys : List Child) → whole_lines (xs ++ ys) ≡ whole_lines xs ++ whole_lines ys
 whole_lines-append xs ys = ap concat (map-append whole_line xs ys) ∙ concat-append (map whole_line xs) (map whole_line ys)
 
 broken_lines-append : (xs ys : List Child) → broken_lines (xs ++ ys) ≡ broken_lines xs ++ broken_lines ys
@@ -85,7 +85,7 @@ silent (x ∷ xs) h =
       ap (λ (b : Bool). (if b then line_of x else []) ++ broken_lines xs) quiet.1 ∙ rest.1
     )
 
-take-nil : (k : ℕ) (bytes : List ℕ) → bytes ≡ [] → take k bytes ≡ []
+pub take-nil : (k : ℕ) (bytes : List ℕ) → bytes ≡ [] → take k bytes ≡ []
 take-nil zero bytes e = refl
 take-nil (suc k) bytes e = ap (take (suc k)) e
 

@@ -4,3 +4,4 @@ pub mod Outcomes
 pub mod Family
 pub mod Sessions
 pub mod Views
+pub mod Laws
