@@ -30,7 +30,7 @@ pub done : DoneSessions
 done names peers out_old out_new old new ran =
     let zero = zero-told ran.stop ran.family (sym ran.code) in
     let all = all-started peers (length ran.family) ran.stop (λ e. absurd (omega (arith, e, zero.before)))
-      (λ e. absurd (omega (arith, e, zero.before))) ran.all in
+    (λ e. absurd (omega (arith, e, zero.before))) ran.all in
     let parties = ran.parties ∙ ap (first_parties peers) all.1 in
     let shown = all-shown ran.family ran.in_order zero.told in
     let ended = all-well ran.family shown zero.ends in
@@ -39,8 +39,8 @@ done names peers out_old out_new old new ran =
       calls = ran.calls;
       ended = ended;
       lines = λ told. lines-shown ran.family out_old out_new ran.shows shown told
-        ∙ ap (λ lines. out_old.bytes ++ lines)
-        (lines-well ran.family shown ended ∙ ap (flat_map (λ party. status_line party (pos 0))) parties);
+          ∙ ap (λ lines. out_old.bytes ++ lines)
+          (lines-well ran.family shown ended ∙ ap (flat_map (λ party. status_line party (pos 0))) parties);
     }
 
 pub failed : FailedSessions
@@ -52,7 +52,7 @@ failed names peers out_old out_new old new ran =
   where
     by-why : (cause : Cause 9 ran.family) → Why 9 cause.child → Rose old.faults new.faults ⊎ HasFailed ran.family out_old out_new
     by-why cause (by_wait e) = inl (ran.rose (or_right (ran.stop == 9) _
-      (any-there (λ child. is_refused_wait child.ended) ran.family cause.front cause.back cause.child cause.is (wait-nine cause.child.ended e))))
+        (any-there (λ child. is_refused_wait child.ended) ran.family cause.front cause.back cause.child cause.is (wait-nine cause.child.ended e))))
     by-why cause (by_line e) = absurd (line-nine cause.child.shown e)
     by-why cause (by_end e) =
         let f = end-nine cause.child.shown cause.child.ended e in
@@ -75,10 +75,11 @@ failed_output names peers out_old out_new old new ran =
     no-stop stop (inl all) e = omega (arith, e, all.0)
     no-stop stop (inr (inl nine, few)) e = omega (arith, e, nine)
     no-stop stop (inr (inr memory, few)) e = omega (arith, e, memory)
+
     by-why : (cause : Cause 7 ran.family) → Why 7 cause.child → Rose out_old.faults out_new.faults
     by-why cause (by_wait e) = absurd (wait-seven cause.child.ended e)
     by-why cause (by_line e) = ran.shows.rose
-      (any-there (λ child. is_refused child.shown) ran.family cause.front cause.back cause.child cause.is (line-seven cause.child.shown e))
+        (any-there (λ child. is_refused child.shown) ran.family cause.front cause.back cause.child cause.is (line-seven cause.child.shown e))
     by-why cause (by_end e) = absurd (end-seven cause.child.shown cause.child.ended e)
 
 pub faultless : FaultlessSessions

@@ -79,10 +79,9 @@ silent [] h = (refl, refl)
 silent (x ∷ xs) h =
     let parts = and_parts (not (is_tried x.shown)) (is_in_order false xs) h in
     let quiet = untried x.shown parts.0 in
-    let rest = silent xs parts.1 in
-    (
+    let rest = silent xs parts.1 in (
       ap (λ (b : Bool). (if b then line_of x else []) ++ whole_lines xs) quiet.0 ∙ rest.0,
-      ap (λ (b : Bool). (if b then line_of x else []) ++ broken_lines xs) quiet.1 ∙ rest.1
+      ap (λ (b : Bool). (if b then line_of x else []) ++ broken_lines xs) quiet.1 ∙ rest.1,
     )
 
 pub take-nil : (k : ℕ) (bytes : List ℕ) → bytes ≡ [] → take k bytes ≡ []
@@ -110,23 +109,21 @@ module _ (xs ys : List Child) (old mid new : Stream) (first : ShowsLines xs old 
           (k : ℕ) × (new.bytes ≡ old.bytes ++ (whole_lines (xs ++ ys) ++ take k (broken_lines (xs ++ ys))))
       by-prints true e one two =
           let none = none-broken prints xs e in
-          let broken : broken_lines (xs ++ ys) ≡ broken_lines ys = broken_lines-append xs ys ∙ ap (λ b. b ++ broken_lines ys) none in
-          (
+          let broken : broken_lines (xs ++ ys) ≡ broken_lines ys = broken_lines-append xs ys ∙ ap (λ b. b ++ broken_lines ys) none in (
             two.0,
             whole-then old.bytes mid.bytes new.bytes (whole_lines xs) (whole_lines ys) (take two.0 (broken_lines ys))
-            (one.1 ∙ ap (λ b. old.bytes ++ (whole_lines xs ++ b)) (take-nil one.0 (broken_lines xs) none)) two.1
-            ∙ ap₂ (λ w b. old.bytes ++ (w ++ take two.0 b)) (sym (whole_lines-append xs ys)) (sym broken)
+                (one.1 ∙ ap (λ b. old.bytes ++ (whole_lines xs ++ b)) (take-nil one.0 (broken_lines xs) none)) two.1
+                ∙ ap₂ (λ w b. old.bytes ++ (w ++ take two.0 b)) (sym (whole_lines-append xs ys)) (sym broken),
           )
       by-prints false e one two =
           let quiet = silent ys (subst (λ (p : Bool). IsTrue (is_in_order p ys)) e in_order) in
           let whole : whole_lines (xs ++ ys) ≡ whole_lines xs ++ [] = whole_lines-append xs ys ∙ ap (λ b. whole_lines xs ++ b) quiet.0 in
           let broken : broken_lines (xs ++ ys) ≡ broken_lines xs =
-          broken_lines-append xs ys ∙ (ap (λ b. broken_lines xs ++ b) quiet.1 ∙ append-nil (broken_lines xs)) in
-          (
+          broken_lines-append xs ys ∙ (ap (λ b. broken_lines xs ++ b) quiet.1 ∙ append-nil (broken_lines xs)) in (
             one.0,
             broken-then old.bytes mid.bytes new.bytes (whole_lines xs) (take one.0 (broken_lines xs)) one.1
-            (two.1 ∙ ap₂ (λ w b. mid.bytes ++ (w ++ b)) quiet.0 (take-nil two.0 (broken_lines ys) quiet.1))
-            ∙ ap₂ (λ w b. old.bytes ++ (w ++ take one.0 b)) (sym whole) (sym broken)
+                (two.1 ∙ ap₂ (λ w b. mid.bytes ++ (w ++ b)) quiet.0 (take-nil two.0 (broken_lines ys) quiet.1))
+                ∙ ap₂ (λ w b. old.bytes ++ (w ++ take one.0 b)) (sym whole) (sym broken),
           )
 
   shows-append : (prints : Bool) → IsTrue (is_in_order (prints_after prints xs) ys) → ShowsLines (xs ++ ys) old new
@@ -160,8 +157,8 @@ waits-append xs ys old mid new first second =
       ];
       refused = λ reliable. refusals ∙ or_from _ _ (first.refused reliable) (second.refused (first.reliable ∙ reliable));
       calls = λ told. second.calls (first.told ∙ told)
-        ∙ (ap (λ calls. calls ++ map wait_of ys) (first.calls told)
-        ∙ (append_assoc old.calls (map wait_of xs) (map wait_of ys) ∙ ap (λ calls. old.calls ++ calls) (sym (map-append wait_of xs ys))));
+          ∙ (ap (λ calls. calls ++ map wait_of ys) (first.calls told)
+          ∙ (append_assoc old.calls (map wait_of xs) (map wait_of ys) ∙ ap (λ calls. old.calls ++ calls) (sym (map-append wait_of xs ys))));
     }
 
 -- ---- reports
@@ -205,7 +202,7 @@ reports-append xs ys was mid now out_old out_mid out_new old between new first s
       shows = shows-append first.family second.family out_old out_mid out_new first.shows second.shows was.prints in_order;
       in_order = in_order-append was.prints first.family second.family first.in_order in_order;
       prints = second.prints
-        ∙ (ap (λ prints. prints_after prints second.family) first.prints ∙ sym (prints_after-append was.prints first.family second.family));
+          ∙ (ap (λ prints. prints_after prints second.family) first.prints ∙ sym (prints_after-append was.prints first.family second.family));
       code = second.code
-        ∙ (ap (λ code. with_children code second.family) first.code ∙ sym (with_children-append was.code first.family second.family));
+          ∙ (ap (λ code. with_children code second.family) first.code ∙ sym (with_children-append was.code first.family second.family));
     }

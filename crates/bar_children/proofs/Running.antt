@@ -22,7 +22,7 @@ still-waited : (calls : List ChildCall) (child other : ℕ) (status : Option ℤ
 still-waited calls child other status differs running = record {
   started = list_any-append (starts child) calls (Waited other status ∷ []) ∙ or_left _ _ running.started;
   unwaited = list_any-append (waits child) calls (Waited other status ∷ [])
-    ∙ or_from _ _ running.unwaited (or_from _ _ (same-reversed child other differs) refl);
+      ∙ or_from _ _ running.unwaited (or_from _ _ (same-reversed child other differs) refl);
 }
 
 -- another is started
@@ -85,18 +85,18 @@ running-waited calls (child ∷ next ∷ family) party n ns are running = absurd
 pub running-started : (calls : List ChildCall) (words : List (List ℕ)) (n : ℕ) (ns : List ℕ) → is_named n calls ≡ false →
     AreRunning calls ns → AreRunning (calls ++ Started words n ∷ []) (ns ++ n ∷ [])
 running-started calls words n [] unnamed running = (
-    record {
-      started = list_any-append (starts n) calls (Started words n ∷ [])
+  record {
+    started = list_any-append (starts n) calls (Started words n ∷ [])
         ∙ or_right (is_started n calls) _ (or_left (n == n) false (is-same n));
-      unwaited = list_any-append (waits n) calls (Started words n ∷ []) ∙ or_from _ _ (not-waited calls n unnamed) refl;
-    },
-    (refl, tt)
-  )
+    unwaited = list_any-append (waits n) calls (Started words n ∷ []) ∙ or_from _ _ (not-waited calls n unnamed) refl;
+  },
+  (refl, tt),
+)
 running-started calls words n (m ∷ ns) unnamed running = (
-    still-started calls m n words running.0,
-    (
-      list_any-append (λ k. k == m) ns (n ∷ [])
+  still-started calls m n words running.0,
+  (
+    list_any-append (λ k. k == m) ns (n ∷ [])
         ∙ or_from _ _ running.1.0 (or_from _ _ (is-other calls m n running.0.started unnamed) refl),
-      running-started calls words n ns unnamed running.1.1
-    )
-  )
+    running-started calls words n ns unnamed running.1.1,
+  ),
+)

@@ -43,17 +43,17 @@ starting-more names peers started old mid new party number s one here =
     let longer : length (started ++ key ∷ []) ≡ suc (length started) = length-append started (key ∷ []) ∙ omega arith in
     record {
       parties = map-append (λ (k : ℕ × ℕ). k.0) started (key ∷ [])
-        ∙ (ap (λ parties. parties ++ party ∷ []) s.parties
-        ∙ (ap (λ p. first_parties peers (length started) ++ p ∷ []) here ∙ ap (first_parties peers) (sym longer)));
+          ∙ (ap (λ parties. parties ++ party ∷ []) s.parties
+          ∙ (ap (λ p. first_parties peers (length started) ++ p ∷ []) here ∙ ap (first_parties peers) (sym longer)));
       told = one.call.told ∙ s.told;
       reliable = one.call.reliable ∙ s.reliable;
       later = let h = s.later in let k = one.call.cause.later in omega arith;
       calls = λ told. one.added (s.told ∙ told)
-        ∙ (ap (λ calls. calls ++ start_in names key ∷ []) (s.calls told)
-        ∙ (append_assoc old.calls (map (start_in names) started) (start_in names key ∷ [])
-        ∙ ap (λ calls. old.calls ++ calls) (sym (map-append (start_in names) started (key ∷ [])))));
+          ∙ (ap (λ calls. calls ++ start_in names key ∷ []) (s.calls told)
+          ∙ (append_assoc old.calls (map (start_in names) started) (start_in names key ∷ [])
+          ∙ ap (λ calls. old.calls ++ calls) (sym (map-append (start_in names) started (key ∷ [])))));
       running = λ told.
-        rw (one.added (s.told ∙ told), map-append (λ (k : ℕ × ℕ). k.1) started (key ∷ []))
-        (running-started mid.calls (words_of names party) number (map (λ (k : ℕ × ℕ). k.1) started) (one.new_child (s.told ∙ told))
-        (s.running told));
+          rw (one.added (s.told ∙ told), map-append (λ (k : ℕ × ℕ). k.1) started (key ∷ []))
+          (running-started mid.calls (words_of names party) number (map (λ (k : ℕ × ℕ). k.1) started) (one.new_child (s.told ∙ told))
+          (s.running told));
     }

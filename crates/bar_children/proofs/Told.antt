@@ -91,10 +91,9 @@ kept-told so_far (child ∷ family) h waits lines =
     let rest = kept-told (with_child so_far child) family h wait.1 line.1 in
     let ended = joined-memory _ (code_of_end child.shown child.ended) rest.0 in
     let shown = joined-memory _ (code_of_shown child.shown) ended.0 in
-    let before = joined-memory so_far (code_of_wait child.ended) shown.0 in
-    (
+    let before = joined-memory so_far (code_of_wait child.ended) shown.0 in (
       before.0,
-      All-cons IsTold child family (wait-kept child.ended before.1 wait.0, line-kept child.shown shown.1 line.0) rest.1
+      All-cons IsTold child family (wait-kept child.ended before.1 wait.0, line-kept child.shown shown.1 line.0) rest.1,
     )
 
 -- ---- lines
@@ -181,7 +180,7 @@ shown-ending (child ∷ family) shown =
         Ending (child ∷ family)
     by-status here rest (inl well) (inl zero) = inl (
       ap (λ n. with_children n family) (with-shown 0 child here ∙ ap (λ (b : Bool). joined 0 (code_unless b)) zero) ∙ well.0,
-      All-cons HasEndedWell child family (here.1 ∙ ap Ok (zero-is here.0 zero)) well.1
+      All-cons HasEndedWell child family (here.1 ∙ ap Ok (zero-is here.0 zero)) well.1,
     )
     by-status here rest (inr later) (inl zero) = inr (
       ap (λ n. with_children n family) (with-shown 0 child here ∙ ap (λ (b : Bool). joined 0 (code_unless b)) zero) ∙ later.0,
@@ -194,11 +193,11 @@ shown-ending (child ∷ family) shown =
         ended = later.1.ended;
         shown = later.1.shown;
         other = later.1.other;
-      }
+      },
     )
     by-status here rest _ (inr other) = inr (
       ap (λ n. with_children n family) (with-shown 0 child here ∙ ap (λ (b : Bool). joined 0 (code_unless b)) other)
-        ∙ nine-stays family rest,
+          ∙ nine-stays family rest,
       record {
         front = [];
         child = child;
@@ -208,7 +207,7 @@ shown-ending (child ∷ family) shown =
         ended = here.1;
         shown = here.2;
         other = other;
-      }
+      },
     )
 
 -- a child that failed, as it was printed
@@ -223,13 +222,12 @@ has-failed family old new shows f = record {
       let b = shows.bytes told in
       let line = ap₂ (λ s e. (if is_whole s then line_at f.child.party e else []) ++ whole_lines f.back) f.shown f.ended in
       let whole = ap whole_lines f.is
-        ∙ (whole_lines-append f.front (f.child ∷ f.back) ∙ ap (λ rest. whole_lines f.front ++ rest) line) in
-      let part = take b.0 (broken_lines family) in
-      (
+      ∙ (whole_lines-append f.front (f.child ∷ f.back) ∙ ap (λ rest. whole_lines f.front ++ rest) line) in
+      let part = take b.0 (broken_lines family) in (
         whole_lines f.front,
         whole_lines f.back ++ part,
         b.1 ∙ ap (λ lines. old.bytes ++ lines) (ap (λ lines. lines ++ part) whole
-        ∙ grouped (whole_lines f.front) (status_line f.child.party f.status) (whole_lines f.back) part)
+            ∙ grouped (whole_lines f.front) (status_line f.child.party f.status) (whole_lines f.back) part),
       );
 }
   where

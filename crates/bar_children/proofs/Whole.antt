@@ -31,14 +31,14 @@ session-ran names peers keys stop now out_old out_new old mid new s r =
     record {
       family = r.family;
       parties = sym (map-map (λ (key : ℕ × ℕ). key.0) key_of r.family)
-        ∙ (ap (map (λ (key : ℕ × ℕ). key.0)) r.are ∙ (s.parties ∙ ap (first_parties peers) count));
+          ∙ (ap (map (λ (key : ℕ × ℕ). key.0)) r.are ∙ (s.parties ∙ ap (first_parties peers) count));
       stop = stop;
       all = subst (λ (n : ℕ). AreAllStarted peers n stop) count s.all;
       calls = λ told. r.waits.calls (s.told ∙ told)
-        ∙ (ap (λ calls. calls ++ map wait_of r.family)
+          ∙ (ap (λ calls. calls ++ map wait_of r.family)
           (s.calls told ∙ ap (λ calls. old.calls ++ calls)
-            (ap (map (start_in names)) (sym r.are) ∙ map-map (start_in names) key_of r.family))
-        ∙ append_assoc old.calls (map (start_of names) r.family) (map wait_of r.family));
+          (ap (map (start_in names)) (sym r.are) ∙ map-map (start_in names) key_of r.family))
+          ∙ append_assoc old.calls (map (start_of names) r.family) (map wait_of r.family));
       told = r.waits.told ∙ s.told;
       reliable = r.waits.reliable ∙ s.reliable;
       later = let h = s.later in let k = r.waits.later in omega arith;
@@ -47,7 +47,7 @@ session-ran names peers keys stop now out_old out_new old mid new s r =
         | inr late ↦ rose-behind old.faults mid.faults new.faults s.later (r.waits.rose late)
       ];
       refused = λ reliable. or_from (stop == 9) (list_any (λ child. is_refused_wait child.ended) r.family)
-        (not-nine stop (s.refused reliable)) (r.waits.refused (s.reliable ∙ reliable));
+          (not-nine stop (s.refused reliable)) (r.waits.refused (s.reliable ∙ reliable));
       shows = r.shows;
       in_order = r.in_order;
       code = r.code;

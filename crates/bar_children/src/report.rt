@@ -25,7 +25,12 @@ fn line_of(alloc: Global, party: u16, status: i32) -> Result<String, AllocError>
 }
 
 // Prints the line of a child's status.
-fn print_status<K: Sink>(alloc: Global, party: u16, status: i32, out: &mut K) -> Result<(), SinkFault>
+fn print_status<K: Sink>(
+    alloc: Global,
+    party: u16,
+    status: i32,
+    out: &mut K,
+) -> Result<(), SinkFault>
     ensures { (number : ℕ) → ShowsLines
         (record { party = party; number = number; ended = Ok status; shown = shown_of result } ∷ []) (K.stream out.old) (K.stream out.new) }
 {

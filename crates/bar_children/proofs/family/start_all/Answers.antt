@@ -15,9 +15,9 @@ loop-place-preserved g c =
     c.party_at-party.ensures ∙ ap (party_at c.args.peers) (sym c.loop-place.invariant.counted ∙ sym (length-map before key_in)) in
     record {
       started = rw (grown, map-append key_in before (child ∷ []))
-        (starting-more (names_view c.args.names.now) c.args.peers (map key_in before) (g.S.Spawner.children c.args.spawn.now)
-        (g.S.Spawner.children c.loop-place.spawn) (g.S.Spawner.children c.start_child.new.spawn) child.party child.number
-        c.loop-place.invariant.started c.in-Ok.ensures place);
+          (starting-more (names_view c.args.names.now) c.args.peers (map key_in before) (g.S.Spawner.children c.args.spawn.now)
+          (g.S.Spawner.children c.loop-place.spawn) (g.S.Spawner.children c.start_child.new.spawn) child.party child.number
+          c.loop-place.invariant.started c.in-Ok.ensures place);
       counted = ap length grown ∙ (length-append before (child ∷ []) ∙ ap (λ n. n + 1) c.loop-place.invariant.counted);
       room = omega (arith, c.push.ensures.capacity, c.loop-place.invariant.room);
     }

@@ -32,15 +32,15 @@ loop-child-preserved g c =
     let here = numbers-at children i c.loop-child-test.true in
     record {
       reported = rw keys (reports-append (map key_in (take i children)) (key_in child ∷ []) (report_view c.args.report.now)
-        (report_view c.loop-child.report) (report_view c.wait_for.new.self)
-        (g.K.Sink.stream c.args.out.now) (g.K.Sink.stream c.loop-child.out) (g.K.Sink.stream c.wait_for.new.out)
-        (g.S.Spawner.children c.args.spawn.now) old (g.S.Spawner.children c.wait_for.new.spawn)
-        c.loop-child.invariant.reported c.wait_for.ensures);
+          (report_view c.loop-child.report) (report_view c.wait_for.new.self)
+          (g.K.Sink.stream c.args.out.now) (g.K.Sink.stream c.loop-child.out) (g.K.Sink.stream c.wait_for.new.out)
+          (g.S.Spawner.children c.args.spawn.now) old (g.S.Spawner.children c.wait_for.new.spawn)
+          c.loop-child.invariant.reported c.wait_for.ensures);
       running = λ told.
-        let earlier = sym c.wait_for.ensures.waits.told ∙ told in
-        let running = subst (AreRunning old.calls) here (c.loop-child.invariant.running earlier) in
-        rw (c.wait_for.ensures.waits.calls earlier)
-        (running-waited old.calls c.wait_for.ensures.family child.party child.number _ c.wait_for.ensures.are running);
+          let earlier = sym c.wait_for.ensures.waits.told ∙ told in
+          let running = subst (AreRunning old.calls) here (c.loop-child.invariant.running earlier) in
+          rw (c.wait_for.ensures.waits.calls earlier)
+          (running-waited old.calls c.wait_for.ensures.family child.party child.number _ c.wait_for.ensures.are running);
     }
 
 pub wait_for-requires : goal.wait_for-requires

@@ -17,7 +17,7 @@ returns-then-status-ne0 g c = λ number prints.
       shows = rw same at (c.in-Ok.ensures number);
       prints = ap (λ r. r.prints) c.note.ensures ∙ prints;
       code = ap (λ r. r.code) c.note.ensures
-        ∙ sym (code-other (code_of c.args.self.now.outcome) c.args.status (λ e. c.if-status-ne0.true (ap (of_z w32) e)));
+          ∙ sym (code-other (code_of c.args.self.now.outcome) c.args.status (λ e. c.if-status-ne0.true (ap (of_z w32) e)));
     }
 
 pub returns-else-status-ne0 : goal.returns-else-status-ne0
