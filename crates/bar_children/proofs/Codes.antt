@@ -1,8 +1,7 @@
 -- The statuses of children and of sessions.
-use Rattle.std.proofs.Common.{◌≡◌, ◌≢◌, ◌⊎◌, ℕ, zero, suc, ℤ, pos, negsuc, Bool, true, false, true≢false, Ok, Err, if◌then◌else◌, refl, sym, ap, ap₂, ◌∙◌, arith}
+use Rattle.std.proofs.Common.{◌≡◌, ◌≢◌, ◌⊎◌, ℕ, zero, suc, ℤ, pos, negsuc, Bool, true, false, true≢false, Ok, if◌then◌else◌, refl, sym, ap, ap₂, ◌∙◌, arith}
 use Rattle.std.proofs.lemmas.Bool.Decides.{nat_tests}
-use Rattle.bar_outside.specs.declared.spawner.ChildFault.{ChildFault}
-use Rattle.bar_children.specs.Family.{Shown, Whole, code_of_end, code_of_shown, is_zero}
+use Rattle.bar_children.specs.Family.{Whole, code_of_end, code_of_shown, is_zero}
 use Rattle.bar_children.specs.Outcomes.{joined}
 
 -- ---- joined statuses

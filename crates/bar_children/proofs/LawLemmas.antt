@@ -1,18 +1,15 @@
 -- What the status of a session says of its children.
-use Rattle.std.proofs.Common.{◌≡◌, ◌≢◌, ◌≤◌, ◌⊎◌, ◌+◌, ◌∷◌, ◌++◌, ◌||◌, ◌==◌, ℕ, List, Bool, true, false, IsTrue, map, length, flat_map, pos, refl, sym, ap, ◌∙◌, subst, inl, inr, arith}
+use Rattle.std.proofs.Common.{◌≡◌, ◌≢◌, ◌⊎◌, ◌+◌, ◌++◌, ◌==◌, ℕ, true, false, length, flat_map, pos, sym, ap, ◌∙◌, inl, inr, arith}
 use Rattle.std.specs.List.{list_any}
 use Rattle.std.proofs.lemmas.Bool.{cases_eq, or_left, or_parts, or_right}
 use Rattle.std.proofs.lemmas.Bool.Decides.{nat_tests}
 use Rattle.bar_outside.specs.Causes.{Rose}
-use Rattle.bar_outside.specs.Children.{Children}
-use Rattle.bar_outside.specs.Stream.{Stream}
-use Rattle.bar_children.specs.Family.{Child, is_refused, is_refused_wait, status_line, with_children}
-use Rattle.bar_children.specs.Laws.{AllEndedWell, DoneSessions, FailedOutputs, FailedSessions, FaultlessSessions, HasFailed, IsToldByChildren, all_parties}
-use Rattle.bar_children.specs.Names.{SessionNames}
-use Rattle.bar_children.specs.Sessions.{AreAllStarted, SessionRan}
+use Rattle.bar_children.specs.Family.{is_refused, is_refused_wait, status_line, with_children}
+use Rattle.bar_children.specs.Laws.{DoneSessions, FailedOutputs, FailedSessions, FaultlessSessions, HasFailed, IsToldByChildren}
+use Rattle.bar_children.specs.Sessions.{AreAllStarted}
 use Rattle.bar_children.specs.Words.{first_parties}
 use Rattle.bar_children.proofs.Causes.{Cause, Why, any-there, by_end, by_line, by_wait, cause-of, end-nine, end-seven, line-nine, line-seven, wait-nine, wait-seven}
-use Rattle.bar_children.proofs.Told.{Failure, all-shown, all-well, has-failed, kept-told, lines-shown, lines-well, shown-ending, zero-told}
+use Rattle.bar_children.proofs.Told.{all-shown, all-well, has-failed, kept-told, lines-shown, lines-well, shown-ending, zero-told}
 
 -- no start was refused
 all-started : (peers count stop : ℕ) → stop ≢ 9 → stop ≢ 70 → AreAllStarted peers count stop → (stop ≡ 0) × (count ≡ peers + 1)

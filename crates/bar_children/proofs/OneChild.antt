@@ -1,12 +1,10 @@
 -- What came of one child.
-use Rattle.std.proofs.Common.{◌≡◌, ◌≤◌, ◌∷◌, ◌++◌, ◌||◌, ◌&&◌, [], ℕ, ℤ, Bool, true, false, not, true≢false, Result, Ok, Err, IsTrue, refl, sym, ap, ◌∙◌, subst, append-nil, arith}
-use Rattle.std.specs.List.{list_any}
-use Rattle.bar_outside.specs.Causes.{Rose}
+use Rattle.std.proofs.Common.{◌≡◌, ◌∷◌, ◌&&◌, [], ℕ, ℤ, Bool, true, false, not, true≢false, Result, Ok, Err, IsTrue, refl, sym, ap, ◌∙◌, append-nil, arith}
 use Rattle.bar_outside.specs.Children.{Children, Waits}
 use Rattle.bar_outside.specs.Stream.{Stream}
 use Rattle.bar_outside.specs.declared.spawner.ChildFault.{ChildFault}
 use Rattle.bar_outside.specs.declared.spawner.ChildFault.TheVariants as fault
-use Rattle.bar_children.specs.Family.{Child, ReportData, Shown, Untried, code_of_end, code_of_shown, has_status, is_broken, is_in_order, is_refused_wait, is_tried, prints_after, with_child}
+use Rattle.bar_children.specs.Family.{ReportData, Shown, Untried, code_of_end, code_of_shown, has_status, is_broken, is_in_order, is_tried}
 use Rattle.bar_children.specs.Outcomes.{code_of_fault, joined}
 use Rattle.bar_children.specs.Sessions.{Reports, ShowsLines, ShowsStatus, WaitsForEach}
 use Rattle.bar_children.proofs.Codes.{joined-none}

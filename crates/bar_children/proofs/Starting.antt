@@ -1,14 +1,10 @@
 -- Children that were started so far.
-use Rattle.std.proofs.Common.{◌≡◌, ◌≤◌, ◌⊎◌, ◌+◌, ◌∷◌, ◌++◌, [], ℕ, suc, List, IsTrue, Ok, Err, map, length, length-append, refl, sym, ap, ◌∙◌, append-nil, append_assoc, inl, inr, arith}
+use Rattle.std.proofs.Common.{◌≡◌, ◌≤◌, ◌∷◌, ◌++◌, [], ℕ, suc, List, IsTrue, Ok, map, length, length-append, refl, sym, ap, ◌∙◌, append-nil, append_assoc, arith}
 use Rattle.std.proofs.lemmas.List.{map-append}
 use Rattle.bar_outside.specs.Children.{ChildCall, Children, Started, Starts}
-use Rattle.bar_outside.specs.declared.spawner.ChildFault.{ChildFault}
-use Rattle.bar_outside.specs.declared.spawner.ChildFault.TheVariants as fault
 use Rattle.bar_children.specs.Names.{SessionNames}
-use Rattle.bar_children.specs.Outcomes.{code_of_fault}
-use Rattle.bar_children.specs.Sessions.{AreRunning, StartsAll}
+use Rattle.bar_children.specs.Sessions.{AreRunning}
 use Rattle.bar_children.specs.Words.{first_parties, party_at, words_of}
-use Rattle.bar_children.proofs.MoreChildren.{rose-behind}
 use Rattle.bar_children.proofs.Running.{running-started}
 
 -- the start of a child of this party and number

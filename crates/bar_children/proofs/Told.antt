@@ -1,5 +1,5 @@
 -- Children whose statuses were all printed.
-use Rattle.std.proofs.Common.{◌≡◌, ◌≢◌, ◌⊎◌, ◌∷◌, ◌++◌, ◌&&◌, [], ℕ, ℤ, pos, List, Bool, true, false, true≢false, not, IsTrue, Result, Ok, Err, All, Contains, if◌then◌else◌, map, flat_map, get_or, take, refl, sym, ap, ap₂, ◌∙◌, subst, append-nil, append_assoc, inl, inr, arith}
+use Rattle.std.proofs.Common.{◌≡◌, ◌≢◌, ◌⊎◌, ◌∷◌, ◌++◌, [], ℕ, ℤ, pos, List, Bool, true, false, true≢false, not, IsTrue, Result, Ok, Err, All, Contains, if◌then◌else◌, map, flat_map, get_or, take, refl, sym, ap, ap₂, ◌∙◌, subst, append-nil, append_assoc, inl, inr, arith}
 use Rattle.std.specs.List.{list_any}
 use Rattle.std.proofs.lemmas.Bool.{and_parts, cases_Bool, or_parts}
 use Rattle.std.proofs.lemmas.List.Elements.{All-cons, All-head, All-nil, All-tail, Contains-append_right}

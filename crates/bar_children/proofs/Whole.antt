@@ -1,14 +1,13 @@
 -- A session's children, from the starts to the last wait.
-use Rattle.std.proofs.Common.{◌≡◌, ◌⊎◌, ◌∷◌, ◌++◌, ◌||◌, ◌==◌, [], ℕ, List, Bool, true, false, true≢false, IsTrue, map, length, refl, sym, ap, ◌∙◌, subst, append-nil, append_assoc, inl, inr, arith}
+use Rattle.std.proofs.Common.{◌≡◌, ◌++◌, ◌==◌, ℕ, List, true, false, map, length, sym, ap, ◌∙◌, subst, append_assoc, inl, inr, arith}
 use Rattle.std.specs.List.{list_any}
 use Rattle.std.proofs.lemmas.Bool.{or_cases, or_from}
 use Rattle.std.proofs.lemmas.Bool.Decides.{nat_tests}
 use Rattle.std.proofs.lemmas.List.{length-map}
 use Rattle.std.proofs.lemmas.Simd.{map-map}
-use Rattle.bar_outside.specs.Causes.{Rose}
 use Rattle.bar_outside.specs.Children.{Children}
 use Rattle.bar_outside.specs.Stream.{Stream}
-use Rattle.bar_children.specs.Family.{Child, ReportData, is_refused_wait, start_of, wait_of, with_children}
+use Rattle.bar_children.specs.Family.{ReportData, is_refused_wait, start_of, wait_of}
 use Rattle.bar_children.specs.Names.{SessionNames}
 use Rattle.bar_children.specs.Sessions.{AreAllStarted, Reports, SessionRan, StartsAll, key_of}
 use Rattle.bar_children.specs.Words.{first_parties}

@@ -1,8 +1,7 @@
-use Rattle.std.proofs.Common.{◌≡◌, ◌∙◌, ℕ, map, sym, ap, subst}
+use Rattle.std.proofs.Common.{◌∙◌, ℕ, map, sym, subst}
 use Rattle.std.proofs.lemmas.Simd.{map-map}
-use Rattle.bar_children.specs.declared.child.Child.{Child}
 use Rattle.bar_children.specs.Outcomes.{code_of}
-use Rattle.bar_children.specs.Sessions.{AreRunning, Reports}
+use Rattle.bar_children.specs.Sessions.{AreRunning}
 use Rattle.bar_children.specs.Views.{key_in, names_view, report_view}
 use Rattle.bar_children.proofs.Whole.{session-ran}
 use Rattle.bar_children.proofs.family.run_children.Goals as goal

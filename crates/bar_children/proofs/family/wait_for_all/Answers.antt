@@ -1,8 +1,7 @@
 use Rattle.std.proofs.Common.{◌≡◌, ◌∙◌, ◌<◌, ◌+◌, ◌∷◌, ◌++◌, [], ℕ, List, map, take, drop, length, get_or, sym, ap, subst}
 use Rattle.std.proofs.lemmas.List.{drop_more, map-append, take_more}
-use Rattle.bar_outside.specs.Children.{ChildCall}
 use Rattle.bar_children.specs.declared.child.Child.{Child}
-use Rattle.bar_children.specs.Sessions.{AreRunning, Reports}
+use Rattle.bar_children.specs.Sessions.{AreRunning}
 use Rattle.bar_children.specs.Views.{key_in, report_view}
 use Rattle.bar_children.proofs.MoreChildren.{reports-none, reports-append}
 use Rattle.bar_children.proofs.Running.{running-waited}

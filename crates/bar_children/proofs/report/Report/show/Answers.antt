@@ -1,9 +1,6 @@
-use Rattle.std.proofs.Common.{◌≡◌, ◌∙◌, ◌∷◌, [], ℕ, ℤ, pos, Ok, refl, ap, sym, subst, to_z, of_z, to_z-of_z, w32}
-use Rattle.bar_outside.specs.declared.sink.SinkFault.TheVariants as sink
-use Rattle.bar_children.specs.Family.{Shown, Whole, Refused, Wanting, shown_of}
+use Rattle.std.proofs.Common.{◌≡◌, ◌∙◌, pos, refl, ap, sym, to_z, of_z, to_z-of_z, w32}
+use Rattle.bar_children.specs.Family.{Whole, Refused, Wanting}
 use Rattle.bar_children.specs.Outcomes.{code_of, joined}
-use Rattle.bar_children.specs.Sessions.{ShowsLines}
-use Rattle.bar_children.specs.declared.outcome.Outcome.TheVariants.{NoMemory, OutputFailed}
 use Rattle.bar_children.proofs.Codes.{joined-none, code-zero, code-other}
 use Rattle.bar_children.proofs.report.Report.show.Goals as goal
 use Rattle.bar_children.proofs.report.Report.show.Goals.{in-Failed, in-NoMemory}

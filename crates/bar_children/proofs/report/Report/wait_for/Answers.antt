@@ -1,5 +1,4 @@
-use Rattle.std.proofs.Common.{rules, SFits, w32, to_z-of_z, ap, ◌∙◌}
-use Rattle.bar_children.specs.Outcomes.{code_of, joined}
+use Rattle.std.proofs.Common.{rules, SFits, w32, to_z-of_z}
 use Rattle.bar_children.specs.Views.{report_view}
 use Rattle.bar_children.proofs.OneChild.{reports-fault, reports-quiet, reports-shown}
 use Rattle.bar_children.proofs.report.Report.wait_for.Goals as goal
@@ -20,6 +19,5 @@ returns-else-self g c =
 pub returns-in-Err : goal.returns-in-Err
 returns-in-Err g c =
     let child = c.args.child.now in
-    let old = report_view c.args.self.now in
-    reports-fault child.party child.number c.in-Err.fault old (report_view c.note.new.self) (g.K.Sink.stream c.args.out.now) _ _ c.in-Err.ensures
-    (c.note.ensures ∙ ap (λ code. record { code = joined old.code code; prints = old.prints }) c.outcome_of.ensures)
+    reports-fault child.party child.number c.in-Err.fault (report_view c.args.self.now) (report_view c.note.new.self)
+    (g.K.Sink.stream c.args.out.now) _ _ c.in-Err.ensures (rw c.outcome_of.ensures at c.note.ensures)
