@@ -115,9 +115,9 @@ open-waited (suc n) calls child status below unwaited =
         ≤ (if is_waited n calls then 0 else 1) + open_below n calls
     by-place earlier = elim (cases_Bool (child == n)) [
       | inl same ↦ at-flag (is_waited n calls) (child == n) _ _
-        (subst (λ (k : ℕ). is_waited k calls ≡ false) (is-same child n same) unwaited) same (open-less n calls child status)
+          (subst (λ (k : ℕ). is_waited k calls ≡ false) (is-same child n same) unwaited) same (open-less n calls child status)
       | inr other ↦ past-flag (is_waited n calls) (child == n) _ _ other
-        (earlier (is-before child n below other) unwaited)
+          (earlier (is-before child n below other) unwaited)
     ]
 
 -- ---- the children of the calls
@@ -155,9 +155,9 @@ started-below n [] child below started = absurd (false-true started)
 started-below n (Waited other status ∷ calls) child below started =
     started-below n calls child (and-right (nat_lt other n) _ below) started
 started-below n (Started words other ∷ calls) child below started = elim (cases_Bool (other == child)) [
-    | inl same ↦ subst (λ (k : ℕ). k < n) (is-same other child same) (is-below other n (and-left _ (are_below n calls) below))
-    | inr differs ↦ started-below n calls child (and-right (nat_lt other n) _ below) (rest (other == child) (is_started child calls) differs started)
-  ]
+  | inl same ↦ subst (λ (k : ℕ). k < n) (is-same other child same) (is-below other n (and-left _ (are_below n calls) below))
+  | inr differs ↦ started-below n calls child (and-right (nat_lt other n) _ below) (rest (other == child) (is_started child calls) differs started)
+]
   where
     rest : (a b : Bool) → a ≡ false → (a || b) ≡ true → b ≡ true
     rest true b h k = absurd (true-false h)

@@ -1,8 +1,8 @@
-//! Files, sinks and links in memory.
+//! Files, sinks, links and spawners in memory.
 use crate::{
-    Fault, FileFault, Files, Link, LinkFault, MemFiles, MemLink, MemSink, MemTaken, Place, Sink,
-    SinkFault, Taken, append_file, bind_link, create_file, read_file, receive_next, send_datagram,
-    show_bytes,
+    ChildFault, Fault, FileFault, Files, Link, LinkFault, MemCall, MemFiles, MemLink, MemSink,
+    MemSpawner, MemTaken, Place, Sink, SinkFault, Spawner, Taken, append_file, bind_link,
+    create_file, read_file, receive_next, send_datagram, show_bytes,
 };
 use std::test::Fail;
 
@@ -64,5 +64,28 @@ fn a_link_in_memory(rt: HostRuntime) -> Result<(), Fail> {
     assert_eq!(rt; link.next(&mut buf), Err(LinkFault::Failed));
     assert_eq!(rt; link.next(&mut buf), Ok(Taken::End));
     assert_eq!(rt; link.sent().len(), 1);
+    Ok(())
+}
+
+#[test]
+fn a_spawner_in_memory(rt: HostRuntime) -> Result<(), Fail> {
+    let alloc = rt.alloc();
+    let mut spawner = MemSpawner::make(alloc, Vec::new(alloc), [2].to_vec(alloc)?);
+    let mut words = Vec::new(alloc);
+    words.push(String::from_str(alloc, "bar")?)?;
+    assert_eq!(rt; spawner.start(&words), Ok(0));
+    assert_eq!(rt; spawner.start(&words), Err(ChildFault::Failed));
+    let mut more = Vec::new(alloc);
+    more.push(String::from_str(alloc, "bar")?)?;
+    more.push(String::from_str(alloc, "peer")?)?;
+    assert_eq!(rt; spawner.start(&more), Ok(1));
+    let first = MemCall::Started { words, child: 0 };
+    let second = MemCall::Started {
+        words: more,
+        child: 1,
+    };
+    assert_eq!(rt; spawner.calls().len(), 2);
+    assert_eq!(rt; spawner.calls().first(), Some(&first));
+    assert_eq!(rt; spawner.calls().last(), Some(&second));
     Ok(())
 }

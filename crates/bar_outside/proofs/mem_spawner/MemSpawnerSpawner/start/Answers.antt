@@ -15,13 +15,13 @@ invariant_of-self-2 c =
     ap (map call_in) grown ∙ map-append call_in old.calls.items (raw.Started c.in-Ok.words old.started ∷ []) in
     record {
       below = rw calls (below-call old.started (old.started + 1) (map call_in old.calls.items)
-        (Started (map string_bytes c.in-Ok.words.items) old.started) (omega arith) (omega arith) old.below);
+          (Started (map string_bytes c.in-Ok.words.items) old.started) (omega arith) (omega arith) old.below);
       room = let few = open-few (old.started + 1) (map call_in c.push.new.self.items) in
-        let spare : vec_len c.reserve.new.self + (old.started + 2) ≤ vec_capacity c.reserve.new.self = search rules in
-        let longer : vec_len c.push.new.self ≡ vec_len c.reserve.new.self + 1 = search rules in
-        omega (arith, few, spare, longer, c.push.ensures.capacity);
+          let spare : vec_len c.reserve.new.self + (old.started + 2) ≤ vec_capacity c.reserve.new.self = search rules in
+          let longer : vec_len c.push.new.self ≡ vec_len c.reserve.new.self + 1 = search rules in
+          omega (arith, few, spare, longer, c.push.ensures.capacity);
       few = let longer : vec_len c.push.new.self ≡ vec_len c.reserve.new.self + 1 = search rules in
-        omega (arith, old.few, longer, c.reserve.ensures.len);
+          omega (arith, old.few, longer, c.reserve.ensures.len);
     }
 
 pub returns-clause-starts : goal.returns-clause-starts
@@ -31,7 +31,7 @@ returns-clause-starts c =
     record {
       call = search rules;
       added = λ _. ap (map call_in) grown ∙ (map-append call_in old.calls.items (raw.Started c.in-Ok.words old.started ∷ [])
-        ∙ ap (λ words. map call_in old.calls.items ++ Started words old.started ∷ []) c.in-Ok.ensures);
+          ∙ ap (λ words. map call_in old.calls.items ++ Started words old.started ∷ []) c.in-Ok.ensures);
       new_child = λ _. next-new old.started (map call_in old.calls.items) old.below;
       left = λ _. tt;
     }

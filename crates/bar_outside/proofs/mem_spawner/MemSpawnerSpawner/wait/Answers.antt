@@ -36,7 +36,7 @@ invariant_of-self-then-fails-2 c =
     let one = open-waited old.started (map call_in old.calls.items) c.args.child c.if-fails.status below running.unwaited in
     record {
       below = rw calls (below-call old.started old.started (map call_in old.calls.items) (Waited c.args.child c.if-fails.status)
-        (omega arith) below old.below);
+          (omega arith) below old.below);
       room = rw calls (omega (arith, one, old.room));
       few = omega (arith, old.few);
     }
@@ -51,7 +51,7 @@ invariant_of-self-else-fails-2 c =
     let one = open-waited old.started (map call_in old.calls.items) c.args.child c.if-fails.status below running.unwaited in
     record {
       below = rw calls (below-call old.started old.started (map call_in old.calls.items) (Waited c.args.child c.if-fails.status)
-        (omega arith) below old.below);
+          (omega arith) below old.below);
       room = rw calls (omega (arith, one, old.room));
       few = omega (arith, old.few);
     }
