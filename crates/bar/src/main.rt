@@ -1,15 +1,17 @@
-//! The program: the commands over the real files, the loopback network and the standard streams.
+//! The program: the commands over the real files, the loopback network, child programs and the standard streams.
 #![tactic(auto)]
 
 mod link;
 mod outside;
+mod spawner;
 #[cfg(test)]
 mod tests;
 
 use bar_cli::bar_run;
-use bar_outside::{Files, Link, Sink};
+use bar_outside::{Files, Link, Sink, Spawner};
 use link::RealLink;
 use outside::{RealFiles, RealSink, Standard};
+use spawner::RealSpawner;
 use std::alloc::Global;
 use std::env::Env;
 use std::io::ErrorKind;
@@ -29,13 +31,14 @@ fn words_of<R: Env + AllocGlobal>(rt: &R) -> io::Result<Vec<String>> {
 }
 
 // Does what the words say, and answers the exit status.
-fn run_words<F: Files, L: Link, K: Sink>(
+fn run_words<F: Files, L: Link, K: Sink, S: Spawner>(
     alloc: Global,
     words: io::Result<Vec<String>>,
     files: &mut F,
     link: &mut L,
     out: &mut K,
     err: &mut K,
+    spawn: &mut S,
 ) -> u8 {
     let words = match words {
         Ok(words) => words,
@@ -48,14 +51,16 @@ fn run_words<F: Files, L: Link, K: Sink>(
             Vec::new(alloc)
         }
     };
-    bar_run(alloc, &words, files, link, out, err)
+    bar_run(alloc, &words, files, link, out, err, spawn)
 }
 
 fn main(rt: HostRuntime) -> ExitCode {
     let mut files = RealFiles::new(&rt);
     let mut link = RealLink::new(&rt);
+    let mut spawn = RealSpawner::new(&rt);
     let mut out = RealSink::new(Standard::Out(rt.stdout()));
     let mut err = RealSink::new(Standard::Err(rt.stderr()));
     let words = words_of(&rt);
-    ExitCode::from(run_words(rt.alloc(), words, &mut files, &mut link, &mut out, &mut err))
+    let alloc = rt.alloc();
+    ExitCode::from(run_words(alloc, words, &mut files, &mut link, &mut out, &mut err, &mut spawn))
 }

@@ -1,18 +1,19 @@
 //! The exit status of words, over files and sinks in memory.
 use crate::run_words;
-use bar_outside::{MemFiles, MemLink, MemSink};
+use bar_outside::{MemFiles, MemLink, MemSink, MemSpawner};
 use std::alloc::Global;
 use std::io;
 use std::io::ErrorKind;
 use std::test::Fail;
 
-// No files, a link that gives nothing, and sinks that are empty.
-fn nothing(alloc: Global) -> (MemFiles, MemLink, MemSink, MemSink) {
+// No files, a link that gives nothing, sinks that are empty, and no child.
+fn nothing(alloc: Global) -> (MemFiles, MemLink, MemSink, MemSink, MemSpawner) {
     (
         MemFiles::make(alloc, Vec::new(alloc)),
         MemLink::make(alloc, Vec::new(alloc), Vec::new(alloc)),
         MemSink::make(alloc, Vec::new(alloc)),
         MemSink::make(alloc, Vec::new(alloc)),
+        MemSpawner::make(alloc, Vec::new(alloc), Vec::new(alloc)),
     )
 }
 
@@ -37,8 +38,8 @@ fn the_status_of_the_command_is_answered(rt: HostRuntime) -> Result<(), Fail> {
         for word in line.split(' ') {
             words.push(String::from_str(alloc, word)?)?;
         }
-        let (mut files, mut link, mut out, mut err) = nothing(alloc);
-        let answered = run_words(alloc, Ok(words), &mut files, &mut link, &mut out, &mut err);
+        let (mut files, mut link, mut out, mut err, mut spawn) = nothing(alloc);
+        let answered = run_words(alloc, Ok(words), &mut files, &mut link, &mut out, &mut err, &mut spawn);
         assert_eq!(rt; answered, status, "{line}");
         assert_eq!(rt; out.bytes(), b"".as_slice());
         assert_eq!(rt; err.bytes(), said.as_bytes());
@@ -54,9 +55,9 @@ fn words_that_cannot_be_read(rt: HostRuntime) {
         (ErrorKind::OutOfMemory, 70, "bar: no memory\n"),
     ];
     for (kind, status, said) in kinds {
-        let (mut files, mut link, mut out, mut err) = nothing(alloc);
+        let (mut files, mut link, mut out, mut err, mut spawn) = nothing(alloc);
         let words = Err(io::Error::from(kind));
-        let answered = run_words(alloc, words, &mut files, &mut link, &mut out, &mut err);
+        let answered = run_words(alloc, words, &mut files, &mut link, &mut out, &mut err, &mut spawn);
         assert_eq!(rt; answered, status, "{said}");
         assert_eq!(rt; out.bytes(), b"".as_slice());
         assert_eq!(rt; err.bytes(), said.as_bytes());

@@ -14,3 +14,4 @@ pub mod CoreTurns
 pub mod WrittenOut
 pub mod RunLemmas
 pub mod WordLemmas
+pub mod SessionLemmas

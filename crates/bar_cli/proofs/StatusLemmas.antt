@@ -17,11 +17,11 @@ use Rattle.bar_live.specs.Views.{code_of_run as live_code_of_run}
 use Rattle.bar_live.specs.declared.ended.Ended.{Ended}
 use Rattle.bar_live.specs.declared.ended.Ended.TheVariants as live
 use Rattle.bar_cli.specs.JudgePlan.{JudgeFiles}
-use Rattle.bar_cli.specs.Line.{Line, peer, broadcaster, replay, keygen, judge, is_status_of, may_print, usage}
+use Rattle.bar_cli.specs.Line.{Line, peer, broadcaster, replay, keygen, judge, session_run, is_status_of, may_print, usage}
 use Rattle.bar_cli.specs.Printing.{keygen_may_print, judge_may_print, replay_may_print}
 use Rattle.bar_cli.specs.Status.{code_of, said_at, code_of_run, is_replay_end, is_keygen_end, is_judge_end}
 use Rattle.bar_cli.specs.declared.status.Status.{Status}
-use Rattle.bar_cli.specs.declared.status.Status.TheVariants.{Done, NoFault, Usage, FileFailed, LinkFailed, SessionRefused, KeyRefused, OutputFailed, RecordingRefused, StreamRefused, SecretRefused, TableRefused, EvidenceRefused, NoMemory}
+use Rattle.bar_cli.specs.declared.status.Status.TheVariants.{Done, NoFault, Usage, FileFailed, LinkFailed, SessionRefused, KeyRefused, OutputFailed, ChildFailed, RecordingRefused, StreamRefused, SecretRefused, TableRefused, EvidenceRefused, NoMemory}
 use Rattle.bar_cli.specs.ReplayPlan.{ReplayFiles}
 use Rattle.bar_cli.specs.KeygenPlan.{Keygen}
 
@@ -99,6 +99,7 @@ replay-statuses names (Ok OutputFailed) h other = absurd cc
 replay-statuses names (Ok (RecordingRefused fault)) h other = refl
 replay-statuses names (Ok (StreamRefused have room)) h other = absurd cc
 replay-statuses names (Ok (SecretRefused len)) h other = absurd cc
+replay-statuses names (Ok ChildFailed) h other = absurd cc
 replay-statuses names (Ok NoMemory) h other = absurd cc
 replay-statuses names (Err File) h other = refl
 replay-statuses names (Err Link) h other = absurd (other refl)
@@ -122,6 +123,7 @@ keygen-statuses asked (Ok OutputFailed) h other = absurd cc
 keygen-statuses asked (Ok (RecordingRefused fault)) h other = absurd cc
 keygen-statuses asked (Ok (StreamRefused have room)) h other = absurd cc
 keygen-statuses asked (Ok (SecretRefused len)) h other = refl
+keygen-statuses asked (Ok ChildFailed) h other = absurd cc
 keygen-statuses asked (Ok NoMemory) h other = absurd cc
 keygen-statuses asked (Err File) h other = refl
 keygen-statuses asked (Err Link) h other = absurd (other refl)
@@ -145,6 +147,7 @@ judge-statuses names (Ok (StreamRefused have room)) h other = absurd cc
 judge-statuses names (Ok (SecretRefused len)) h other = absurd cc
 judge-statuses names (Ok (TableRefused at)) h other = refl
 judge-statuses names (Ok EvidenceRefused) h other = refl
+judge-statuses names (Ok ChildFailed) h other = absurd cc
 judge-statuses names (Ok NoMemory) h other = absurd cc
 judge-statuses names (Err File) h other = refl
 judge-statuses names (Err Link) h other = absurd (other refl)
@@ -183,6 +186,7 @@ memory-status (Some (broadcaster names)) = refl
 memory-status (Some (replay names)) = refl
 memory-status (Some (keygen asked)) = refl
 memory-status (Some (judge names)) = refl
+memory-status (Some (session_run names)) = refl
 
 -- and in place of any status
 pub or-memory : (line : Option Line) (status result : ℕ) → IsTrue (is_status_of line status) → (result ≡ status) ⊎ (result ≡ 70) →
@@ -208,6 +212,7 @@ no-usage line status h e = at-two line (subst (λ n. IsTrue (is_status_of (Some 
     at-two (replay names) h = cc
     at-two (keygen asked) h = cc
     at-two (judge names) h = cc
+    at-two (session_run names) h = cc
 
 -- this status has one line
 pub said-at_two : (status : Status) → code_of status ≡ 2 → said_at status ≡ usage
@@ -224,6 +229,7 @@ said-at_two (StreamRefused have room) e = absurd (omega arith)
 said-at_two (SecretRefused len) e = absurd (omega arith)
 said-at_two (TableRefused at) e = absurd (omega arith)
 said-at_two EvidenceRefused e = absurd (omega arith)
+said-at_two ChildFailed e = absurd (omega arith)
 said-at_two NoMemory e = absurd (omega arith)
 
 -- a command whose status may show nothing shows nothing where want of memory comes in place of it
@@ -240,3 +246,4 @@ unprinted-by (Some line) status result P h (inr e) none =
     prints-at_memory (replay names) = refl
     prints-at_memory (keygen asked) = refl
     prints-at_memory (judge names) = refl
+    prints-at_memory (session_run names) = refl

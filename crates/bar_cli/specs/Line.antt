@@ -8,13 +8,15 @@ use Rattle.bar_outside.specs.Wire.{Arrival}
 use Rattle.bar_roster.specs.NumberRanges.{most_rounds}
 use Rattle.bar_words.specs.Numbers.{id_of, number_in}
 use Rattle.bar_words.specs.Options.{values_of}
+use Rattle.bar_children.specs.Names.{SessionNames}
 use Rattle.bar_live.specs.CasterPlan.{CasterNames, caster_plan}
 use Rattle.bar_live.specs.PeerPlan.{PeerNames, peer_plan}
 use Rattle.bar_cli.specs.Words.{types_of}
 use Rattle.bar_cli.specs.ReplayPlan.{ReplayFiles, replay_plan}
 use Rattle.bar_cli.specs.KeygenPlan.{Keygen, keygen_plan}
 use Rattle.bar_cli.specs.JudgePlan.{JudgeFiles, judge_plan}
-use Rattle.bar_cli.specs.Printing.{judge_may_print, keygen_may_print, live_may_print, replay_may_print}
+use Rattle.bar_cli.specs.SessionPlan.{session_plan}
+use Rattle.bar_cli.specs.Printing.{judge_may_print, keygen_may_print, live_may_print, replay_may_print, session_may_print}
 
 -- one constructor for each command
 pub data Line : Type 0 where
@@ -23,6 +25,7 @@ pub data Line : Type 0 where
   replay : (names : ReplayFiles) → Line
   keygen : (asked : Keygen) → Line
   judge : (names : JudgeFiles) → Line
+  session_run : (names : SessionNames) → Line
 
 infixl 10 ◌>>=◌
 abbrev ◌>>=◌ : {A B : Type 0} → Option A → (A → Option B) → Option B
@@ -95,6 +98,19 @@ judge_files _ = None
 abbrev pub judge_line : List (List ℕ) → Option Line
 judge_line words = option_and_then judge_files (values_of judge_options words)
 
+abbrev pub session_options : List (List ℕ)
+session_options = codes "session" ∷ codes "keys" ∷ codes "stream" ∷ codes "begin" ∷ codes "results" ∷ codes "program" ∷ []
+
+-- the time is handed on as its word
+abbrev pub session_values : List (List ℕ) → Option Line
+session_values (session ∷ keys ∷ stream ∷ begin ∷ results ∷ program ∷ []) = do
+  begin_ms ← time_of begin
+  Some (session_run (record { session = session; keys = keys; stream = stream; begin = begin; results = results; program = program }))
+session_values _ = None
+
+abbrev pub session_line : List (List ℕ) → Option Line
+session_line words = option_and_then session_values (values_of session_options words)
+
 -- the line that the words are, if they are one; the first word names the command
 abbrev pub line_of : List (List ℕ) → Option Line
 line_of [] = None
@@ -104,6 +120,7 @@ line_of (name ∷ options) =
     else if bytes_eq name (codes "replay") then replay_line options
     else if bytes_eq name (codes "keygen") then keygen_line options
     else if bytes_eq name (codes "judge") then judge_line options
+    else if bytes_eq name (codes "session") then session_line options
     else None
 
 abbrev pub usage : List ℕ
@@ -117,6 +134,17 @@ plan_of (Some (broadcaster names)) given = caster_plan names given
 plan_of (Some (replay names)) given = replay_plan names
 plan_of (Some (keygen asked)) given = keygen_plan asked
 plan_of (Some (judge names)) given = judge_plan names
+plan_of (Some (session_run names)) given = session_plan names
+
+-- the commands whose plan is all that they do; a session goes on by what its children do
+abbrev pub has_plan : Option Line → Bool
+has_plan None = true
+has_plan (Some (peer names)) = true
+has_plan (Some (broadcaster names)) = true
+has_plan (Some (replay names)) = true
+has_plan (Some (keygen asked)) = true
+has_plan (Some (judge names)) = true
+has_plan (Some (session_run names)) = false
 
 -- the statuses that come at words
 abbrev pub is_status_of : Option Line → ℕ → Bool
@@ -130,6 +158,8 @@ is_status_of (Some (replay names)) status =
 is_status_of (Some (keygen asked)) status = status == 0 || status == 3 || status == 4 || status == 7 || status == 8 || status == 70
 is_status_of (Some (judge names)) status =
     status == 0 || status == 1 || status == 3 || status == 4 || status == 7 || status == 8 || status == 70
+is_status_of (Some (session_run names)) status =
+    status == 0 || status == 3 || status == 4 || status == 7 || status == 9 || status == 70
 
 -- the statuses at which a command may have printed something on standard output
 abbrev pub may_print : Option Line → ℕ → Bool
@@ -139,6 +169,7 @@ may_print (Some (broadcaster names)) status = live_may_print status
 may_print (Some (replay names)) status = replay_may_print status
 may_print (Some (keygen asked)) status = keygen_may_print status
 may_print (Some (judge names)) status = judge_may_print status
+may_print (Some (session_run names)) status = session_may_print status
 
 -- the commands that use the link
 abbrev pub uses_link : Option Line → Bool
@@ -148,3 +179,14 @@ uses_link (Some (broadcaster names)) = true
 uses_link (Some (replay names)) = false
 uses_link (Some (keygen asked)) = false
 uses_link (Some (judge names)) = false
+uses_link (Some (session_run names)) = false
+
+-- the command that starts children
+abbrev pub starts_children : Option Line → Bool
+starts_children None = false
+starts_children (Some (peer names)) = false
+starts_children (Some (broadcaster names)) = false
+starts_children (Some (replay names)) = false
+starts_children (Some (keygen asked)) = false
+starts_children (Some (judge names)) = false
+starts_children (Some (session_run names)) = true

@@ -13,6 +13,10 @@ replay_may_print status = status == 0 || status == 3 || status == 7 || status ==
 abbrev pub keygen_may_print : ℕ → Bool
 keygen_may_print status = status == 0 || status == 7 || status == 70
 
+-- `session` prints the status of each child
+abbrev pub session_may_print : ℕ → Bool
+session_may_print status = status == 0 || status == 7 || status == 9 || status == 70
+
 -- `judge` prints its verdict
 abbrev pub judge_may_print : ℕ → Bool
 judge_may_print status = status == 0 || status == 1 || status == 7 || status == 70

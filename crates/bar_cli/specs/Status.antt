@@ -4,8 +4,9 @@ use Rattle.bar_outside.specs.Plan as plan
 use Rattle.bar_outside.specs.Faults.{code_of_fault, line_of_fault}
 use Rattle.bar_outside.specs.declared.fault.Fault.{Fault}
 use Rattle.bar_cli.specs.declared.status.Status.{Status}
-use Rattle.bar_cli.specs.declared.status.Status.TheVariants.{Done, NoFault, Usage, FileFailed, LinkFailed, SessionRefused, KeyRefused, OutputFailed, RecordingRefused, StreamRefused, SecretRefused, TableRefused, EvidenceRefused, NoMemory}
+use Rattle.bar_cli.specs.declared.status.Status.TheVariants.{Done, NoFault, Usage, FileFailed, LinkFailed, SessionRefused, KeyRefused, OutputFailed, ChildFailed, RecordingRefused, StreamRefused, SecretRefused, TableRefused, EvidenceRefused, NoMemory}
 use Rattle.bar_cli.specs.Line.{usage}
+use Rattle.bar_cli.specs.SessionPlan.{child_failed}
 use Rattle.bar_cli.specs.Refusals.{session_refused, key_refused, recording_refused, stream_refused, secret_refused, table_refused, evidence_refused}
 
 abbrev pub code_of : Status → ℕ
@@ -22,6 +23,7 @@ code_of (StreamRefused have room) = 8
 code_of (SecretRefused len) = 8
 code_of (TableRefused at) = 8
 code_of EvidenceRefused = 8
+code_of ChildFailed = 9
 code_of NoMemory = 70
 
 -- the line that is printed at a status
@@ -39,6 +41,7 @@ said_at (StreamRefused have room) = stream_refused have room
 said_at (SecretRefused len) = secret_refused len
 said_at (TableRefused at) = table_refused at
 said_at EvidenceRefused = evidence_refused
+said_at ChildFailed = child_failed
 said_at NoMemory = plan.no_memory
 
 -- the status and the line of a command that a fault may stop
@@ -65,6 +68,7 @@ is_replay_end (SecretRefused len) = false
 is_replay_end NoFault = false
 is_replay_end (TableRefused at) = false
 is_replay_end EvidenceRefused = false
+is_replay_end ChildFailed = false
 is_replay_end NoMemory = false
 
 -- how `keygen` ends where no fault stops it
@@ -82,6 +86,7 @@ is_keygen_end Usage = false
 is_keygen_end FileFailed = false
 is_keygen_end LinkFailed = false
 is_keygen_end OutputFailed = false
+is_keygen_end ChildFailed = false
 is_keygen_end NoMemory = false
 
 -- how `judge` ends where no fault stops it
@@ -99,4 +104,5 @@ is_judge_end Usage = false
 is_judge_end FileFailed = false
 is_judge_end LinkFailed = false
 is_judge_end OutputFailed = false
+is_judge_end ChildFailed = false
 is_judge_end NoMemory = false

@@ -1,4 +1,6 @@
 -- What a command in the code stands for.
+use Rattle.bar_children.specs.Views as children
+use Rattle.bar_children.specs.declared.session_names.SessionNames.{SessionNames}
 use Rattle.bar_live.specs.Views as live
 use Rattle.bar_live.specs.declared.caster_names.CasterNames.{CasterNames}
 use Rattle.bar_live.specs.declared.peer_names.PeerNames.{PeerNames}
@@ -6,11 +8,11 @@ use Rattle.bar_cli.specs.declared.replay_names.ReplayNames.{ReplayNames}
 use Rattle.bar_cli.specs.declared.keygen_words.KeygenWords.{KeygenWords}
 use Rattle.bar_cli.specs.declared.judge_names.JudgeNames.{JudgeNames}
 use Rattle.bar_cli.specs.declared.line.Command.{Command}
-use Rattle.bar_cli.specs.declared.line.Command.TheVariants.{Peer, Broadcaster, Replay, Keygen, Judge}
+use Rattle.bar_cli.specs.declared.line.Command.TheVariants.{Peer, Broadcaster, Replay, Keygen, Judge, Session}
 use Rattle.bar_cli.specs.ReplayPlan.{ReplayFiles}
 use Rattle.bar_cli.specs.KeygenPlan as plan
 use Rattle.bar_cli.specs.JudgePlan.{JudgeFiles}
-use Rattle.bar_cli.specs.Line.{Line, peer, broadcaster, replay, keygen, judge}
+use Rattle.bar_cli.specs.Line.{Line, peer, broadcaster, replay, keygen, judge, session_run}
 
 abbrev pub names_view : ReplayNames → ReplayFiles
 names_view names =
@@ -51,9 +53,13 @@ asked_view asked = keygen (keygen_view asked)
 abbrev pub judged_view : JudgeNames → Line
 judged_view names = judge (judge_view names)
 
+abbrev pub session_view : SessionNames → Line
+session_view names = session_run (children.names_view names)
+
 abbrev pub command_view : Command → Line
 command_view (Peer names) = peer_view names
 command_view (Broadcaster names) = broadcaster_view names
 command_view (Replay names) = replay_view names
 command_view (Keygen asked) = asked_view asked
 command_view (Judge names) = judged_view names
+command_view (Session names) = session_view names

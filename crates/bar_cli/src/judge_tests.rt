@@ -1,6 +1,6 @@
 //! Verdicts over files and sinks in memory. The public keys and anchors are by a program that shares nothing with this one.
 use crate::bar_run;
-use bar_outside::{MemFiles, MemLink, MemSink};
+use bar_outside::{MemFiles, MemLink, MemSink, MemSpawner};
 use std::alloc::{AllocError, Global};
 use std::test::Fail;
 
@@ -60,13 +60,14 @@ fn run(
     files.put("t", table)?;
     files.put("e", &evidence_bytes(alloc, evidence)?)?;
     let mut out = MemSink::make(alloc, fail_out.to_vec(alloc)?);
+    let mut spawn = MemSpawner::make(alloc, Vec::new(alloc), Vec::new(alloc));
     let mut err = MemSink::make(alloc, Vec::new(alloc));
     let mut words = Vec::new(alloc);
     for word in ["judge", "--table", "t", "--evidence", "e", "--session", "s"] {
         words.push(String::from_str(alloc, word)?)?;
     }
     let mut link = MemLink::make(alloc, Vec::new(alloc), Vec::new(alloc));
-    let status = bar_run(alloc, &words, &mut files, &mut link, &mut out, &mut err);
+    let status = bar_run(alloc, &words, &mut files, &mut link, &mut out, &mut err, &mut spawn);
     Ok(Left { status, out, err })
 }
 

@@ -1,6 +1,6 @@
 //! Keys over files and sinks in memory, and words that are no line. The expected texts are by programs that share nothing with this one.
 use crate::bar_run;
-use bar_outside::{MemFiles, MemLink, MemSink};
+use bar_outside::{MemFiles, MemLink, MemSink, MemSpawner};
 use std::alloc::{AllocError, Global};
 use std::test::Fail;
 
@@ -33,10 +33,11 @@ fn run(
     let mut files = MemFiles::make(alloc, fail_files.to_vec(alloc)?);
     files.put("s", secret)?;
     let mut out = MemSink::make(alloc, fail_out.to_vec(alloc)?);
+    let mut spawn = MemSpawner::make(alloc, Vec::new(alloc), Vec::new(alloc));
     let mut err = MemSink::make(alloc, Vec::new(alloc));
     let all = words(alloc, line)?;
     let mut link = MemLink::make(alloc, Vec::new(alloc), Vec::new(alloc));
-    let status = bar_run(alloc, &all, &mut files, &mut link, &mut out, &mut err);
+    let status = bar_run(alloc, &all, &mut files, &mut link, &mut out, &mut err, &mut spawn);
     Ok(Left {
         status,
         files,
@@ -196,7 +197,7 @@ fn statuses_and_lines_of_keys(rt: HostRuntime) -> Result<(), Fail> {
     Ok(())
 }
 
-const NO_LINES: [&str; 29] = [
+const NO_LINES: [&str; 30] = [
     "",
     "judges --session s --table t --evidence e",
     "judge --session s --table t",
@@ -210,6 +211,8 @@ const NO_LINES: [&str; 29] = [
     "peer --session s --key k --begin -1 --played p --recording r --found f",
     "peer --session s --key k --begin=18446744073709551616 --played p --recording r --found f",
     "broadcaster --session=s --key=k --begin=0 --stream=t --found=f --recording=r",
+    // a session's time is none
+    "session --session s --keys k --stream t --begin 1x --results r --program p",
     "keygen",
     "keygen --party 1 --id 0011223344556677 --rounds 1 --lms 5 --ots 1 --secret s",
     "keygen --party 1 --id 0011223344556677 --rounds 1 --lms 5 --ots 1 --secret s --secret s",

@@ -18,6 +18,9 @@ mod reading;
 mod replay;
 mod replay_names;
 mod run;
+mod session;
+#[cfg(test)]
+mod session_tests;
 mod status;
 #[cfg(test)]
 mod tests;

@@ -3,13 +3,14 @@ ghost use Rattle.std.specs.Prelude.{◌≡◌, Some, None, Err, IfOk, map, strin
 ghost use Rattle.std.specs.Option.{option_map};
 ghost use Rattle.bar_words.specs.Options.{texts};
 ghost use Rattle.bar_words.specs.declared.options.WordsFault.TheVariants.{Usage};
-ghost use Rattle.bar_cli.specs.Line.{broadcaster_line, broadcaster_values, judge_files, judge_line, keygen_line, keygen_values, line_of, peer_line, peer_values, replay_files, replay_line};
-ghost use Rattle.bar_cli.specs.Views.{asked_view, broadcaster_view, command_view, judged_view, peer_view, replay_view};
+ghost use Rattle.bar_cli.specs.Line.{broadcaster_line, broadcaster_values, judge_files, judge_line, keygen_line, keygen_values, line_of, peer_line, peer_values, replay_files, replay_line, session_line, session_values};
+ghost use Rattle.bar_cli.specs.Views.{asked_view, broadcaster_view, command_view, judged_view, peer_view, replay_view, session_view};
 
 use crate::judge_names::JudgeNames;
 use crate::keygen_words::KeygenWords;
 use crate::replay_names::ReplayNames;
 use crate::words::types_of;
+use bar_children::SessionNames;
 use bar_live::{CasterNames, PeerNames};
 use bar_roster::MOST_ROUNDS;
 use bar_words::{WordsFault, id_of, number_in, option_values};
@@ -23,6 +24,7 @@ pub enum Command<'a> {
     Replay(ReplayNames<'a>),
     Keygen(KeygenWords<'a>),
     Judge(JudgeNames<'a>),
+    Session(SessionNames<'a>),
 }
 
 const PEER_OPTIONS: [&str; 6] = ["session", "key", "begin", "played", "recording", "found"];
@@ -34,6 +36,8 @@ const REPLAY_OPTIONS: [&str; 5] = ["session", "key", "recording", "played", "fou
 const KEYGEN_OPTIONS: [&str; 7] = ["party", "id", "rounds", "lms", "ots", "secret", "key"];
 
 const JUDGE_OPTIONS: [&str; 3] = ["session", "table", "evidence"];
+
+const SESSION_OPTIONS: [&str; 6] = ["session", "keys", "stream", "begin", "results", "program"];
 
 /// The command that the words ask for, if they are a line. The first word names it.
 ///
@@ -53,6 +57,7 @@ pub fn command_of(alloc: Global, words: &[String]) -> Result<Command<'_>, WordsF
         "replay" => Ok(Command::Replay(replay_words(alloc, options)?)),
         "keygen" => Ok(Command::Keygen(keygen_words(alloc, options)?)),
         "judge" => Ok(Command::Judge(judge_words(alloc, options)?)),
+        "session" => Ok(Command::Session(session_words(alloc, options)?)),
         _ => Err(WordsFault::Usage),
     }
 }
@@ -179,4 +184,30 @@ fn judge_words(alloc: Global, words: &[String]) -> Result<JudgeNames<'_>, WordsF
 {
     let values = option_values(alloc, &JUDGE_OPTIONS, words)?;
     judge_of(&values).ok_or(WordsFault::Usage)
+}
+
+/// What a session is made of, from the values of its options. The time is handed on as its word.
+fn session_of<'a>(values: &[&'a str]) -> Option<SessionNames<'a>>
+    ensures { option_map session_view result ≡ session_values (texts values.now) }
+{
+    let [session, keys, stream, begin, results, program] = *values else {
+        return None;
+    };
+    number_in(begin, 0, u64::MAX)?;
+    Some(SessionNames {
+        session,
+        keys,
+        stream,
+        begin,
+        results,
+        program,
+    })
+}
+
+fn session_words(alloc: Global, words: &[String]) -> Result<SessionNames<'_>, WordsFault>
+    ensures line { IfOk result (λ names. session_line (map string_bytes words.now) ≡ Some (session_view names)) }
+    ensures usage { result ≡ Err Usage → session_line (map string_bytes words.now) ≡ None }
+{
+    let values = option_values(alloc, &SESSION_OPTIONS, words)?;
+    session_of(&values).ok_or(WordsFault::Usage)
 }

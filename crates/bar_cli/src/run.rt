@@ -1,7 +1,8 @@
 //! The top call.
-ghost use Rattle.std.specs.Prelude.{◌≡◌, ◌⊎◌, ◌↔◌, ◌||◌, ℕ, List, [], None, Some, false, map, string_bytes, IsTrue};
+ghost use Rattle.std.specs.Prelude.{◌≡◌, ◌⊎◌, ◌↔◌, ◌||◌, ℕ, List, [], None, Some, true, false, map, string_bytes, IsTrue};
 ghost use Rattle.bar_outside.specs.Plan.{outside};
-ghost use Rattle.bar_outside.specs.Ends.{SameFiles, SameTraffic, Says, is_plain};
+ghost use Rattle.bar_outside.specs.Ends.{SameFiles, SameTraffic, Says, SaysBy, is_plain};
+ghost use Rattle.bar_children.specs.Names.{SessionNames};
 ghost use Rattle.bar_seeds.specs.declared.secrets.Secrets.{Secrets};
 ghost use Rattle.bar_roster.specs.SessionText.{SessionData};
 ghost use Rattle.bar_live.specs.CasterPlan.{CasterNames};
@@ -10,18 +11,20 @@ ghost use Rattle.bar_live.specs.PeerPlan.{PeerNames};
 ghost use Rattle.bar_live.specs.PeerStands as peer;
 ghost use Rattle.bar_live.specs.Running.{RunEnds, RunEndsWith};
 ghost use Rattle.bar_cli.specs.Headline.{SendsByTheRules, IsSignedByRule, OpensWhatIsPromised, GivesKeysToPartners, LeavesEvidence, IsNeverFramed, KeepsItsLeaves, KeepsTheRules, OfItsRuns};
-ghost use Rattle.bar_cli.specs.Line.{line_of, plan_of, is_status_of, may_print, uses_link};
+ghost use Rattle.bar_cli.specs.Line.{line_of, plan_of, has_plan, is_status_of, may_print, starts_children, uses_link};
 ghost use Rattle.bar_cli.specs.Line as line;
 ghost use Rattle.bar_cli.specs.Status.{code_of, said_at};
 ghost use Rattle.bar_cli.specs.Views.{command_view};
 ghost use Rattle.bar_cli.specs.ReplayPlan.{ReplayFiles, Replayed};
 ghost use Rattle.bar_cli.specs.KeygenPlan.{HasFewLeaves, Keygen, KeyMade};
 ghost use Rattle.bar_cli.specs.JudgePlan.{HasJudged, JudgeFiles};
+ghost use Rattle.bar_cli.specs.SessionPlan.{SessionEnds, SessionRuns, is_plain_end, session_line};
 
 use crate::judge::judge;
 use crate::keygen::keygen;
 use crate::line::{Command, command_of};
 use crate::replay::replay;
+use crate::session::session;
 use crate::status::{Status, report, status_of, status_of_live};
 use bar_laws::balance::balanced;
 use bar_laws::evidence::{bad_keys_leave_evidence, kept_evidence_is_shown};
@@ -33,19 +36,20 @@ use bar_live::{
     a_broadcaster_stands, a_peer_is_done, a_peer_stands, broadcaster,
     only_its_files_are_changed_by_a_broadcaster, only_its_files_are_changed_by_a_peer, peer,
 };
-use bar_outside::{Files, Link, Sink, plans_go_in_order};
+use bar_outside::{Files, Link, Sink, Spawner, plans_go_in_order};
 use bar_roster::laws::{accepted_secrets_are_held, accepted_sessions_are_in_range};
 use bar_words::WordsFault;
 use std::alloc::Global;
 
 /// Does what the words say, the first of which names the command, and answers the exit status.
-pub fn bar_run<F: Files, L: Link, K: Sink>(
+pub fn bar_run<F: Files, L: Link, K: Sink, S: Spawner>(
     alloc: Global,
     words: &[String],
     files: &mut F,
     link: &mut L,
     out: &mut K,
     err: &mut K,
+    spawn: &mut S,
 ) -> u8
     // 2 exactly where the words aren't a line, but for want of memory
     ensures usage { result ≡ 2 → line_of (map string_bytes words.now) ≡ None }
@@ -55,13 +59,27 @@ pub fn bar_run<F: Files, L: Link, K: Sink>(
     ensures statuses { IsTrue (is_status_of (line_of (map string_bytes words.now)) result) }
 
     // what was done, and which status comes when
-    ensures ends { RunEnds (plan_of (line_of (map string_bytes words.now)))
+    ensures ends { has_plan (line_of (map string_bytes words.now)) ≡ true → RunEnds (plan_of (line_of (map string_bytes words.now)))
         (outside (F.disk files.old) (K.stream out.old) (L.wire link.old))
         (outside (F.disk files.new) (K.stream out.new) (L.wire link.new)) result }
 
     // what err has; the line of a status is the same whatever the link gives
-    ensures said { IsTrue ((F.disk files.old).told || is_plain result) →
+    ensures said { has_plan (line_of (map string_bytes words.now)) ≡ true → IsTrue ((F.disk files.old).told || is_plain result) →
         Says (plan_of (line_of (map string_bytes words.now)) [] (F.disk files.old).content) result (K.stream err.old) (K.stream err.new) }
+
+    // what a session does, and which status comes when: its text is accepted and its children are started by their words and waited for,
+    // each status is printed, and no file is changed
+    ensures session_runs { (names : SessionNames) → line_of (map string_bytes words.now) ≡ Some (line.session_run names) → SessionRuns names
+        (outside (F.disk files.old) (K.stream out.old) (L.wire link.old))
+        (outside (F.disk files.new) (K.stream out.new) (L.wire link.new)) (S.children spawn.old) (S.children spawn.new) result }
+
+    // and what err has of it
+    ensures session_said { (names : SessionNames) → line_of (map string_bytes words.now) ≡ Some (line.session_run names) →
+        IsTrue ((F.disk files.old).told || is_plain_end result) →
+        SaysBy (session_line names (F.disk files.old).content) result (K.stream err.old) (K.stream err.new) }
+
+    // only `session` starts children
+    ensures childless { starts_children (line_of (map string_bytes words.now)) ≡ false → S.children spawn.new ≡ S.children spawn.old }
 
     // 4 comes at `keygen` exactly where there are too few leaves, but for want of memory, whatever the files tell
     ensures few_leaves { (asked : Keygen) → line_of (map string_bytes words.now) ≡ Some (line.keygen asked) → result ≡ 4 →
@@ -198,19 +216,20 @@ pub fn bar_run<F: Files, L: Link, K: Sink>(
     only_its_files_are_changed_by_a_peer();
     plans_go_in_order();
     signed_by_rule();
-    let status = run_words(alloc, words, files, link, out);
+    let status = run_words(alloc, words, files, link, out, spawn);
     report(alloc, &status, err)
 }
 
 /// Does what the words say, and tells how it ended.
-fn run_words<F: Files, L: Link, K: Sink>(
+fn run_words<F: Files, L: Link, K: Sink, S: Spawner>(
     alloc: Global,
     words: &[String],
     files: &mut F,
     link: &mut L,
     out: &mut K,
+    spawn: &mut S,
 ) -> Status
-    ensures ends { RunEndsWith (plan_of (line_of (map string_bytes words.now)))
+    ensures ends { has_plan (line_of (map string_bytes words.now)) ≡ true → RunEndsWith (plan_of (line_of (map string_bytes words.now)))
         (outside (F.disk files.old) (K.stream out.old) (L.wire link.old))
         (outside (F.disk files.new) (K.stream out.new) (L.wire link.new)) (code_of result) (said_at result) }
     ensures statuses { IsTrue (is_status_of (line_of (map string_bytes words.now)) (code_of result)) }
@@ -222,29 +241,40 @@ fn run_words<F: Files, L: Link, K: Sink>(
     ensures unprinted { may_print (line_of (map string_bytes words.now)) (code_of result) ≡ false →
         K.stream out.new ≡ K.stream out.old }
     ensures unlinked { uses_link (line_of (map string_bytes words.now)) ≡ false → L.wire link.new ≡ L.wire link.old }
+    ensures session { (names : SessionNames) → line_of (map string_bytes words.now) ≡ Some (line.session_run names) → SessionEnds names
+        (outside (F.disk files.old) (K.stream out.old) (L.wire link.old))
+        (outside (F.disk files.new) (K.stream out.new) (L.wire link.new)) (S.children spawn.old) (S.children spawn.new)
+        (code_of result) (said_at result) }
+    ensures childless { starts_children (line_of (map string_bytes words.now)) ≡ false → S.children spawn.new ≡ S.children spawn.old }
 {
     match command_of(alloc, words) {
-        Ok(command) => run_command(alloc, &command, files, link, out),
+        Ok(command) => run_command(alloc, &command, files, link, out, spawn),
         Err(WordsFault::Usage) => Status::Usage,
         Err(WordsFault::NoMemory) => Status::NoMemory,
     }
 }
 
 /// Does a command, and tells how it ended.
-fn run_command<F: Files, L: Link, K: Sink>(
+fn run_command<F: Files, L: Link, K: Sink, S: Spawner>(
     alloc: Global,
     command: &Command<'_>,
     files: &mut F,
     link: &mut L,
     out: &mut K,
+    spawn: &mut S,
 ) -> Status
-    ensures ends { RunEndsWith (plan_of (Some (command_view command.now)))
+    ensures ends { has_plan (Some (command_view command.now)) ≡ true → RunEndsWith (plan_of (Some (command_view command.now)))
         (outside (F.disk files.old) (K.stream out.old) (L.wire link.old))
         (outside (F.disk files.new) (K.stream out.new) (L.wire link.new)) (code_of result) (said_at result) }
     ensures statuses { IsTrue (is_status_of (Some (command_view command.now)) (code_of result)) }
     ensures leaves { (asked : Keygen) → command_view command.now ≡ line.keygen asked → (code_of result ≡ 4) ↔ HasFewLeaves asked }
     ensures unprinted { may_print (Some (command_view command.now)) (code_of result) ≡ false → K.stream out.new ≡ K.stream out.old }
     ensures unlinked { uses_link (Some (command_view command.now)) ≡ false → L.wire link.new ≡ L.wire link.old }
+    ensures session { (names : SessionNames) → command_view command.now ≡ line.session_run names → SessionEnds names
+        (outside (F.disk files.old) (K.stream out.old) (L.wire link.old))
+        (outside (F.disk files.new) (K.stream out.new) (L.wire link.new)) (S.children spawn.old) (S.children spawn.new)
+        (code_of result) (said_at result) }
+    ensures childless { starts_children (Some (command_view command.now)) ≡ false → S.children spawn.new ≡ S.children spawn.old }
 {
     match command {
         Command::Peer(names) => status_of_live(peer(alloc, names, files, link, out)),
@@ -254,5 +284,6 @@ fn run_command<F: Files, L: Link, K: Sink>(
         Command::Replay(names) => status_of(replay(alloc, names, files, out)),
         Command::Keygen(asked) => status_of(keygen(alloc, asked, files, out)),
         Command::Judge(names) => status_of(judge(alloc, names, files, out)),
+        Command::Session(names) => status_of(session(alloc, names, files, out, spawn)),
     }
 }

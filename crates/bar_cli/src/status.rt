@@ -3,8 +3,11 @@ ghost use Rattle.std.specs.Prelude.{◌≡◌, ◌⊎◌, ℕ, List, IfOk, Err, 
 ghost use Rattle.bar_outside.specs.Ends.{Prints};
 ghost use Rattle.bar_cli.specs.Refusals.{session_refused, key_refused, record_fault_text, recording_refused, stream_refused, secret_refused, table_refused};
 ghost use Rattle.bar_live.specs.Views.{code_of as live_code_of, said_at as live_said_at, code_of_run as live_code_of_run, said_by_run as live_said_by_run};
+ghost use Rattle.bar_children.specs.Outcomes.{code_of as outcome_code};
+ghost use Rattle.bar_cli.specs.SessionPlan.{line_of_end};
 ghost use Rattle.bar_cli.specs.Status.{code_of, said_at, code_of_run, said_by_run};
 
+use bar_children::Outcome;
 use bar_live::Ended;
 use bar_outside::{Fault, Sink, SinkFault};
 use bar_record::RecordFault;
@@ -37,6 +40,8 @@ pub enum Status {
     /// The table has a bad entry at this place.
     TableRefused(u64),
     EvidenceRefused,
+    /// A child wasn't started or waited for, or ended with another status than 0.
+    ChildFailed,
     NoMemory,
 }
 
@@ -59,6 +64,7 @@ impl Status {
             Status::SecretRefused(_) => 8,
             Status::TableRefused(_) => 8,
             Status::EvidenceRefused => 8,
+            Status::ChildFailed => 9,
             Status::NoMemory => NO_MEMORY,
         }
     }
@@ -88,6 +94,20 @@ impl From<Ended> for Status {
             Ended::SessionRefused(fault) => Status::SessionRefused(fault),
             Ended::KeyRefused(fault) => Status::KeyRefused(fault),
             Ended::StreamRefused { have, room } => Status::StreamRefused { have, room },
+        }
+    }
+}
+
+impl From<Outcome> for Status {
+    fn from(outcome: Outcome) -> Self
+        ensures code { code_of result ≡ outcome_code outcome }
+        ensures line { said_at result ≡ line_of_end (outcome_code outcome) }
+    {
+        match outcome {
+            Outcome::Done => Status::Done,
+            Outcome::ChildFailed => Status::ChildFailed,
+            Outcome::OutputFailed => Status::OutputFailed,
+            Outcome::NoMemory => Status::NoMemory,
         }
     }
 }
@@ -210,6 +230,7 @@ pub fn report<K: Sink>(alloc: Global, status: &Status, err: &mut K) -> u8
         Status::SecretRefused(len) => print_text(secret_refusal(alloc, *len), code, err),
         Status::TableRefused(at) => print_text(table_refusal(alloc, *at), code, err),
         Status::EvidenceRefused => print_line(b"bar: input refused: evidence\n", code, err),
+        Status::ChildFailed => print_line(b"bar: child failed\n", code, err),
         Status::NoMemory => print_line(b"bar: no memory\n", code, err),
     }
 }

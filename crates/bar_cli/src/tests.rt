@@ -1,6 +1,6 @@
 //! Replays, and a peer, over files, links and sinks in memory. The keys and the signatures are by a Python program written from RFC 8554.
 use crate::bar_run;
-use bar_outside::{MemFiles, MemLink, MemSink};
+use bar_outside::{MemFiles, MemLink, MemSink, MemSpawner};
 use sha2::{Digest, Sha256};
 use std::alloc::{AllocError, Global};
 use std::test::Fail;
@@ -38,7 +38,7 @@ const PEER_LINE: [&str; 13] = [
 const ID: [u8; 8] = [0x00, 0x11, 0x22, 0x33, 0x44, 0x55, 0x66, 0x77];
 
 // A session of two peers and ten rounds, and the key file of its second peer.
-const SESSION: &str = "version = 1\nid = \"0011223344556677\"\nrounds = 10\nlife = 4\ncap = 4\n\
+pub const SESSION: &str = "version = 1\nid = \"0011223344556677\"\nrounds = 10\nlife = 4\ncap = 4\n\
     per_round = 8\nfanout = 1\nport = 20000\ntick_ms = 20\nlms = 6\nots = 4\n\
     key = \"00000006000000048d1e3644fdcc75d960cb49ec94696848dd05823833a56f5ac63061df7770db1bfbc282df417853c4907357eccb7c925f\"\n\n[[peer]]\n\
     key = \"00000006000000042ef17295b2b2463d8d9beef9c2b84a153262ffbbedd3314d59ffebcd595202b00e84ed977495ad7ce89a0968f687295f\"\n\
@@ -166,7 +166,7 @@ const OTHER_SIGNATURE: &str =
     8e0473e8b2f923c208f87256d323ff0a65cfc1d3921c6d87501437eeab1979e64a049527d3797b976cb77ed0d96c7485\
     23e63753faab98c459442972368fb574ea7a8780ed023207258598d822577706bc434241f49eeeb3acd1b717";
 
-fn words(alloc: Global, texts: &[&str]) -> Result<Vec<String>, AllocError> {
+pub fn words(alloc: Global, texts: &[&str]) -> Result<Vec<String>, AllocError> {
     let mut all = Vec::new(alloc);
     for text in texts {
         all.push(String::from_str(alloc, text)?)?;
@@ -312,9 +312,10 @@ fn run_line(
 ) -> Result<Left, AllocError> {
     let mut link = MemLink::make(alloc, Vec::new(alloc), Vec::new(alloc));
     let mut out = MemSink::make(alloc, fail_out.to_vec(alloc)?);
+    let mut spawn = MemSpawner::make(alloc, Vec::new(alloc), Vec::new(alloc));
     let mut err = MemSink::make(alloc, fail_err.to_vec(alloc)?);
     let all = words(alloc, line)?;
-    let status = bar_run(alloc, &all, &mut files, &mut link, &mut out, &mut err);
+    let status = bar_run(alloc, &all, &mut files, &mut link, &mut out, &mut err, &mut spawn);
     Ok(Left {
         status,
         files,

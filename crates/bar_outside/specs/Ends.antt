@@ -41,13 +41,17 @@ pub record Prints (line : List ℕ) (status : ℕ) (old new : Stream) : Type 0 w
   pub whole : IsTrue old.told → status ≢ 70 → (Rose old.faults new.faults → ⊥) → new.bytes ≡ old.bytes ++ line
   pub front : IsTrue old.told → (k : ℕ) × (new.bytes ≡ old.bytes ++ take k line)
 
--- what stands on standard error after a command with this plan: the line of its status, or a front of it where
+-- what stands on standard error after a command whose statuses have these lines: the line of its status, or a front of it where
 -- the count rose; at 70 a front of the line of some status
-pub record Says (plan : Plan) (status : ℕ) (old new : Stream) : Type 0 where
+pub record SaysBy (line : ℕ → List ℕ) (status : ℕ) (old new : Stream) : Type 0 where
   pub later : old.faults ≤ new.faults
-  pub whole : IsTrue old.told → status ≢ 70 → (Rose old.faults new.faults → ⊥) → new.bytes ≡ old.bytes ++ line_at plan status
-  pub front : IsTrue old.told → status ≢ 70 → (k : ℕ) × (new.bytes ≡ old.bytes ++ take k (line_at plan status))
-  pub no_memory : IsTrue old.told → status ≡ 70 → (k some : ℕ) × (new.bytes ≡ old.bytes ++ take k (line_at plan some))
+  pub whole : IsTrue old.told → status ≢ 70 → (Rose old.faults new.faults → ⊥) → new.bytes ≡ old.bytes ++ line status
+  pub front : IsTrue old.told → status ≢ 70 → (k : ℕ) × (new.bytes ≡ old.bytes ++ take k (line status))
+  pub no_memory : IsTrue old.told → status ≡ 70 → (k some : ℕ) × (new.bytes ≡ old.bytes ++ take k (line some))
+
+-- so it is after a command with this plan
+abbrev pub Says : Plan → ℕ → Stream → Stream → Type 0
+Says plan = SaysBy (line_at plan)
 
 -- the statuses that tell their line whatever the files hold
 abbrev pub is_plain : ℕ → Bool

@@ -1,4 +1,5 @@
-//! The outside as the program sees it: files, sinks, a link and child programs, each with a count of its faults and, where it tells, what it holds or did.
+//! The outside as the program sees it: files, sinks, a link and child programs, each with a count of its faults and, where it tells, what it
+//! holds or did.
 //! A command is a plan, a list of actions on the outside; what was done of a plan is said by one relation.
 #![tactic(auto)]
 

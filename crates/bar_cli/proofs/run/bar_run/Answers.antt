@@ -1,4 +1,4 @@
-use Rattle.std.proofs.Common.{◌∙◌, [], Option, IsTrue, sym, subst, inl, inr, arith}
+use Rattle.std.proofs.Common.{◌∙◌, [], Option, IsTrue, ap, sym, subst, inl, inr, arith}
 use Rattle.std.specs.List.{AllByRecursion}
 use Rattle.bar_window.specs.declared.exchange.Exchange.{Exchange}
 use Rattle.bar_wire.specs.Datagram.{Datagram}
@@ -12,13 +12,14 @@ use Rattle.bar_laws.specs.Obedience.{IsRuled}
 use Rattle.bar_cli.specs.Headline.{HasProof, KeepsTheRules}
 use Rattle.bar_cli.specs.JudgePlan.{judge_plan}
 use Rattle.bar_cli.specs.KeygenPlan.{keygen_plan}
-use Rattle.bar_cli.specs.Line.{Line, peer, broadcaster, replay, keygen, judge, is_status_of}
+use Rattle.bar_cli.specs.Line.{Line, peer, broadcaster, replay, keygen, judge, has_plan, is_status_of}
 use Rattle.bar_cli.specs.ReplayPlan.{replay_plan}
 use Rattle.bar_cli.proofs.JudgeRows.{judged_so, outcome, same_files}
 use Rattle.bar_cli.proofs.KeygenRows as making
 use Rattle.bar_cli.proofs.MemberLemmas.{keeps-rules, of-its_run, of-its_runs, proves-bad_keys}
 use Rattle.bar_cli.proofs.Rows as replaying
 use Rattle.bar_cli.proofs.RunLemmas.{ends-as, run-ends, run-said}
+use Rattle.bar_cli.proofs.SessionLemmas.{session-said}
 use Rattle.bar_cli.proofs.StatusLemmas.{no-line, or-memory, said-at_two, unprinted-by}
 use Rattle.bar_cli.proofs.run.bar_run.Goals as goal
 
@@ -40,11 +41,11 @@ returns-clause-no_line g c = λ none.
     (or-memory _ _ _ c.run_words-status.ensures.statuses c.report.ensures.code))
 
 pub returns-clause-ends : goal.returns-clause-ends
-returns-clause-ends g c = run-ends _ _ _ _ _ _ c.report.ensures.code c.run_words-status.ensures.ends
+returns-clause-ends g c = λ plan. run-ends _ _ _ _ _ _ c.report.ensures.code (c.run_words-status.ensures.ends plan)
 
 pub returns-clause-said : goal.returns-clause-said
-returns-clause-said g c = λ either.
-    run-said _ _ _ _ _ _ _ _ c.run_words-status.ensures.ends c.report.ensures.said c.run_words-status.ensures.usage
+returns-clause-said g c = λ plan either.
+    run-said _ _ _ _ _ _ _ _ (c.run_words-status.ensures.ends plan) c.report.ensures.said c.run_words-status.ensures.usage
     (said-at_two c.run_words-status.result) c.report.ensures.code either
 
 pub returns-clause-few_leaves : goal.returns-clause-few_leaves
@@ -67,26 +68,40 @@ returns-clause-leaves_refused g c = λ asked is few.
 pub returns-clause-unprinted : goal.returns-clause-unprinted
 returns-clause-unprinted g c = λ quiet. unprinted-by _ _ _ _ c.run_words-status.ensures.unprinted c.report.ensures.code quiet
 
+-- ---- `session`
+
+pub returns-clause-session_runs : goal.returns-clause-session_runs
+returns-clause-session_runs g c = λ names is. record {
+  status = _;
+  line = _;
+  ends = c.run_words-status.ensures.session names is;
+  or_memory = c.report.ensures.code;
+}
+
+pub returns-clause-session_said : goal.returns-clause-session_said
+returns-clause-session_said g c = λ names is.
+    session-said names _ _ _ _ _ _ _ _ _ (c.run_words-status.ensures.session names is) c.report.ensures.said c.report.ensures.code
+
 -- ---- `peer`
 
 pub returns-clause-peer_done : goal.returns-clause-peer_done
 returns-clause-peer_done g c = λ names is told zero.
-    let ends = ends-as _ (peer names) _ _ _ _ _ is c.report.ensures.code c.run_words-status.ensures.ends in
+    let ends = ends-as _ (peer names) _ _ _ _ _ is c.report.ensures.code (c.run_words-status.ensures.ends (ap has_plan is)) in
     c.a_peer_is_done.ensures names _ _ (rw zero at ends) told
 
 pub returns-clause-peer_stands : goal.returns-clause-peer_stands
 returns-clause-peer_stands g c = λ names is told.
-    let ends = ends-as _ (peer names) _ _ _ _ _ is c.report.ensures.code c.run_words-status.ensures.ends in
+    let ends = ends-as _ (peer names) _ _ _ _ _ is c.report.ensures.code (c.run_words-status.ensures.ends (ap has_plan is)) in
     c.a_peer_stands.ensures names _ _ _ ends told
 
 pub returns-clause-peer_bound : goal.returns-clause-peer_bound
 returns-clause-peer_bound g c = λ names is told.
-    let ends = ends-as _ (peer names) _ _ _ _ _ is c.report.ensures.code c.run_words-status.ensures.ends in
+    let ends = ends-as _ (peer names) _ _ _ _ _ is c.report.ensures.code (c.run_words-status.ensures.ends (ap has_plan is)) in
     c.a_bound_peer_has_spent_its_key.ensures names _ _ _ ends told
 
 pub returns-clause-peer_files : goal.returns-clause-peer_files
 returns-clause-peer_files g c = λ names is told path other.
-    let ends = ends-as _ (peer names) _ _ _ _ _ is c.report.ensures.code c.run_words-status.ensures.ends in
+    let ends = ends-as _ (peer names) _ _ _ _ _ is c.report.ensures.code (c.run_words-status.ensures.ends (ap has_plan is)) in
     c.only_its_files_are_changed_by_a_peer.ensures names path _ _ _ ends told other
 
 pub returns-clause-peer_headline : goal.returns-clause-peer_headline
@@ -100,22 +115,22 @@ returns-clause-peer_headline g c = λ names is.
 
 pub returns-clause-broadcaster_done : goal.returns-clause-broadcaster_done
 returns-clause-broadcaster_done g c = λ names is told zero.
-    let ends = ends-as _ (broadcaster names) _ _ _ _ _ is c.report.ensures.code c.run_words-status.ensures.ends in
+    let ends = ends-as _ (broadcaster names) _ _ _ _ _ is c.report.ensures.code (c.run_words-status.ensures.ends (ap has_plan is)) in
     c.a_broadcaster_is_done.ensures names _ _ (rw zero at ends) told
 
 pub returns-clause-broadcaster_stands : goal.returns-clause-broadcaster_stands
 returns-clause-broadcaster_stands g c = λ names is told.
-    let ends = ends-as _ (broadcaster names) _ _ _ _ _ is c.report.ensures.code c.run_words-status.ensures.ends in
+    let ends = ends-as _ (broadcaster names) _ _ _ _ _ is c.report.ensures.code (c.run_words-status.ensures.ends (ap has_plan is)) in
     c.a_broadcaster_stands.ensures names _ _ _ ends told
 
 pub returns-clause-broadcaster_bound : goal.returns-clause-broadcaster_bound
 returns-clause-broadcaster_bound g c = λ names is told.
-    let ends = ends-as _ (broadcaster names) _ _ _ _ _ is c.report.ensures.code c.run_words-status.ensures.ends in
+    let ends = ends-as _ (broadcaster names) _ _ _ _ _ is c.report.ensures.code (c.run_words-status.ensures.ends (ap has_plan is)) in
     c.a_bound_broadcaster_has_spent_its_key.ensures names _ _ _ ends told
 
 pub returns-clause-broadcaster_files : goal.returns-clause-broadcaster_files
 returns-clause-broadcaster_files g c = λ names is told path other.
-    let ends = ends-as _ (broadcaster names) _ _ _ _ _ is c.report.ensures.code c.run_words-status.ensures.ends in
+    let ends = ends-as _ (broadcaster names) _ _ _ _ _ is c.report.ensures.code (c.run_words-status.ensures.ends (ap has_plan is)) in
     c.only_its_files_are_changed_by_a_broadcaster.ensures names path _ _ _ ends told other
 
 -- ---- `replay`
@@ -123,14 +138,14 @@ returns-clause-broadcaster_files g c = λ names is told path other.
 pub returns-clause-headline : goal.returns-clause-headline
 returns-clause-headline g c = λ names is told zero.
     let law = c.plans_go_in_order.ensures in
-    let ends = (ends-as _ (replay names) _ _ _ _ _ is c.report.ensures.code c.run_words-status.ensures.ends).ends in
+    let ends = (ends-as _ (replay names) _ _ _ _ _ is c.report.ensures.code (c.run_words-status.ensures.ends (ap has_plan is))).ends in
     replaying.replayed names _ _ c.accepted_secrets_are_held.ensures c.accepted_sessions_are_in_range.ensures told
     (replaying.outcome law.reads law.ends names _ _ 0 told (law.went (replay_plan names) _ _ 0 (rw zero at ends) told))
 
 pub returns-clause-sends : goal.returns-clause-sends
 returns-clause-sends g c = λ names is told zero.
     let law = c.plans_go_in_order.ensures in
-    let ends = (ends-as _ (replay names) _ _ _ _ _ is c.report.ensures.code c.run_words-status.ensures.ends).ends in
+    let ends = (ends-as _ (replay names) _ _ _ _ _ is c.report.ensures.code (c.run_words-status.ensures.ends (ap has_plan is))).ends in
     let done = replaying.replayed names _ _ c.accepted_secrets_are_held.ensures c.accepted_sessions_are_in_range.ensures told
     (replaying.outcome law.reads law.ends names _ _ 0 told (law.went (replay_plan names) _ _ 0 (rw zero at ends) told))
     in
@@ -175,20 +190,20 @@ returns-clause-leaves g c = λ names is.
 pub returns-clause-key_made : goal.returns-clause-key_made
 returns-clause-key_made g c = λ asked is told zero.
     let law = c.plans_go_in_order.ensures in
-    let ends = (ends-as _ (keygen asked) _ _ _ _ _ is c.report.ensures.code c.run_words-status.ensures.ends).ends in
+    let ends = (ends-as _ (keygen asked) _ _ _ _ _ is c.report.ensures.code (c.run_words-status.ensures.ends (ap has_plan is))).ends in
     making.made asked _ _ told
     (making.outcome law.reads law.ends asked _ _ 0 told (law.went (keygen_plan asked) _ _ 0 (rw zero at ends) told))
 
 pub returns-clause-judged : goal.returns-clause-judged
 returns-clause-judged g c = λ names is told which.
     let law = c.plans_go_in_order.ensures in
-    let ends = (ends-as _ (judge names) _ _ _ _ _ is c.report.ensures.code c.run_words-status.ensures.ends).ends in
+    let ends = (ends-as _ (judge names) _ _ _ _ _ is c.report.ensures.code (c.run_words-status.ensures.ends (ap has_plan is))).ends in
     judged_so names _ _ c.report.result which
     (outcome law.reads law.ends law.shows names _ _ _ told (law.went (judge_plan names) _ _ _ ends told))
 
 pub returns-clause-only_reads : goal.returns-clause-only_reads
 returns-clause-only_reads g c = λ names is told.
     let law = c.plans_go_in_order.ensures in
-    let ends = (ends-as _ (judge names) _ _ _ _ _ is c.report.ensures.code c.run_words-status.ensures.ends).ends in
+    let ends = (ends-as _ (judge names) _ _ _ _ _ is c.report.ensures.code (c.run_words-status.ensures.ends (ap has_plan is))).ends in
     same_files names _ _ c.report.result
     (outcome law.reads law.ends law.shows names _ _ _ told (law.went (judge_plan names) _ _ _ ends told))

@@ -3,9 +3,11 @@ use Rattle.bar_outside.specs.Plan.{with_wire}
 use Rattle.bar_live.specs.CasterPlan.{CasterNames}
 use Rattle.bar_live.specs.PeerPlan.{PeerNames}
 use Rattle.bar_live.specs.Views.{peer_view, caster_view}
+use Rattle.bar_children.specs.Names.{SessionNames}
+use Rattle.bar_children.specs.Views.{names_view as family_view}
 use Rattle.bar_cli.specs.KeygenPlan.{Keygen, HasFewLeaves}
 use Rattle.bar_cli.specs.JudgePlan.{JudgeFiles}
-use Rattle.bar_cli.specs.Line.{Line, peer, broadcaster, replay, keygen, judge}
+use Rattle.bar_cli.specs.Line.{Line, peer, broadcaster, replay, keygen, judge, session_run}
 use Rattle.bar_cli.specs.ReplayPlan.{ReplayFiles}
 use Rattle.bar_cli.specs.Status.{code_of_run}
 use Rattle.bar_cli.specs.Views.{names_view, keygen_view, judge_view, command_view}
@@ -27,13 +29,37 @@ replay-other names asked e = cc
 judge-other : (names : JudgeFiles) (asked : Keygen) → ◌≡◌ {A = Line} (judge names) (keygen asked) → ⊥
 judge-other names asked e = cc
 
+session-other : (names : SessionNames) (asked : Keygen) → ◌≡◌ {A = Line} (session_run names) (keygen asked) → ⊥
+session-other names asked e = cc
+
+-- nor are they `session`
+
+peer-no_session : (names : PeerNames) (family : SessionNames) → ◌≡◌ {A = Line} (peer names) (session_run family) → ⊥
+peer-no_session names family e = cc
+
+broadcaster-no_session : (names : CasterNames) (family : SessionNames) → ◌≡◌ {A = Line} (broadcaster names) (session_run family) → ⊥
+broadcaster-no_session names family e = cc
+
+replay-no_session : (names : ReplayFiles) (family : SessionNames) → ◌≡◌ {A = Line} (replay names) (session_run family) → ⊥
+replay-no_session names family e = cc
+
+keygen-no_session : (asked : Keygen) (family : SessionNames) → ◌≡◌ {A = Line} (keygen asked) (session_run family) → ⊥
+keygen-no_session asked family e = cc
+
+judge-no_session : (names : JudgeFiles) (family : SessionNames) → ◌≡◌ {A = Line} (judge names) (session_run family) → ⊥
+judge-no_session names family e = cc
+
+same-session : (a b : SessionNames) → ◌≡◌ {A = Line} (session_run a) (session_run b) → a ≡ b
+same-session a b e = cc
+
 same-line : (a b : Keygen) → ◌≡◌ {A = Line} (keygen a) (keygen b) → a ≡ b
 same-line a b e = cc
 
 -- `peer`
 
 pub returns-in-Peer-clause-ends : goal.returns-in-Peer-clause-ends
-returns-in-Peer-clause-ends g c = rw (c.in-Peer.is, c.status_of_live.ensures.code, c.status_of_live.ensures.line) c.peer.ensures.ends
+returns-in-Peer-clause-ends g c =
+    rw (c.in-Peer.is, c.status_of_live.ensures.code, c.status_of_live.ensures.line) (λ plan. c.peer.ensures.ends)
 
 pub returns-in-Peer-clause-statuses : goal.returns-in-Peer-clause-statuses
 returns-in-Peer-clause-statuses g c =
@@ -54,7 +80,7 @@ returns-in-Peer-clause-unlinked g c = rw c.in-Peer.is (λ none. absurd (true≢f
 pub returns-in-Broadcaster-clause-ends : goal.returns-in-Broadcaster-clause-ends
 returns-in-Broadcaster-clause-ends g c =
     rw (c.in-Broadcaster.is, c.status_of_live-in-Broadcaster.ensures.code, c.status_of_live-in-Broadcaster.ensures.line)
-    c.broadcaster.ensures.ends
+    (λ plan. c.broadcaster.ensures.ends)
 
 pub returns-in-Broadcaster-clause-statuses : goal.returns-in-Broadcaster-clause-statuses
 returns-in-Broadcaster-clause-statuses g c =
@@ -77,7 +103,7 @@ returns-in-Broadcaster-clause-unlinked g c = rw c.in-Broadcaster.is (λ none. ab
 pub returns-in-Replay-clause-ends : goal.returns-in-Replay-clause-ends
 returns-in-Replay-clause-ends g c =
     rw (c.in-Replay.is, c.status_of.ensures.code, c.status_of.ensures.line)
-    (over-no_link _ _ _ _ _ (g.L.Link.wire c.args.link.now) _ _ (never-six _ _ _ _ _ refl refl (c.replay.ensures.ends quiet))
+    (λ plan. over-no_link _ _ _ _ _ (g.L.Link.wire c.args.link.now) _ _ (never-six _ _ _ _ _ refl refl (c.replay.ensures.ends quiet))
     (c.replay.ensures.ends (with_wire quiet (g.L.Link.wire c.args.link.now))))
 
 pub returns-in-Replay-clause-statuses : goal.returns-in-Replay-clause-statuses
@@ -97,7 +123,7 @@ returns-in-Replay-clause-unprinted g c = rw (c.in-Replay.is, c.status_of.ensures
 pub returns-in-Keygen-clause-ends : goal.returns-in-Keygen-clause-ends
 returns-in-Keygen-clause-ends g c =
     rw (c.in-Keygen.is, c.status_of-in-Keygen.ensures.code, c.status_of-in-Keygen.ensures.line)
-    (over-no_link _ _ _ _ _ (g.L.Link.wire c.args.link.now) _ _ (never-six _ _ _ _ _ refl refl (c.keygen.ensures.ends quiet))
+    (λ plan. over-no_link _ _ _ _ _ (g.L.Link.wire c.args.link.now) _ _ (never-six _ _ _ _ _ refl refl (c.keygen.ensures.ends quiet))
     (c.keygen.ensures.ends (with_wire quiet (g.L.Link.wire c.args.link.now))))
 
 pub returns-in-Keygen-clause-statuses : goal.returns-in-Keygen-clause-statuses
@@ -120,7 +146,7 @@ returns-in-Keygen-clause-unprinted g c = rw (c.in-Keygen.is, c.status_of-in-Keyg
 pub returns-in-Judge-clause-ends : goal.returns-in-Judge-clause-ends
 returns-in-Judge-clause-ends g c =
     rw (c.in-Judge.is, c.status_of-in-Judge.ensures.code, c.status_of-in-Judge.ensures.line)
-    (over-no_link _ _ _ _ _ (g.L.Link.wire c.args.link.now) _ _ (never-six _ _ _ _ _ refl refl (c.judge.ensures.ends quiet))
+    (λ plan. over-no_link _ _ _ _ _ (g.L.Link.wire c.args.link.now) _ _ (never-six _ _ _ _ _ refl refl (c.judge.ensures.ends quiet))
     (c.judge.ensures.ends (with_wire quiet (g.L.Link.wire c.args.link.now))))
 
 pub returns-in-Judge-clause-statuses : goal.returns-in-Judge-clause-statuses
@@ -135,3 +161,47 @@ returns-in-Judge-clause-leaves g c =
 
 pub returns-in-Judge-clause-unprinted : goal.returns-in-Judge-clause-unprinted
 returns-in-Judge-clause-unprinted g c = rw (c.in-Judge.is, c.status_of-in-Judge.ensures.code) c.judge.ensures.unprinted
+
+pub returns-in-Peer-clause-session : goal.returns-in-Peer-clause-session
+returns-in-Peer-clause-session g c =
+    λ family is. absurd (peer-no_session (peer_view c.in-Peer.names) family (sym (ap command_view c.in-Peer.is) ∙ is))
+
+pub returns-in-Broadcaster-clause-session : goal.returns-in-Broadcaster-clause-session
+returns-in-Broadcaster-clause-session g c =
+    λ family is. absurd (broadcaster-no_session (caster_view c.in-Broadcaster.names) family (sym (ap command_view c.in-Broadcaster.is) ∙ is))
+
+pub returns-in-Replay-clause-session : goal.returns-in-Replay-clause-session
+returns-in-Replay-clause-session g c =
+    λ family is. absurd (replay-no_session (names_view c.in-Replay.names) family (sym (ap command_view c.in-Replay.is) ∙ is))
+
+pub returns-in-Keygen-clause-session : goal.returns-in-Keygen-clause-session
+returns-in-Keygen-clause-session g c =
+    λ family is. absurd (keygen-no_session (keygen_view c.in-Keygen.asked) family (sym (ap command_view c.in-Keygen.is) ∙ is))
+
+pub returns-in-Judge-clause-session : goal.returns-in-Judge-clause-session
+returns-in-Judge-clause-session g c =
+    λ family is. absurd (judge-no_session (judge_view c.in-Judge.names) family (sym (ap command_view c.in-Judge.is) ∙ is))
+
+-- `session`
+
+pub returns-in-Session-clause-ends : goal.returns-in-Session-clause-ends
+returns-in-Session-clause-ends g c = rw c.in-Session.is (λ plan. absurd (true≢false (sym plan)))
+
+pub returns-in-Session-clause-statuses : goal.returns-in-Session-clause-statuses
+returns-in-Session-clause-statuses g c = rw (c.in-Session.is, c.status_of-in-Session.ensures.code) c.session.ensures.statuses
+
+pub returns-in-Session-clause-leaves : goal.returns-in-Session-clause-leaves
+returns-in-Session-clause-leaves g c =
+    λ asked is. absurd (session-other (family_view c.in-Session.names) asked (sym (ap command_view c.in-Session.is) ∙ is))
+
+pub returns-in-Session-clause-unprinted : goal.returns-in-Session-clause-unprinted
+returns-in-Session-clause-unprinted g c = rw (c.in-Session.is, c.status_of-in-Session.ensures.code) c.session.ensures.unprinted
+
+pub returns-in-Session-clause-session : goal.returns-in-Session-clause-session
+returns-in-Session-clause-session g c = λ family is.
+    let same : family_view c.in-Session.names ≡ family = same-session _ _ (sym (ap command_view c.in-Session.is) ∙ is) in
+    rw (← same, c.status_of-in-Session.ensures.code, c.status_of-in-Session.ensures.line)
+    (c.session.ensures.ends (with_wire quiet (g.L.Link.wire c.args.link.now)))
+
+pub returns-in-Session-clause-childless : goal.returns-in-Session-clause-childless
+returns-in-Session-clause-childless g c = rw c.in-Session.is (λ none. absurd (true≢false none))
