@@ -1,5 +1,5 @@
 -- How a session ends, and what is said of it.
-use Rattle.std.proofs.Common.{◌≡◌, ◌⊎◌, ◌==◌, ◌||◌, ◌++◌, ◌∙◌, ℕ, Bool, true, false, List, [], IsTrue, refl, sym, ap, subst, take, inl, inr, arith}
+use Rattle.std.proofs.Common.{◌≡◌, ◌⊎◌, ◌==◌, ◌||◌, ◌++◌, ◌∙◌, ℕ, Bool, true, false, List, [], Some, IsTrue, refl, sym, ap, subst, take, inl, inr, arith}
 use Rattle.bar_outside.specs.Children.{Children}
 use Rattle.bar_outside.specs.Disk.{Content}
 use Rattle.bar_outside.specs.Plan.{Outside, Plan, is_stop, line_at, no_memory}

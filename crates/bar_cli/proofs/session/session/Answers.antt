@@ -33,7 +33,7 @@ returns-in-Ok-clause-ends g c = λ w.
           _ c.in_ok-text.text _ _ c.in_ok-text.ensures
           (EndsWith-accepted _ _ _ _ _ _ _ _ accepted (EndsWith-ending 0 [] _ refl));
         accepted = λ told. record { text = c.in_ok-text.text.items; read = c.in_ok-text.ensures.found told; is = accepted };
-        ran = rw (code, ← c.shape.ensures.value) c.run_children.ensures;
+        ran = rw (code, ← c.shape-peers.ensures.value) c.run_children.ensures;
         late = rw code (outcome-late c.run_children.result);
         line_is = c.from.ensures.line ∙ ap line_of_end (sym code);
       });
