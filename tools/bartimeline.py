@@ -1,0 +1,485 @@
+"""Draws a session as one page that needs nothing else: an inline drawing with rounds across and a row for each peer, and a table.
+
+All that it shows is taken from the peers' recordings and what their replays print, play and find.
+"""
+import collections
+import dataclasses
+import hashlib
+import html
+
+from barsession import BLOCK, CASE, CONTENT, EVIDENCE, KEY, QUERY, REPLY, REQUEST, RESPONSE, SLOTS, head_of
+
+# ---- what a peer did in its exchanges
+
+
+@dataclasses.dataclass
+class Side:
+    """One peer's side of an exchange: how many updates and junk items each gives, and the ticks at which keys were given."""
+
+    round: int
+    push: bool
+    asks: bool
+    partner: int
+    answered: bool = False
+    gives: tuple = None
+    gets: tuple = None
+    paid: int = None
+    was_paid: int = None
+
+
+def place_of(datagram, session, me):
+    """The datagram's kind, and its exchange as this peer sees it (round, whether it's a push, whether this peer asks, partner), or None."""
+    head = head_of(datagram, session)
+    if not head or head[0] not in (REQUEST, RESPONSE, QUERY, REPLY, CASE, KEY):
+        return None
+    kind, sender, receiver = head
+    push = datagram[20] == 1 if kind in (CASE, KEY) else kind in (QUERY, REPLY)
+    sender_asks = datagram[21] == 0 if kind in (CASE, KEY) else kind in (REQUEST, QUERY)
+    asks = sender_asks == (sender == me)
+    return kind, (int.from_bytes(datagram[16:20], "big"), push, asks, receiver if sender == me else sender)
+
+
+def sides_of(session, me, log):
+    """This peer's sides of exchanges, in the order in which it entered them."""
+    sides = {}
+    for tick, datagram in log.sent:
+        kind, place = place_of(datagram, session, me) or (None, None)
+        if kind in (REQUEST, RESPONSE, QUERY, REPLY):
+            sides.setdefault(place, Side(*place))
+        elif kind == CASE:
+            sides[place].gives = datagram[22], datagram[23]
+        elif kind == KEY and sides[place].paid is None:
+            sides[place].paid = tick
+    hear_answers(session, me, log, sides)
+    return list(sides.values())
+
+
+def hear_answers(session, me, log, sides):
+    """Notes what came from the partners."""
+    for tick, datagram in log.taken:
+        kind, place = place_of(datagram, session, me) or (None, None)
+        if place not in sides:
+            continue
+        side = sides[place]
+        side.answered |= kind in (RESPONSE, REPLY)
+        if kind == CASE:
+            side.gets = datagram[22], datagram[23]
+        elif kind == KEY and side.was_paid is None:
+            side.was_paid = tick
+
+
+# ---- what a peer played
+
+
+def digests_of(logs):
+    """The digests of the updates, by round and index, from the tables that the peers found."""
+    digests = {}
+    for log in logs.values():
+        table, at = log.findings.get("table", b""), 0
+        while at < len(table):
+            manifest = table[at + 2 : at + 2 + int.from_bytes(table[at : at + 2], "big")]
+            number = int.from_bytes(manifest[16:20], "big")
+            digests |= {(number, index): manifest[21 + 32 * index : 53 + 32 * index] for index in range(manifest[20])}
+            at += 2 + len(manifest)
+    return digests
+
+
+def blocks_of(session, log, digests):
+    """The blocks that came to a peer from the broadcaster, by round and index."""
+    heads = [(head_of(datagram, session), datagram) for _, datagram in log.taken]
+    blocks = [((int.from_bytes(it[16:20], "big"), it[20]), it[21:]) for head, it in heads if head and head[0] == BLOCK and len(it) == 1045]
+    return {update: block for update, block in blocks if hashlib.sha256(block).digest() == digests.get(update)}
+
+
+def known_blocks(session, logs, digests):
+    """The blocks that came to any peer, by round and index."""
+    return {update: block for log in logs.values() for update, block in blocks_of(session, log, digests).items()}
+
+
+def content_of(block):
+    return block[2 : 2 + int.from_bytes(block[:2], "big")]
+
+
+def played_updates(played, digests, blocks):
+    """The updates whose contents were played, one behind the other."""
+    updates, at = set(), 0
+    for update, digest in sorted(digests.items()):
+        full = CONTENT.to_bytes(2, "big") + played[at : at + CONTENT]
+        content = full[2:] if hashlib.sha256(full).digest() == digest else content_of(blocks.get(update, b""))
+        if content and played.startswith(content, at):
+            updates.add(update)
+            at += len(content)
+    return updates
+
+
+@dataclasses.dataclass
+class Row:
+    """What is drawn of a peer: its exchanges by round, the updates that it played, and those that came straight from the broadcaster."""
+
+    party: int
+    log: object
+    sides: dict
+    played: set
+    straight: set
+    accusations: dict
+
+
+def row_of(session, party, log, digests, blocks):
+    sides = collections.defaultdict(list)
+    for side in sides_of(session, party, log):
+        sides[side.round].append(side)
+    sent = [((tick + SLOTS - 1) // SLOTS, head_of(datagram, session)) for tick, datagram in log.sent]
+    accusations = collections.Counter(number for number, head in sent if head and head[0] == EVIDENCE)
+    straight = set(blocks_of(session, log, digests))
+    return Row(party, log, sides, played_updates(log.played, digests, blocks), straight, accusations)
+
+
+# ---- elements
+
+
+def tag(name, *inside, **attributes):
+    """An element. An underscore in an attribute's name stands for a dash, but at its end."""
+    said = "".join(f' {key.rstrip("_").replace("_", "-")}="{value}"' for key, value in attributes.items())
+    return f"<{name}{said}>{''.join(inside)}</{name}>"
+
+
+def text(x, y, said, class_):
+    return tag("text", said, x=f"{x:.1f}", y=f"{y:.1f}", class_=class_)
+
+
+def box(x, y, width, height, class_, told="", corner=0):
+    """A rectangle, with words that show where one points at it."""
+    title = tag("title", told) if told else ""
+    return tag("rect", title, x=f"{x:.1f}", y=f"{y:.1f}", width=f"{width:.1f}", height=height, rx=corner, class_=class_)
+
+
+def line(x1, y1, x2, y2, class_="rule"):
+    return tag("line", x1=f"{x1:.1f}", y1=y1, x2=f"{x2:.1f}", y2=y2, class_=class_)
+
+
+def arrow(x, y, up):
+    """A small triangle, whose middle is at x and whose upper edge is at y."""
+    points = (x - 4, y + 4.5, x + 4, y + 4.5, x, y) if up else (x - 4, y, x + 4, y, x, y + 4.5)
+    return tag("path", d="M{:.1f} {:.1f}L{:.1f} {:.1f}L{:.1f} {:.1f}Z".format(*points), class_="key")
+
+
+def items(counts):
+    """So many updates and junk items, in words."""
+    updates, junk = counts
+    words = [f"{updates} update{'s' if updates > 1 else ''}" if updates else "", f"{junk} junk" if junk else ""]
+    return " and ".join(word for word in words if word)
+
+
+def told_of(side):
+    """What one side of an exchange came to, in words."""
+    way = {(0, 1): "asks", (0, 0): "is asked by", (1, 1): "offers to", (1, 0): "is offered by"}[side.push, side.asks]
+    told = [f"{way} peer {side.partner}"]
+    if not side.gives:
+        told.append("nothing to trade" if side.answered or not side.asks else "no answer")
+    if side.gives:
+        told.append(f"promises {items(side.gives)}")
+    if side.gets:
+        told.append(f"is promised {items(side.gets)}")
+    if side.paid is not None:
+        told.append(f"gave its key at tick {side.paid}")
+    if side.was_paid is not None:
+        told.append(f"was given the key at tick {side.was_paid}")
+    return f"round {side.round}: " + ", ".join(told)
+
+
+def token(x, y, side):
+    """The sign of one side of an exchange, between its two arrows."""
+    middle = x + TOKEN / 2
+    sign = box(x + 0.5, y + 6.5, TOKEN - 1, 13, "sign", corner=3.5)
+    inside = [tag("title", told_of(side)), sign, text(middle, y + 16.5, str(side.partner), "partner")]
+    if side.paid is not None:
+        inside.append(arrow(middle, y, True))
+    if side.was_paid is not None:
+        inside.append(arrow(middle, y + 21.5, False))
+    classes = ["push" if side.push else "balanced", "asks" if side.asks else "asked", "traded" if side.gives else "idle"]
+    return tag("g", *inside, class_=" ".join(classes))
+
+
+# ---- the drawing
+
+WIDTH, LABELS, TOTALS = 1160, 84, 76
+MOST_COLUMNS = 17
+HEAD, CASTER, LANE = 26, 34, 86
+TOKEN = 16
+# where the signs stand in a column: the exchange that a peer starts, and the two in which it answers
+SEATS = (2.5, 21.5, 39.5)
+STRIP = 55
+
+
+@dataclasses.dataclass
+class Chart:
+    """What all drawings of a session share: the session, the digests of its updates, the stream's length, and the rounds of one drawing."""
+
+    session: object
+    digests: dict
+    length: int
+    rounds: range
+
+    @property
+    def column(self):
+        return (WIDTH - LABELS - TOTALS) / min(MOST_COLUMNS, self.session.ends)
+
+    @property
+    def right(self):
+        return LABELS + self.column * len(self.rounds)
+
+    def columns(self):
+        """Each round with the left edge of what is drawn in its column."""
+        pad = (self.column - STRIP - 4) / 2
+        return [(number, LABELS + self.column * at + pad) for at, number in enumerate(self.rounds)]
+
+    def updates(self, number):
+        """The updates of a round."""
+        return [(number, index) for index in range(self.session.per_round) if (number, index) in self.digests]
+
+    def part(self, row):
+        """Which part of the stream a peer played."""
+        return f"{len(row.log.played) / self.length:.1%}" if self.length else "–"
+
+
+def marks(x, y, classes):
+    """A row of marks, one an update, each with its class and its words."""
+    step = STRIP / max(8, len(classes))
+    return [box(x + 2 + at * step, y, max(step - 1, 0.8), 9, class_, told, 1) for at, (class_, told) in enumerate(classes)]
+
+
+def mark_of(row, update):
+    """The class and words of an update that a peer has played or not."""
+    name = f"update {update[1] + 1} of round {update[0]}"
+    if update not in row.played:
+        return "missed", f"{name}: not played"
+    if update in row.straight:
+        return "straight", f"{name}: played, straight from the broadcaster"
+    return "traded", f"{name}: played, had by trades alone"
+
+
+def tokens(row, number, x, y):
+    """The signs of the exchanges of a round: a line for the balanced ones, and one for the pushes."""
+    for push in (False, True):
+        sides = [side for side in row.sides.get(number, []) if side.push == push]
+        own, others = [side for side in sides if side.asks], [side for side in sides if not side.asks]
+        places = [*zip(SEATS, own[:1]), *zip(SEATS[1:], others)]
+        yield from (token(x + place, y + 6 + 29 * push, side) for place, side in places)
+
+
+def alarm(number, x, y):
+    """The sign of evidence that is sent to the broadcaster."""
+    told = tag("title", f"round {number}: sends evidence to the broadcaster")
+    return tag("g", told, tag("circle", cx=f"{x:.1f}", cy=y, r=6), text(x, y + 3.5, "!", "partner"), class_="alarm")
+
+
+def cell(chart, row, number, x, y):
+    """One peer's round."""
+    parts = list(tokens(row, number, x, y))
+    if row.log.ticks > SLOTS * (number - 1):
+        parts += marks(x, y + 69, [mark_of(row, update) for update in chart.updates(number - chart.session.life)])
+    if row.accusations[number]:
+        parts.append(alarm(number, x + STRIP + 3, y + 60))
+    return parts
+
+
+def stopped(chart, row, y):
+    """A veil over the rounds that a peer didn't run through."""
+    start = max(LABELS, LABELS + chart.column * (row.log.ticks / SLOTS - chart.rounds[0] + 1))
+    if start > chart.right - 0.1:
+        return []
+    told = f"stopped after tick {row.log.ticks}"
+    veil = box(start, y + 1, chart.right - start, LANE - 1, "gone", told)
+    return [veil, text((start + chart.right) / 2, y + 47, told, "label middle")] if chart.right - start > 110 else [veil]
+
+
+def lane(chart, row, y):
+    """One peer's row."""
+    lines = ((22, "asks", "label blue"), (51, "offers", "label amber"), (77, "plays", "label"))
+    labels = [text(LABELS - 10, y + at, said, class_) for at, said, class_ in lines]
+    totals = [text(WIDTH - 4, y + 40, chart.part(row), "total"), text(WIDTH - 4, y + 56, "played", "label")]
+    cells = [part for number, x in chart.columns() for part in cell(chart, row, number, x, y)]
+    return [line(0, y, WIDTH, y), text(10, y + 48, str(row.party), "name"), *labels, *cells, *stopped(chart, row, y), *totals]
+
+
+def caster_lane(chart, rows, y):
+    """The broadcaster's row: to how many peers each update came straight from it."""
+    parts = [line(0, y, WIDTH, y), text(10, y + 21, "broadcaster", "label left")]
+    for number, x in chart.columns():
+        heard = [sum(update in row.straight for row in rows) for update in chart.updates(number)]
+        told = [("straight" if it else "missed", f"update {at} of round {number}: came to {it} peers") for at, it in enumerate(heard, 1)]
+        parts += marks(x, y + 13, told)
+    return parts
+
+
+def panel(chart, rows):
+    """A drawing of so many rounds as stand beside each other."""
+    height = HEAD + CASTER + LANE * len(rows)
+    edges = [LABELS + chart.column * at for at in range(len(chart.rounds) + 1)]
+    last = chart.session.rounds
+    numbers = [text(x + 2 + STRIP / 2, 17, str(it), "round" if it <= last else "round late") for it, x in chart.columns()]
+    parts = [*(line(x, HEAD, x, height, "faint") for x in edges), text(10, 17, "round", "label left"), *numbers]
+    parts += caster_lane(chart, rows, HEAD)
+    for at, row in enumerate(rows):
+        parts += lane(chart, row, HEAD + CASTER + LANE * at)
+    parts.append(line(0, height - 0.5, WIDTH, height - 0.5))
+    return tag("svg", *parts, viewBox=f"0 0 {WIDTH} {height}", role="img")
+
+
+# ---- the page
+
+FONT = 'Inter, system-ui, -apple-system, "Segoe UI", "Helvetica Neue", Arial, sans-serif'
+
+STYLE = """
+:root { color-scheme: light; --ink: #1d2733; --soft: #64717f; --rule: #d8dee5; --faint: #edf0f3; --grey: #8593a1;
+  --blue: #2b67a8; --amber: #b96d12; --green: #23845f; --alarm: #b23434 }
+* { box-sizing: border-box }
+body { margin: 0; background: #fff; color: var(--ink); font: 15px/1.5 FONT; font-variant-numeric: tabular-nums }
+main { max-width: 1200px; margin: 0 auto; padding: 32px 20px 48px }
+h1 { font-size: 25px; line-height: 1.25; font-weight: 650; letter-spacing: -.01em; margin: 0 0 4px }
+h2 { font-size: 15px; font-weight: 650; margin: 30px 0 6px }
+p { margin: 0 0 8px }
+.soft { color: var(--soft) }
+.figures { display: flex; flex-wrap: wrap; gap: 8px 44px; margin: 18px 0 20px }
+.figures b { display: block; font-size: 23px; font-weight: 620; line-height: 1.2 }
+.figures span { font-size: 13px; color: var(--soft) }
+.legend { margin: 0 0 14px; padding: 8px 0; border: solid var(--rule); border-width: 1px 0; font-size: 13px }
+.legend div { display: flex; flex-wrap: wrap; gap: 2px 30px }
+.legend span { display: inline-flex; align-items: center; gap: 7px }
+.reading { display: grid; grid-template-columns: repeat(auto-fit, minmax(300px, 1fr)); gap: 0 36px; font-size: 14px }
+figure { margin: 0 0 18px; overflow-x: auto }
+svg { display: block }
+figure svg { width: 100%; min-width: 1080px }
+svg text { font: 11px FONT; fill: var(--ink) }
+svg .rule { stroke: var(--rule) } svg .faint { stroke: var(--faint) }
+svg .label { fill: var(--soft); text-anchor: end } svg .left { text-anchor: start } svg .middle { text-anchor: middle }
+svg .blue { fill: var(--blue) } svg .amber { fill: var(--amber) }
+svg .round { text-anchor: middle; font-weight: 600 } svg .late { fill: var(--soft); font-weight: 400 }
+svg .name { font-size: 19px; font-weight: 620 } svg .total { font-size: 15px; font-weight: 620; text-anchor: end }
+svg .partner { text-anchor: middle; font-size: 10.5px; font-weight: 620 }
+.balanced { --own: var(--blue) } .push { --own: var(--amber) } .alarm { fill: var(--alarm) } .key { fill: var(--ink) }
+.sign { stroke: var(--own); stroke-width: 1.2 } .asks .sign { fill: var(--own) } .asked .sign { fill: #fff }
+svg .asks .partner, svg .alarm .partner { fill: #fff } svg .asked .partner { fill: var(--own) }
+.idle { opacity: .32 }
+rect.straight { fill: var(--grey) } rect.traded { fill: var(--green) } rect.missed { fill: #fff; stroke: var(--rule) }
+rect.gone { fill: #f2f4f6; opacity: .85 }
+table { border-collapse: collapse; font-size: 14px; width: 100% }
+th, td { text-align: right; padding: 5px 10px; border-bottom: 1px solid var(--faint) }
+th { font-weight: 500; color: var(--soft); border-color: var(--rule); vertical-align: bottom }
+th:first-child, td:first-child { text-align: left; padding-left: 0 }
+""".replace("FONT", FONT)
+
+READING = (
+    """Each row is a peer, and each column a round. A coloured sign is a peer’s side of an exchange, and the number in it is the partner.
+Blue are the balanced exchanges, one update for one; amber are the pushes, in which fresh updates are offered for old ones or for junk. A
+full sign, the first on its line, is the exchange that the peer started; behind it stand those in which it answered.""",
+    """Both partners first send what they promise in sealed briefcases, and then the keys to these: giving the key is paying. The arrow
+above a sign says that this peer paid, and the arrow below it that it was paid. A pale sign came to nothing: one of the two lacked nothing
+that the other had, the offer was not wanted, or no answer came.""",
+    """The marks at the foot of a row are the updates that are played in this round; an update is played {life} rounds after its own. The
+broadcaster sends each update to {fanout}, whose marks are grey; the others have it by trades. Point at a sign or a mark to read what it
+says.""",
+)
+
+
+def icon(width, *parts):
+    return tag("svg", *parts, width=width, height=26, viewBox=f"0 0 {width} 26")
+
+
+def example(push, asks, **more):
+    """A sign for the legend."""
+    return icon(TOKEN, token(0, 0, Side(1, push, asks, 3, **{"gives": (1, 0), **more})))
+
+
+def example_mark(class_):
+    return icon(8, box(0.5, 8.5, 7, 9, class_, corner=1))
+
+
+def legend():
+    """Two lines of signs with their meanings."""
+    exchanges = [
+        (example(False, True), "asks peer 3 for a balanced exchange"),
+        (example(False, False), "is asked by peer 3"),
+        (example(True, True), "offers updates to peer 3"),
+        (example(True, False), "is offered some by peer 3"),
+        (example(False, True, gives=None), "came to nothing"),
+    ]
+    rest = [
+        (example(False, True, paid=1), "paid: gave its key"),
+        (example(False, True, was_paid=1), "was paid: was given the key"),
+        (example_mark("straight"), "played, straight from the broadcaster"),
+        (example_mark("traded"), "played, had by trades alone"),
+        (example_mark("missed"), "not played"),
+    ]
+    lines = [tag("div", *(tag("span", drawn, said) for drawn, said in entries)) for entries in (exchanges, rest)]
+    return tag("div", *lines, class_="legend")
+
+
+def figures(chart, rows):
+    """The session in a few numbers."""
+    sides = [side for row in rows for by_round in row.sides.values() for side in by_round]
+    started = [side for side in sides if side.asks]
+    done = [side for side in started if side.paid is not None and side.was_paid is not None]
+    played, traded = sum(len(row.played) for row in rows), sum(len(row.played - row.straight) for row in rows)
+    parts = [len(row.log.played) / chart.length for row in rows] if chart.length and rows else [0]
+    told = [
+        (f"{sum(parts) / len(parts):.1%}", f"of the stream was played, on average; at least {min(parts):.1%}"),
+        (f"{traded / max(played, 1):.1%}", "of what was played was had by trades alone"),
+        (f"{len(done)} of {len(started)}", "exchanges ended with both keys given"),
+        (str(sum(side.paid is not None for side in sides)), "keys were given"),
+    ]
+    shown = [tag("div", tag("b", number), tag("span", said)) for number, said in told]
+    return tag("div", *shown, class_="figures")
+
+
+def totals(chart, row):
+    """A peer's line of the table."""
+    sides = [side for by_round in row.sides.values() for side in by_round]
+    cells = [row.party, len(row.log.played), chart.part(row), len(row.played & row.straight), len(row.played - row.straight)]
+    cells += [sum(side.asks for side in sides), sum(not side.asks for side in sides)]
+    cells += [sum(side.paid is not None for side in sides), sum(side.was_paid is not None for side in sides)]
+    for datagrams in (row.log.sent, row.log.taken):
+        cells += [len(datagrams), sum(len(datagram) for _, datagram in datagrams)]
+    return tag("tr", *(tag("td", f"{it:,}" if isinstance(it, int) else it) for it in cells))
+
+
+def table(chart, rows):
+    """Each peer's totals."""
+    names = ["peer", "bytes played", "part", "updates from the broadcaster", "updates by trades", "exchanges started", "exchanges answered"]
+    names += ["keys given", "keys got", "datagrams sent", "bytes sent", "datagrams taken", "bytes taken"]
+    return tag("table", tag("tr", *(tag("th", name) for name in names)), *(totals(chart, row) for row in rows))
+
+
+def notes(rows):
+    """A line on the evidence that is kept."""
+    kept = [(accused, row.party) for row in rows for accused in row.log.findings if accused != "table"]
+    said = [f"peer {accused} by peer {party}" for accused, party in sorted(kept)]
+    told = f"Evidence is kept against {', '.join(said)}. A red mark stands where it was sent to the broadcaster."
+    return [tag("p", told)] if said else []
+
+
+def subtitle(session):
+    """The session's numbers, in words."""
+    told = [f"{session.peers} peers", f"{session.rounds} rounds", f"{session.per_round} updates a round, each to {peers(session.fanout)}"]
+    told += [f"an update lives {session.life} rounds", f"an exchange trades at most {session.cap}", f"a tick has {session.tick_ms} ms"]
+    return html.escape(" · ".join([*told, f"id {session.id}"]))
+
+
+def peers(count):
+    return f"{count} peer{'s' if count > 1 else ''}"
+
+
+def page(session, logs):
+    """The page of a session, by the logs of its peers."""
+    digests = digests_of(logs)
+    blocks = known_blocks(session, logs, digests)
+    rows = [row_of(session, party, log, digests, blocks) for party, log in sorted(logs.items())]
+    length = sum(len(content_of(block)) for block in blocks.values())
+    firsts = range(1, session.ends + 1, MOST_COLUMNS)
+    charts = [Chart(session, digests, length, range(first, min(first + MOST_COLUMNS, session.ends + 1))) for first in firsts]
+    parts = [tag("h1", "A session, as its peers recorded it"), tag("p", subtitle(session), class_="soft")]
+    parts += [figures(charts[0], rows), legend(), *(tag("figure", panel(chart, rows)) for chart in charts), *notes(rows)]
+    reading = [tag("p", said.format(life=session.life, fanout=peers(session.fanout))) for said in READING]
+    parts += [tag("h2", "How to read it"), tag("div", *reading, class_="reading"), tag("h2", "Each peer"), table(charts[0], rows)]
+    head = f'<meta charset="utf-8"><meta name="viewport" content="width=device-width"><title>Session {html.escape(session.id)}</title>'
+    return f'<!doctype html>\n<html lang="en"><head>{head}<style>{STYLE}</style></head>\n<body>{tag("main", *parts)}</body></html>\n'
