@@ -1,0 +1,5 @@
+pub mod MadeLemmas
+pub mod KeyReads
+mod Plays
+mod Fair
+mod Worked

@@ -1,0 +1,5 @@
+pub mod Made
+pub mod Network
+pub mod Sim
+pub mod Ends
+pub mod Laws
