@@ -1,17 +1,16 @@
 -- The simulation of a seed: nothing of the parties that don't lie is forged, and none of their peers is evicted.
-use Rattle.bar_laws.specs.OwnRuns.{PeersRun, BroadcasterRuns}
-use Rattle.bar_laws.specs.Parties.{ForgesNothing, NobodyIsEvicted, after}
+use Rattle.bar_laws.specs.OwnRuns.{inputs_of, PeersRun, BroadcasterRuns}
+use Rattle.bar_laws.specs.Parties.{ForgesNothing, NobodyIsEvicted}
 use Rattle.bar_rules.specs.Broadcaster.Sending.{evicted, caster_log_after}
 use Rattle.bar_rules.specs.Peer.Log.{Log}
 use Rattle.bar_rules.specs.World.World.{member}
-use Rattle.bar_laws.specs.OwnRuns.{inputs_of}
 use Rattle.bar_world.specs.Ends.{caster_log, sim_end}
 use Rattle.bar_world.specs.Laws.{is_honest, SimsAreSetups, SimsAreRuns, SimsForgeNothing, HonestPeersStay}
 use Rattle.bar_world.specs.Network.{begun}
 use Rattle.bar_world.specs.Sim.{setup, game, sim, shape, numbers, secrets, stream}
 use Rattle.bar_world.proofs.MadeLemmas.{made-is-setup}
 use Rattle.bar_world.proofs.Plays.{IsRun, played-runs, begun-runs, lies-unforged}
-use Rattle.std.proofs.Common.{◌≡◌, ℕ, true, [], ◌≤◌, refl, ap, ◌∙◌, subst, arith}
+use Rattle.std.proofs.Common.{◌≡◌, ℕ, true, [], refl, ap, ◌∙◌, subst, arith}
 use Rattle.std.proofs.lemmas.Bool.Decides.{nat_tests}
 use Rattle.std.specs.Prelude.{unwrap_or, Contains}
 

@@ -3,11 +3,14 @@ use Rattle.bar_wire.specs.Bodies.{evidence_in}
 use Rattle.bar_wire.specs.Datagram.{Datagram, Body, Key}
 use Rattle.bar_rules.specs.Member.{Session, Member}
 use Rattle.bar_rules.specs.Values.{datagram_of}
-use Rattle.bar_rules.specs.World.World.{Setup, World, Move, TickOf, Deliver, Hostile, member, initial, happens, run, AllGenuine, AreUnforged}
-use Rattle.bar_world.specs.Network.{Game, Play, lie_of, other_key, lie_by, lie_in, delivery_by, delivery, deliveries, moved, decided}
-use Rattle.bar_world.specs.Network.{lost_one, delivered_once, delivered_twice, drew, served_by, served, drained, ticked, tick_played, played_on, begun}
+use Rattle.bar_rules.specs.World.World.{Setup, World, Move, TickOf, Deliver, Hostile, member, initial, happens, run}
+use Rattle.bar_rules.specs.World.World.{AllGenuine, AreUnforged}
+use Rattle.bar_world.specs.Network.{Game, Play, lie_of, other_key, lie_by, lie_in, delivery_by, delivery, deliveries, moved, begun}
+use Rattle.bar_world.specs.Network.{decided, lost_one, delivered_once, delivered_twice, drew, served_by, served, drained}
+use Rattle.bar_world.specs.Network.{ticked, tick_played, played_on}
 use Rattle.bar_world.proofs.KeyReads.{key-reads}
-use Rattle.std.proofs.Common.{◌≡◌, ℕ, zero, suc, Bool, true, false, List, [], ◌∷◌, ◌++◌, ◌+◌, ◌%◌, ◌^◌, ◌<◌, refl, sym, ap, ◌∙◌, subst, eqb, cond}
+use Rattle.std.proofs.Common.{◌≡◌, ℕ, zero, suc, Bool, true, false, List, [], ◌∷◌, ◌++◌, ◌+◌, ◌%◌, ◌^◌, ◌<◌, eqb, cond}
+use Rattle.std.proofs.Common.{refl, sym, ap, ◌∙◌, subst}
 use Rattle.std.proofs.lemmas.Bool.{eqb-true, both_ways}
 use Rattle.std.specs.List.{AllByRecursion}
 use Rattle.std.specs.Prelude.{Option, Some, None}

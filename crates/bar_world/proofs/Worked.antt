@@ -1,8 +1,13 @@
 -- Worked examples, computed by the definitions: what becomes of an entry by the number drawn, and a key that is lied about.
-use Rattle.bar_rules.specs.World.World.{Move, Deliver}
-use Rattle.bar_world.specs.Network.{Game, Play, moved, other_key, served}
-use Rattle.bar_world.specs.Sim.{secrets, secret_of}
-use Rattle.std.proofs.Common.{◌≡◌, ℕ, [], ◌∷◌, ◌+◌, refl}
+use Rattle.bar_window.specs.declared.exchange.Role.TheVariants.{Initiator}
+use Rattle.bar_window.specs.declared.exchange.XKind.TheVariants.{Push}
+use Rattle.bar_wire.specs.Datagram.{Datagram, Body, Key, KeyReq, KeyGiven}
+use Rattle.bar_rules.specs.Member.{Member}
+use Rattle.bar_rules.specs.Values.{datagram_bytes}
+use Rattle.bar_rules.specs.World.World.{Deliver, member}
+use Rattle.bar_world.specs.Network.{Game, Play, moved, other_key, lie_of, lie_in, served}
+use Rattle.bar_world.specs.Sim.{setup, secrets, secret_of}
+use Rattle.std.proofs.Common.{◌≡◌, ℕ, [], ◌∷◌, ◌+◌, Some, None, refl}
 
 -- a network in which this number is drawn each time
 abbrev drawing : Game → ℕ → Game
@@ -44,7 +49,28 @@ even = refl
 odd : other_key (0xff ∷ 7 ∷ []) ≡ 0xfe ∷ 7 ∷ []
 odd = refl
 
--- ---- parties
+-- a datagram of this party to party 2, and what party 5 lies in place of it
+abbrev from : ℕ → Body → Datagram
+from party body = record { message = record { from = party; to = 2; body = body }; signature = [] }
+
+abbrev fifth : Game → Member
+fifth game = member game.setup 5
+
+own-key : (game : Game) (k : KeyGiven)
+    → lie_in (fifth game) (Some (from 5 (Key k)))
+    ≡ Some (datagram_bytes game.setup.session (lie_of (fifth game) (from 5 (Key k)) k))
+own-key game k = refl
+
+other-sender : (game : Game) (k : KeyGiven) → lie_in (fifth game) (Some (from 4 (Key k))) ≡ None
+other-sender game k = refl
+
+other-kind : (game : Game) (round : ℕ) → lie_in (fifth game) (Some (from 5 (KeyReq round Push Initiator))) ≡ None
+other-kind game round = refl
+
+-- ---- the setup
+
+signature-bytes : (seed : ℕ) → (setup seed).session.shape.sig_len ≡ 2508
+signature-bytes seed = refl
 
 six : (seed : ℕ)
     → secrets seed

@@ -7,7 +7,8 @@ use Rattle.bar_rules.specs.World.World.{World}
 use Rattle.bar_world.specs.Network.{Play}
 use Rattle.bar_world.specs.Sim.{setup, sim}
 
--- How many bytes each of peers 1 to 5 has played, how many entries of the queue were delivered, lost and delivered twice, and who is evicted.
+-- How many bytes each of peers 1 to 5 has played, how many entries of the queue were delivered, how many were lost and how many of those
+-- delivered came twice, and which peers the broadcaster has evicted.
 pub record End : Type 0 where
   pub played : List ℕ
   pub delivered : ℕ

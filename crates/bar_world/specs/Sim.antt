@@ -6,6 +6,7 @@ use Rattle.rand_chacha.specs.ChaCha.{word_at, key_of}
 use Rattle.bar_bytes.specs.Bytes.{u16_bytes, u64_bytes}
 use Rattle.bar_lms.specs.declared.params.Height.TheVariants.{H10}
 use Rattle.bar_lms.specs.declared.params.Ots.TheVariants.{W4}
+use Rattle.bar_lms.specs.Params.{signature_len}
 use Rattle.bar_case.specs.Keystream.{keystream}
 use Rattle.bar_wire.specs.declared.shape.Shape.{Shape}
 use Rattle.bar_roster.specs.Shapes.{is_shaped, shaped}
@@ -14,6 +15,10 @@ use Rattle.bar_world.specs.Made.{Numbers, made_setup}
 use Rattle.bar_world.specs.Network.{Game, Play, begun, played_on}
 
 -- ---- the setup
+
+-- LMS type 6 and LM-OTS type 3. The port and the length of a tick aren't used: they are the least that a session may have.
+abbrev pub numbers : Numbers
+numbers = record { cap = 4; fanout = 2; port = 1024; tick_ms = 1; params = record { height = H10; ots = W4 } }
 
 -- the eight bytes of a seed are an id, and four rounds the life of an update
 pub seed_is_shaped : (seed : ℕ) → is_shaped (u64_bytes seed) 4 ≡ true
@@ -29,13 +34,9 @@ shape seed = record {
   rounds = 10;
   life = 4;
   per_round = 8;
-  sig_len = 2508;
+  sig_len = signature_len numbers.params;
   shaped = shaped (u64_bytes seed) 4 (seed_is_shaped seed);
 }
-
--- LMS type 6 and LM-OTS type 3. The port and the length of a tick aren't used: they are the least that a session may have.
-abbrev pub numbers : Numbers
-numbers = record { cap = 4; fanout = 2; port = 1024; tick_ms = 1; params = record { height = H10; ots = W4 } }
 
 unfoldable pub secret_of : ℕ → ℕ → List ℕ
 secret_of seed party = sha256 (codes "SIMS" ++ u64_bytes seed ++ u16_bytes party)
