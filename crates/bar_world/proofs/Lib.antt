@@ -3,3 +3,17 @@ pub mod KeyReads
 mod Plays
 mod Fair
 mod Worked
+mod Silent
+mod Worlds
+mod Takes
+mod Idle
+mod Evicted
+mod Started
+pub mod KeyLengths
+mod Leaves
+mod Queues
+mod Moved
+mod Decided
+mod Rounds
+mod Begins
+mod SimEnds

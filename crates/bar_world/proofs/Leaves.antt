@@ -1,0 +1,42 @@
+-- What is accepted names a leaf.
+use Rattle.bar_lms.proofs.Decided.{under_test}
+use Rattle.bar_lms.specs.Params.{levels, signature_len}
+use Rattle.bar_lms.specs.Signature.{number_at}
+use Rattle.bar_lms.specs.declared.params.Params.{Params}
+use Rattle.bar_wire.specs.Datagram.{Datagram}
+use Rattle.bar_wire.specs.Places as places
+use Rattle.bar_wire.specs.Views.{datagram}
+use Rattle.bar_wire.specs.declared.shape.Shape.{Shape}
+use Rattle.bar_wire.specs.declared.view.View.{View}
+use Rattle.bar_rules.specs.Member.{Session, Member, key_of_party}
+use Rattle.bar_rules.specs.Values.{datagram_of, message_bytes}
+use Rattle.bar_world.specs.Lies.{IsAcceptedIn, HasLeafIfSigned}
+use Rattle.bar_world.specs.Network.{lie_in, delivery_by}
+use Rattle.std.proofs.Common.{◌≡◌, ℕ, ◌^◌, ◌<◌, ◌≤◌, List, length, sym, ap, ◌∙◌, subst, arith}
+use Rattle.std.specs.Prelude.{Option, Some}
+
+some-long : (p : Params) → 4 ≤ signature_len p
+some-long p = omega arith
+
+pub accepted-has-leaf : (s : Session) (bytes : List ℕ) (d : Datagram) → IsAcceptedIn s bytes → datagram_of s bytes ≡ Some d
+    → HasLeafIfSigned s d
+accepted-has-leaf s bytes d all reads sign =
+    let a = (under_test s.params (key_of_party s d.message.from) (message_bytes s d.message) d.signature).0 (all d reads sign) in
+    let long : length d.signature ≡ signature_len a.key.params = a.accepted.length in
+    let some : 4 ≤ signature_len a.key.params = some-long a.key.params in
+    record {
+      long = omega (arith, long, some);
+      leaf = subst (λ p. number_at d.signature 0 < 2 ^ levels p.height) a.params a.accepted.leaf;
+    }
+
+-- what a view of the bytes tells of their delivery
+pub told-delivery : (me : Member) (s : Shape) (bytes read : List ℕ) (v : View) (number to : ℕ) (lie : Option (List ℕ))
+    → me.session.shape ≡ s → read ≡ bytes → Some (datagram s v) ≡ places.datagram_of s read → IsAcceptedIn me.session bytes
+    → (HasLeafIfSigned me.session (datagram me.session.shape v) → lie ≡ lie_in me (Some (datagram me.session.shape v)))
+    → delivery_by number to lie ≡ delivery_by number to (lie_in me (places.datagram_of me.session.shape bytes))
+told-delivery me s bytes read v number to lie same is told all lies =
+    let reads : datagram_of me.session bytes ≡ Some (datagram me.session.shape v) =
+    subst (λ z. places.datagram_of z bytes ≡ Some (datagram z v)) (sym same) (ap (λ b. places.datagram_of s b) (sym is) ∙ sym told)
+    in
+    ap (λ z. delivery_by number to z)
+    (lies (accepted-has-leaf me.session bytes (datagram me.session.shape v) all reads) ∙ ap (λ z. lie_in me z) (sym reads))

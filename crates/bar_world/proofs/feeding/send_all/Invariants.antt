@@ -1,0 +1,22 @@
+use Rattle.std.proofs.Common.{◌≡◌, ◌++◌, List}
+use Rattle.bar_wire.specs.Inputs.{Input}
+use Rattle.bar_core.specs.Face.{Keeps}
+use Rattle.bar_core.specs.Rules.{Send}
+use Rattle.bar_world.specs.Packets.{packets_of}
+use Rattle.bar_world.proofs.feeding.send_all.Given as goal
+
+-- the packets so far and what is left are the packets at first and what was left then
+abbrev pub invariant-datagrams : goal.invariant-datagrams
+invariant-datagrams g l =
+    let face = g.C.Core.face in
+    record {
+      keeps : Keeps (g.C.Core.stands l.fn.core) (g.C.Core.stands l.core) (face l.fn.core) (face l.core);
+      plays : (face l.core).plays ≡ (face l.fn.core).plays;
+      packets :
+          (inputs : List Input) (sends : List Send) → g.C.Core.stands l.fn.core inputs → g.C.Core.owes l.fn.core inputs sends
+          → (rest : List Send) × g.C.Core.owes l.core inputs rest
+          × (packets_of l.pool.items ++ rest ≡ packets_of l.fn.pool.items ++ sends);
+    }
+
+abbrev pub decreases-datagrams : goal.decreases-datagrams
+decreases-datagrams g l = (g.C.Core.face l.core).left

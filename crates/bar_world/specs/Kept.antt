@@ -1,0 +1,38 @@
+-- What the code keeps of a world.
+use Rattle.std.specs.Prelude.{◌≡◌, ℕ, ◌+◌, List, length, Some, slice_get}
+use Rattle.bar_core.specs.Face.{IsIdle}
+use Rattle.bar_wire.specs.Limits.{largest_datagram}
+use Rattle.bar_rules.specs.World.World.{Setup, IsSetup, Move, member}
+use Rattle.bar_laws.specs.Parties.{after}
+use Rattle.bar_laws.specs.OwnRuns.{inputs_of}
+use Rattle.bar_caster.specs.Core.{caster_rules, face_of as caster_face}
+use Rattle.bar_caster.specs.StandsFor.{StandsFor as CasterTook}
+use Rattle.bar_peer.specs.Core.{peer_rules, face_of as peer_face}
+use Rattle.bar_peer.specs.StandsFor.{StandsFor as PeerTook}
+use Rattle.bar_world.specs.declared.world.World.{World as KeptWorld}
+use Rattle.bar_world.specs.Cores.{IsCoreOf}
+use Rattle.bar_world.specs.Packets.{packets_of}
+use Rattle.bar_world.specs.Texts.{texts}
+
+-- No core has anything still to give out, each party has a text of its own, and there is room for any datagram.
+pub record IsReady (kept : KeptWorld) : Type 0 where
+  pub caster : IsIdle (caster_face kept.caster.memory kept.caster.orders)
+  pub peers :
+      (i : ℕ) (peer : _) → slice_get kept.peers.items i ≡ Some peer → IsIdle (peer_face peer.memory peer.orders peer.playing)
+  pub texts : length kept.played.items ≡ length kept.peers.items + 1
+  pub room : length kept.buf.items ≡ largest_datagram
+
+-- A world stands for moves: the datagrams that were sent and what each party played are those of the moves' world, and each core took the
+-- inputs that the moves gave its party.
+pub record StandsFor (setup : Setup) (moves : List Move) (kept : KeptWorld) : Type 0 where
+  pub setup_is : IsSetup setup
+  pub count : length kept.peers.items ≡ setup.session.shape.peers
+  pub caster :
+      IsCoreOf (caster_rules (member setup 0) setup.stream) (inputs_of setup moves 0) (CasterTook kept.caster.memory)
+      (caster_face kept.caster.memory kept.caster.orders)
+  pub peers :
+      (i : ℕ) (peer : _) → slice_get kept.peers.items i ≡ Some peer
+      → IsCoreOf (peer_rules (member setup (i + 1))) (inputs_of setup moves (i + 1)) (PeerTook peer.memory)
+      (peer_face peer.memory peer.orders peer.playing)
+  pub played : texts kept.played.items ≡ (after setup moves).played
+  pub packets : packets_of kept.pool.items ≡ (after setup moves).packets

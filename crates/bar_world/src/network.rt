@@ -1,0 +1,166 @@
+//! A network that loses, repeats and delays by drawn numbers.
+ghost use Rattle.std.specs.Prelude.{◌≡◌, ℕ, ◌+◌, ◌*◌, ◌++◌, drop, IfOk, OnOk};
+ghost use Rattle.std.specs.List.{range_with_len};
+ghost use Rattle.bar_rules.specs.World.World.{member};
+ghost use Rattle.bar_world.specs.Kept.{IsReady};
+ghost use Rattle.bar_world.specs.Lies.{IsLiar};
+ghost use Rattle.bar_world.specs.Moves.{plain_move};
+ghost use Rattle.bar_world.specs.Network.{Game, decided, deliveries, drained, moved, played_on, served, ticked};
+ghost use Rattle.bar_world.specs.Packets.{packets_of};
+ghost use Rattle.bar_world.specs.Playing.{AreAcceptedIn, HasCounts, HasWords, Plays, SameCounts, queue_of};
+
+use crate::lies::Liar;
+use crate::moves::Move;
+use crate::packet::Packet;
+use crate::world::World;
+use bar_laws::parties::sent_is_accepted;
+use rand_chacha::ChaCha20Rng;
+use rand_core::utils::NextWord;
+use std::alloc::{AllocError, Global};
+use std::collections::VecDeque;
+
+/// A world, and what is on its way there.
+#[derive(Drop)]
+pub(crate) struct Network {
+    pub world: World,
+    pub liar: Liar,
+    /// What is still to be delivered.
+    pub queue: VecDeque<Move>,
+    /// The numbers that are drawn.
+    pub words: ChaCha20Rng,
+    pub delivered: u64,
+    pub lost: u64,
+    pub repeated: u64,
+}
+
+/// Puts the deliveries of the pool's datagrams from a number on at the queue's end.
+fn enqueue(
+    alloc: Global,
+    liar: &Liar,
+    pool: &[Packet],
+    from: usize,
+    queue: &mut VecDeque<Move>,
+) -> Result<(), AllocError>
+    ensures { OnOk result ((game : Game) → IsLiar (member game.setup game.liar) liar.now →
+        AreAcceptedIn game.setup.session (packets_of pool.now) →
+        queue_of queue.new.items ≡ queue_of queue.old.items ++ deliveries game from (drop from (packets_of pool.now))) }
+{
+    for number in from..pool.len() {
+        let entry = liar.delivery(alloc, number as u64, &pool[number])?;
+        queue.push_back(entry)?;
+    }
+    Ok(())
+}
+
+/// The most entries of the queue that are served after a tick.
+const MOST: u32 = 4096;
+
+impl Network {
+    /// A move happens, and the deliveries of what is sent at it go to the queue's end.
+    fn make(&mut self, step: &Move) -> Result<(), AllocError>
+        requires { IsReady self.old.world }
+        ensures ready { OnOk result (IsReady self.new.world) }
+        ensures plays { OnOk result (Plays (λ game play. moved game play (plain_move step.now)) self.old self.new) }
+        ensures counts { OnOk result (SameCounts self.old self.new) }
+    {
+        let from = self.world.pool.len();
+        self.world.happen(step)?;
+        // what stands in the pool names leaves
+        sent_is_accepted();
+        enqueue(
+            self.world.alloc,
+            &self.liar,
+            &self.world.pool,
+            from,
+            &mut self.queue,
+        )
+    }
+
+    /// What becomes of an entry by a number: it is lost, delivered twice, or delivered once.
+    fn decide(&mut self, entry: &Move, number: u32) -> Result<(), AllocError>
+        requires ready { IsReady self.old.world }
+        requires room { HasCounts 1 self.old }
+        ensures ready { OnOk result (IsReady self.new.world) }
+        ensures plays { OnOk result (Plays (λ game play. decided game play (plain_move entry.now) number) self.old self.new) }
+        ensures words { OnOk result (self.new.words ≡ self.old.words) }
+        ensures room { OnOk result ((n : ℕ) → HasCounts (n + 1) self.old → HasCounts n self.new) }
+    {
+        match number % 10 {
+            0 => {
+                self.lost += 1;
+                Ok(())
+            }
+            1 => {
+                self.delivered += 1;
+                self.repeated += 1;
+                self.make(entry)?;
+                self.make(entry)
+            }
+            _ => {
+                self.delivered += 1;
+                self.make(entry)
+            }
+        }
+    }
+
+    /// Takes the queue's first entry, where there is one, and draws what becomes of it.
+    fn serve(&mut self) -> Result<(), AllocError>
+        requires ready { IsReady self.old.world }
+        requires words { HasWords 1 self.old }
+        requires room { HasCounts 1 self.old }
+        ensures ready { OnOk result (IsReady self.new.world) }
+        ensures plays { OnOk result (Plays served self.old self.new) }
+        ensures words { OnOk result ((n : ℕ) → HasWords (n + 1) self.old → HasWords n self.new) }
+        ensures room { OnOk result ((n : ℕ) → HasCounts (n + 1) self.old → HasCounts n self.new) }
+    {
+        let Some(entry) = self.queue.pop_front() else {
+            return Ok(());
+        };
+        let number = self.words.next_word();
+        self.decide(&entry, number)
+    }
+
+    /// Serves so many entries at the most.
+    fn drain(&mut self) -> Result<(), AllocError>
+        requires ready { IsReady self.old.world }
+        requires words { HasWords 4096 self.old }
+        requires room { HasCounts 4096 self.old }
+        ensures ready { OnOk result (IsReady self.new.world) }
+        ensures plays { OnOk result (Plays (λ game play. drained game 4096 play) self.old self.new) }
+        ensures words { OnOk result ((n : ℕ) → HasWords (n + 4096) self.old → HasWords n self.new) }
+        ensures room { OnOk result ((n : ℕ) → HasCounts (n + 4096) self.old → HasCounts n self.new) }
+    {
+        for turn in 0..MOST {
+            self.serve()?;
+        }
+        Ok(())
+    }
+
+    /// Each party ticks, in order.
+    fn tick_all(&mut self) -> Result<(), AllocError>
+        requires { IsReady self.old.world }
+        ensures ready { OnOk result (IsReady self.new.world) }
+        ensures plays { OnOk result (Plays (λ game play. ticked game (range_with_len 0 (self.old.liar.shape.peers + 1)) play) self.old self.new) }
+        ensures counts { OnOk result (SameCounts self.old self.new) }
+    {
+        for party in 0..u32::from(self.liar.shape.peers) + 1 {
+            self.make(&Move::TickOf(party as u16))?;
+        }
+        Ok(())
+    }
+
+    /// So many ticks of all parties, and what is delivered after each.
+    pub fn play(&mut self, ticks: u32) -> Result<(), AllocError>
+        requires ready { IsReady self.old.world }
+        requires words { HasWords (4096 * ticks) self.old }
+        requires room { HasCounts (4096 * ticks) self.old }
+        ensures ready { OnOk result (IsReady self.new.world) }
+        ensures plays { OnOk result (Plays (λ game play. played_on game 4096 ticks play) self.old self.new) }
+    {
+        for tick in 0..ticks {
+            self.tick_all()?;
+            self.drain()?;
+        }
+        Ok(())
+    }
+}

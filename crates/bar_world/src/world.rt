@@ -1,0 +1,19 @@
+use crate::packet::Packet;
+use bar_caster::Caster;
+use bar_peer::Peer;
+use bar_seal::LmsScheme;
+use std::alloc::Global;
+
+/// All parties of a session, and each datagram that was ever sent.
+#[derive(Drop)]
+pub struct World {
+    pub(crate) alloc: Global,
+    pub(crate) caster: Caster<LmsScheme>,
+    /// The peers from 1 on.
+    pub(crate) peers: Vec<Peer<LmsScheme>>,
+    /// What each party played, from the broadcaster on.
+    pub(crate) played: Vec<Vec<u8>>,
+    pub(crate) pool: Vec<Packet>,
+    /// Room for a datagram.
+    pub(crate) buf: Vec<u8>,
+}
