@@ -1,10 +1,9 @@
 -- Children that a spawner in memory has started, and those that aren't waited for.
 use Rattle.std.proofs.Common.{◌≡◌, ◌≤◌, ◌<◌, ◌+◌, ◌∙◌, ◌++◌, ◌∷◌, ◌==◌, ◌||◌, ◌&&◌, [], ℕ, zero, suc, ℤ, Bool, true, false, List, Option, nat_lt, if◌then◌else◌, refl, sym, ap, subst, inl, inr, arith}
-use Rattle.std.specs.List.{list_any, list_all}
 use Rattle.std.proofs.lemmas.List.Folds.{list_any-append}
 use Rattle.std.proofs.lemmas.Bool.{cases_Bool}
 use Rattle.std.proofs.lemmas.Bool.Decides.{nat_tests}
-use Rattle.bar_outside.specs.Children.{ChildCall, Started, Waited, child_of, is_named, is_started, is_waited, starts, waits}
+use Rattle.bar_outside.specs.Children.{ChildCall, Started, Waited, child_of, is_named, is_started, is_waited, waits}
 use Rattle.bar_outside.specs.OpenChildren.{are_below, open_below}
 
 -- ---- tests

@@ -1,6 +1,6 @@
-use Rattle.std.proofs.Common.{rules, ◌≡◌, ◌≤◌, ◌∙◌, vec_len, vec_capacity, ◌++◌, ◌∷◌, [], map, refl, sym, ap, arith, Some, None, pos}
+use Rattle.std.proofs.Common.{rules, ◌≡◌, ◌≤◌, ◌∙◌, vec_len, vec_capacity, ◌++◌, ◌∷◌, [], map, refl, ap, arith, None}
 use Rattle.std.proofs.lemmas.List.{map-append}
-use Rattle.bar_outside.specs.Children.{Waited, ChildCall}
+use Rattle.bar_outside.specs.Children.{Waited}
 use Rattle.bar_outside.specs.MemCalls.{call_in}
 use Rattle.bar_outside.specs.declared.mem_call.MemCall.TheVariants as raw
 use Rattle.bar_outside.proofs.OpenLemmas.{below-call, open-waited, started-below}
