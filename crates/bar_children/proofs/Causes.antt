@@ -49,8 +49,8 @@ cause-of so_far n (child ∷ family) h =
     ]
 
 -- some child of the family passes
-pub any-there : (test : Child → Bool) (family front back : List Child) (child : Child) → family ≡ front ++ child ∷ back → test child ≡ true →
-    list_any test family ≡ true
+pub any-there : (test : Child → Bool) (family front back : List Child) (child : Child) → family ≡ front ++ child ∷ back →
+    test child ≡ true → list_any test family ≡ true
 any-there test family front back child e h =
     ap (list_any test) e ∙ (list_any-append test front (child ∷ back) ∙ or_right (list_any test front) _ (or_left (test child) _ h))
 

@@ -49,7 +49,8 @@ failed names peers out_old out_new old new ran =
   where
     by-why : (cause : Cause 9 ran.family) → Why 9 cause.child → Rose old.faults new.faults ⊎ HasFailed ran.family out_old out_new
     by-why cause (by_wait e) = inl (ran.rose (or_right (ran.stop == 9) _
-        (any-there (λ child. is_refused_wait child.ended) ran.family cause.front cause.back cause.child cause.is (wait-nine cause.child.ended e))))
+        (any-there (λ child. is_refused_wait child.ended) ran.family cause.front cause.back cause.child cause.is
+        (wait-nine cause.child.ended e))))
     by-why cause (by_line e) = absurd (line-nine cause.child.shown e)
     by-why cause (by_end e) =
         let f = end-nine cause.child.shown cause.child.ended e in
@@ -66,7 +67,10 @@ failed names peers out_old out_new old new ran =
 
 pub failed_output : FailedOutputs
 failed_output names peers out_old out_new old new ran =
-    elim (cause-of ran.stop 7 ran.family (sym ran.code)) [ inl stop ↦ absurd (no-stop ran.stop ran.all stop) | inr cause ↦ by-why cause cause.why ]
+    elim (cause-of ran.stop 7 ran.family (sym ran.code)) [
+      | inl stop ↦ absurd (no-stop ran.stop ran.all stop)
+      | inr cause ↦ by-why cause cause.why
+    ]
   where
     no-stop : (stop : ℕ) → AreAllStarted peers (length ran.family) stop → stop ≡ 7 → ⊥
     no-stop stop (inl all) e = omega (arith, e, all.0)
@@ -76,7 +80,8 @@ failed_output names peers out_old out_new old new ran =
     by-why : (cause : Cause 7 ran.family) → Why 7 cause.child → Rose out_old.faults out_new.faults
     by-why cause (by_wait e) = absurd (wait-seven cause.child.ended e)
     by-why cause (by_line e) = ran.shows.rose
-        (any-there (λ child. is_refused child.shown) ran.family cause.front cause.back cause.child cause.is (line-seven cause.child.shown e))
+        (any-there (λ child. is_refused child.shown) ran.family cause.front cause.back cause.child cause.is
+        (line-seven cause.child.shown e))
     by-why cause (by_end e) = absurd (end-seven cause.child.shown cause.child.ended e)
 
 pub faultless : FaultlessSessions

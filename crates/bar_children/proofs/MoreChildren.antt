@@ -95,7 +95,8 @@ whole-then old mid new first later rest h k =
     k ∙ (ap (λ b. b ++ (later ++ rest)) (h ∙ ap (λ b. old ++ b) (append-nil first)) ∙ simp append_assoc)
 
 -- lines that may be broken, and then none
-broken-then : (old mid new first part : List ℕ) → mid ≡ old ++ (first ++ part) → new ≡ mid ++ ([] ++ []) → new ≡ old ++ ((first ++ []) ++ part)
+broken-then : (old mid new first part : List ℕ) → mid ≡ old ++ (first ++ part) → new ≡ mid ++ ([] ++ []) →
+    new ≡ old ++ ((first ++ []) ++ part)
 broken-then old mid new first part h k = k ∙ (append-nil mid ∙ (h ∙ ap (λ b. old ++ (b ++ part)) (sym (append-nil first))))
 
 module _ (xs ys : List Child) (old mid new : Stream) (first : ShowsLines xs old mid) (second : ShowsLines ys mid new) where

@@ -50,7 +50,8 @@ not-started (Waited other status ∷ calls) child h =
     let parts = or_parts (other == child) (is_named child calls) h in not-started calls child parts.1
 
 -- a child that was started is another than one that isn't named
-is-other : (calls : List ChildCall) (child other : ℕ) → is_started child calls ≡ true → is_named other calls ≡ false → (other == child) ≡ false
+is-other : (calls : List ChildCall) (child other : ℕ) → is_started child calls ≡ true → is_named other calls ≡ false →
+    (other == child) ≡ false
 is-other calls child other started unnamed = by-same (other == child) refl
   where
     by-same : (same : Bool) → (other == child) ≡ same → same ≡ false

@@ -135,7 +135,8 @@ code_of_end _ _ = 0
 
 -- the status with a child more: its wait, its line, and its end
 abbrev pub with_child : ℕ → Child → ℕ
-with_child so_far child = joined (joined (joined so_far (code_of_wait child.ended)) (code_of_shown child.shown)) (code_of_end child.shown child.ended)
+with_child so_far child =
+    joined (joined (joined so_far (code_of_wait child.ended)) (code_of_shown child.shown)) (code_of_end child.shown child.ended)
 
 abbrev pub with_children : ℕ → List Child → ℕ
 with_children so_far [] = so_far

@@ -30,7 +30,8 @@ pub record HasFailed (family : List Child) (out_old out_new : Stream) : Type 0 w
       (front back : List ℕ) × (out_new.bytes ≡ out_old.bytes ++ (front ++ (status_line child.party status ++ back)))
 
 -- these children are all the parties, each was started and waited for and ended with 0, and this was printed of each
-pub record AllEndedWell (names : SessionNames) (peers : ℕ) (family : List Child) (out_old out_new : Stream) (old new : Children) : Type 0 where
+pub record AllEndedWell (names : SessionNames) (peers : ℕ) (family : List Child) (out_old out_new : Stream) (old new : Children) :
+    Type 0 where
   pub parties : map (λ child. child.party) family ≡ all_parties peers
   pub calls : IsTrue old.told → new.calls ≡ old.calls ++ calls_of names family
   pub ended : All HasEndedWell family

@@ -84,8 +84,8 @@ fn wait_for_all<K: Sink, S: Spawner>(
     }
 }
 
-/// Starts a child for each peer and then one for the broadcaster, waits for all that were started in this order, and prints the status of each
-/// after its wait. After a refused start no other child is started, and after a refused line no other is printed.
+/// Starts a child for each peer and then one for the broadcaster, waits for all that were started in this order, and prints the status of
+/// each after its wait. After a refused start no other child is started, and after a refused line no other is printed.
 pub fn run_children<K: Sink, S: Spawner>(
     alloc: Global,
     names: &SessionNames<'_>,

@@ -11,7 +11,8 @@ use crate::outcome::{Outcome, outcome_of};
 use bar_outside::{Sink, SinkFault, Spawner};
 use std::alloc::{AllocError, Global};
 
-/// What is told of the children so far: how the session ends, and whether lines are still printed, which they are up to the first refused one.
+/// What is told of the children so far: how the session ends, and whether lines are still printed, which they are up to the first refused
+/// one.
 #[derive(Clone, Copy, Debug)]
 pub struct Report {
     pub outcome: Outcome,
