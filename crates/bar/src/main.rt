@@ -62,5 +62,7 @@ fn main(rt: HostRuntime) -> ExitCode {
     let mut err = RealSink::new(Standard::Err(rt.stderr()));
     let words = words_of(&rt);
     let alloc = rt.alloc();
-    ExitCode::from(run_words(alloc, words, &mut files, &mut link, &mut out, &mut err, &mut spawn))
+    ExitCode::from(run_words(
+        alloc, words, &mut files, &mut link, &mut out, &mut err, &mut spawn,
+    ))
 }

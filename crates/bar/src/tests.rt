@@ -39,7 +39,15 @@ fn the_status_of_the_command_is_answered(rt: HostRuntime) -> Result<(), Fail> {
             words.push(String::from_str(alloc, word)?)?;
         }
         let (mut files, mut link, mut out, mut err, mut spawn) = nothing(alloc);
-        let answered = run_words(alloc, Ok(words), &mut files, &mut link, &mut out, &mut err, &mut spawn);
+        let answered = run_words(
+            alloc,
+            Ok(words),
+            &mut files,
+            &mut link,
+            &mut out,
+            &mut err,
+            &mut spawn,
+        );
         assert_eq!(rt; answered, status, "{line}");
         assert_eq!(rt; out.bytes(), b"".as_slice());
         assert_eq!(rt; err.bytes(), said.as_bytes());
@@ -57,7 +65,9 @@ fn words_that_cannot_be_read(rt: HostRuntime) {
     for (kind, status, said) in kinds {
         let (mut files, mut link, mut out, mut err, mut spawn) = nothing(alloc);
         let words = Err(io::Error::from(kind));
-        let answered = run_words(alloc, words, &mut files, &mut link, &mut out, &mut err, &mut spawn);
+        let answered = run_words(
+            alloc, words, &mut files, &mut link, &mut out, &mut err, &mut spawn,
+        );
         assert_eq!(rt; answered, status, "{said}");
         assert_eq!(rt; out.bytes(), b"".as_slice());
         assert_eq!(rt; err.bytes(), said.as_bytes());

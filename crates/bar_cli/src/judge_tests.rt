@@ -67,7 +67,9 @@ fn run(
         words.push(String::from_str(alloc, word)?)?;
     }
     let mut link = MemLink::make(alloc, Vec::new(alloc), Vec::new(alloc));
-    let status = bar_run(alloc, &words, &mut files, &mut link, &mut out, &mut err, &mut spawn);
+    let status = bar_run(
+        alloc, &words, &mut files, &mut link, &mut out, &mut err, &mut spawn,
+    );
     Ok(Left { status, out, err })
 }
 

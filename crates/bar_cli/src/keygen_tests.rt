@@ -37,7 +37,9 @@ fn run(
     let mut err = MemSink::make(alloc, Vec::new(alloc));
     let all = words(alloc, line)?;
     let mut link = MemLink::make(alloc, Vec::new(alloc), Vec::new(alloc));
-    let status = bar_run(alloc, &all, &mut files, &mut link, &mut out, &mut err, &mut spawn);
+    let status = bar_run(
+        alloc, &all, &mut files, &mut link, &mut out, &mut err, &mut spawn,
+    );
     Ok(Left {
         status,
         files,

@@ -45,7 +45,9 @@ fn run(
     let mut err = MemSink::make(alloc, Vec::new(alloc));
     let mut spawn = MemSpawner::make(alloc, statuses.to_vec(alloc)?, fail_spawn.to_vec(alloc)?);
     let all = words(alloc, &LINE)?;
-    let status = bar_run(alloc, &all, &mut files, &mut link, &mut out, &mut err, &mut spawn);
+    let status = bar_run(
+        alloc, &all, &mut files, &mut link, &mut out, &mut err, &mut spawn,
+    );
     Ok(Left {
         status,
         calls: spawn.calls().len(),
@@ -59,11 +61,51 @@ fn children_and_their_statuses(rt: HostRuntime) -> Result<(), Fail> {
     let alloc = rt.alloc();
     // statuses, failing calls of the spawner and of out; status, calls of the spawner, and what is printed
     let rows: [(&[i32], &[u64], &[u64], u8, usize, &str, &str); 5] = [
-        (&[0, 0, 6], &[], &[], 9, 6, "party 1 status 0\nparty 2 status 0\nparty 0 status 6\n", "bar: child failed\n"),
-        (&[0, 0, 0], &[], &[], 0, 6, "party 1 status 0\nparty 2 status 0\nparty 0 status 0\n", ""),
-        (&[0, 0, 0], &[2], &[], 9, 2, "party 1 status 0\n", "bar: child failed\n"),
-        (&[0, 0, 0], &[5], &[], 9, 6, "party 1 status 0\nparty 0 status 0\n", "bar: child failed\n"),
-        (&[0, 4, 0], &[], &[1], 7, 6, "party 1 ", "bar: output failed\n"),
+        (
+            &[0, 0, 6],
+            &[],
+            &[],
+            9,
+            6,
+            "party 1 status 0\nparty 2 status 0\nparty 0 status 6\n",
+            "bar: child failed\n",
+        ),
+        (
+            &[0, 0, 0],
+            &[],
+            &[],
+            0,
+            6,
+            "party 1 status 0\nparty 2 status 0\nparty 0 status 0\n",
+            "",
+        ),
+        (
+            &[0, 0, 0],
+            &[2],
+            &[],
+            9,
+            2,
+            "party 1 status 0\n",
+            "bar: child failed\n",
+        ),
+        (
+            &[0, 0, 0],
+            &[5],
+            &[],
+            9,
+            6,
+            "party 1 status 0\nparty 0 status 0\n",
+            "bar: child failed\n",
+        ),
+        (
+            &[0, 4, 0],
+            &[],
+            &[1],
+            7,
+            6,
+            "party 1 ",
+            "bar: output failed\n",
+        ),
     ];
     for (statuses, fail_spawn, fail_out, status, calls, out, err) in rows {
         let left = run(alloc, SESSION, statuses, fail_spawn, fail_out)?;
@@ -73,6 +115,9 @@ fn children_and_their_statuses(rt: HostRuntime) -> Result<(), Fail> {
     }
     let left = run(alloc, "", &[], &[], &[])?;
     assert_eq!(rt; (left.status, left.calls), (4, 0));
-    assert_eq!(rt; left.err.bytes(), b"bar: session refused: Missing version\n".as_slice());
+    assert_eq!(rt;
+        left.err.bytes(),
+        b"bar: session refused: Missing version\n".as_slice()
+    );
     Ok(())
 }

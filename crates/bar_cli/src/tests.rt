@@ -315,7 +315,9 @@ fn run_line(
     let mut spawn = MemSpawner::make(alloc, Vec::new(alloc), Vec::new(alloc));
     let mut err = MemSink::make(alloc, fail_err.to_vec(alloc)?);
     let all = words(alloc, line)?;
-    let status = bar_run(alloc, &all, &mut files, &mut link, &mut out, &mut err, &mut spawn);
+    let status = bar_run(
+        alloc, &all, &mut files, &mut link, &mut out, &mut err, &mut spawn,
+    );
     Ok(Left {
         status,
         files,

@@ -29,9 +29,9 @@ returns-in-Ok-clause-ends g c = λ w.
       ended = inr (record {
         session = c.in-Ok.session;
         read = EndsWith-reading _ _ (g.F.Files.disk c.args.files.now) (g.F.Files.disk c.read_file.new.files)
-          (with_out w (g.K.Sink.stream c.args.out.now))
-          _ c.in_ok-text.text _ _ c.in_ok-text.ensures
-          (EndsWith-accepted _ _ _ _ _ _ _ _ accepted (EndsWith-ending 0 [] _ refl));
+            (with_out w (g.K.Sink.stream c.args.out.now))
+            _ c.in_ok-text.text _ _ c.in_ok-text.ensures
+            (EndsWith-accepted _ _ _ _ _ _ _ _ accepted (EndsWith-ending 0 [] _ refl));
         accepted = λ told. record { text = c.in_ok-text.text.items; read = c.in_ok-text.ensures.found told; is = accepted };
         ran = rw (code, ← c.shape-peers.ensures.value) c.run_children.ensures;
         late = rw code (outcome-late c.run_children.result);
@@ -85,7 +85,7 @@ returns-in-Err-NoMemory-clause-ends g c = λ w. record {
   files = λ told. c.in_ok-text.ensures.same;
   ended = inl (record {
     ends = EndsWith-reading _ _ (g.F.Files.disk c.args.files.now) (g.F.Files.disk c.read_file.new.files)
-      (with_out w (g.K.Sink.stream c.args.out.now)) _ c.in_ok-text.text _ _ c.in_ok-text.ensures (EndsWith-memory _ _);
+        (with_out w (g.K.Sink.stream c.args.out.now)) _ c.in_ok-text.text _ _ c.in_ok-text.ensures (EndsWith-memory _ _);
     early = inr (inr refl);
     out = refl;
     children = refl;
@@ -109,9 +109,9 @@ returns g c =
         files = λ told. c.in_ok-text.ensures.same;
         ended = inl (record {
           ends = EndsWith-reading _ _ (g.F.Files.disk c.args.files.now) (g.F.Files.disk c.read_file.new.files)
-            (with_out w (g.K.Sink.stream c.args.out.now))
-            _ c.in_ok-text.text _ _ c.in_ok-text.ensures
-            (EndsWith-refused _ c.in-Err.fault _ _ _ _ _ _ refused (EndsWith-ending 4 (session_refused c.in-Err.fault) _ refl));
+              (with_out w (g.K.Sink.stream c.args.out.now))
+              _ c.in_ok-text.text _ _ c.in_ok-text.ensures
+              (EndsWith-refused _ c.in-Err.fault _ _ _ _ _ _ refused (EndsWith-ending 4 (session_refused c.in-Err.fault) _ refl));
           early = inr (inl refl);
           out = refl;
           children = refl;
