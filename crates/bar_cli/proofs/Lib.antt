@@ -15,3 +15,4 @@ pub mod WrittenOut
 pub mod RunLemmas
 pub mod WordLemmas
 pub mod SessionLemmas
+pub mod SimulateLemmas

@@ -14,7 +14,7 @@ use Rattle.bar_live.specs.PeerPlan.{PeerNames, peer_key_plan, peer_plan, peer_ru
 use Rattle.bar_live.specs.Refusals.{key_refused, session_refused, stream_refused}
 use Rattle.bar_live.specs.Running.{RunEnds, RunEndsWith}
 use Rattle.bar_live.proofs.RunFollowing.{heard-nothing}
-use Rattle.bar_cli.specs.Line.{Line, peer, broadcaster, replay, keygen, judge, session_run, plan_of, usage}
+use Rattle.bar_cli.specs.Line.{Line, peer, broadcaster, replay, keygen, judge, session_run, simulate, plan_of, usage}
 
 -- ---- which plan it was
 
@@ -127,6 +127,7 @@ plan-line (Some (replay names)) given content = refl
 plan-line (Some (keygen asked)) given content = refl
 plan-line (Some (judge names)) given content = refl
 plan-line (Some (session_run names)) given content = refl
+plan-line (Some (simulate seed)) given content = refl
 
 line-same : (p q : Plan) (status : ℕ) → p.line ≡ q.line → line_at p status ≡ line_at q status
 line-same p q status e = ap (λ line. line_at (record { actions = []; status = 0; line = line }) status) e

@@ -17,7 +17,7 @@ use Rattle.bar_live.specs.Views.{code_of_run as live_code_of_run}
 use Rattle.bar_live.specs.declared.ended.Ended.{Ended}
 use Rattle.bar_live.specs.declared.ended.Ended.TheVariants as live
 use Rattle.bar_cli.specs.JudgePlan.{JudgeFiles}
-use Rattle.bar_cli.specs.Line.{Line, peer, broadcaster, replay, keygen, judge, session_run, is_status_of, may_print, usage}
+use Rattle.bar_cli.specs.Line.{Line, peer, broadcaster, replay, keygen, judge, session_run, simulate, is_status_of, may_print, usage}
 use Rattle.bar_cli.specs.Printing.{keygen_may_print, judge_may_print, replay_may_print}
 use Rattle.bar_cli.specs.Status.{code_of, said_at, code_of_run, is_replay_end, is_keygen_end, is_judge_end}
 use Rattle.bar_cli.specs.declared.status.Status.{Status}
@@ -154,6 +154,20 @@ judge-statuses names (Err Link) h other = absurd (other refl)
 judge-statuses names (Err Output) h other = refl
 judge-statuses names (Err WantOfMemory) h other = refl
 
+-- those of `simulate`
+pub simulate-statuses : (seed : ℕ) (ended : Result Status Fault) → IfOk ended (λ status. status ≡ Done) → (ended ≡ Err File → ⊥) →
+    (ended ≡ Err Link → ⊥) → IsTrue (is_status_of (Some (simulate seed)) (code_of_run ended))
+simulate-statuses seed (Ok status) h file link = rw h refl
+simulate-statuses seed (Err File) h file link = absurd (file refl)
+simulate-statuses seed (Err Link) h file link = absurd (link refl)
+simulate-statuses seed (Err Output) h file link = refl
+simulate-statuses seed (Err WantOfMemory) h file link = refl
+
+-- what holds of any outside doesn't end by its files
+pub never-filed : (plan : Content → Plan) (old new : Outside) (ended : Result Status Fault) (line : List ℕ) → old.files.faults ≡ 0 →
+    new.files.faults ≡ 0 → EndsWith plan old new (code_of_run ended) line → ended ≡ Err File → ⊥
+never-filed plan old new ended line before after ends e = let h = ends.ends.file_rose (ap code_of_run e) in absurd (omega arith)
+
 -- those of `peer`, which has no stream
 pub peer-statuses : (names : PeerNames) (ended : Result Ended Fault) → live_code_of_run ended ≢ 8 →
     IsTrue (is_status_of (Some (peer names)) (live_code_of_run ended))
@@ -187,6 +201,7 @@ memory-status (Some (replay names)) = refl
 memory-status (Some (keygen asked)) = refl
 memory-status (Some (judge names)) = refl
 memory-status (Some (session_run names)) = refl
+memory-status (Some (simulate seed)) = refl
 
 -- and in place of any status
 pub or-memory : (line : Option Line) (status result : ℕ) → IsTrue (is_status_of line status) → (result ≡ status) ⊎ (result ≡ 70) →
@@ -213,6 +228,7 @@ no-usage line status h e = at-two line (subst (λ n. IsTrue (is_status_of (Some 
     at-two (keygen asked) h = cc
     at-two (judge names) h = cc
     at-two (session_run names) h = cc
+    at-two (simulate seed) h = cc
 
 -- this status has one line
 pub said-at_two : (status : Status) → code_of status ≡ 2 → said_at status ≡ usage
@@ -247,3 +263,4 @@ unprinted-by (Some line) status result P h (inr e) none =
     prints-at_memory (keygen asked) = refl
     prints-at_memory (judge names) = refl
     prints-at_memory (session_run names) = refl
+    prints-at_memory (simulate seed) = refl

@@ -16,7 +16,8 @@ use Rattle.bar_cli.specs.ReplayPlan.{ReplayFiles, replay_plan}
 use Rattle.bar_cli.specs.KeygenPlan.{Keygen, keygen_plan}
 use Rattle.bar_cli.specs.JudgePlan.{JudgeFiles, judge_plan}
 use Rattle.bar_cli.specs.SessionPlan.{session_plan}
-use Rattle.bar_cli.specs.Printing.{judge_may_print, keygen_may_print, live_may_print, replay_may_print, session_may_print}
+use Rattle.bar_cli.specs.SimulatePlan.{simulate_plan}
+use Rattle.bar_cli.specs.Printing.{judge_may_print, keygen_may_print, live_may_print, replay_may_print, session_may_print, simulate_may_print}
 
 -- one constructor for each command
 pub data Line : Type 0 where
@@ -26,6 +27,7 @@ pub data Line : Type 0 where
   keygen : (asked : Keygen) → Line
   judge : (names : JudgeFiles) → Line
   session_run : (names : SessionNames) → Line
+  simulate : (seed : ℕ) → Line
 
 infixl 10 ◌>>=◌
 abbrev ◌>>=◌ : {A B : Type 0} → Option A → (A → Option B) → Option B
@@ -111,6 +113,18 @@ session_values _ = None
 abbrev pub session_line : List (List ℕ) → Option Line
 session_line words = option_and_then session_values (values_of session_options words)
 
+abbrev pub simulate_options : List (List ℕ)
+simulate_options = codes "seed" ∷ []
+
+abbrev pub simulate_values : List (List ℕ) → Option Line
+simulate_values (seed_word ∷ []) = do
+  seed ← number_in 0 (2 ^ 64 - 1) seed_word
+  Some (simulate seed)
+simulate_values _ = None
+
+abbrev pub simulate_line : List (List ℕ) → Option Line
+simulate_line words = option_and_then simulate_values (values_of simulate_options words)
+
 -- the line that the words are, if they are one; the first word names the command
 abbrev pub line_of : List (List ℕ) → Option Line
 line_of [] = None
@@ -121,6 +135,7 @@ line_of (name ∷ options) =
     else if bytes_eq name (codes "keygen") then keygen_line options
     else if bytes_eq name (codes "judge") then judge_line options
     else if bytes_eq name (codes "session") then session_line options
+    else if bytes_eq name (codes "simulate") then simulate_line options
     else None
 
 abbrev pub usage : List ℕ
@@ -135,6 +150,7 @@ plan_of (Some (replay names)) given = replay_plan names
 plan_of (Some (keygen asked)) given = keygen_plan asked
 plan_of (Some (judge names)) given = judge_plan names
 plan_of (Some (session_run names)) given = session_plan names
+plan_of (Some (simulate seed)) given = simulate_plan seed
 
 -- the commands whose plan is all that they do; a session goes on by what its children do
 abbrev pub has_plan : Option Line → Bool
@@ -145,6 +161,7 @@ has_plan (Some (replay names)) = true
 has_plan (Some (keygen asked)) = true
 has_plan (Some (judge names)) = true
 has_plan (Some (session_run names)) = false
+has_plan (Some (simulate seed)) = true
 
 -- the statuses that come at words
 abbrev pub is_status_of : Option Line → ℕ → Bool
@@ -160,6 +177,7 @@ is_status_of (Some (judge names)) status =
     status == 0 || status == 1 || status == 3 || status == 4 || status == 7 || status == 8 || status == 70
 is_status_of (Some (session_run names)) status =
     status == 0 || status == 3 || status == 4 || status == 7 || status == 9 || status == 70
+is_status_of (Some (simulate seed)) status = status == 0 || status == 7 || status == 70
 
 -- the statuses at which a command may have printed something on standard output
 abbrev pub may_print : Option Line → ℕ → Bool
@@ -170,6 +188,7 @@ may_print (Some (replay names)) status = replay_may_print status
 may_print (Some (keygen asked)) status = keygen_may_print status
 may_print (Some (judge names)) status = judge_may_print status
 may_print (Some (session_run names)) status = session_may_print status
+may_print (Some (simulate seed)) status = simulate_may_print status
 
 -- the commands that use the link
 abbrev pub uses_link : Option Line → Bool
@@ -180,6 +199,7 @@ uses_link (Some (replay names)) = false
 uses_link (Some (keygen asked)) = false
 uses_link (Some (judge names)) = false
 uses_link (Some (session_run names)) = false
+uses_link (Some (simulate seed)) = false
 
 -- the command that starts children
 abbrev pub starts_children : Option Line → Bool
@@ -190,3 +210,4 @@ starts_children (Some (replay names)) = false
 starts_children (Some (keygen asked)) = false
 starts_children (Some (judge names)) = false
 starts_children (Some (session_run names)) = true
+starts_children (Some (simulate seed)) = false

@@ -17,6 +17,10 @@ keygen_may_print status = status == 0 || status == 7 || status == 70
 abbrev pub session_may_print : ℕ → Bool
 session_may_print status = status == 0 || status == 7 || status == 9 || status == 70
 
+-- `simulate` prints how the simulation ended
+abbrev pub simulate_may_print : ℕ → Bool
+simulate_may_print status = status == 0 || status == 7 || status == 70
+
 -- `judge` prints its verdict
 abbrev pub judge_may_print : ℕ → Bool
 judge_may_print status = status == 0 || status == 1 || status == 7 || status == 70

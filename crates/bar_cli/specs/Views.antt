@@ -1,4 +1,5 @@
 -- What a command in the code stands for.
+use Rattle.std.specs.Prelude.{ℕ}
 use Rattle.bar_children.specs.Views as children
 use Rattle.bar_children.specs.declared.session_names.SessionNames.{SessionNames}
 use Rattle.bar_live.specs.Views as live
@@ -8,11 +9,11 @@ use Rattle.bar_cli.specs.declared.replay_names.ReplayNames.{ReplayNames}
 use Rattle.bar_cli.specs.declared.keygen_words.KeygenWords.{KeygenWords}
 use Rattle.bar_cli.specs.declared.judge_names.JudgeNames.{JudgeNames}
 use Rattle.bar_cli.specs.declared.line.Command.{Command}
-use Rattle.bar_cli.specs.declared.line.Command.TheVariants.{Peer, Broadcaster, Replay, Keygen, Judge, Session}
+use Rattle.bar_cli.specs.declared.line.Command.TheVariants.{Peer, Broadcaster, Replay, Keygen, Judge, Session, Simulate}
 use Rattle.bar_cli.specs.ReplayPlan.{ReplayFiles}
 use Rattle.bar_cli.specs.KeygenPlan as plan
 use Rattle.bar_cli.specs.JudgePlan.{JudgeFiles}
-use Rattle.bar_cli.specs.Line.{Line, peer, broadcaster, replay, keygen, judge, session_run}
+use Rattle.bar_cli.specs.Line.{Line, peer, broadcaster, replay, keygen, judge, session_run, simulate}
 
 abbrev pub names_view : ReplayNames → ReplayFiles
 names_view names =
@@ -56,6 +57,9 @@ judged_view names = judge (judge_view names)
 abbrev pub session_view : SessionNames → Line
 session_view names = session_run (children.names_view names)
 
+abbrev pub seed_view : ℕ → Line
+seed_view seed = simulate seed
+
 abbrev pub command_view : Command → Line
 command_view (Peer names) = peer_view names
 command_view (Broadcaster names) = broadcaster_view names
@@ -63,3 +67,4 @@ command_view (Replay names) = replay_view names
 command_view (Keygen asked) = asked_view asked
 command_view (Judge names) = judged_view names
 command_view (Session names) = session_view names
+command_view (Simulate seed) = seed_view seed

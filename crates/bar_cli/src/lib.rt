@@ -21,6 +21,7 @@ mod run;
 mod session;
 #[cfg(test)]
 mod session_tests;
+mod simulating;
 mod status;
 #[cfg(test)]
 mod tests;

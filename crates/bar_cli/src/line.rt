@@ -3,8 +3,8 @@ ghost use Rattle.std.specs.Prelude.{◌≡◌, Some, None, Err, IfOk, map, strin
 ghost use Rattle.std.specs.Option.{option_map};
 ghost use Rattle.bar_words.specs.Options.{texts};
 ghost use Rattle.bar_words.specs.declared.options.WordsFault.TheVariants.{Usage};
-ghost use Rattle.bar_cli.specs.Line.{broadcaster_line, broadcaster_values, judge_files, judge_line, keygen_line, keygen_values, line_of, peer_line, peer_values, replay_files, replay_line, session_line, session_values};
-ghost use Rattle.bar_cli.specs.Views.{asked_view, broadcaster_view, command_view, judged_view, peer_view, replay_view, session_view};
+ghost use Rattle.bar_cli.specs.Line.{broadcaster_line, broadcaster_values, judge_files, judge_line, keygen_line, keygen_values, line_of, peer_line, peer_values, replay_files, replay_line, session_line, session_values, simulate_line, simulate_values};
+ghost use Rattle.bar_cli.specs.Views.{asked_view, broadcaster_view, command_view, judged_view, peer_view, replay_view, seed_view, session_view};
 
 use crate::judge_names::JudgeNames;
 use crate::keygen_words::KeygenWords;
@@ -25,6 +25,8 @@ pub enum Command<'a> {
     Keygen(KeygenWords<'a>),
     Judge(JudgeNames<'a>),
     Session(SessionNames<'a>),
+    /// The simulation of a seed.
+    Simulate(u64),
 }
 
 const PEER_OPTIONS: [&str; 6] = ["session", "key", "begin", "played", "recording", "found"];
@@ -36,6 +38,8 @@ const REPLAY_OPTIONS: [&str; 5] = ["session", "key", "recording", "played", "fou
 const KEYGEN_OPTIONS: [&str; 7] = ["party", "id", "rounds", "lms", "ots", "secret", "key"];
 
 const JUDGE_OPTIONS: [&str; 3] = ["session", "table", "evidence"];
+
+const SIMULATE_OPTIONS: [&str; 1] = ["seed"];
 
 const SESSION_OPTIONS: [&str; 6] = ["session", "keys", "stream", "begin", "results", "program"];
 
@@ -58,6 +62,7 @@ pub fn command_of(alloc: Global, words: &[String]) -> Result<Command<'_>, WordsF
         "keygen" => Ok(Command::Keygen(keygen_words(alloc, options)?)),
         "judge" => Ok(Command::Judge(judge_words(alloc, options)?)),
         "session" => Ok(Command::Session(session_words(alloc, options)?)),
+        "simulate" => Ok(Command::Simulate(simulate_words(alloc, options)?)),
         _ => Err(WordsFault::Usage),
     }
 }
@@ -210,4 +215,22 @@ fn session_words(alloc: Global, words: &[String]) -> Result<SessionNames<'_>, Wo
 {
     let values = option_values(alloc, &SESSION_OPTIONS, words)?;
     session_of(&values).ok_or(WordsFault::Usage)
+}
+
+/// The seed of a simulation, from the value of its option.
+fn seed_of(values: &[&str]) -> Option<u64>
+    ensures { option_map seed_view result ≡ simulate_values (texts values.now) }
+{
+    let [seed] = *values else {
+        return None;
+    };
+    number_in(seed, 0, u64::MAX)
+}
+
+fn simulate_words(alloc: Global, words: &[String]) -> Result<u64, WordsFault>
+    ensures line { IfOk result (λ seed. simulate_line (map string_bytes words.now) ≡ Some (seed_view seed)) }
+    ensures usage { result ≡ Err Usage → simulate_line (map string_bytes words.now) ≡ None }
+{
+    let values = option_values(alloc, &SIMULATE_OPTIONS, words)?;
+    seed_of(&values).ok_or(WordsFault::Usage)
 }

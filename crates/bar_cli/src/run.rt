@@ -1,5 +1,5 @@
 //! The top call.
-ghost use Rattle.std.specs.Prelude.{◌≡◌, ◌⊎◌, ◌↔◌, ◌||◌, ℕ, List, [], None, Some, true, false, map, string_bytes, IsTrue};
+ghost use Rattle.std.specs.Prelude.{◌≡◌, ◌≤◌, ◌⊎◌, ◌↔◌, ◌||◌, ℕ, Contains, List, [], None, Some, true, false, map, string_bytes, IsTrue};
 ghost use Rattle.bar_outside.specs.Plan.{outside};
 ghost use Rattle.bar_outside.specs.Ends.{SameFiles, SameTraffic, Says, SaysBy, is_plain};
 ghost use Rattle.bar_children.specs.Names.{SessionNames};
@@ -18,6 +18,9 @@ ghost use Rattle.bar_cli.specs.Views.{command_view};
 ghost use Rattle.bar_cli.specs.ReplayPlan.{ReplayFiles, Replayed};
 ghost use Rattle.bar_cli.specs.KeygenPlan.{HasFewLeaves, Keygen, KeyMade};
 ghost use Rattle.bar_cli.specs.JudgePlan.{HasJudged, JudgeFiles};
+ghost use Rattle.bar_outside.specs.Stages.{HasShown};
+ghost use Rattle.bar_world.specs.Ends.{sim_end};
+ghost use Rattle.bar_cli.specs.SimulatePlan.{simulation_text};
 ghost use Rattle.bar_cli.specs.SessionPlan.{SessionEnds, SessionRuns, is_plain_end, session_line};
 
 use crate::judge::judge;
@@ -25,6 +28,7 @@ use crate::keygen::keygen;
 use crate::line::{Command, command_of};
 use crate::replay::replay;
 use crate::session::session;
+use crate::simulating::simulate_seed;
 use crate::status::{Status, report, status_of, status_of_live};
 use bar_laws::balance::balanced;
 use bar_laws::evidence::{bad_keys_leave_evidence, kept_evidence_is_shown};
@@ -39,6 +43,7 @@ use bar_live::{
 use bar_outside::{Files, Link, Sink, Spawner, plans_go_in_order};
 use bar_roster::laws::{accepted_secrets_are_held, accepted_sessions_are_in_range};
 use bar_words::WordsFault;
+use bar_world::laws::honest_peers_stay;
 use std::alloc::Global;
 
 /// Does what the words say, the first of which names the command, and answers the exit status.
@@ -77,6 +82,15 @@ pub fn bar_run<F: Files, L: Link, K: Sink, S: Spawner>(
     ensures session_said { (names : SessionNames) → line_of (map string_bytes words.now) ≡ Some (line.session_run names) →
         IsTrue ((F.disk files.old).told || is_plain_end result) →
         SaysBy (session_line names (F.disk files.old).content) result (K.stream err.old) (K.stream err.new) }
+
+    // a simulation that ends with 0 has printed how the simulation of its seed ends, and nothing else was done
+    ensures simulated { (seed : ℕ) → line_of (map string_bytes words.now) ≡ Some (line.simulate seed) → result ≡ 0 →
+        IsTrue (F.disk files.old).told → HasShown (simulation_text seed) 0
+        (outside (F.disk files.old) (K.stream out.old) (L.wire link.old))
+        (outside (F.disk files.new) (K.stream out.new) (L.wire link.new)) result }
+
+    // in which, whatever the seed, none of the peers that keep the rules is evicted
+    ensures spared { (seed peer : ℕ) → 1 ≤ peer → peer ≤ 4 → Contains (sim_end seed).evicted peer → ⊥ }
 
     // only `session` starts children
     ensures childless { starts_children (line_of (map string_bytes words.now)) ≡ false → S.children spawn.new ≡ S.children spawn.old }
@@ -209,6 +223,7 @@ pub fn bar_run<F: Files, L: Link, K: Sink, S: Spawner>(
     accepted_sessions_are_in_range();
     bad_keys_leave_evidence();
     balanced();
+    honest_peers_stay();
     kept_evidence_is_shown();
     leaf_discipline();
     no_framing();
@@ -285,5 +300,6 @@ fn run_command<F: Files, L: Link, K: Sink, S: Spawner>(
         Command::Keygen(asked) => status_of(keygen(alloc, asked, files, out)),
         Command::Judge(names) => status_of(judge(alloc, names, files, out)),
         Command::Session(names) => status_of(session(alloc, names, files, out, spawn)),
+        Command::Simulate(seed) => status_of(simulate_seed(alloc, *seed, out)),
     }
 }

@@ -12,8 +12,9 @@ use Rattle.bar_laws.specs.Obedience.{IsRuled}
 use Rattle.bar_cli.specs.Headline.{HasProof, KeepsTheRules}
 use Rattle.bar_cli.specs.JudgePlan.{judge_plan}
 use Rattle.bar_cli.specs.KeygenPlan.{keygen_plan}
-use Rattle.bar_cli.specs.Line.{Line, peer, broadcaster, replay, keygen, judge, has_plan, is_status_of}
+use Rattle.bar_cli.specs.Line.{Line, peer, broadcaster, replay, keygen, judge, simulate, has_plan, is_status_of}
 use Rattle.bar_cli.specs.ReplayPlan.{replay_plan}
+use Rattle.bar_cli.specs.SimulatePlan.{simulate_plan, simulation_text}
 use Rattle.bar_cli.proofs.JudgeRows.{judged_so, outcome, same_files}
 use Rattle.bar_cli.proofs.KeygenRows as making
 use Rattle.bar_cli.proofs.MemberLemmas.{keeps-rules, of-its_run, of-its_runs, proves-bad_keys}
@@ -81,6 +82,17 @@ returns-clause-session_runs g c = λ names is. record {
 pub returns-clause-session_said : goal.returns-clause-session_said
 returns-clause-session_said g c = λ names is.
     session-said names _ _ _ _ _ _ _ _ _ (c.run_words-status.ensures.session names is) c.report.ensures.said c.report.ensures.code
+
+-- ---- `simulate`
+
+pub returns-clause-simulated : goal.returns-clause-simulated
+returns-clause-simulated g c = λ seed is zero told.
+    let law = c.plans_go_in_order.ensures in
+    let ends = (ends-as _ (simulate seed) _ _ _ _ _ is c.report.ensures.code (c.run_words-status.ensures.ends (ap has_plan is))).ends in
+    law.shows (simulation_text seed) 0 [] _ _ _ told (law.went (simulate_plan seed) _ _ _ ends told)
+
+pub returns-clause-spared : goal.returns-clause-spared
+returns-clause-spared g c = λ seed peer low high is. c.honest_peers_stay.ensures seed peer low high is
 
 -- ---- `peer`
 

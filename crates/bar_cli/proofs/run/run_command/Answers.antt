@@ -1,5 +1,5 @@
-use Rattle.std.proofs.Common.{◌≡◌, ◌↔◌, ◌∙◌, refl, ap, sym, subst, true≢false}
-use Rattle.bar_outside.specs.Plan.{with_wire}
+use Rattle.std.proofs.Common.{◌≡◌, ◌↔◌, ◌∙◌, ℕ, refl, ap, sym, subst, true≢false}
+use Rattle.bar_outside.specs.Plan.{with_files, with_wire}
 use Rattle.bar_live.specs.CasterPlan.{CasterNames}
 use Rattle.bar_live.specs.PeerPlan.{PeerNames}
 use Rattle.bar_live.specs.Views.{peer_view, caster_view}
@@ -7,12 +7,12 @@ use Rattle.bar_children.specs.Names.{SessionNames}
 use Rattle.bar_children.specs.Views.{names_view as family_view}
 use Rattle.bar_cli.specs.KeygenPlan.{Keygen, HasFewLeaves}
 use Rattle.bar_cli.specs.JudgePlan.{JudgeFiles}
-use Rattle.bar_cli.specs.Line.{Line, peer, broadcaster, replay, keygen, judge, session_run}
+use Rattle.bar_cli.specs.Line.{Line, peer, broadcaster, replay, keygen, judge, session_run, simulate}
 use Rattle.bar_cli.specs.ReplayPlan.{ReplayFiles}
 use Rattle.bar_cli.specs.Status.{code_of_run}
 use Rattle.bar_cli.specs.Views.{names_view, keygen_view, judge_view, command_view}
 use Rattle.bar_cli.proofs.RunLemmas.{over-no_link}
-use Rattle.bar_cli.proofs.StatusLemmas.{never-linked, never-six, quiet, peer-statuses, broadcaster-statuses, replay-statuses, keygen-statuses, judge-statuses}
+use Rattle.bar_cli.proofs.StatusLemmas.{never-linked, never-six, quiet, peer-statuses, broadcaster-statuses, replay-statuses, keygen-statuses, judge-statuses, never-filed, simulate-statuses}
 use Rattle.bar_cli.proofs.run.run_command.Goals as goal
 
 -- the other commands are not `keygen`
@@ -48,6 +48,12 @@ keygen-no_session asked family e = cc
 
 judge-no_session : (names : JudgeFiles) (family : SessionNames) → ◌≡◌ {A = Line} (judge names) (session_run family) → ⊥
 judge-no_session names family e = cc
+
+simulate-other : (seed : ℕ) (asked : Keygen) → ◌≡◌ {A = Line} (simulate seed) (keygen asked) → ⊥
+simulate-other seed asked e = cc
+
+simulate-no_session : (seed : ℕ) (family : SessionNames) → ◌≡◌ {A = Line} (simulate seed) (session_run family) → ⊥
+simulate-no_session seed family e = cc
 
 same-session : (a b : SessionNames) → ◌≡◌ {A = Line} (session_run a) (session_run b) → a ≡ b
 same-session a b e = cc
@@ -205,3 +211,29 @@ returns-in-Session-clause-session g c = λ family is.
 
 pub returns-in-Session-clause-childless : goal.returns-in-Session-clause-childless
 returns-in-Session-clause-childless g c = rw c.in-Session.is (λ none. absurd (true≢false none))
+
+-- `simulate`
+
+pub returns-in-Simulate-clause-ends : goal.returns-in-Simulate-clause-ends
+returns-in-Simulate-clause-ends g c =
+    rw (c.in-Simulate.is, c.status_of-in-Simulate.ensures.code, c.status_of-in-Simulate.ensures.line)
+    (λ plan. over-no_link _ _ _ _ _ (g.L.Link.wire c.args.link.now) _ _ (never-six _ _ _ _ _ refl refl (c.simulate_seed.ensures.ends quiet))
+    (c.simulate_seed.ensures.ends (with_files (with_wire quiet (g.L.Link.wire c.args.link.now)) (g.F.Files.disk c.args.files.now))))
+
+pub returns-in-Simulate-clause-statuses : goal.returns-in-Simulate-clause-statuses
+returns-in-Simulate-clause-statuses g c =
+    rw (c.in-Simulate.is, c.status_of-in-Simulate.ensures.code)
+    (simulate-statuses c.in-Simulate.seed.now c.simulate_seed.result c.simulate_seed.ensures.answers
+    (never-filed _ _ _ _ _ refl refl (c.simulate_seed.ensures.ends quiet))
+    (never-linked _ _ _ _ _ refl refl (c.simulate_seed.ensures.ends quiet)))
+
+pub returns-in-Simulate-clause-leaves : goal.returns-in-Simulate-clause-leaves
+returns-in-Simulate-clause-leaves g c =
+    λ asked is. absurd (simulate-other c.in-Simulate.seed.now asked (sym (ap command_view c.in-Simulate.is) ∙ is))
+
+pub returns-in-Simulate-clause-unprinted : goal.returns-in-Simulate-clause-unprinted
+returns-in-Simulate-clause-unprinted g c = rw (c.in-Simulate.is, c.status_of-in-Simulate.ensures.code) c.simulate_seed.ensures.unprinted
+
+pub returns-in-Simulate-clause-session : goal.returns-in-Simulate-clause-session
+returns-in-Simulate-clause-session g c =
+    λ family is. absurd (simulate-no_session c.in-Simulate.seed.now family (sym (ap command_view c.in-Simulate.is) ∙ is))
