@@ -1,5 +1,7 @@
 """What the scripts on sessions share: the folder of a session, the program's words, recordings, replays and their comparison.
 
+They need Python 3.11 and Linux.
+
 A session's folder has these files:
   session.toml      the session's text
   stream            what is broadcast
@@ -25,14 +27,16 @@ import tomllib
 ROOT = pathlib.Path(__file__).resolve().parent.parent
 PROGRAM = ROOT / "crates/bar/out/bar"
 
+# how many bytes of content an update has at most, and how many ticks a round
 CONTENT = 1022
 SLOTS = 8
 
+# the LMS type with the smallest tree, and by how many levels those of the others are higher
+SMALLEST = 5
+LEVELS_ABOVE = {5: 0, 6: 5, 7: 10}
+
 # the kinds of datagrams
 MANIFEST, BLOCK, REQUEST, RESPONSE, DIVULGE, QUERY, REPLY, CASE, KEYREQ, KEY, EVIDENCE, EVICT = range(1, 13)
-
-# a party makes the tree of its key so many times before it waits for the first tick
-KEYS_AT_START = 2
 
 
 # ---- the program, and the folder
@@ -175,18 +179,17 @@ def begin_of(session, program):
     """When a session begins that is started now, in milliseconds of Unix time: after all parties have made their keys.
 
     How long that takes is measured by the same number of keys with the smallest tree, all made at once. A tree that is higher by one
-    level takes twice as long.
+    level takes twice as long. Types that are refused, here as later by the parties, take no time.
     """
     with tempfile.TemporaryDirectory() as room:
         folder = Folder(room)
         started = time.monotonic()
         with concurrent.futures.ThreadPoolExecutor(len(session.parties)) as pool:
-            keys = [pool.submit(make_key, program, p, session.id, 1, 5, session.ots, bytes(32), folder) for p in session.parties]
+            for party in session.parties:
+                pool.submit(make_key, program, party, session.id, 1, SMALLEST, session.ots, bytes(32), folder)
         smallest = time.monotonic() - started
-        for key in keys:
-            key.result()
-    times_longer = 2 ** {5: 0, 6: 5, 7: 10}[session.lms]
-    return round(1000 * (time.time() + 1 + 1.5 * KEYS_AT_START * smallest * times_longer))
+    times_longer = 2 ** LEVELS_ABOVE.get(session.lms, 0)
+    return round(1000 * (time.time() + 1 + 1.5 * smallest * times_longer))
 
 
 # ---- recordings and transcripts
@@ -275,6 +278,13 @@ def own_differences(folder, party, log):
         yield f"party {party}: the replay finds other things: {', '.join(names)}"
 
 
+def between_peers(session, logs):
+    """How many datagrams these peers sent to peers, and how many they took from peers."""
+    sent = [head_of(datagram, session) for log in logs.values() for _, datagram in log.sent]
+    taken = [head_of(datagram, session) for log in logs.values() for _, datagram in log.taken]
+    return sum(head[2] != 0 for head in sent), sum(head is not None and head[1] != 0 for head in taken)
+
+
 def unsent(session, logs):
     """What stands in a peer's recording as sent by another peer more often than in that one's transcript."""
     sent = {party: collections.Counter(datagram for _, datagram in log.sent) for party, log in logs.items()}
@@ -285,8 +295,9 @@ def unsent(session, logs):
             if head and head[1] not in (0, party) and head[1] <= session.peers:
                 taken[head[1]][datagram] += 1
         for sender, datagrams in taken.items():
-            missing = datagrams - sent.get(sender, collections.Counter())
-            yield from (f"party {party}: took a datagram of kind {it[3]} that party {sender} didn't send" for it in missing)
+            missing = sum((datagrams - sent.get(sender, collections.Counter())).values())
+            if missing:
+                yield f"party {party}: took {missing} datagrams that party {sender} didn't send"
 
 
 def replays_of(folder, program, parties):

@@ -11,6 +11,9 @@ from barsession import BLOCK, CASE, CONTENT, EVIDENCE, KEY, QUERY, REPLY, REQUES
 
 # ---- what a peer did in its exchanges
 
+# no datagram that is signed and of an exchange is shorter
+LEAST_PLACED = 24
+
 
 @dataclasses.dataclass
 class Side:
@@ -30,7 +33,7 @@ class Side:
 def place_of(datagram, session, me):
     """The datagram's kind, and its exchange as this peer sees it (round, whether it's a push, whether this peer asks, partner), or None."""
     head = head_of(datagram, session)
-    if not head or head[0] not in (REQUEST, RESPONSE, QUERY, REPLY, CASE, KEY):
+    if not head or head[0] not in (REQUEST, RESPONSE, QUERY, REPLY, CASE, KEY) or len(datagram) < LEAST_PLACED:
         return None
     kind, sender, receiver = head
     push = datagram[20] == 1 if kind in (CASE, KEY) else kind in (QUERY, REPLY)
@@ -163,10 +166,14 @@ def arrow(x, y, up):
     return tag("path", d="M{:.1f} {:.1f}L{:.1f} {:.1f}L{:.1f} {:.1f}Z".format(*points), class_="key")
 
 
+def counted(count, word):
+    return f"{count} {word}{'' if count == 1 else 's'}"
+
+
 def items(counts):
     """So many updates and junk items, in words."""
     updates, junk = counts
-    words = [f"{updates} update{'s' if updates > 1 else ''}" if updates else "", f"{junk} junk" if junk else ""]
+    words = [counted(updates, "update") if updates else "", counted(junk, "junk item") if junk else ""]
     return " and ".join(word for word in words if word)
 
 
@@ -299,7 +306,7 @@ def lane(chart, row, y):
     labels = [text(LABELS - 10, y + at, said, class_) for at, said, class_ in lines]
     totals = [text(WIDTH - 4, y + 40, chart.part(row), "total"), text(WIDTH - 4, y + 56, "played", "label")]
     cells = [part for number, x in chart.columns() for part in cell(chart, row, number, x, y)]
-    return [line(0, y, WIDTH, y), text(10, y + 48, str(row.party), "name"), *labels, *cells, *stopped(chart, row, y), *totals]
+    return [*stopped(chart, row, y), line(0, y, WIDTH, y), text(10, y + 48, str(row.party), "name"), *labels, *cells, *totals]
 
 
 def caster_lane(chart, rows, y):
@@ -323,7 +330,8 @@ def panel(chart, rows):
     for at, row in enumerate(rows):
         parts += lane(chart, row, HEAD + CASTER + LANE * at)
     parts.append(line(0, height - 0.5, WIDTH, height - 0.5))
-    return tag("svg", *parts, viewBox=f"0 0 {WIDTH} {height}", role="img")
+    told = f"what each peer did in rounds {chart.rounds[0]} to {chart.rounds[-1]}"
+    return tag("svg", *parts, viewBox=f"0 0 {WIDTH} {height}", role="img", aria_label=told)
 
 
 # ---- the page
@@ -340,11 +348,13 @@ h1 { font-size: 25px; line-height: 1.25; font-weight: 650; letter-spacing: -.01e
 h2 { font-size: 15px; font-weight: 650; margin: 30px 0 6px }
 p { margin: 0 0 8px }
 .soft { color: var(--soft) }
-.figures { display: flex; flex-wrap: wrap; gap: 8px 44px; margin: 18px 0 20px }
+.figures { display: flex; flex-wrap: wrap; gap: 8px 48px; margin: 18px 0 20px }
+.figures div { max-width: 210px }
 .figures b { display: block; font-size: 23px; font-weight: 620; line-height: 1.2 }
-.figures span { font-size: 13px; color: var(--soft) }
+.figures span { display: block; font-size: 13px; line-height: 1.35; color: var(--soft) }
 .legend { margin: 0 0 14px; padding: 8px 0; border: solid var(--rule); border-width: 1px 0; font-size: 13px }
 .legend div { display: flex; flex-wrap: wrap; gap: 2px 30px }
+.legend div + div { margin-top: 6px }
 .legend span { display: inline-flex; align-items: center; gap: 7px }
 .reading { display: grid; grid-template-columns: repeat(auto-fit, minmax(300px, 1fr)); gap: 0 36px; font-size: 14px }
 figure { margin: 0 0 18px; overflow-x: auto }
@@ -421,9 +431,11 @@ def figures(chart, rows):
     started = [side for side in sides if side.asks]
     done = [side for side in started if side.paid is not None and side.was_paid is not None]
     played, traded = sum(len(row.played) for row in rows), sum(len(row.played - row.straight) for row in rows)
-    parts = [len(row.log.played) / chart.length for row in rows] if chart.length and rows else [0]
+    ended = [row for row in rows if row.log.ticks >= SLOTS * chart.session.ends] or rows
+    parts = [len(row.log.played) / chart.length if chart.length else 0 for row in ended]
+    whose = "on average" if len(ended) == len(rows) else "on average by those that ran to the end"
     told = [
-        (f"{sum(parts) / len(parts):.1%}", f"of the stream was played, on average; at least {min(parts):.1%}"),
+        (f"{sum(parts) / len(parts):.1%}", f"of the stream was played, {whose}; at least {min(parts):.1%}"),
         (f"{traded / max(played, 1):.1%}", "of what was played was had by trades alone"),
         (f"{len(done)} of {len(started)}", "exchanges ended with both keys given"),
         (str(sum(side.paid is not None for side in sides)), "keys were given"),
@@ -460,13 +472,10 @@ def notes(rows):
 
 def subtitle(session):
     """The session's numbers, in words."""
-    told = [f"{session.peers} peers", f"{session.rounds} rounds", f"{session.per_round} updates a round, each to {peers(session.fanout)}"]
+    told = [counted(session.peers, "peer"), counted(session.rounds, "round")]
+    told += [f"{counted(session.per_round, 'update')} a round, each to {counted(session.fanout, 'peer')}"]
     told += [f"an update lives {session.life} rounds", f"an exchange trades at most {session.cap}", f"a tick has {session.tick_ms} ms"]
     return html.escape(" · ".join([*told, f"id {session.id}"]))
-
-
-def peers(count):
-    return f"{count} peer{'s' if count > 1 else ''}"
 
 
 def page(session, logs):
@@ -474,12 +483,12 @@ def page(session, logs):
     digests = digests_of(logs)
     blocks = known_blocks(session, logs, digests)
     rows = [row_of(session, party, log, digests, blocks) for party, log in sorted(logs.items())]
-    length = sum(len(content_of(block)) for block in blocks.values())
+    length = sum(len(content_of(blocks[update])) if update in blocks else CONTENT for update in digests)
     firsts = range(1, session.ends + 1, MOST_COLUMNS)
     charts = [Chart(session, digests, length, range(first, min(first + MOST_COLUMNS, session.ends + 1))) for first in firsts]
     parts = [tag("h1", "A session, as its peers recorded it"), tag("p", subtitle(session), class_="soft")]
     parts += [figures(charts[0], rows), legend(), *(tag("figure", panel(chart, rows)) for chart in charts), *notes(rows)]
-    reading = [tag("p", said.format(life=session.life, fanout=peers(session.fanout))) for said in READING]
+    reading = [tag("p", said.format(life=session.life, fanout=counted(session.fanout, "peer"))) for said in READING]
     parts += [tag("h2", "How to read it"), tag("div", *reading, class_="reading"), tag("h2", "Each peer"), table(charts[0], rows)]
     head = f'<meta charset="utf-8"><meta name="viewport" content="width=device-width"><title>Session {html.escape(session.id)}</title>'
     return f'<!doctype html>\n<html lang="en"><head>{head}<style>{STYLE}</style></head>\n<body>{tag("main", *parts)}</body></html>\n'
