@@ -11,8 +11,9 @@ use std::time::{Clock, Duration, SystemTime, UNIX_EPOCH};
 #[cfg(test)]
 mod tests;
 
-/// The longest that one read waits, in milliseconds. The clock is then read again.
-const LONGEST_WAIT: u64 = 60_000;
+/// The longest that one read waits, in milliseconds. The clock is then read again. A longer wait ends late, as timers of the system grow
+/// coarser with their length.
+const LONGEST_WAIT: u64 = 100;
 
 /// A socket, the port of party 0, the length of a tick and the Unix time of the next one, both in milliseconds.
 #[derive(Drop)]
