@@ -1,9 +1,9 @@
 //! The command `simulate`.
-ghost use Rattle.std.specs.Prelude.{◌≡◌, ◌≤◌, ◌++◌, ℕ, false, IfOk, OnOk, string_bytes};
+ghost use Rattle.std.specs.Prelude.{◌≡◌, ◌≤◌, ◌++◌, ℕ, false, length, IfOk, OnOk, string_bytes};
 ghost use Rattle.bar_outside.specs.Plan.{Outside, with_out};
 ghost use Rattle.bar_outside.specs.Ends.{EndsWith};
 ghost use Rattle.bar_cli.specs.Printing.{simulate_may_print};
-ghost use Rattle.bar_cli.specs.SimulatePlan.{counts_line, end_view, parties_text, played_lines, simulate_plan, text_of};
+ghost use Rattle.bar_cli.specs.SimulatePlan.{counts_line, end_view, parties_text, played_line, played_lines, simulate_plan, text_of};
 ghost use Rattle.bar_cli.specs.Status.{code_of_run, said_by_run};
 
 use crate::status::Status;
@@ -11,21 +11,39 @@ use bar_outside::{Fault, Sink, show_bytes};
 use bar_world::{SimEnd, simulate};
 use std::alloc::{AllocError, Global};
 
-// What each peer played, and the counts.
-fn first_lines(alloc: Global, end: &SimEnd) -> Result<String, AllocError>
-    ensures { IfOk result (λ text. string_bytes text ≡ played_lines 1 end.now.played ++ counts_line (end_view end.now)) }
+// The line of a peer.
+fn peer_line(alloc: Global, peer: u16, bytes: u64) -> Result<String, AllocError>
+    ensures { IfOk result (λ line. string_bytes line ≡ played_line peer bytes) }
 {
-    let [one, two, three, four, five] = end.played;
+    format!(in alloc; "party {peer} played {bytes} bytes\n")
+}
+
+// A line for each peer from 1 on.
+fn peer_lines(alloc: Global, played: &[u64]) -> Result<String, AllocError>
+    requires { length played.now ≤ 5 }
+    ensures { IfOk result (λ text. string_bytes text ≡ played_lines 1 played.now) }
+{
+    let mut text = String::new(alloc);
+    let mut peer = 0;
+    for bytes in played {
+        peer += 1;
+        let line = peer_line(alloc, peer, *bytes)?;
+        text.push_str(line.as_str())?;
+    }
+    Ok(text)
+}
+
+// The line of the counts.
+fn counts(alloc: Global, end: &SimEnd) -> Result<String, AllocError>
+    ensures { IfOk result (λ line. string_bytes line ≡ counts_line (end_view end.now)) }
+{
     let SimEnd {
         delivered,
         lost,
         repeated,
         ..
     } = *end;
-    format!(in alloc;
-        "party 1 played {one} bytes\nparty 2 played {two} bytes\nparty 3 played {three} bytes\nparty 4 played {four} bytes\n\
-        party 5 played {five} bytes\ndelivered {delivered} lost {lost} repeated {repeated}\n"
-    )
+    format!(in alloc; "delivered {delivered} lost {lost} repeated {repeated}\n")
 }
 
 // Parties behind a text, or that there are none.
@@ -47,9 +65,14 @@ fn summary(alloc: Global, end: &SimEnd) -> Result<String, AllocError>
     requires { end.now.evicted.len ≤ 5 }
     ensures { IfOk result (λ text. string_bytes text ≡ text_of (end_view end.now)) }
 {
-    let mut text = first_lines(alloc, end)?;
+    let mut text = peer_lines(alloc, &end.played)?;
+    text.push_str(counts(alloc, end)?.as_str())?;
     text.push_str("evicted")?;
-    push_parties(alloc, &mut text, &end.evicted.list[..usize::from(end.evicted.len)])?;
+    push_parties(
+        alloc,
+        &mut text,
+        &end.evicted.list[..usize::from(end.evicted.len)],
+    )?;
     text.push_str("\n")?;
     Ok(text)
 }

@@ -223,17 +223,17 @@ returns-in-Simulate-clause-ends g c =
 pub returns-in-Simulate-clause-statuses : goal.returns-in-Simulate-clause-statuses
 returns-in-Simulate-clause-statuses g c =
     rw (c.in-Simulate.is, c.status_of-in-Simulate.ensures.code)
-    (simulate-statuses c.in-Simulate.seed.now c.simulate_seed.result c.simulate_seed.ensures.answers
+    (simulate-statuses c.in-Simulate.seed c.simulate_seed.result c.simulate_seed.ensures.answers
     (never-filed _ _ _ _ _ refl refl (c.simulate_seed.ensures.ends quiet))
     (never-linked _ _ _ _ _ refl refl (c.simulate_seed.ensures.ends quiet)))
 
 pub returns-in-Simulate-clause-leaves : goal.returns-in-Simulate-clause-leaves
 returns-in-Simulate-clause-leaves g c =
-    λ asked is. absurd (simulate-other c.in-Simulate.seed.now asked (sym (ap command_view c.in-Simulate.is) ∙ is))
+    λ asked is. absurd (simulate-other c.in-Simulate.seed asked (sym (ap command_view c.in-Simulate.is) ∙ is))
 
 pub returns-in-Simulate-clause-unprinted : goal.returns-in-Simulate-clause-unprinted
 returns-in-Simulate-clause-unprinted g c = rw (c.in-Simulate.is, c.status_of-in-Simulate.ensures.code) c.simulate_seed.ensures.unprinted
 
 pub returns-in-Simulate-clause-session : goal.returns-in-Simulate-clause-session
 returns-in-Simulate-clause-session g c =
-    λ family is. absurd (simulate-no_session c.in-Simulate.seed.now family (sym (ap command_view c.in-Simulate.is) ∙ is))
+    λ family is. absurd (simulate-no_session c.in-Simulate.seed family (sym (ap command_view c.in-Simulate.is) ∙ is))
