@@ -1,16 +1,14 @@
 -- What a simulation begins with.
-use Rattle.std.proofs.Common.{◌≡◌, ◌≤◌, ◌∙◌, ℕ, zero, suc, ◌+◌, ◌*◌, List, [], ◌∷◌, length, refl, sym, ap, subst, arith}
-use Rattle.std.specs.Prelude.{Some, map, slice_get, unwrap_or}
+use Rattle.std.proofs.Common.{◌≡◌, ◌≤◌, ◌∙◌, ℕ, zero, suc, ◌+◌, ◌*◌, List, length, sym, ap, subst, arith}
+use Rattle.std.specs.Prelude.{Some, map, slice_get}
 use Rattle.std.specs.List.{range_with_len}
 use Rattle.bar_bytes.specs.Bytes.{u64_bytes}
 use Rattle.bar_case.specs.Keystream.{keystream}
 use Rattle.bar_lms.specs.declared.params.Params.{Params}
-use Rattle.bar_lms.specs.Secret.{Secret}
 use Rattle.bar_wire.specs.Limits.{largest_content}
-use Rattle.bar_roster.specs.KeyFile.{signing_secret}
 use Rattle.bar_seeds.specs.declared.secrets.Secrets.{Secrets}
 use Rattle.bar_rules.specs.Member.{Session}
-use Rattle.bar_rules.specs.World.World.{IsSetup, member}
+use Rattle.bar_rules.specs.World.World.{member}
 use Rattle.bar_world.specs.declared.lies.Liar.{Liar}
 use Rattle.bar_world.specs.Held.{all_held, held_by}
 use Rattle.bar_world.specs.Lies.{IsLiar}

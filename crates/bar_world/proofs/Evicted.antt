@@ -4,7 +4,7 @@ use Rattle.bar_wire.specs.Inputs.{Input}
 use Rattle.bar_core.specs.Rules.{Rules}
 use Rattle.bar_rules.specs.Broadcaster.Sending.{caster_log_after, evicted}
 use Rattle.bar_rules.specs.Broadcaster.Stream.{peers_of}
-use Rattle.bar_rules.specs.Member.{Member, Session}
+use Rattle.bar_rules.specs.Member.{Member}
 use Rattle.bar_rules.specs.Peer.Log.{Log, kept}
 use Rattle.bar_rules.specs.World.World.{Setup, Move, member}
 use Rattle.bar_laws.specs.Parties.{ForgesNothing, IsCastersLog, NobodyIsEvicted, after}
@@ -14,7 +14,7 @@ use Rattle.bar_caster.specs.Memory.{member_of, stream_of}
 use Rattle.bar_caster.specs.StandsFor.{log_of}
 use Rattle.bar_world.specs.declared.world.World.{World as KeptWorld}
 use Rattle.bar_world.specs.Kept.{StandsFor}
-use Rattle.std.proofs.Common.{◌≡◌, ◌≤◌, ◌<◌, ◌∙◌, ℕ, zero, suc, ◌+◌, Bool, true, List, [], ◌∷◌, refl, sym, ap, subst, arith}
+use Rattle.std.proofs.Common.{◌≡◌, ◌≤◌, ◌<◌, ◌∙◌, ℕ, zero, suc, ◌+◌, Bool, true, List, refl, sym, ap, subst, arith}
 use Rattle.std.specs.Prelude.{Option, Some, None, Contains, filter, is_some, option_map}
 use Rattle.std.specs.List.{All, range_with_len}
 use Rattle.std.proofs.lemmas.List.Elements.{All-cons, All-contains, All-filter, All-nil, filter_agree}

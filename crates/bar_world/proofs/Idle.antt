@@ -8,10 +8,10 @@ use Rattle.bar_world.specs.declared.packet.Packet.{Packet}
 use Rattle.bar_world.specs.declared.world.World.{World as KeptWorld}
 use Rattle.bar_world.specs.Given.{Gives}
 use Rattle.bar_world.specs.Kept.{StandsFor}
-use Rattle.bar_world.specs.Packets.{packet_of, packets_of}
+use Rattle.bar_world.specs.Packets.{packet_of}
 use Rattle.bar_world.proofs.Worlds.{after-more, nobody-takes, others-took}
-use Rattle.std.proofs.Common.{◌≡◌, ◌≤◌, ◌<◌, ◌∙◌, ℕ, ◌+◌, false, List, [], ◌∷◌, ◌++◌, eqb, cond, length, sym, ap, arith}
-use Rattle.std.specs.Prelude.{Option, Some, None, option_map, slice_get}
+use Rattle.std.proofs.Common.{◌≡◌, ◌≤◌, ◌<◌, ◌∙◌, ℕ, ◌+◌, List, [], ◌∷◌, ◌++◌, cond, length, sym, ap, arith}
+use Rattle.std.specs.Prelude.{Some, None, option_map, slice_get}
 use Rattle.std.proofs.lemmas.Bool.{ne_eqb}
 use Rattle.std.proofs.lemmas.Option.{slice_get-map, slice_get_past, slice_get_within}
 
@@ -55,8 +55,9 @@ past-pool setup moves k kept past s =
     s
 
 -- what a `Deliver` gives
-pub delivered-gives : (setup : Setup) (moves : List Move) (k : ℕ) (kept : KeptWorld) (packet : Packet) → slice_get kept.pool.items k ≡ Some packet
-    → StandsFor setup moves kept → Gives setup (after setup moves) (Deliver k) packet.to (event.Datagram packet.bytes.items)
+pub delivered-gives : (setup : Setup) (moves : List Move) (k : ℕ) (kept : KeptWorld) (packet : Packet)
+    → slice_get kept.pool.items k ≡ Some packet → StandsFor setup moves kept
+    → Gives setup (after setup moves) (Deliver k) packet.to (event.Datagram packet.bytes.items)
 delivered-gives setup moves k kept packet here s =
     let some : slice_get (after setup moves).packets k ≡ Some (packet.to, packet.bytes.items) =
     ap (λ packets. slice_get packets k) (sym s.packets) ∙ slice_get-map packet_of kept.pool.items k ∙ ap (λ o. option_map packet_of o) here

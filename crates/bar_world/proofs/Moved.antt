@@ -15,7 +15,7 @@ use Rattle.bar_world.specs.Packets.{packet_of, packets_of}
 use Rattle.bar_world.specs.Playing.{AreAcceptedIn, IsPlaying, Plays, queue_of}
 use Rattle.bar_world.proofs.Worlds.{after-more}
 use Rattle.std.proofs.Common.{◌≡◌, ℕ, List, [], ◌∷◌, ◌++◌, ◌+◌, length, drop, sym, ap, ◌∙◌, subst}
-use Rattle.std.specs.Prelude.{Result, Ok, Err, OnOk, Some, true}
+use Rattle.std.specs.Prelude.{Result, Ok, Err, OnOk, true}
 use Rattle.std.specs.List.{AllByRecursion}
 use Rattle.std.proofs.lemmas.List.{length-map}
 use Rattle.std.proofs.lemmas.Option.{same_Some}
@@ -26,7 +26,8 @@ of-party setup packet of d reads =
     subst (λ (d : Datagram). is_signed d.message.body ≡ true → is_signed_by setup.session d ≡ true)
     (same_Some of.datagram d (sym of.accepted.reads ∙ reads)) of.accepted.accepted
 
-all-accepted : (setup : Setup) (packets : List (ℕ × List ℕ)) → AllByRecursion (IsOfParty setup) packets → AreAcceptedIn setup.session packets
+all-accepted : (setup : Setup) (packets : List (ℕ × List ℕ)) → AllByRecursion (IsOfParty setup) packets
+    → AreAcceptedIn setup.session packets
 all-accepted setup [] all = tt
 all-accepted setup (packet ∷ packets) all = (of-party setup packet all.0, all-accepted setup packets all.1)
 

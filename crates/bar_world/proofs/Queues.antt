@@ -8,7 +8,7 @@ use Rattle.bar_world.specs.Moves.{plain_move}
 use Rattle.bar_world.specs.Network.{Game, delivery, deliveries}
 use Rattle.bar_world.specs.Packets.{packet_of, packets_of}
 use Rattle.bar_world.specs.Playing.{queue_of, AreAcceptedIn}
-use Rattle.std.proofs.Common.{◌≡◌, ℕ, zero, suc, List, [], ◌∷◌, ◌++◌, ◌+◌, ◌<◌, length, map, drop, get_or, refl, sym, ap, ◌∙◌, subst, append_assoc, arith}
+use Rattle.std.proofs.Common.{◌≡◌, ℕ, zero, suc, List, [], ◌∷◌, ◌++◌, ◌+◌, ◌<◌, length, map, drop, get_or, sym, ap, ◌∙◌, subst, append_assoc, arith}
 use Rattle.std.proofs.lemmas.List.{map-append}
 
 drop-at : {X Y : Type 0} (f : X → Y) (xs : List X) (i : ℕ) (x : X) → i < length xs → x ≡ get_or xs i x

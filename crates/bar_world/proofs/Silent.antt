@@ -1,13 +1,13 @@
 -- A broadcaster plays nothing.
 use Rattle.std.proofs.Common.{◌≡◌, ◌∙◌, ℕ, Bool, true, false, List, [], ◌∷◌, refl, ap, cond, eqb, ◌||◌}
 use Rattle.std.specs.Prelude.{Option, Some, None, length, nat_le, nat_lt, not}
-use Rattle.bar_wire.specs.Datagram.{Datagram, Body, kind_of}
+use Rattle.bar_wire.specs.Datagram.{Datagram, Body}
 use Rattle.bar_wire.specs.Inputs.{Input, Tick}
 use Rattle.bar_wire.specs.Inputs as event
-use Rattle.bar_rules.specs.Broadcaster.Sending.{announce, announce_by, announce_evictions, announce_manifest, caster_signed, caster_step, caster_take, caster_tick, evicted, send_all, send_blocks, served}
+use Rattle.bar_rules.specs.Broadcaster.Sending.{announce_by, announce_evictions, announce_manifest, caster_signed, caster_step, caster_take, caster_tick, evicted, send_blocks, served}
 use Rattle.bar_rules.specs.Broadcaster.Stream.{round_blocks}
 use Rattle.bar_rules.specs.Member.{Member, last_tick, slot_after}
-use Rattle.bar_rules.specs.Peer.Log.{Log, Said, Ticked, first_said, has_kind_and_round, round_now, ticks}
+use Rattle.bar_rules.specs.Peer.Log.{Log, Said, Ticked, round_now, ticks}
 use Rattle.bar_rules.specs.Runs.{Outcome, begun}
 use Rattle.bar_caster.proofs.Flat.{all-flat, blocks-flat}
 

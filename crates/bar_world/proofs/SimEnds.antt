@@ -15,7 +15,7 @@ use Rattle.bar_world.specs.Network.{begun, played_on}
 use Rattle.bar_world.specs.Playing.{IsPlaying, queue_of}
 use Rattle.bar_world.specs.Sim.{draw, game, setup, sim, source}
 use Rattle.std.proofs.Common.{◌≡◌, ℕ, Bool, List, [], ◌∷◌, ◌+◌, ◌≤◌, length, refl, sym, ap, ◌∙◌, subst, arith}
-use Rattle.std.specs.Prelude.{Some, slice_get, unwrap_or, is_some, filter, count_by}
+use Rattle.std.specs.Prelude.{slice_get, unwrap_or, is_some, filter, count_by}
 use Rattle.std.proofs.lemmas.List.Sums.{length-filter, count_by-le-length}
 
 -- ---- the beginning
@@ -81,7 +81,9 @@ who-was-evicted seed net parties runs is told =
     let at : (log : Log) × IsCastersLog w log =
     (_, ap (λ (w : plain.World). slice_get w.logs 0) is.run_is ∙ (runs (setup seed) (sim seed).moves is.world.setup_is).log)
     in
-    let told_so : parties ≡ evicted (setup seed).session at.0 = told at.0 (ap (λ (w : plain.World). slice_get w.logs 0) (sym is.run_is) ∙ at.1) in
+    let told_so : parties ≡ evicted (setup seed).session at.0 =
+    told at.0 (ap (λ (w : plain.World). slice_get w.logs 0) (sym is.run_is) ∙ at.1)
+    in
     let same : caster_log w ≡ at.0 = ap (λ o. unwrap_or o []) at.1 in
     let short : length (evicted (setup seed).session at.0) ≤ 5 =
     filter-short (λ q. is_some (kept at.0 q)) (peers_of (setup seed).session)

@@ -1,6 +1,5 @@
 -- A world of started cores.
 use Rattle.std.specs.declared.alloc.Global.{Global}
-use Rattle.bar_core.specs.Rules.{Rules}
 use Rattle.bar_seeds.specs.declared.secrets.Secrets.{Secrets}
 use Rattle.bar_roster.specs.KeyFile.{Fits, IsHeldBy}
 use Rattle.bar_rules.specs.Member.{Member, Session}
@@ -11,13 +10,13 @@ use Rattle.bar_caster.specs.Core.{caster_rules, face_of as caster_face}
 use Rattle.bar_caster.specs.StandsFor.{StandsFor as CasterTook}
 use Rattle.bar_peer.specs.Core.{peer_rules, face_of as peer_face}
 use Rattle.bar_peer.specs.StandsFor.{StandsFor as PeerTook}
-use Rattle.bar_world.specs.Kept.{IsReady, StandsFor}
+use Rattle.bar_world.specs.Kept.{StandsFor}
 use Rattle.bar_world.specs.Cores.{IsNewCore}
 use Rattle.bar_world.specs.Packets.{packets_of}
 use Rattle.bar_world.specs.Setups.{AreOfParties, setup_of}
 use Rattle.bar_world.specs.Texts.{texts}
-use Rattle.std.proofs.Common.{◌≡◌, ◌≤◌, ◌<◌, ◌∙◌, ℕ, zero, suc, ◌+◌, true, false, List, [], ◌∷◌, ◌++◌, length, map, refl, sym, ap, subst, inl, inr, arith}
-use Rattle.std.specs.Prelude.{Option, Some, Vec, ◌⊎◌, option_map, replicate, slice_get, unwrap_or}
+use Rattle.std.proofs.Common.{◌≡◌, ◌<◌, ◌∙◌, ℕ, zero, suc, ◌+◌, true, false, List, [], ◌∷◌, ◌++◌, length, map, refl, sym, ap, subst, inl, inr, arith}
+use Rattle.std.specs.Prelude.{Some, Vec, ◌⊎◌, option_map, replicate, slice_get, unwrap_or}
 use Rattle.std.proofs.lemmas.List.{length-map, length-replicate}
 use Rattle.std.proofs.lemmas.Option.{slice_get-map, slice_get-get_or, slice_get_within}
 
@@ -62,7 +61,8 @@ module _ (session : Session) (secrets : List Secrets) (stream : List ℕ) (setup
       record { id = parties.id (suc i) k at; party = omega arith; role = omega arith; fits = held-at (suc i) k at }
 
   pub started : (w : KeptWorld) (first : Secrets) (others : List Secrets) → secrets ≡ first ∷ others
-      → IsNewCore (caster_rules (member_by session first) stream) (CasterTook w.caster.memory) (caster_face w.caster.memory w.caster.orders)
+      → IsNewCore (caster_rules (member_by session first) stream) (CasterTook w.caster.memory)
+      (caster_face w.caster.memory w.caster.orders)
       → length w.peers.items ≡ length others
       → ((i : ℕ) (peer : _) (k : Secrets) → slice_get w.peers.items i ≡ Some peer → slice_get others i ≡ Some k
       → IsNewCore (peer_rules (member_by session k)) (PeerTook peer.memory) (peer_face peer.memory peer.orders peer.playing))
@@ -70,9 +70,14 @@ module _ (session : Session) (secrets : List Secrets) (stream : List ℕ) (setup
       → StandsFor (setup_of session secrets stream) [] w
   started w first others split caster same peers n all none_played none_sent = record {
     setup_is = setup;
-    count = same ∙ (let many : length secrets ≡ session.shape.peers + 1 = count in let one : length secrets ≡ suc (length others) = ap length split in omega arith);
+    count =
+        let many : length secrets ≡ session.shape.peers + 1 = count in
+        let one : length secrets ≡ suc (length others) = ap length split in
+        same ∙ omega (arith, many, one);
     caster = record {
-      rules_are = caster.core.rules_are ∙ ap (λ (me : Member). caster_rules me stream) (member-at 0 first (ap (λ xs. slice_get xs 0) split));
+      rules_are =
+          caster.core.rules_are
+          ∙ ap (λ (me : Member). caster_rules me stream) (member-at 0 first (ap (λ xs. slice_get xs 0) split));
       took = caster.core.took;
     };
     peers = λ i peer at.
@@ -81,10 +86,15 @@ module _ (session : Session) (secrets : List Secrets) (stream : List ℕ) (setup
         let new = peers i peer _ at there in
         let next : i + 1 ≡ suc i = omega arith in
         record {
-          rules_are = new.core.rules_are ∙ ap peer_rules (member-at (i + 1) _ (ap (λ xs. slice_get xs (i + 1)) split ∙ ap (λ n. slice_get (first ∷ others) n) next ∙ there));
+          rules_are =
+              new.core.rules_are
+              ∙ ap peer_rules
+              (member-at (i + 1) _ (ap (λ xs. slice_get xs (i + 1)) split ∙ ap (λ n. slice_get (first ∷ others) n) next ∙ there));
           took = new.core.took;
         };
-    played = none_played ∙ replicate-map (map (λ (s : Secrets). s.secret) secrets) n (length-map secrets (λ (s : Secrets). s.secret) ∙ sym all);
+    played =
+        none_played
+        ∙ replicate-map (map (λ (s : Secrets). s.secret) secrets) n (length-map secrets (λ (s : Secrets). s.secret) ∙ sym all);
     packets = none_sent;
   }
 
@@ -105,7 +115,8 @@ pub started-more : {X : Type 0} (old new : List X) (x : X) (Q : X → Secrets �
     → new ≡ old ++ x ∷ [] → length old ≡ n → slice_get secrets n ≡ Some next → Q x next
     → ((i : ℕ) (y : X) (k : Secrets) → slice_get old i ≡ Some y → slice_get secrets i ≡ Some k → Q y k)
     → (i : ℕ) (y : X) (k : Secrets) → slice_get new i ≡ Some y → slice_get secrets i ≡ Some k → Q y k
-started-more old new x Q secrets n next grown long here this before i y k at of = go (push-cases old x i y (subst (λ xs. slice_get xs i ≡ Some y) grown at))
+started-more old new x Q secrets n next grown long here this before i y k at of =
+    go (push-cases old x i y (subst (λ xs. slice_get xs i ≡ Some y) grown at))
   where
     go : ((i ≡ length old) × (y ≡ x)) ⊎ (slice_get old i ≡ Some y) → Q y k
     go (inr h) = before i y k h of

@@ -3,28 +3,27 @@ use Rattle.std.specs.declared.alloc.AllocError.{AllocError}
 use Rattle.std.specs.declared.alloc.Global.{Global}
 use Rattle.bar_wire.specs.Inputs.{Input}
 use Rattle.bar_core.specs.Face.{IsIdle}
-use Rattle.bar_core.specs.Rules.{Rules, Send}
+use Rattle.bar_core.specs.Rules.{Rules}
 use Rattle.bar_rules.specs.Broadcaster.Sending.{caster_step}
 use Rattle.bar_rules.specs.Peer.Log.{Log}
 use Rattle.bar_rules.specs.Peer.Run.{step}
 use Rattle.bar_rules.specs.Runs.{Outcome, state_after}
-use Rattle.bar_rules.specs.World.World.{Setup, World, Move, Deliver, member, party_step, spelled, happens, delivered}
+use Rattle.bar_rules.specs.World.World.{Setup, Move, member, party_step, spelled}
 use Rattle.bar_laws.specs.Parties.{after}
-use Rattle.bar_laws.specs.OwnRuns.{inputs_of, input_at, given_to, IsOwnRun, PeersRun, BroadcasterRuns}
-use Rattle.bar_caster.specs.Core.{caster_rules, face_of as caster_face}
+use Rattle.bar_laws.specs.OwnRuns.{inputs_of, input_at, IsOwnRun, PeersRun, BroadcasterRuns}
+use Rattle.bar_caster.specs.Core.{face_of as caster_face}
 use Rattle.bar_caster.specs.StandsFor.{StandsFor as CasterTook}
-use Rattle.bar_peer.specs.Core.{peer_rules, face_of as peer_face}
+use Rattle.bar_peer.specs.Core.{face_of as peer_face}
 use Rattle.bar_peer.specs.StandsFor.{StandsFor as PeerTook}
-use Rattle.bar_world.specs.declared.packet.Packet.{Packet}
 use Rattle.bar_world.specs.declared.world.World.{World as KeptWorld}
-use Rattle.bar_world.specs.Cores.{Fed, IsCoreOf}
+use Rattle.bar_world.specs.Cores.{Fed}
 use Rattle.bar_world.specs.Given.{Gives}
-use Rattle.bar_world.specs.Kept.{IsReady, StandsFor}
-use Rattle.bar_world.specs.Packets.{packet_of, packets_of}
+use Rattle.bar_world.specs.Kept.{CasterRan, IsReady, PeerRan, StandsFor}
+use Rattle.bar_world.specs.Packets.{packets_of}
 use Rattle.bar_world.proofs.Silent.{step-silent}
-use Rattle.bar_world.proofs.Worlds.{after-more, nobody-takes, others-took, others-get-nothing, own-took, packets-more, played-more}
-use Rattle.std.proofs.Common.{◌≡◌, ◌≤◌, ◌<◌, ◌∙◌, ℕ, zero, suc, ◌+◌, Bool, true, false, List, [], ◌∷◌, ◌++◌, eqb, cond, length, map, refl, sym, ap, subst, inl, inr, arith}
-use Rattle.std.specs.Prelude.{Vec, Option, Some, None, ◌⊎◌, OnOk, Result, Ok, Err, slice_get, slice_set}
+use Rattle.bar_world.proofs.Worlds.{others-took, others-get-nothing, own-took, packets-more, played-more}
+use Rattle.std.proofs.Common.{◌≡◌, ◌<◌, ◌∙◌, ℕ, zero, suc, ◌+◌, false, List, [], ◌∷◌, ◌++◌, eqb, cond, length, refl, sym, ap, subst, inl, inr, arith}
+use Rattle.std.specs.Prelude.{Vec, Some, ◌⊎◌, OnOk, Result, Ok, Err, slice_get, slice_set}
 use Rattle.std.specs.List.{concat}
 use Rattle.std.proofs.lemmas.Bool.{ne_eqb}
 
@@ -46,11 +45,10 @@ other-party p q ne = ne_eqb p q ne
 
 -- ---- the broadcaster
 
-pub caster-took : (setup : Setup) (moves : List Move) (m : Move) (input : Input) (old new : KeptWorld) (bytes more : Vec ℕ Global) → BroadcasterRuns
-    → Gives setup (after setup moves) m 0 input
+pub caster-took : (setup : Setup) (moves : List Move) (m : Move) (input : Input) (old new : KeptWorld) (bytes more : Vec ℕ Global)
+    → BroadcasterRuns → Gives setup (after setup moves) m 0 input
     → Fed (CasterTook old.caster.memory) (CasterTook new.caster.memory) (caster_face old.caster.memory old.caster.orders)
-    (caster_face new.caster.memory new.caster.orders) input
-    (packets_of old.pool.items) (packets_of new.pool.items) bytes.items more.items
+    (caster_face new.caster.memory new.caster.orders) input (packets_of old.pool.items) (packets_of new.pool.items) bytes.items more.items
     → slice_get old.played.items 0 ≡ Some bytes → new.peers.items ≡ old.peers.items → new.played.items ≡ slice_set old.played.items 0 more
     → StandsFor setup moves old → StandsFor setup (moves ++ m ∷ []) new
 caster-took setup moves m input old new bytes more runs gives fed at peers_stay set s = record {
@@ -61,8 +59,12 @@ caster-took setup moves m input old new bytes more runs gives fed at peers_stay 
       others-took setup moves m (i + 1) _ _ _
       (others-get-nothing setup moves m 0 input gives steps (λ log i. refl) own (i + 1) (other-party 0 (i + 1) (λ e. omega arith)))
       (s.peers i peer (subst (λ ps. slice_get ps i ≡ Some peer) peers_stay there));
-  played = played-more setup moves m 0 input gives steps (λ log i. refl) own _ _ bytes more s.played at set (fed.played_is before s.caster.took ∙ ap (λ z. bytes.items ++ concat z) silent);
-  packets = packets-more setup moves m 0 input gives steps (λ log i. refl) own _ _ s.packets (fed.packets_are before s.caster.took ∙ ap (λ z. packets_of old.pool.items ++ z) sent);
+  played =
+      played-more setup moves m 0 input gives steps (λ log i. refl) own _ _ bytes more s.played at set
+      (fed.played_is before s.caster.took ∙ ap (λ z. bytes.items ++ concat z) silent);
+  packets =
+      packets-more setup moves m 0 input gives steps (λ log i. refl) own _ _ s.packets
+      (fed.packets_are before s.caster.took ∙ ap (λ z. packets_of old.pool.items ++ z) sent);
 }
   where
     steps : Log → Input → Outcome Log
@@ -74,22 +76,28 @@ caster-took setup moves m input old new bytes more runs gives fed at peers_stay 
     own : IsOwnRun setup moves 0 steps
     own = runs setup moves s.setup_is
 
-    silent : (caster_face old.caster.memory old.caster.orders).rules.contents before input ≡ (steps (state_after steps [] before) input).contents
+    silent :
+        (caster_face old.caster.memory old.caster.orders).rules.contents before input
+        ≡ (steps (state_after steps [] before) input).contents
     silent =
         ap (λ (r : Rules). r.contents before input) s.caster.rules_are
         ∙ sym (step-silent (member setup 0) setup.stream (state_after steps [] before) input)
 
-    sent : (caster_face old.caster.memory old.caster.orders).rules.sends before input ≡ spelled setup.session (steps (state_after steps [] before) input).sends
+    sent :
+        (caster_face old.caster.memory old.caster.orders).rules.sends before input
+        ≡ spelled setup.session (steps (state_after steps [] before) input).sends
     sent = ap (λ (r : Rules). r.sends before input) s.caster.rules_are
 
 -- ---- a peer
 
-peer-steps : (setup : Setup) (i : ℕ) (log : Log) (input : Input) → party_step setup (i + 1) log input ≡ step (member setup (i + 1)) log input
+peer-steps : (setup : Setup) (i : ℕ) (log : Log) (input : Input)
+    → party_step setup (i + 1) log input ≡ step (member setup (i + 1)) log input
 peer-steps setup i log input =
     ap (λ b. cond b (caster_step (member setup 0) setup.stream log input) (step (member setup (i + 1)) log input))
     (other-party (i + 1) 0 (λ e. omega arith))
 
-pub peer-took : (setup : Setup) (moves : List Move) (m : Move) (i : ℕ) (input : Input) (old new : KeptWorld) (bytes more : Vec ℕ Global) → PeersRun
+pub peer-took : (setup : Setup) (moves : List Move) (m : Move) (i : ℕ) (input : Input) (old new : KeptWorld)
+    (bytes more : Vec ℕ Global) → PeersRun
     → Gives setup (after setup moves) m (i + 1) input → (core : _) → slice_get old.peers.items i ≡ Some core → (next : _)
     → new.peers.items ≡ slice_set old.peers.items i next
     → Fed (PeerTook core.memory) (PeerTook next.memory) (peer_face core.memory core.orders core.playing)
@@ -101,12 +109,15 @@ peer-took setup moves m i input old new bytes more runs gives core here next pee
   setup_is = s.setup_is;
   count = many ∙ s.count;
   caster =
-      subst (λ caster. IsCoreOf (caster_rules (member setup 0) setup.stream) (inputs_of setup (moves ++ m ∷ []) 0) (CasterTook caster.memory) (caster_face caster.memory caster.orders))
-      (sym caster_stays)
+      subst (λ caster. CasterRan setup (moves ++ m ∷ []) caster.memory caster.orders) (sym caster_stays)
       (others-took setup moves m 0 _ _ _ (nothing 0 (λ e. omega arith)) s.caster);
   peers = λ q peer there. peers q peer (set-cases old.peers.items i q next peer (subst (λ ps. slice_get ps q ≡ Some peer) peers_are there));
-  played = played-more setup moves m (i + 1) input gives steps (peer-steps setup i) own _ _ bytes more s.played at set (fed.played_is before mine.took ∙ ap (λ z. bytes.items ++ concat z) contents);
-  packets = packets-more setup moves m (i + 1) input gives steps (peer-steps setup i) own _ _ s.packets (fed.packets_are before mine.took ∙ ap (λ z. packets_of old.pool.items ++ z) sent);
+  played =
+      played-more setup moves m (i + 1) input gives steps (peer-steps setup i) own _ _ bytes more s.played at set
+      (fed.played_is before mine.took ∙ ap (λ z. bytes.items ++ concat z) contents);
+  packets =
+      packets-more setup moves m (i + 1) input gives steps (peer-steps setup i) own _ _ s.packets
+      (fed.packets_are before mine.took ∙ ap (λ z. packets_of old.pool.items ++ z) sent);
 }
   where
     steps : Log → Input → Outcome Log
@@ -115,27 +126,32 @@ peer-took setup moves m i input old new bytes more runs gives core here next pee
     before : List Input
     before = inputs_of setup moves (i + 1)
 
-    mine : IsCoreOf (peer_rules (member setup (i + 1))) before (PeerTook core.memory) (peer_face core.memory core.orders core.playing)
+    mine : PeerRan setup moves (i + 1) core.memory core.orders core.playing
     mine = s.peers i core here
 
     own : IsOwnRun setup moves (i + 1) steps
     own = runs setup moves s.setup_is (i + 1) (omega arith) (let n = s.count in omega arith)
 
     nothing : (q : ℕ) → (i + 1 ≡ q → ⊥) → input_at (after setup moves) q m ≡ []
-    nothing q other = others-get-nothing setup moves m (i + 1) input gives steps (peer-steps setup i) own q (other-party (i + 1) q other)
+    nothing q other =
+        others-get-nothing setup moves m (i + 1) input gives steps (peer-steps setup i) own q (other-party (i + 1) q other)
 
     peers : (q : ℕ) (peer : _) → ((q ≡ i) × (peer ≡ next)) ⊎ ((q ≡ i → ⊥) × (slice_get old.peers.items q ≡ Some peer))
-        → IsCoreOf (peer_rules (member setup (q + 1))) (inputs_of setup (moves ++ m ∷ []) (q + 1)) (PeerTook peer.memory) (peer_face peer.memory peer.orders peer.playing)
+        → PeerRan setup (moves ++ m ∷ []) (q + 1) peer.memory peer.orders peer.playing
     peers q peer (inl h) =
-        subst (λ n. IsCoreOf (peer_rules (member setup (n + 1))) (inputs_of setup (moves ++ m ∷ []) (n + 1)) (PeerTook peer.memory) (peer_face peer.memory peer.orders peer.playing)) (sym h.0)
-        (subst (λ p. IsCoreOf (peer_rules (member setup (i + 1))) (inputs_of setup (moves ++ m ∷ []) (i + 1)) (PeerTook p.memory) (peer_face p.memory p.orders p.playing)) (sym h.1)
+        subst (λ n. PeerRan setup (moves ++ m ∷ []) (n + 1) peer.memory peer.orders peer.playing) (sym h.0)
+        (subst (λ p. PeerRan setup (moves ++ m ∷ []) (i + 1) p.memory p.orders p.playing) (sym h.1)
         (own-took setup moves m (i + 1) input gives steps (peer-steps setup i) own _ _ _ _ _ mine fed.rules fed.stands))
     peers q peer (inr h) = others-took setup moves m (q + 1) _ _ _ (nothing (q + 1) (λ e. h.0 (omega (arith, e)))) (s.peers q peer h.1)
 
-    contents : (peer_face core.memory core.orders core.playing).rules.contents before input ≡ (steps (state_after steps [] before) input).contents
+    contents :
+        (peer_face core.memory core.orders core.playing).rules.contents before input
+        ≡ (steps (state_after steps [] before) input).contents
     contents = ap (λ (r : Rules). r.contents before input) mine.rules_are
 
-    sent : (peer_face core.memory core.orders core.playing).rules.sends before input ≡ spelled setup.session (steps (state_after steps [] before) input).sends
+    sent :
+        (peer_face core.memory core.orders core.playing).rules.sends before input
+        ≡ spelled setup.session (steps (state_after steps [] before) input).sends
     sent = ap (λ (r : Rules). r.sends before input) mine.rules_are
 
 pub peer-ready : (old new : KeptWorld) (i : ℕ) (next : _) → new.peers.items ≡ slice_set old.peers.items i next

@@ -8,11 +8,11 @@ use Rattle.bar_rules.specs.Peer.Log.{Log}
 use Rattle.bar_rules.specs.Runs.{Outcome, state_after}
 use Rattle.bar_rules.specs.World.World.{Setup, World, Move, TickOf, Deliver, Hostile, party_step, spelled, takes, takes_by, delivered, happens, run, initial}
 use Rattle.bar_laws.specs.Parties.{after}
-use Rattle.bar_laws.specs.OwnRuns.{inputs_from, inputs_of, input_at, given_to, IsOwnRun}
+use Rattle.bar_laws.specs.OwnRuns.{inputs_from, inputs_of, input_at, IsOwnRun}
 use Rattle.bar_world.specs.Cores.{IsCoreOf}
 use Rattle.bar_world.specs.Given.{Gives}
 use Rattle.bar_world.specs.Texts.{texts}
-use Rattle.std.proofs.Common.{◌≡◌, ◌≤◌, ◌∙◌, ℕ, zero, suc, ◌+◌, Bool, true, false, List, [], ◌∷◌, ◌++◌, eqb, cond, length, map, refl, sym, ap, subst, append-nil, append_assoc, arith}
+use Rattle.std.proofs.Common.{◌≡◌, ◌≤◌, ◌∙◌, ℕ, zero, suc, true, false, List, [], ◌∷◌, ◌++◌, eqb, cond, length, map, refl, sym, ap, subst, append-nil, append_assoc, arith}
 use Rattle.std.specs.Prelude.{Vec, Option, Some, None, slice_get, slice_set, unwrap_or, option_map}
 use Rattle.std.specs.List.{concat}
 use Rattle.std.proofs.lemmas.List.{length-map}
@@ -46,7 +46,8 @@ inputs-append : (setup : Setup) (w : World) (p : ℕ) (xs ys : List Move)
 inputs-append setup w p [] ys = refl
 inputs-append setup w p (x ∷ xs) ys =
     ap (λ rest. input_at w p x ++ rest) (inputs-append setup (happens setup w x) p xs ys)
-    ∙ sym (append_assoc (input_at w p x) (inputs_from setup (happens setup w x) p xs) (inputs_from setup (run setup (happens setup w x) xs) p ys))
+    ∙ sym (append_assoc (input_at w p x) (inputs_from setup (happens setup w x) p xs)
+    (inputs_from setup (run setup (happens setup w x) xs) p ys))
 
 pub after-more : (setup : Setup) (moves : List Move) (m : Move) → after setup (moves ++ m ∷ []) ≡ happens setup (after setup moves) m
 after-more setup moves m = run-append setup (initial setup) moves (m ∷ [])
@@ -120,7 +121,9 @@ eqb-refl p = grind arith
 module _ (setup : Setup) (moves : List Move) (m : Move) (p : ℕ) (input : Input) (gives : Gives setup (after setup moves) m p input)
     (steps : Log → Input → Outcome Log) (same : (log : Log) (i : Input) → party_step setup p log i ≡ steps log i)
     (own : IsOwnRun setup moves p steps) where
-  stepped-so : after setup (moves ++ m ∷ []) ≡ stepped setup (after setup moves) p (steps (state_after steps [] (inputs_of setup moves p)) input)
+  stepped-so :
+      after setup (moves ++ m ∷ [])
+      ≡ stepped setup (after setup moves) p (steps (state_after steps [] (inputs_of setup moves p)) input)
   stepped-so =
       after-more setup moves m
       ∙ gives.next
@@ -147,7 +150,9 @@ module _ (setup : Setup) (moves : List Move) (m : Move) (p : ℕ) (input : Input
       ap texts set
       ∙ map-set (λ (b : Vec ℕ Global). b.items) old p more
       ∙ (λ i. slice_set (is i) p (longer i))
-      ∙ ap (λ o. slice_set (after setup moves).played p (unwrap_or o [] ++ concat (steps (state_after steps [] (inputs_of setup moves p)) input).contents)) (sym here)
+      ∙ ap (λ o. slice_set (after setup moves).played p
+      (unwrap_or o [] ++ concat (steps (state_after steps [] (inputs_of setup moves p)) input).contents))
+      (sym here)
       ∙ ap (λ (w : World). w.played) (sym stepped-so)
 
   -- what its core took

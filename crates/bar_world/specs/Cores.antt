@@ -6,13 +6,13 @@ use Rattle.bar_core.specs.Face.{Face, IsIdle}
 use Rattle.bar_core.specs.Rules.{Rules, Send}
 
 -- A core took an input and gave out all of it: what it sends stands behind the packets, and what it plays behind what was played.
-pub record Fed (was now : List Input → Type 0) (old new : Face) (input : Input) (packets further : List Send) (played more : List ℕ) : Type 0
-  where
-    pub rules : new.rules ≡ old.rules
-    pub idle : IsIdle new
-    pub stands : (before : List Input) → was before → now (before ++ input ∷ [])
-    pub packets_are : (before : List Input) → was before → further ≡ packets ++ old.rules.sends before input
-    pub played_is : (before : List Input) → was before → more ≡ played ++ concat (old.rules.contents before input)
+pub record Fed (was now : List Input → Type 0) (old new : Face) (input : Input) (packets further : List Send)
+    (played more : List ℕ) : Type 0 where
+  pub rules : new.rules ≡ old.rules
+  pub idle : IsIdle new
+  pub stands : (before : List Input) → was before → now (before ++ input ∷ [])
+  pub packets_are : (before : List Input) → was before → further ≡ packets ++ old.rules.sends before input
+  pub played_is : (before : List Input) → was before → more ≡ played ++ concat (old.rules.contents before input)
 
 -- A core of these rules took these inputs.
 pub record IsCoreOf (rules : Rules) (inputs : List Input) (stands : List Input → Type 0) (face : Face) : Type 0 where

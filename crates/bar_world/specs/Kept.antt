@@ -5,14 +5,29 @@ use Rattle.bar_wire.specs.Limits.{largest_datagram}
 use Rattle.bar_rules.specs.World.World.{Setup, IsSetup, Move, member}
 use Rattle.bar_laws.specs.Parties.{after}
 use Rattle.bar_laws.specs.OwnRuns.{inputs_of}
+use Rattle.bar_caster.specs.declared.memory.Memory.{Memory as CasterMemory}
 use Rattle.bar_caster.specs.Core.{caster_rules, face_of as caster_face}
+use Rattle.bar_caster.specs.Orders.{Orders as CasterOrders}
 use Rattle.bar_caster.specs.StandsFor.{StandsFor as CasterTook}
+use Rattle.bar_peer.specs.declared.memory.Memory.{Memory as PeerMemory}
+use Rattle.bar_peer.specs.declared.playing.Playing.{Playing}
 use Rattle.bar_peer.specs.Core.{peer_rules, face_of as peer_face}
+use Rattle.bar_peer.specs.Orders.{Orders as PeerOrders}
 use Rattle.bar_peer.specs.StandsFor.{StandsFor as PeerTook}
 use Rattle.bar_world.specs.declared.world.World.{World as KeptWorld}
 use Rattle.bar_world.specs.Cores.{IsCoreOf}
 use Rattle.bar_world.specs.Packets.{packets_of}
 use Rattle.bar_world.specs.Texts.{texts}
+
+-- the broadcaster of a setup took the inputs that moves gave it
+abbrev pub CasterRan : Setup → List Move → CasterMemory → CasterOrders → Type 0
+CasterRan setup moves memory orders =
+    IsCoreOf (caster_rules (member setup 0) setup.stream) (inputs_of setup moves 0) (CasterTook memory) (caster_face memory orders)
+
+-- so did a peer
+abbrev pub PeerRan : Setup → List Move → ℕ → PeerMemory → PeerOrders → Playing → Type 0
+PeerRan setup moves party memory orders playing =
+    IsCoreOf (peer_rules (member setup party)) (inputs_of setup moves party) (PeerTook memory) (peer_face memory orders playing)
 
 -- No core has anything still to give out, each party has a text of its own, and there is room for any datagram.
 pub record IsReady (kept : KeptWorld) : Type 0 where
@@ -27,12 +42,9 @@ pub record IsReady (kept : KeptWorld) : Type 0 where
 pub record StandsFor (setup : Setup) (moves : List Move) (kept : KeptWorld) : Type 0 where
   pub setup_is : IsSetup setup
   pub count : length kept.peers.items ≡ setup.session.shape.peers
-  pub caster :
-      IsCoreOf (caster_rules (member setup 0) setup.stream) (inputs_of setup moves 0) (CasterTook kept.caster.memory)
-      (caster_face kept.caster.memory kept.caster.orders)
+  pub caster : CasterRan setup moves kept.caster.memory kept.caster.orders
   pub peers :
       (i : ℕ) (peer : _) → slice_get kept.peers.items i ≡ Some peer
-      → IsCoreOf (peer_rules (member setup (i + 1))) (inputs_of setup moves (i + 1)) (PeerTook peer.memory)
-      (peer_face peer.memory peer.orders peer.playing)
+      → PeerRan setup moves (i + 1) peer.memory peer.orders peer.playing
   pub played : texts kept.played.items ≡ (after setup moves).played
   pub packets : packets_of kept.pool.items ≡ (after setup moves).packets

@@ -41,7 +41,8 @@ pub(crate) fn send_all<C: Core>(
     pool: &mut Vec<Packet>,
 ) -> Result<(), AllocError>
     requires { largest_datagram ≤ length buf.old }
-    ensures packets { OnOk result ((inputs : List plain.Input) (sends : List Send) → C.stands core.old inputs → C.owes core.old inputs sends →
+    ensures packets { OnOk result ((inputs : List plain.Input) (sends : List Send) →
+        C.stands core.old inputs → C.owes core.old inputs sends →
         packets_of pool.new.items ≡ packets_of pool.old.items ++ sends) }
     ensures keeps { OnOk result (Keeps (C.stands core.old) (C.stands core.new) (C.face core.old) (C.face core.new)) }
     ensures plays { OnOk result ((C.face core.new).plays ≡ (C.face core.old).plays) }

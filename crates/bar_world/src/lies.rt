@@ -61,7 +61,8 @@ impl Liar {
         requires body { IsBody self.now.shape body.now }
         requires key { IsKeyBody (plain body.now) }
         requires leaf { leaf < 2 ^ levels self.now.signer.params.height }
-        ensures { IfOk result (λ bytes. let message = message_bytes self.now.shape (record { from = from; to = to; body = plain body.now }) in
+        ensures { IfOk result (λ bytes.
+            let message = message_bytes self.now.shape (record { from = from; to = to; body = plain body.now }) in
             bytes.items ≡ message ++ signed self.now.signer leaf message) }
     {
         let mut bytes = vec![in alloc; 0u8; KEY_LEN]?;
@@ -73,7 +74,8 @@ impl Liar {
         Ok(bytes)
     }
 
-    /// What is delivered in place of a KEY of the liar, and of nothing else. A signature that names no leaf is passed over: no core sends one.
+    /// What is delivered in place of a KEY of the liar, and of nothing else. A signature that names no leaf is passed over: no core sends
+    /// one.
     fn lie_about(&self, alloc: Global, view: &View<'_>) -> Result<Option<Vec<u8>>, AllocError>
         requires { IsBody self.now.shape view.now.body }
         ensures { IfOk result (λ lie. (me : Member) → IsLiar me self.now → HasLeafIfSigned me.session (datagram me.session.shape view.now) →

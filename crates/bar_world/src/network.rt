@@ -140,7 +140,8 @@ impl Network {
     fn tick_all(&mut self) -> Result<(), AllocError>
         requires { IsReady self.old.world }
         ensures ready { OnOk result (IsReady self.new.world) }
-        ensures plays { OnOk result (Plays (λ game play. ticked game (range_with_len 0 (self.old.liar.shape.peers + 1)) play) self.old self.new) }
+        ensures plays { OnOk result (Plays (λ game play. ticked game (range_with_len 0 (self.old.liar.shape.peers + 1)) play)
+            self.old self.new) }
         ensures counts { OnOk result (SameCounts self.old self.new) }
     {
         for party in 0..u32::from(self.liar.shape.peers) + 1 {

@@ -19,8 +19,8 @@ impl World {
         self.played.len()
     }
 
-    /// The peers that the broadcaster evicted, in increasing order. Where the moves forge nothing of the trusted parties, no trusted peer is
-    /// one of them.
+    /// The peers that the broadcaster evicted, in increasing order. Where the moves forge nothing of the trusted parties, no trusted peer
+    /// is one of them.
     pub fn evicted(&self) -> &[u16]
         ensures listed { (setup : Setup) (moves : List plain.Move) (log : Log) → StandsFor setup moves self.now →
             IsCastersLog (after setup moves) log → result.now ≡ evicted setup.session log }

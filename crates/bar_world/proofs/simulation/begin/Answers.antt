@@ -1,4 +1,4 @@
-use Rattle.std.proofs.Common.{List, [], refl, ap, ◌∙◌, subst}
+use Rattle.std.proofs.Common.{List, [], refl, ap, subst}
 use Rattle.std.specs.Prelude.{slice_index_or}
 use Rattle.bar_seeds.specs.declared.secrets.Secrets.{Secrets}
 use Rattle.bar_world.specs.Kept.{StandsFor}
@@ -17,6 +17,6 @@ returns-clause-plays c =
     (subst (λ setup. StandsFor setup [] c.in_ok-world.world)
     (setup-is c.args.seed _ _ _ c.in_ok-session.ensures c.all_secrets-secrets.ensures c.in_ok-stream.ensures) c.in_ok-world.ensures.stands)
     (liar-is c.args.seed c.in_ok-session.session _ _ c.params.result c.in_ok-session.ensures
-    (ap (λ (list : List Secrets). slice_index_or list 5 (record { id = []; party = 0; secret = [] })) c.all_secrets-secrets.ensures) refl c.shape.ensures.value c.params.ensures
-    c.in_ok-signer.ensures)
+    (ap (λ (list : List Secrets). slice_index_or list 5 (record { id = []; party = 0; secret = [] })) c.all_secrets-secrets.ensures) refl
+    c.shape.ensures.value c.params.ensures c.in_ok-signer.ensures)
     c.new.ensures.items c.draws.ensures.key c.draws.ensures.stream c.draws.ensures.place refl refl refl

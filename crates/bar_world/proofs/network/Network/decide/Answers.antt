@@ -6,7 +6,8 @@ use Rattle.std.proofs.Common.{◌≡◌, ◌%◌, arith}
 pub returns-in_ok-make-in-1-clause-plays : goal.returns-in_ok-make-in-1-clause-plays
 returns-in_ok-make-in-1-clause-plays c =
     let one : c.args.number % 10 ≡ 1 = omega arith in
-    twice-ok c.args.self.now c.make.new.self _ (plain_move c.args.entry.now) c.args.number _ one c.in_ok-make-in-1.ensures.plays c.make-in-1.ensures.plays
+    twice-ok c.args.self.now c.make.new.self _ (plain_move c.args.entry.now) c.args.number _ one
+    c.in_ok-make-in-1.ensures.plays c.make-in-1.ensures.plays
 
 pub returns-in_default-clause-plays : goal.returns-in_default-clause-plays
 returns-in_default-clause-plays c =

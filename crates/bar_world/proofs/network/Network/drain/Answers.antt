@@ -32,7 +32,9 @@ loop-turn-preserved c = record {
   plays = λ game play is. subst (λ z. IsPlaying game z c.serve.new.self) (sym (drained-more game c.loop-turn.turn play))
       (c.in_ok-serve.ensures.plays game (drained game c.loop-turn.turn play) (c.loop-turn.invariant.plays game play is));
   words = λ n h. c.in_ok-serve.ensures.words n (c.loop-turn.invariant.words (n + 1) (omega (arith, h)));
-  room = λ n h. c.in_ok-serve.ensures.room n (c.loop-turn.invariant.room (n + 1) (fewer-counts c.args.self.now (n + (c.loop-turn.turn + 1)) (n + 1 + c.loop-turn.turn) (omega arith) h));
+  room = λ n h. c.in_ok-serve.ensures.room n
+      (c.loop-turn.invariant.room (n + 1)
+      (fewer-counts c.args.self.now (n + (c.loop-turn.turn + 1)) (n + 1 + c.loop-turn.turn) (omega arith) h));
 }
 
 pub returns-clause-ready : goal.returns-clause-ready

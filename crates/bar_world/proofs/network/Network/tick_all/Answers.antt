@@ -16,7 +16,8 @@ pub loop-party-preserved : goal.loop-party-preserved
 loop-party-preserved c = record {
   ready = c.in_ok-make.ensures.ready;
   plays = λ game play is. subst (λ z. IsPlaying game z c.make.new.self) (sym (ticked-more game c.loop-party.party play))
-      (c.in_ok-make.ensures.plays game (ticked game (range_with_len 0 c.loop-party.party) play) (c.loop-party.invariant.plays game play is));
+      (c.in_ok-make.ensures.plays game (ticked game (range_with_len 0 c.loop-party.party) play)
+      (c.loop-party.invariant.plays game play is));
   counts = record {
     words = c.in_ok-make.ensures.counts.words ∙ c.loop-party.invariant.counts.words;
     delivered = c.in_ok-make.ensures.counts.delivered ∙ c.loop-party.invariant.counts.delivered;

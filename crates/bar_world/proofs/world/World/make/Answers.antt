@@ -1,5 +1,5 @@
-use Rattle.std.proofs.Common.{◌≡◌, ◌+◌, ◌<◌, ◌∙◌, suc, length, refl, sym, ap, arith}
-use Rattle.std.specs.Prelude.{Some, slice_get}
+use Rattle.std.proofs.Common.{◌≡◌, ◌+◌, ◌<◌, ◌∙◌, suc, length, refl, ap, arith}
+use Rattle.std.specs.Prelude.{slice_get}
 use Rattle.std.proofs.lemmas.Option.{slice_get-get_or, slice_get_within}
 use Rattle.bar_world.specs.Packets.{packets_of}
 use Rattle.bar_world.proofs.Started.{caster-held, peer-held, started, texts-count}
