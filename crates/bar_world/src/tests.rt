@@ -49,7 +49,7 @@ fn nobody_is_evicted_where_all_is_delivered(rt: HostRuntime) -> Result<(), Fail>
     let mut network = begin(alloc, 1)?;
     let world = &mut network.world;
     let mut sent = 0;
-    for _ in 0..48 {
+    for _ in 0..120 {
         tick_all(alloc, world)?;
         sent = deliver_all(alloc, world, sent)?;
     }
