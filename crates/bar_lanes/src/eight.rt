@@ -1,0 +1,120 @@
+//! SHA-256 of eight messages of 55 bytes side by side; a message of 55 bytes is one block.
+
+ghost use Rattle.std.specs.Prelude.{◌≡◌, ℕ, ◌*◌, ◌+◌, ◌<◌, ◌≤◌, [], length, take, slice_index, slice_index_or};
+ghost use Rattle.sha2.specs.Sha256.{padded_message, word_at, digest_bytes, compress, initial_hash_256, sha256};
+ghost use Rattle.bar_lanes.specs.Lane.{lane_at, hash_lane};
+
+use crate::rounds::compress;
+use std::simd::u32x8;
+
+// The padding of a message of 55 bytes: a bit 1, and its length of 440 bits (FIPS 180-4, 5.1.1).
+const PADDING: [u8; 9] = [0x80, 0, 0, 0, 0, 0, 0, 0x01, 0xb8];
+
+// The block of a message (FIPS 180-4, 5.1.1).
+fn block(message: &[u8; 55]) -> [u8; 64]
+    ensures padded { result ≡ padded_message message.now }
+    ensures length { length message.now ≡ 55 }
+{
+    let mut block = [0u8; 64];
+    block[..55].copy_from_slice(message);
+    block[55..].copy_from_slice(&PADDING);
+    block
+}
+
+// The word at byte `at` of a block (FIPS 180-4, 5.2.1).
+fn word(block: &[u8; 64], at: usize) -> u32
+    requires { at + 4 ≤ 64 }
+    ensures { result ≡ word_at block.now at }
+{
+    u32::from_be_bytes([block[at], block[at + 1], block[at + 2], block[at + 3]])
+}
+
+// Word k of each block, a lane for each.
+fn words_at(blocks: &[[u8; 64]; 8], k: usize) -> u32x8
+    requires { k < 16 }
+    ensures { (j : ℕ) → j < 8 → slice_index result j ≡ word_at (slice_index_or blocks.now j []) (4 * k) }
+{
+    u32x8::from_array([
+        word(&blocks[0], 4 * k),
+        word(&blocks[1], 4 * k),
+        word(&blocks[2], 4 * k),
+        word(&blocks[3], 4 * k),
+        word(&blocks[4], 4 * k),
+        word(&blocks[5], 4 * k),
+        word(&blocks[6], 4 * k),
+        word(&blocks[7], 4 * k),
+    ])
+}
+
+// The digest of lane j: its eight words, the highest byte of each first (FIPS 180-4, 6.2.2).
+fn digest_at(hash: &[[u32; 8]; 8], j: usize) -> [u8; 32]
+    requires { j < 8 }
+    ensures { result ≡ digest_bytes (hash_lane j hash.now) 8 }
+{
+    let mut digest = [0u8; 32];
+    'words: for i in 0..8 {
+        let lanes = hash[i];
+        digest[4 * i..4 * i + 4].copy_from_slice(&lanes[j].to_be_bytes());
+    }
+    digest
+}
+
+// The lanes of each word.
+fn lanes_of(hash: [u32x8; 8]) -> [[u32; 8]; 8]
+    ensures { result ≡ hash }
+{
+    let [a, b, c, d, e, f, g, h] = hash;
+    [
+        a.to_array(),
+        b.to_array(),
+        c.to_array(),
+        d.to_array(),
+        e.to_array(),
+        f.to_array(),
+        g.to_array(),
+        h.to_array(),
+    ]
+}
+
+// The initial hash value in each lane (FIPS 180-4, 5.3.3).
+fn initial_hash() -> [u32x8; 8]
+    ensures { (j : ℕ) → j < 8 → hash_lane j result ≡ initial_hash_256 }
+{
+    [
+        u32x8::splat(0x6a09_e667),
+        u32x8::splat(0xbb67_ae85),
+        u32x8::splat(0x3c6e_f372),
+        u32x8::splat(0xa54f_f53a),
+        u32x8::splat(0x510e_527f),
+        u32x8::splat(0x9b05_688c),
+        u32x8::splat(0x1f83_d9ab),
+        u32x8::splat(0x5be0_cd19),
+    ]
+}
+
+// The hash values of eight blocks: eight words, with a lane for each block.
+fn hashes(blocks: &[[u8; 64]; 8]) -> [[u32; 8]; 8]
+    ensures { (j : ℕ) → j < 8 → hash_lane j result ≡ compress initial_hash_256 (slice_index_or blocks.now j []) }
+{
+    let mut words = [u32x8::splat(0); 16];
+    'load: for k in 0..16 {
+        words[k] = words_at(blocks, k);
+    }
+    let mut hash = initial_hash();
+    compress(&mut hash, &words);
+    lanes_of(hash)
+}
+
+/// Writes the SHA-256 of each of eight messages of 55 bytes, digest j being that of message j (FIPS 180-4, 6.2).
+pub fn sha_eight(messages: &[[u8; 55]; 8], out: &mut [[u8; 32]; 8])
+    ensures { (j : ℕ) → j < 8 → slice_index_or out.new j [] ≡ sha256 (slice_index_or messages.now j []) }
+{
+    let mut blocks = [[0u8; 64]; 8];
+    'fill: for j in 0..8 {
+        blocks[j] = block(&messages[j]);
+    }
+    let lanes = hashes(&blocks);
+    'write: for j in 0..8 {
+        out[j] = digest_at(&lanes, j);
+    }
+}

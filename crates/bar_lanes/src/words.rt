@@ -1,0 +1,34 @@
+//! Rows of words of 64 bits.
+
+ghost use Rattle.std.specs.Prelude.{◌≡◌, ℕ, ◌*◌, ◌+◌, ◌≤◌, length, take, bit_and, count_ones, sum_by};
+ghost use Rattle.std.specs.Int.{w64, bit_not};
+ghost use Rattle.std.specs.Simd.Lanes.{zip2};
+
+use std::simd::u64x4;
+
+const LANES: usize = 4;
+
+/// Writes the n words of `a` to the n words of `out`, without the bits that the word of `b` at the same place has.
+pub fn and_not(a: &[u64], b: &[u64], out: &mut [u64])
+    requires second { length b.now ≡ length a.now }
+    requires written { length out.old ≡ length a.now }
+    ensures { out.new ≡ zip2 (λ x y. bit_and x (bit_not w64 y)) a.now b.now }
+{
+    let whole = a.len() / LANES;
+    'wide: for i in 0..whole {
+        let at = LANES * i;
+        let lanes = u64x4::from_slice(&a[at..]) & !u64x4::from_slice(&b[at..]);
+        lanes.copy_to_slice(&mut out[at..]);
+    }
+    'narrow: for k in LANES * whole..a.len() {
+        out[k] = a[k] & !b[k];
+    }
+}
+
+/// The number of bits that are set in at most 1,024 words.
+pub fn count(a: &[u64]) -> u32
+    requires { length a.now ≤ 1024 }
+    ensures { result ≡ sum_by count_ones a.now }
+{
+    a.iter().map(|word| word.count_ones()).sum()
+}
