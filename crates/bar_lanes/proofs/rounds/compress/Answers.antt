@@ -11,7 +11,8 @@ first-init c j block below is = refl
 
 pub first-preserved : goal.first-preserved
 first-preserved c j block below is =
-    c.first_step-working.ensures j block (hash_lane j c.args.hash.now) below (window_first block c.args.words.now j (omega arith) is) (c.first.invariant j block below is)
+    c.first_step-working.ensures j block (hash_lane j c.args.hash.now) below (window_first block c.args.words.now j (omega arith) is)
+    (c.first.invariant j block below is)
 
 pub turns-init : goal.turns-init
 turns-init c j block below is =
@@ -19,14 +20,17 @@ turns-init c j block below is =
     (window_first block c.args.words.now j (omega arith) is, rw done at (c.first.invariant j block below is))
 
 pub places-init : goal.places-init
-places-init c j block below is = IsRoundsAt_at block (hash_lane j c.args.hash.now) _ _ (16 * c.turns.turn) _ (omega arith) (c.turns.invariant j block below is)
+places-init c j block below is =
+    IsRoundsAt_at block (hash_lane j c.args.hash.now) _ _ (16 * c.turns.turn) _ (omega arith) (c.turns.invariant j block below is)
 
 pub places-preserved : goal.places-preserved
-places-preserved c j block below is = c.step-working.ensures j block (hash_lane j c.args.hash.now) below (c.places.invariant j block below is)
+places-preserved c j block below is =
+    c.step-working.ensures j block (hash_lane j c.args.hash.now) below (c.places.invariant j block below is)
 
 pub turns-preserved : goal.turns-preserved
 turns-preserved c j block below is =
-    IsRoundsAt_at block (hash_lane j c.args.hash.now) _ _ (16 * c.turns.turn + c.places.place) _ (omega arith) (c.places.invariant j block below is)
+    IsRoundsAt_at block (hash_lane j c.args.hash.now) _ _ (16 * c.turns.turn + c.places.place) _ (omega arith)
+    (c.places.invariant j block below is)
 
 pub returns : goal.returns
 unfolding compress

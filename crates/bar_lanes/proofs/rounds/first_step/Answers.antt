@@ -7,4 +7,5 @@ use Rattle.bar_lanes.proofs.rounds.first_step.Goals as goal
 pub returns : goal.returns
 returns c j block start below window held =
     let word = slice_index-lane c.args.window.now j c.args.t (omega arith) in
-    rounds_first block start (lane j c.args.window.now) (hash_lane j c.args.working) c.args.t _ _ _ c.requires window held refl refl (rw word (c.round.ensures j below))
+    rounds_first block start (lane j c.args.window.now) (hash_lane j c.args.working) c.args.t _ _ _ c.requires window held refl refl
+    (rw word (c.round.ensures j below))

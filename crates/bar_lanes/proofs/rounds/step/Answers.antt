@@ -12,4 +12,5 @@ returns c j block start below held =
     IsRoundsAt_at block start _ _ (t + 1) _ (omega arith)
     (rounds_window block start (lane j c.args.window.now) (hash_lane j c.args.working) t _ _ _ _ (omega arith) (omega arith) held.0 held.1
     (word.value j below ∙ window_word_place (lane j c.args.window.now) c.args.turn c.args.place)
-    (rw (word.written, at) (map-set (λ v. slice_index v j) c.args.window.now c.args.place c.next_word-word.result)) refl (c.round.ensures j below))
+    (rw (word.written, at) (map-set (λ v. slice_index v j) c.args.window.now c.args.place c.next_word-word.result))
+    refl (c.round.ensures j below))
