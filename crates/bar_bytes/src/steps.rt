@@ -7,7 +7,7 @@ use std::sync::ledger::{Blank, Book, Ledger, Share};
 
 /// How many steps were taken; one step is one SHA-256.
 ///
-/// The count takes no bytes, and only `tick` changes it.
+/// The count takes no bytes, and only `tick` and `eight` change it.
 #[derive(Drop)]
 pub struct Steps<L: Ledger> {
     book: Book<L>,
@@ -40,5 +40,13 @@ impl<L: Ledger> Steps<L> {
         ensures { self.new ≡ self.old + 1 }
     {
         self.book.add(&mut self.share, 1);
+    }
+
+    /// Counts eight steps.
+    #[inline(always)]
+    pub fn eight(&mut self)
+        ensures { self.new ≡ self.old + 8 }
+    {
+        self.book.add(&mut self.share, 8);
     }
 }

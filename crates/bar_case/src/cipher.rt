@@ -3,6 +3,7 @@
 ghost use Rattle.std.specs.Prelude.{◌≡◌, ℕ, ◌+◌, ◌*◌, ◌%◌, ◌^◌, ◌<◌, length, drop};
 ghost use Rattle.bar_case.specs.Keystream.{keystream, xor_bytes};
 
+use bar_lanes::xor_into;
 use rand_chacha::ChaCha20Rng;
 use rand_core::{Rng, SeedableRng};
 
@@ -15,17 +16,8 @@ pub(crate) fn keystream(key: &[u8; 32], word: usize, out: &mut [u8])
     rng.fill_bytes(out);
 }
 
-fn xor_into(out: &mut [u8], bytes: &[u8])
-    requires { length bytes.now ≡ length out.old }
-    ensures { out.new ≡ xor_bytes out.old bytes.now }
-{
-    for (i, byte) in bytes.iter().enumerate() {
-        out[i] ^= *byte;
-    }
-}
-
 /// Writes bytes under the keystream from byte `at` on: the cipher of plaintext that stands there, or the plaintext of a cipher.
-#[tactic(auto, using(crate::proofs::Xor::xor_swap))]
+#[tactic(auto, using(crate::proofs::Xor::zip2_is_xor, crate::proofs::Xor::xor_swap))]
 pub(crate) fn crypt(key: &[u8; 32], at: usize, bytes: &[u8], out: &mut [u8])
     requires length { length bytes.now ≡ length out.old }
     requires word { at % 4 ≡ 0 }

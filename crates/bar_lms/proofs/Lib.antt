@@ -1,5 +1,6 @@
 pub mod ChainLemmas
 pub mod DigitLemmas
+pub mod GroupLemmas
 pub mod ListLemmas
 pub mod TreeLemmas
 pub mod TreeFill

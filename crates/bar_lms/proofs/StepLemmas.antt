@@ -1,21 +1,16 @@
 -- How many hashes acceptance takes.
-use Rattle.std.proofs.Common.{◌≡◌, ℕ, zero, suc, ◌*◌, ◌≤◌, List, true, false, if◌then◌else◌, refl, arith, drop, take}
+use Rattle.std.proofs.Common.{◌≡◌, ℕ, ◌≤◌, List, true, false, if◌then◌else◌, refl, arith, drop, take}
 use Rattle.bar_lms.specs.Params.{chains, last, most_steps}
-use Rattle.bar_lms.specs.Chains.{total, steps_left, message_hash}
+use Rattle.bar_lms.specs.Chains.{steps_left, message_hash}
 use Rattle.bar_lms.specs.Signature.{Public, number_at, candidate_steps}
 use Rattle.bar_lms.specs.Acceptance.{is_well_formed, steps_taken}
-
--- a sum of numbers with a bound
-total_most : (f : ℕ → ℕ) (most n : ℕ) → ((i : ℕ) → f i ≤ most) → total f n ≤ n * most
-unfolding total
-total_most f most zero each = omega arith
-total_most f most (suc n) each = omega (arith, each n, total_most f most n each)
+use Rattle.bar_lms.proofs.GroupLemmas.{eights_within}
 
 candidate_few : (k : Public) (q : ℕ) (message sig : List ℕ) → candidate_steps k q message sig ≤ most_steps k.params
 unfolding candidate_steps
 candidate_few k q message sig =
     let hash = message_hash k.ident q (take 32 (drop 8 sig)) message in
-    omega (arith, total_most (steps_left k.params.ots hash) (last k.params.ots) (chains k.params.ots) (λ i. omega arith))
+    omega (arith, eights_within (steps_left k.params.ots hash) (last k.params.ots) (chains k.params.ots) (λ i. omega arith))
 
 pub none_taken : (k : Public) (message sig : List ℕ) → is_well_formed k sig ≡ false → steps_taken k message sig ≡ 0
 unfolding steps_taken

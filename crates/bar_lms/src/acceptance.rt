@@ -1,16 +1,17 @@
 //! Acceptance of a signature.
 
-ghost use Rattle.std.specs.Prelude.{◌≡◌, ℕ, ◌+◌, ◌-◌, ◌*◌, ◌/◌, ◌%◌, ◌^◌, ◌≤◌, ◌<◌, ◌++◌, ◌↔◌, ◌∷◌, [], List, IsTrue, length, take, drop};
+ghost use Rattle.std.specs.Prelude.{◌≡◌, ℕ, ◌+◌, ◌-◌, ◌*◌, ◌/◌, ◌%◌, ◌^◌, ◌≤◌, ◌<◌, ◌++◌, ◌↔◌, ◌∷◌, [], List, IsTrue, length, take, drop, slice_index, slice_index_or};
 ghost use Rattle.std.specs.Int.{w16, w32, to_be_bytes};
 ghost use Rattle.sha2.specs.Hashers.{Holds256};
 ghost use Rattle.bar_lms.specs.Params.{chains, levels, signature_len, most_steps};
-ghost use Rattle.bar_lms.specs.Chains.{joined, total, steps_left, message_hash, one_time_key};
+ghost use Rattle.bar_lms.specs.Chains.{place, chain, joined, left_in, most_of, in_groups, total_from, by_eights, steps_left, message_hash, one_time_key};
 ghost use Rattle.bar_lms.specs.Tree.{leaf_node, parent, climb};
 ghost use Rattle.bar_lms.specs.Signature.{Public, hash_at, number_at, end_at, candidate, candidate_steps};
 ghost use Rattle.bar_lms.specs.Acceptance.{Accepts, is_well_formed, is_accepted, steps_taken};
 
 use crate::chains::chain;
 use crate::digits::{coef, with_checksum};
+use crate::groups::{add_eight, digits_of_eight, eight_chains};
 use crate::key::PublicKey;
 use crate::params::{Height, Ots, Params};
 use bar_bytes::Steps;
@@ -123,6 +124,89 @@ fn top<L: Ledger>(
     below
 }
 
+// A copy of hash i of a row of hashes.
+fn hash_copy(row: &[u8], i: usize) -> [u8; 32]
+    requires { 32 * i + 32 ≤ length row.now }
+    ensures { result ≡ hash_at row.now i }
+{
+    let mut hash = [0u8; 32];
+    hash.copy_from_slice(hash_at(row, i));
+    hash
+}
+
+// The ends of chains `first` to `first + 7`, from the values in a signature and their digits on.
+fn ends_of_eight<L: Ledger>(
+    ident: &[u8; 16],
+    q: u32,
+    first: usize,
+    values: &[u8],
+    from: &[u8; 8],
+    last: u8,
+    steps: &mut Steps<L>,
+) -> [[u8; 32]; 8]
+    requires rows { 32 * (first + 8) ≤ length values.now }
+    requires places { first + 8 ≤ 2 ^ 16 }
+    requires digits { (j : ℕ) → j < 8 → slice_index from.now j ≤ last }
+    ensures value { (j : ℕ) → j < 8 → slice_index_or result j []
+        ≡ chain (place ident.now q (first + j)) (slice_index from.now j) (last - slice_index from.now j) (hash_at values.now (first + j)) }
+    ensures cost { steps.new ≡ steps.old + 8 * most_of (left_in from.now last) 0 8 }
+{
+    let mut starts = [[0u8; 32]; 8];
+    let mut counts = [0u8; 8];
+    'starts: for j in 0..8 {
+        starts[j] = hash_copy(values, first + j);
+        counts[j] = last - from[j];
+    }
+    eight_chains(ident, q, first, &starts, from, &counts, steps)
+}
+
+// Adds the ends of all chains that stand in groups of eight.
+fn add_groups<L: Ledger>(
+    ident: &[u8; 16],
+    q: u32,
+    hash: &[u8; 32],
+    values: &[u8],
+    ots: Ots,
+    hasher: &mut Sha256,
+    steps: &mut Steps<L>,
+)
+    requires whole { 32 * chains ots ≤ length values.now }
+    ensures held { (m : List ℕ) → Holds256 hasher.old m
+        → Holds256 hasher.new (m ++ joined (end_at ident.now q ots hash.now values.now) (8 * (chains ots / 8))) }
+    ensures cost { steps.new ≡ steps.old + in_groups (steps_left ots hash.now) (chains ots / 8) }
+{
+    let digits = with_checksum(hash, ots);
+    'groups: for g in 0..ots.chains() / 8 {
+        let from = digits_of_eight(&digits, 8 * g, ots);
+        let ends = ends_of_eight(ident, q, 8 * g, values, &from, ots.last() as u8, steps);
+        add_eight(hasher, &ends);
+    }
+}
+
+// Adds the ends of the last chains, which fill no group of eight.
+fn add_singles<L: Ledger>(
+    ident: &[u8; 16],
+    q: u32,
+    hash: &[u8; 32],
+    values: &[u8],
+    ots: Ots,
+    hasher: &mut Sha256,
+    steps: &mut Steps<L>,
+)
+    requires whole { 32 * chains ots ≤ length values.now }
+    ensures held { (m : List ℕ) → Holds256 hasher.old (m ++ joined (end_at ident.now q ots hash.now values.now) (8 * (chains ots / 8)))
+        → Holds256 hasher.new (m ++ joined (end_at ident.now q ots hash.now values.now) (chains ots)) }
+    ensures cost { steps.new ≡ steps.old + total_from (steps_left ots hash.now) (8 * (chains ots / 8)) (chains ots % 8) }
+{
+    let digits = with_checksum(hash, ots);
+    let last = ots.last();
+    'singles: for i in 8 * (ots.chains() / 8)..ots.chains() {
+        let digit = coef(&digits, i, ots);
+        let end = chain(ident, q, i as u16, hash_at(values, i), digit, last, steps);
+        hasher.update(end.as_slice());
+    }
+}
+
 // The one-time key that a signature's values lead to.
 fn key_of_ends<L: Ledger>(
     ident: &[u8; 16],
@@ -134,16 +218,11 @@ fn key_of_ends<L: Ledger>(
 ) -> [u8; 32]
     requires whole { 32 * chains ots ≤ length values.now }
     ensures value { result ≡ one_time_key ident.now q (joined (end_at ident.now q ots hash.now values.now) (chains ots)) }
-    ensures cost { steps.new ≡ steps.old + (total (steps_left ots hash.now) (chains ots) + 1) }
+    ensures cost { steps.new ≡ steps.old + (by_eights (steps_left ots hash.now) (chains ots) + 1) }
 {
-    let digits = with_checksum(hash, ots);
-    let last = ots.last();
     let mut hasher = head(ident, q, 0x8080, steps);
-    'chains: for i in 0..ots.chains() {
-        let digit = coef(&digits, i, ots);
-        let end = chain(ident, q, i as u16, hash_at(values, i), digit, last, steps);
-        hasher.update(end.as_slice());
-    }
+    add_groups(ident, q, hash, values, ots, &mut hasher, steps);
+    add_singles(ident, q, hash, values, ots, &mut hasher, steps);
     hasher.finalize()
 }
 

@@ -16,6 +16,7 @@ mod acceptance;
 mod bytes;
 mod chains;
 mod digits;
+mod groups;
 mod key;
 mod laws;
 mod params;

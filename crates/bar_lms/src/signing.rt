@@ -1,9 +1,9 @@
 //! Signing.
 
-ghost use Rattle.std.specs.Prelude.{◌≡◌, ℕ, ◌+◌, ◌*◌, ◌^◌, ◌≤◌, ◌<◌, ◌++◌, length, take, drop};
+ghost use Rattle.std.specs.Prelude.{◌≡◌, ℕ, ◌+◌, ◌*◌, ◌^◌, ◌≤◌, ◌<◌, ◌++◌, ◌/◌, ◌%◌, [], List, length, take, drop, slice_index, slice_index_or};
 ghost use Rattle.std.specs.Int.{w32, to_be_bytes};
 ghost use Rattle.bar_lms.specs.Params.{chains, levels, signature_len};
-ghost use Rattle.bar_lms.specs.Chains.{joined, total, digit};
+ghost use Rattle.bar_lms.specs.Chains.{joined, in_groups, total_from, by_eights, signed_steps, hash_in};
 ghost use Rattle.bar_lms.specs.Tree.{HoldsTree, sibling};
 ghost use Rattle.bar_lms.specs.Signature.{signed_value, sibling_at, signature, public_of};
 ghost use Rattle.bar_lms.specs.Acceptance.{Accepts};
@@ -11,12 +11,74 @@ ghost use Rattle.bar_lms.specs.Acceptance.{Accepts};
 use crate::acceptance::message_hash;
 use crate::bytes::put;
 use crate::digits::{coef, with_checksum};
+use crate::groups::digits_of_eight;
 use crate::params::Params;
 use crate::private::Private;
-use crate::tree::value;
+use crate::tree::{value, values_of_eight};
 use bar_bytes::Steps;
 use std::marker::Brand;
 use std::sync::ledger::{Blank, Ledger};
+
+// Writes eight hashes at a place, one after another.
+fn put_eight(out: &mut [u8], at: usize, hashes: &[[u8; 32]; 8])
+    requires { at + 256 ≤ length out.old }
+    ensures grown { take (at + 256) out.new ≡ take at out.old ++ joined (hash_in hashes.now) 8 }
+    ensures rest { drop (at + 256) out.new ≡ drop (at + 256) out.old }
+{
+    'hashes: for j in 0..8 {
+        let hash = hashes[j];
+        put_hash(out, at + 32 * j, &hash);
+    }
+}
+
+// Writes the values of all chains that stand in groups of eight, from byte 40 on.
+fn put_groups<L: Ledger>(
+    key: &Private,
+    q: u32,
+    hash: &[u8; 32],
+    out: &mut [u8],
+    steps: &mut Steps<L>,
+)
+    requires { 40 + 32 * chains key.now.params.ots ≤ length out.old }
+    ensures grown { take (40 + 32 * (8 * (chains key.now.params.ots / 8))) out.new
+        ≡ take 40 out.old ++ joined (signed_value key.now q hash.now) (8 * (chains key.now.params.ots / 8)) }
+    ensures rest { drop (40 + 32 * chains key.now.params.ots) out.new ≡ drop (40 + 32 * chains key.now.params.ots) out.old }
+    ensures cost { steps.new ≡ steps.old + in_groups (signed_steps key.now.params.ots hash.now) (chains key.now.params.ots / 8) }
+{
+    let ots = key.params.ots;
+    let digits = with_checksum(hash, ots);
+    'groups: for g in 0..ots.chains() / 8 {
+        let counts = digits_of_eight(&digits, 8 * g, ots);
+        let values = values_of_eight(key, q, 8 * g, &counts, steps);
+        put_eight(out, 40 + 32 * (8 * g), &values);
+    }
+}
+
+// Writes the values of the last chains, which fill no group of eight.
+fn put_singles<L: Ledger>(
+    key: &Private,
+    q: u32,
+    hash: &[u8; 32],
+    out: &mut [u8],
+    steps: &mut Steps<L>,
+)
+    requires { 40 + 32 * chains key.now.params.ots ≤ length out.old }
+    ensures grown { (front : List ℕ) → take (40 + 32 * (8 * (chains key.now.params.ots / 8))) out.old
+        ≡ front ++ joined (signed_value key.now q hash.now) (8 * (chains key.now.params.ots / 8))
+        → take (40 + 32 * chains key.now.params.ots) out.new
+        ≡ front ++ joined (signed_value key.now q hash.now) (chains key.now.params.ots) }
+    ensures rest { drop (40 + 32 * chains key.now.params.ots) out.new ≡ drop (40 + 32 * chains key.now.params.ots) out.old }
+    ensures cost { steps.new ≡ steps.old
+        + total_from (signed_steps key.now.params.ots hash.now) (8 * (chains key.now.params.ots / 8)) (chains key.now.params.ots % 8) }
+{
+    let ots = key.params.ots;
+    let digits = with_checksum(hash, ots);
+    'singles: for i in 8 * (ots.chains() / 8)..ots.chains() {
+        let digit = coef(&digits, i, ots);
+        let value = value(key, q, i as u16, digit, steps);
+        put_hash(out, 40 + 32 * i, &value);
+    }
+}
 
 // Writes the values of the chains, from byte 40 on.
 fn put_values<L: Ledger>(
@@ -30,15 +92,10 @@ fn put_values<L: Ledger>(
     ensures grown { take (40 + 32 * chains key.now.params.ots) out.new
         ≡ take 40 out.old ++ joined (signed_value key.now q hash.now) (chains key.now.params.ots) }
     ensures rest { drop (40 + 32 * chains key.now.params.ots) out.new ≡ drop (40 + 32 * chains key.now.params.ots) out.old }
-    ensures cost { steps.new ≡ steps.old + total (λ i. 1 + digit key.now.params.ots hash.now i) (chains key.now.params.ots) }
+    ensures cost { steps.new ≡ steps.old + by_eights (signed_steps key.now.params.ots hash.now) (chains key.now.params.ots) }
 {
-    let ots = key.params.ots;
-    let digits = with_checksum(hash, ots);
-    'chains: for i in 0..ots.chains() {
-        let digit = coef(&digits, i, ots);
-        let value = value(key, q, i as u16, digit, steps);
-        put_hash(out, 40 + 32 * i, &value);
-    }
+    put_groups(key, q, hash, out, steps);
+    put_singles(key, q, hash, out, steps);
 }
 
 // The node that has the same parent.

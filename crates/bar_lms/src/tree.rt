@@ -1,14 +1,17 @@
 //! The tree over the one-time keys.
 
-ghost use Rattle.std.specs.Prelude.{◌≡◌, ℕ, ◌+◌, ◌-◌, ◌*◌, ◌^◌, ◌≤◌, ◌<◌, length};
+ghost use Rattle.std.specs.Prelude.{◌≡◌, ℕ, ◌+◌, ◌-◌, ◌*◌, ◌/◌, ◌%◌, ◌^◌, ◌≤◌, ◌<◌, ◌++◌, [], List, length, slice_index, slice_index_or};
+ghost use Rattle.sha2.specs.Hashers.{Holds256};
 ghost use Rattle.bar_lms.specs.Params.{chains, last, levels};
-ghost use Rattle.bar_lms.specs.Tree.{value, leaf_key, leaf_key_steps, node, HoldsLeaves, HoldsTree};
+ghost use Rattle.bar_lms.specs.Chains.{joined, most_of};
+ghost use Rattle.bar_lms.specs.Tree.{value, whole_value, leaf_key, leaf_key_steps, node, HoldsLeaves, HoldsTree};
 
 use crate::acceptance::{head, leaf_node, parent_of};
 use crate::chains::chain;
+use crate::groups::{add_eight, eight_chains};
 use crate::private::Private;
 use bar_bytes::Steps;
-use sha2::Digest;
+use sha2::{Digest, Sha256};
 use std::marker::Brand;
 use std::sync::ledger::{Blank, Ledger};
 
@@ -29,18 +32,59 @@ pub(crate) fn value<L: Ledger>(
     chain(&key.ident, q, i, &start, 0, n, steps)
 }
 
+/// The values of chains `first` to `first + 7` of leaf q, each after its own number of steps.
+pub(crate) fn values_of_eight<L: Ledger>(
+    key: &Private,
+    q: u32,
+    first: usize,
+    counts: &[u8; 8],
+    steps: &mut Steps<L>,
+) -> [[u8; 32]; 8]
+    requires { first + 8 ≤ 2 ^ 16 }
+    ensures value { (j : ℕ) → j < 8 → slice_index_or result j [] ≡ value key.now q (slice_index counts.now j) (first + j) }
+    ensures cost { steps.new ≡ steps.old + 8 * (1 + most_of (slice_index counts.now) 0 8) }
+{
+    let seeds = [key.seed; 8];
+    let starts = eight_chains(&key.ident, q, first, &seeds, &[255; 8], &[1; 8], steps);
+    eight_chains(&key.ident, q, first, &starts, &[0; 8], counts, steps)
+}
+
+// Adds the ends of all chains that stand in groups of eight.
+fn add_groups<L: Ledger>(key: &Private, q: u32, hasher: &mut Sha256, steps: &mut Steps<L>)
+    ensures held { (m : List ℕ) → Holds256 hasher.old m
+        → Holds256 hasher.new (m ++ joined (whole_value key.now q) (8 * (chains key.now.params.ots / 8))) }
+    ensures cost { steps.new ≡ steps.old + 8 * (chains key.now.params.ots / 8) * (1 + last key.now.params.ots) }
+{
+    let ots = key.params.ots;
+    let counts = [ots.last() as u8; 8];
+    'groups: for g in 0..ots.chains() / 8 {
+        let ends = values_of_eight(key, q, 8 * g, &counts, steps);
+        add_eight(hasher, &ends);
+    }
+}
+
+// Adds the ends of the last chains, which fill no group of eight.
+fn add_singles<L: Ledger>(key: &Private, q: u32, hasher: &mut Sha256, steps: &mut Steps<L>)
+    ensures held { (m : List ℕ) → Holds256 hasher.old (m ++ joined (whole_value key.now q) (8 * (chains key.now.params.ots / 8)))
+        → Holds256 hasher.new (m ++ joined (whole_value key.now q) (chains key.now.params.ots)) }
+    ensures cost { steps.new ≡ steps.old + chains key.now.params.ots % 8 * (1 + last key.now.params.ots) }
+{
+    let ots = key.params.ots;
+    'singles: for i in 8 * (ots.chains() / 8)..ots.chains() {
+        let end = value(key, q, i as u16, ots.last(), steps);
+        hasher.update(end.as_slice());
+    }
+}
+
 /// The one-time public key of leaf q.
 #[tactic(auto, unfolding(crate::specs::Tree::leaf_key))]
 fn leaf_key<L: Ledger>(key: &Private, q: u32, steps: &mut Steps<L>) -> [u8; 32]
     ensures value { result ≡ leaf_key key.now q }
     ensures cost { steps.new ≡ steps.old + leaf_key_steps key.now.params.ots }
 {
-    let ots = key.params.ots;
     let mut hasher = head(&key.ident, q, 0x8080, steps);
-    'chains: for i in 0..ots.chains() {
-        let end = value(key, q, i as u16, ots.last(), steps);
-        hasher.update(end.as_slice());
-    }
+    add_groups(key, q, &mut hasher, steps);
+    add_singles(key, q, &mut hasher, steps);
     hasher.finalize()
 }
 

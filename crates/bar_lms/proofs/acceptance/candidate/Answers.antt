@@ -1,7 +1,7 @@
 use Rattle.std.proofs.Common.{◌≡◌, ◌+◌, ◌*◌, ◌^◌, ◌%◌, take, drop, arith}
 use Rattle.std.proofs.lemmas.List.{take_rest}
 use Rattle.bar_lms.specs.Params.{levels, chains}
-use Rattle.bar_lms.specs.Chains.{joined, total, steps_left, message_hash, one_time_key}
+use Rattle.bar_lms.specs.Chains.{joined, by_eights, steps_left, message_hash, one_time_key}
 use Rattle.bar_lms.specs.Tree.{climb, leaf_node}
 use Rattle.bar_lms.specs.Signature.{candidate, candidate_steps, hash_at, end_at}
 use Rattle.bar_lms.proofs.DigitLemmas.{level_facts}
@@ -12,7 +12,8 @@ unfolding candidate_steps
 returns-clause-cost g c =
     let height = c.key.inside.params.height in
     let ots = c.key.inside.params.ots in
-    let all : c.top.new.steps ≡ c.args.steps.now + (1 + total (steps_left ots c.message_hash-hash.result) (chains ots) + 1 + 1 + levels height) = omega arith in
+    let left = by_eights (steps_left ots c.message_hash-hash.result) (chains ots) in
+    let all : c.top.new.steps ≡ c.args.steps.now + (1 + left + 1 + 1 + levels height) = omega arith in
     rw (← c.key.view_is) (rw c.message_hash-hash.ensures.value at all)
 
 pub returns-clause-value : goal.returns-clause-value
@@ -22,15 +23,20 @@ returns-clause-value g c =
     let height = c.key.inside.params.height in
     let ots = c.key.inside.params.ots in
     let sig = c.args.sig.now in
-    let hash : c.message_hash-hash.result ≡ message_hash ident c.args.q (take 32 (drop 8 sig)) c.args.message.now = c.message_hash-hash.ensures.value in
-    let key : c.key_of_ends-one_time_key.result ≡ one_time_key ident c.args.q (joined (end_at ident c.args.q ots c.message_hash-hash.result (drop 40 sig)) (chains ots))
+    let hash : c.message_hash-hash.result ≡ message_hash ident c.args.q (take 32 (drop 8 sig)) c.args.message.now =
+    c.message_hash-hash.ensures.value
+    in
+    let ends = joined (end_at ident c.args.q ots c.message_hash-hash.result (drop 40 sig)) (chains ots) in
+    let key : c.key_of_ends-one_time_key.result ≡ one_time_key ident c.args.q ends
     = rw (take_rest sig 40) at c.key_of_ends-one_time_key.ensures.value
     in
-    let number : 1 * 2 ^ c.levels.result % 2 ^ 32 + c.args.q ≡ 2 ^ levels height + c.args.q = let leaves = (level_facts height).leaves in rw c.levels.ensures (omega arith) in
-    let leaf : c.leaf_node-leaf.result ≡ leaf_node ident (2 ^ levels height + c.args.q) c.key_of_ends-one_time_key.result
+    let leaves = (level_facts height).leaves in
+    let r = 2 ^ levels height + c.args.q in
+    let number : 1 * 2 ^ c.levels.result % 2 ^ 32 + c.args.q ≡ r = rw c.levels.ensures (omega arith) in
+    let leaf : c.leaf_node-leaf.result ≡ leaf_node ident r c.key_of_ends-one_time_key.result
     = rw number at c.leaf_node-leaf.ensures.value
     in
-    let top : c.top.result ≡ climb ident (hash_at (drop (44 + 32 * chains ots) sig)) (2 ^ levels height + c.args.q) c.leaf_node-leaf.result (levels height)
+    let top : c.top.result ≡ climb ident (hash_at (drop (44 + 32 * chains ots) sig)) r c.leaf_node-leaf.result (levels height)
     = rw (take_rest sig (44 + 32 * c.chains.result), c.chains.ensures) at c.top.ensures.value
     in
     rw (← c.key.view_is) (rw (leaf, key, hash) at top)

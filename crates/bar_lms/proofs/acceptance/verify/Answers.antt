@@ -20,7 +20,9 @@ returns-then-not-is_well_formed g c =
     }
 
 pub number_at-requires : goal.number_at-requires
-number_at-requires g c = let form = (form_test c.args.key.now c.args.sig.now).0 (sym c.if-not-is_well_formed.ensures) in omega (arith, form.length)
+number_at-requires g c =
+    let form = (form_test c.args.key.now c.args.sig.now).0 (sym c.if-not-is_well_formed.ensures) in
+    omega (arith, form.length)
 
 pub candidate-root-requires : goal.candidate-root-requires
 candidate-root-requires g c =

@@ -1,0 +1,165 @@
+//! Eight chains of LM-OTS side by side.
+
+ghost use Rattle.std.specs.Prelude.{◌≡◌, ℕ, ◌+◌, ◌*◌, ◌%◌, ◌^◌, ◌≤◌, ◌<◌, ◌++◌, ◌∷◌, [], List, length, take, drop, slice_index, slice_index_or, if◌then◌else◌, nat_lt};
+ghost use Rattle.sha2.specs.Hashers.{Holds256};
+ghost use Rattle.bar_lms.specs.Params.{digit_bits, chains, last};
+ghost use Rattle.bar_lms.specs.Chains.{place, chain, chain_buffer, coef, most_of};
+
+use crate::chains::{Buffer, buffer};
+use crate::digits::coef;
+use crate::params::Ots;
+use bar_bytes::Steps;
+use bar_lanes::sha_eight;
+use sha2::{Digest, Sha256};
+use std::sync::ledger::Ledger;
+
+// The buffer of chain i of leaf q before the step with this number.
+fn first_buffer(ident: &[u8; 16], q: u32, i: u16, number: u8, value: &[u8; 32]) -> Buffer
+    ensures { result ≡ place ident.now q i ++ number ∷ value.now }
+{
+    buffer(ident, q, i, number, value)
+}
+
+// The buffers of chains `first` to `first + 7` of leaf q, each before the step with its own number.
+fn first_buffers(
+    ident: &[u8; 16],
+    q: u32,
+    first: usize,
+    numbers: &[u8; 8],
+    values: &[[u8; 32]; 8],
+) -> [Buffer; 8]
+    requires { first + 8 ≤ 2 ^ 16 }
+    ensures { (j : ℕ) → j < 8 → slice_index_or result j []
+        ≡ place ident.now q (first + j) ++ slice_index numbers.now j ∷ slice_index_or values.now j [] }
+{
+    let mut buffers = [[0u8; 55]; 8];
+    'fill: for j in 0..8 {
+        let value = values[j];
+        buffers[j] = first_buffer(ident, q, (first + j) as u16, numbers[j], &value);
+    }
+    buffers
+}
+
+// Takes the step of a buffer whose hash this is, where its chain goes on.
+#[inline(always)]
+fn take_step(buffer: &mut Buffer, hash: &[u8; 32], goes: bool)
+    ensures { buffer.new ≡ (if goes then take 22 buffer.old ++ (slice_index buffer.old 22 + 1) % 256 ∷ hash.now else buffer.old) }
+{
+    if goes {
+        buffer[22] = buffer[22].wrapping_add(1);
+        buffer[23..].copy_from_slice(hash.as_slice());
+    }
+}
+
+// Takes the step behind the first n of each buffer whose chain has so many; these are their hashes.
+#[inline(always)]
+fn take_steps(buffers: &mut [Buffer; 8], hashes: &[[u8; 32]; 8], counts: &[u8; 8], n: u8)
+    ensures { (j : ℕ) → j < 8 → slice_index_or buffers.new j [] ≡ (if nat_lt n (slice_index counts.now j)
+        then take 22 (slice_index_or buffers.old j []) ++ (slice_index (slice_index_or buffers.old j []) 22 + 1) % 256
+        ∷ slice_index_or hashes.now j []
+        else slice_index_or buffers.old j []) }
+{
+    take_step(&mut buffers[0], &hashes[0], n < counts[0]);
+    take_step(&mut buffers[1], &hashes[1], n < counts[1]);
+    take_step(&mut buffers[2], &hashes[2], n < counts[2]);
+    take_step(&mut buffers[3], &hashes[3], n < counts[3]);
+    take_step(&mut buffers[4], &hashes[4], n < counts[4]);
+    take_step(&mut buffers[5], &hashes[5], n < counts[5]);
+    take_step(&mut buffers[6], &hashes[6], n < counts[6]);
+    take_step(&mut buffers[7], &hashes[7], n < counts[7]);
+}
+
+// The value in a buffer.
+fn value_in(buffer: &Buffer) -> [u8; 32]
+    ensures { result ≡ drop 23 buffer.now }
+{
+    let mut value = [0u8; 32];
+    value.copy_from_slice(&buffer[23..]);
+    value
+}
+
+// The values in eight buffers.
+fn values_in(buffers: &[Buffer; 8]) -> [[u8; 32]; 8]
+    ensures { (j : ℕ) → j < 8 → slice_index_or result j [] ≡ drop 23 (slice_index_or buffers.now j []) }
+{
+    [
+        value_in(&buffers[0]),
+        value_in(&buffers[1]),
+        value_in(&buffers[2]),
+        value_in(&buffers[3]),
+        value_in(&buffers[4]),
+        value_in(&buffers[5]),
+        value_in(&buffers[6]),
+        value_in(&buffers[7]),
+    ]
+}
+
+// The greatest of eight numbers.
+#[tactic(auto, using(crate::proofs::GroupLemmas::most_none, crate::proofs::GroupLemmas::most_more))]
+fn most(numbers: &[u8; 8]) -> u8
+    ensures { result ≡ most_of (slice_index numbers.now) 0 8 }
+{
+    let mut most = 0;
+    'numbers: for j in 0..8 {
+        most = most.max(numbers[j]);
+    }
+    most
+}
+
+/// The values of chains `first` to `first + 7` of leaf q, chain `first + j` after `counts[j]` steps from number `from[j]` on.
+///
+/// A chain at its end keeps its value while the others go on, so eight steps are counted for each of the longest.
+pub(crate) fn eight_chains<L: Ledger>(
+    ident: &[u8; 16],
+    q: u32,
+    first: usize,
+    values: &[[u8; 32]; 8],
+    from: &[u8; 8],
+    counts: &[u8; 8],
+    steps: &mut Steps<L>,
+) -> [[u8; 32]; 8]
+    requires places { first + 8 ≤ 2 ^ 16 }
+    requires bytes { (j : ℕ) → j < 8 → slice_index from.now j + slice_index counts.now j ≤ 256 }
+    ensures value { (j : ℕ) → j < 8 → slice_index_or result j []
+        ≡ chain (place ident.now q (first + j)) (slice_index from.now j) (slice_index counts.now j) (slice_index_or values.now j []) }
+    ensures cost { steps.new ≡ steps.old + 8 * most_of (slice_index counts.now) 0 8 }
+{
+    let mut buffers = first_buffers(ident, q, first, from, values);
+    let mut hashes = [[0u8; 32]; 8];
+    'steps: for n in 0..most(counts) {
+        sha_eight(&buffers, &mut hashes);
+        steps.eight();
+        take_steps(&mut buffers, &hashes, counts, n);
+    }
+    values_in(&buffers)
+}
+
+/// Digits `first` to `first + 7` of a hash and its checksum.
+pub(crate) fn digits_of_eight(digits: &[u8; 34], first: usize, ots: Ots) -> [u8; 8]
+    requires { first + 8 ≤ chains ots }
+    ensures value { (j : ℕ) → j < 8 → slice_index result j ≡ coef digits.now (first + j) (digit_bits ots) }
+    ensures bound { (j : ℕ) → j < 8 → slice_index result j ≤ last ots }
+{
+    let mut all = [0u8; 8];
+    'digits: for j in 0..8 {
+        all[j] = coef(digits, first + j, ots) as u8;
+    }
+    all
+}
+
+/// Adds eight hashes to a message.
+pub(crate) fn add_eight(hasher: &mut Sha256, hashes: &[[u8; 32]; 8])
+    ensures { (m : List ℕ) → Holds256 hasher.old m → Holds256 hasher.new (m ++ slice_index_or hashes.now 0 []
+        ++ slice_index_or hashes.now 1 [] ++ slice_index_or hashes.now 2 [] ++ slice_index_or hashes.now 3 []
+        ++ slice_index_or hashes.now 4 [] ++ slice_index_or hashes.now 5 [] ++ slice_index_or hashes.now 6 []
+        ++ slice_index_or hashes.now 7 []) }
+{
+    hasher.update(hashes[0].as_slice());
+    hasher.update(hashes[1].as_slice());
+    hasher.update(hashes[2].as_slice());
+    hasher.update(hashes[3].as_slice());
+    hasher.update(hashes[4].as_slice());
+    hasher.update(hashes[5].as_slice());
+    hasher.update(hashes[6].as_slice());
+    hasher.update(hashes[7].as_slice());
+}
