@@ -20,6 +20,3 @@ pub use reply::replies;
 pub use saying::{say_request, say_response};
 pub use tick::again;
 pub use writing::write;
-
-#[cfg(test)]
-mod tests;

@@ -7,8 +7,6 @@ mod laws;
 mod outcome;
 mod report;
 mod session_names;
-#[cfg(test)]
-mod tests;
 mod words;
 
 pub use family::run_children;

@@ -4,13 +4,9 @@
 mod judge;
 mod judge_laws;
 mod judge_names;
-#[cfg(test)]
-mod judge_tests;
 mod judging;
 mod keygen;
 mod keygen_laws;
-#[cfg(test)]
-mod keygen_tests;
 mod keygen_words;
 mod laws;
 mod line;
@@ -19,12 +15,8 @@ mod replay;
 mod replay_names;
 mod run;
 mod session;
-#[cfg(test)]
-mod session_tests;
 mod simulating;
 mod status;
-#[cfg(test)]
-mod tests;
 mod words;
 
 pub use judge_laws::{

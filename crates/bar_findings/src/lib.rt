@@ -4,7 +4,5 @@
 mod evidence;
 mod findings;
 mod table;
-#[cfg(test)]
-mod tests;
 
 pub use findings::write_findings;

@@ -29,8 +29,3 @@ pub use table_fault::TableFault;
 pub use verdicts::Verdict;
 pub use why::Why;
 pub use writing::add_entry;
-
-#[cfg(test)]
-mod table_tests;
-#[cfg(test)]
-mod verdict_tests;

@@ -12,6 +12,3 @@ pub use entry::Entry;
 pub use exchanges::opening_kind;
 pub use ledger::Ledger;
 pub use totals::Totals;
-
-#[cfg(test)]
-mod tests;

@@ -27,6 +27,3 @@ pub use peer_laws::{
 };
 pub use peer_names::PeerNames;
 pub use reading::{read_fresh_key, read_session};
-
-#[cfg(test)]
-mod tests;

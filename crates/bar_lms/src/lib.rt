@@ -23,6 +23,4 @@ mod params;
 mod private;
 mod secret;
 mod signing;
-#[cfg(test)]
-mod tests;
 mod tree;

@@ -24,6 +24,3 @@ pub use paths::Paths;
 pub use recorded::replay;
 pub use running::{run_caster, run_peer};
 pub use summary::Summary;
-
-#[cfg(test)]
-mod tests;

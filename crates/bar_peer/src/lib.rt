@@ -31,6 +31,3 @@ mod weighed;
 pub use credentials::Credentials;
 pub use peer::Peer;
 pub use runs::rules_give_the_run;
-
-#[cfg(test)]
-mod tests;

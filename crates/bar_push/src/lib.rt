@@ -21,6 +21,3 @@ pub use reply::replies;
 pub use saying::{say_query, say_reply};
 pub use tick::again;
 pub use writing::write;
-
-#[cfg(test)]
-mod tests;

@@ -20,8 +20,3 @@ pub use key_file::KeyFile;
 pub use key_writer::key_text;
 pub use numbers::MOST_ROUNDS;
 pub use session::{Session, check_leaves};
-
-#[cfg(test)]
-mod key_tests;
-#[cfg(test)]
-mod tests;

@@ -15,6 +15,3 @@ pub use leaves::{leaf_for, leaf_of};
 pub use lms::{LmsScheme, LmsVerifier, is_accepted_under};
 pub use naming::identity;
 pub use scheme::{Scheme, Verifier};
-
-#[cfg(test)]
-mod tests;

@@ -16,6 +16,3 @@ pub use evidence::keep_evidence;
 pub use orders::Orders;
 pub use sizes::{HEADER_LEN, largest_evict, largest_manifest, most_evidence};
 pub use store::Store;
-
-#[cfg(test)]
-mod tests;

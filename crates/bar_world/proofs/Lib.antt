@@ -1,4 +1,5 @@
 pub mod MadeLemmas
+mod MadeOfHeld
 pub mod KeyReads
 mod Plays
 mod Fair

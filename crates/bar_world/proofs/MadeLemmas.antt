@@ -1,15 +1,14 @@
 -- A session that is made from secrets fits each of them.
 use Rattle.bar_lms.specs.declared.params.Params.{Params}
-use Rattle.bar_lms.specs.Params.{levels, signature_len}
 use Rattle.bar_lms.specs.Secret.{public_key}
 use Rattle.bar_seeds.specs.Seeds.{anchor_of}
-use Rattle.bar_wire.specs.Limits.{leaves_a_round}
 use Rattle.bar_wire.specs.declared.shape.Shape.{Shape}
 use Rattle.bar_roster.specs.KeyFile.{Fits}
-use Rattle.bar_roster.specs.Sessions.{IsSession, IsSessionShape}
+use Rattle.bar_roster.specs.Sessions.{IsSession}
 use Rattle.bar_rules.specs.World.World.{IsSetup}
-use Rattle.bar_world.specs.Made.{Numbers, signing, keys_of, seeding, anchors_from, of_peers, anchors_of, made_session, made_setup}
-use Rattle.std.proofs.Common.{◌≡◌, ℕ, zero, suc, List, [], ◌∷◌, ◌+◌, ◌-◌, ◌*◌, ◌^◌, ◌<◌, ◌≤◌, length, refl, ap, ◌∙◌, arith}
+use Rattle.bar_world.specs.declared.numbers.Numbers.{Numbers}
+use Rattle.bar_world.specs.Made.{AreNumbers, signing, keys_of, seeding, anchors_from, of_peers, anchors_of, made_session, made_setup}
+use Rattle.std.proofs.Common.{◌≡◌, ℕ, zero, suc, List, [], ◌∷◌, ◌+◌, ◌-◌, ◌<◌, ◌≤◌, length, refl, ap, ◌∙◌, arith}
 use Rattle.std.proofs.lemmas.List.{length-map}
 use Rattle.std.specs.Prelude.{Some, slice_get, unwrap_or}
 
@@ -53,16 +52,6 @@ peer-anchor id rounds (secret ∷ secrets) (suc p) h low =
     rw before (anchor-at id rounds 1 secrets p (suc p) (omega (arith, h)) (omega arith))
 
 -- ---- the setup
-
--- The numbers are in the ranges of a session's, and there are enough leaves.
-pub record AreNumbers (shape : Shape) (n : Numbers) : Type 0 where
-  pub shape_is : IsSessionShape shape
-  pub signatures : shape.sig_len ≡ signature_len n.params
-  pub cap_low : 1 ≤ n.cap
-  pub cap_high : n.cap ≤ 16
-  pub fanout_low : 1 ≤ n.fanout
-  pub fanout_high : n.fanout ≤ shape.peers
-  pub leaves : leaves_a_round * shape.rounds ≤ 2 ^ levels n.params.height
 
 made-is-session : (shape : Shape) (n : Numbers) (secrets : List (List ℕ)) → AreNumbers shape n → length secrets ≡ shape.peers + 1
     → IsSession (made_session shape n secrets)

@@ -1,13 +1,17 @@
 -- A setup that is made from its parties' secrets: its session holds the keys and anchors that come from them.
-use Rattle.std.specs.Prelude.{ℕ, ◌+◌, List, [], ◌∷◌, map}
+use Rattle.std.specs.Prelude.{◌≡◌, ℕ, ◌+◌, ◌*◌, ◌^◌, ◌≤◌, List, [], ◌∷◌, map}
 use Rattle.bar_lms.specs.declared.params.Params.{Params}
+use Rattle.bar_lms.specs.Params.{levels, signature_len}
 use Rattle.bar_lms.specs.Secret.{Secret, public_key}
 use Rattle.bar_seeds.specs.declared.secrets.Secrets.{Secrets}
 use Rattle.bar_seeds.specs.Seeds.{anchor_of}
+use Rattle.bar_wire.specs.Limits.{leaves_a_round}
 use Rattle.bar_wire.specs.declared.shape.Shape.{Shape}
+use Rattle.bar_roster.specs.Sessions.{IsSessionShape}
 use Rattle.bar_roster.specs.SessionText.{session_of_parts}
 use Rattle.bar_rules.specs.Member.{Session}
 use Rattle.bar_rules.specs.World.World.{Setup}
+use Rattle.bar_world.specs.declared.numbers.Numbers.{Numbers}
 
 -- ---- keys
 
@@ -40,13 +44,15 @@ anchors_of id rounds secrets = anchors_from id rounds 1 (of_peers secrets)
 
 -- ---- the setup
 
--- the numbers of a session beside those of its datagrams
-pub record Numbers : Type 0 where
-  pub cap : ℕ
-  pub fanout : ℕ
-  pub port : ℕ
-  pub tick_ms : ℕ
-  pub params : Params
+-- The numbers are in the ranges of a session's, and there are enough leaves.
+pub record AreNumbers (shape : Shape) (n : Numbers) : Type 0 where
+  pub shape_is : IsSessionShape shape
+  pub signatures : shape.sig_len ≡ signature_len n.params
+  pub cap_low : 1 ≤ n.cap
+  pub cap_high : n.cap ≤ 16
+  pub fanout_low : 1 ≤ n.fanout
+  pub fanout_high : n.fanout ≤ shape.peers
+  pub leaves : leaves_a_round * shape.rounds ≤ 2 ^ levels n.params.height
 
 abbrev pub made_session : Shape → Numbers → List (List ℕ) → Session
 made_session shape n secrets =
@@ -55,3 +61,7 @@ made_session shape n secrets =
 
 abbrev pub made_setup : Shape → Numbers → List (List ℕ) → List ℕ → Setup
 made_setup shape n secrets stream = record { session = made_session shape n secrets; secrets = secrets; stream = stream }
+
+-- the session of the parties that hold these secrets
+abbrev pub session_by : Shape → Numbers → List Secrets → Session
+session_by shape n held = made_session shape n (map (λ (k : Secrets). k.secret) held)

@@ -11,7 +11,8 @@ use Rattle.bar_case.specs.Keystream.{keystream}
 use Rattle.bar_wire.specs.declared.shape.Shape.{Shape}
 use Rattle.bar_roster.specs.Shapes.{is_shaped, shaped}
 use Rattle.bar_rules.specs.World.World.{Setup}
-use Rattle.bar_world.specs.Made.{Numbers, made_setup}
+use Rattle.bar_world.specs.declared.numbers.Numbers.{Numbers}
+use Rattle.bar_world.specs.Made.{made_setup}
 use Rattle.bar_world.specs.Network.{Game, Play, begun, played_on}
 
 -- ---- the setup

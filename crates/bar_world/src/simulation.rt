@@ -10,8 +10,8 @@ use crate::laws::{honest_peers_stay, simulations_are_fair};
 use crate::lies::Liar;
 use crate::network::Network;
 use crate::seeds::{all_secrets, draws, stream};
-use crate::sessions::session;
 use crate::sim_end::SimEnd;
+use crate::sim_session::sim_session;
 use crate::small_list::SmallList;
 use crate::world::World;
 use bar_case::laws::keystreams_have_their_length;
@@ -38,7 +38,7 @@ pub(crate) fn begin(alloc: Global, seed: u64) -> Result<Network, AllocError>
     simulations_are_fair();
     keystreams_have_their_length();
     let secrets = all_secrets(seed);
-    let session = session(alloc, seed, &secrets)?;
+    let session = sim_session(alloc, seed, &secrets)?;
     let liar = &secrets[LIAR];
     let signer = SecretKey::make(alloc, session.params(), &liar.id, &liar.secret)?;
     let liar = Liar {

@@ -1,25 +1,134 @@
 //! Worlds and simulations that run.
 ghost use Rattle.bar_world.specs.Kept.{IsReady};
-ghost use Rattle.std.specs.Prelude.{OnOk};
+ghost use Rattle.std.specs.Prelude.{IfOk, OnOk};
 
-use crate::simulation::begin;
+use crate::numbers::Numbers;
+use crate::sessions::session;
 use crate::{Move, SimEnd, SmallList, World, run_world, simulate};
+use bar_lms::{Height, Ots, Params};
+use bar_seeds::Secrets;
+use bar_wire::Shape;
 use std::alloc::{AllocError, Global};
 use std::test::Fail;
 
-/// Each of six parties ticks.
-fn tick_all(alloc: Global, world: &mut World) -> Result<(), AllocError>
+/// LMS type 6 and LM-OTS type 4, whose signatures have 1,452 bytes.
+const PARAMS: Params = Params {
+    height: Height::H10,
+    ots: Ots::W8,
+};
+
+/// The session's id.
+const ID: [u8; 8] = [0x00, 0x11, 0x22, 0x33, 0x44, 0x55, 0x66, 0x77];
+
+/// The numbers of the sessions beside those of their datagrams.
+const NUMBERS: Numbers = Numbers {
+    cap: 4,
+    fanout: 1,
+    port: 1024,
+    tick_ms: 1,
+    params: PARAMS,
+};
+
+/// What the broadcaster and two peers hold.
+const THREE: [Secrets; 3] = [
+    Secrets {
+        id: ID,
+        party: 0,
+        secret: [1; 32],
+    },
+    Secrets {
+        id: ID,
+        party: 1,
+        secret: [2; 32],
+    },
+    Secrets {
+        id: ID,
+        party: 2,
+        secret: [3; 32],
+    },
+];
+
+/// What the broadcaster and five peers hold.
+const SIX: [Secrets; 6] = [
+    Secrets {
+        id: ID,
+        party: 0,
+        secret: [1; 32],
+    },
+    Secrets {
+        id: ID,
+        party: 1,
+        secret: [2; 32],
+    },
+    Secrets {
+        id: ID,
+        party: 2,
+        secret: [3; 32],
+    },
+    Secrets {
+        id: ID,
+        party: 3,
+        secret: [4; 32],
+    },
+    Secrets {
+        id: ID,
+        party: 4,
+        secret: [5; 32],
+    },
+    Secrets {
+        id: ID,
+        party: 5,
+        secret: [6; 32],
+    },
+];
+
+const STREAM_LEN: usize = 4000;
+
+/// The world of a session of two peers.
+fn two_peers(alloc: Global) -> Result<World, AllocError>
+    ensures { IfOk result (λ world. IsReady world) }
+{
+    let shape = Shape {
+        version: 1,
+        id: ID,
+        peers: 2,
+        rounds: 10,
+        life: 4,
+        per_round: 8,
+        sig_len: 1452,
+    };
+    let session = session(alloc, shape, NUMBERS, &THREE)?;
+    let stream = vec![in alloc; 165; STREAM_LEN]?;
+    World::make(alloc, &session, &THREE, stream)
+}
+
+/// The world of a session of five peers.
+fn five_peers(alloc: Global) -> Result<World, AllocError>
+    ensures { IfOk result (λ world. IsReady world) }
+{
+    let shape = Shape {
+        version: 1,
+        id: ID,
+        peers: 5,
+        rounds: 10,
+        life: 4,
+        per_round: 8,
+        sig_len: 1452,
+    };
+    let session = session(alloc, shape, NUMBERS, &SIX)?;
+    let stream = vec![in alloc; 165; STREAM_LEN]?;
+    World::make(alloc, &session, &SIX, stream)
+}
+
+/// The broadcaster and each of so many peers ticks.
+fn tick_all(alloc: Global, world: &mut World, peers: u16) -> Result<(), AllocError>
     requires { IsReady world.old }
     ensures { OnOk result (IsReady world.new) }
 {
-    let moves = vec![in alloc;
-        Move::TickOf(0),
-        Move::TickOf(1),
-        Move::TickOf(2),
-        Move::TickOf(3),
-        Move::TickOf(4),
-        Move::TickOf(5),
-    ]?;
+    let mut moves = Vec::new(alloc);
+    for party in 0..=peers {
+        moves.push(Move::TickOf(party))?;
+    }
     run_world(world, &moves)
 }
 
@@ -43,28 +152,78 @@ fn deliver_all(alloc: Global, world: &mut World, from: u64) -> Result<u64, Alloc
     Ok(next)
 }
 
-#[test]
-fn nobody_is_evicted_where_all_is_delivered(rt: HostRuntime) -> Result<(), Fail> {
-    let alloc = rt.alloc();
-    let mut network = begin(alloc, 1)?;
-    let world = &mut network.world;
+/// So many ticks of all parties, with each sent datagram delivered. Answers how many were sent.
+fn play(alloc: Global, world: &mut World, ticks: u32) -> Result<u64, AllocError>
+    requires { IsReady world.old }
+    ensures { OnOk result (IsReady world.new) }
+{
     let mut sent = 0;
-    for _ in 0..120 {
-        tick_all(alloc, world)?;
+    for _ in 0..ticks {
+        tick_all(alloc, world, 2)?;
         sent = deliver_all(alloc, world, sent)?;
     }
-    assert!(rt; sent > 100);
-    assert!(rt; world.evicted().is_empty());
+    Ok(sent)
+}
+
+/// Moves that change nothing, where the pool has so many datagrams: past the pool, of no party, and of bytes that aren't a datagram.
+fn move_in_vain(alloc: Global, world: &mut World, sent: u64) -> Result<(), AllocError>
+    requires { IsReady world.old }
+    ensures { OnOk result (IsReady world.new) }
+{
     let bytes = vec![in alloc; 1, 2, 3]?;
     let moves = vec![in alloc;
         Move::Deliver(sent),
         Move::Deliver(u64::MAX),
-        Move::TickOf(6),
+        Move::TickOf(3),
         Move::TickOf(u16::MAX),
         Move::Hostile { to: 1, bytes },
     ]?;
-    run_world(world, &moves)?;
+    run_world(world, &moves)
+}
+
+/// How many parties played the whole stream.
+fn whole_count(world: &World) -> usize {
+    world
+        .played
+        .iter()
+        .filter(|text| text.len() == STREAM_LEN)
+        .count()
+}
+
+#[test]
+fn nobody_is_evicted_where_all_is_delivered(rt: HostRuntime) -> Result<(), Fail> {
+    let alloc = rt.alloc();
+    let mut world = two_peers(alloc)?;
+    let sent = play(alloc, &mut world, 120)?;
+    assert!(rt; whole_count(&world) == 2);
+    assert!(rt; world.evicted().is_empty());
+    let played = world.played.clone()?;
+    move_in_vain(alloc, &mut world, sent)?;
     assert!(rt; world.pool(sent).is_none());
+    assert!(rt; world.evicted().is_empty());
+    assert!(rt; world.played == played);
+    Ok(())
+}
+
+/// So many ticks of all of six parties, with nothing delivered.
+fn tick_alone(alloc: Global, world: &mut World, ticks: u32) -> Result<(), AllocError>
+    requires { IsReady world.old }
+    ensures { OnOk result (IsReady world.new) }
+{
+    for _ in 0..ticks {
+        tick_all(alloc, world, 5)?;
+    }
+    Ok(())
+}
+
+#[test]
+fn nothing_is_played_where_nothing_is_delivered(rt: HostRuntime) -> Result<(), Fail> {
+    let alloc = rt.alloc();
+    let mut world = five_peers(alloc)?;
+    tick_alone(alloc, &mut world, 120)?;
+    assert!(rt; world.pool(0).is_some());
+    assert!(rt; world.evicted().is_empty());
+    assert!(rt; world.played.iter().all(|text| text.is_empty()));
     Ok(())
 }
 

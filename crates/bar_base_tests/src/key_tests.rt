@@ -1,0 +1,256 @@
+//! Key texts and key files, with values that a program made that shares nothing with this one.
+
+use bar_roster::{KeyFile, KeyFileFault, Session, key_text};
+use std::alloc::Global;
+use std::test::Fail;
+
+const TEXT_OF_200: &str = "version = 1
+id = \"0503aabbccddeeff\"
+party = 200
+rounds = 1
+lms = 5
+ots = 3
+secret = \"8da85f2b03879135b858caa044e81a5dee588ce519ea7506b0dc11024ace3326\"
+spent = false
+";
+
+const TEXT_OF_3: &str = "version = 1
+id = \"0704aabbccddeeff\"
+party = 3
+rounds = 1820
+lms = 7
+ots = 4
+secret = \"ec71b63be08df8d680e1bab4f71ca1e81351f78a933b6135b1d993bec8b3ecb8\"
+spent = false
+";
+
+const ID: &str = "0501aabbccddeeff";
+
+const SECRET: &str = "a6eef21778369036712f70881cfd21d4e8c5ae7aaa6a1fa5bc3743cfe033355b";
+
+const KEY: &str =
+    "0000000500000001214fcbf092c12b40edd797557739a15c67edceaaeae6787687e838b2d7671595e0c6a07986d99fb99075bfe58fdd7052";
+
+const ANCHOR: &str = "7d42701b352a962f7b93a08f44069823e35a35f58196fe87405a25b0189cf714";
+
+// The broadcaster's secret; its public key, which stands in the session, is by a Python program written from RFC 8554.
+const CASTER_SECRET: &str = "adba12a48106cbc6119fe8fac3e4df58a497d74bed9486c41acad3818572de2a";
+
+// Another key of these types, and another anchor.
+const OTHER_KEY: &str =
+    "0000000500000001214fcbf092c12b40edd797557739a15c67edceaaeae6787687e838b2d7671595e0c6a07986d99fb99075bfe58fdd7053";
+
+const OTHER_ANCHOR: &str = "7d42701b352a962f7b93a08f44069823e35a35f58196fe87405a25b0189cf715";
+
+const BEFORE_KEY: &str = "version = 1
+id = \"0501aabbccddeeff\"
+rounds = 1
+life = 2
+cap = 1
+per_round = 1
+port = 1024
+tick_ms = 1
+lms = 5
+ots = 1
+fanout = 1
+key = \"00000005000000012fd3c64b76ddc9eb24a8a315d2fa68ab66f7c62b4b5195e422539ab34cfce87b734c5cbbfa9e9b429e88f2bf0f543ef9\"
+
+[[peer]]
+key = \"0000000500000001111111111111111111111111111111111111111111111111111111111111111111111111111111111111111111111111\"
+anchor = \"0000000000000000000000000000000000000000000000000000000000000000\"
+
+[[peer]]
+key = \"";
+
+// A session of two peers, the second with this key and this anchor.
+fn session(alloc: Global, key: &str, anchor: &str) -> Result<Session, Fail> {
+    let mut text = String::from_str(alloc, BEFORE_KEY)?;
+    text.push_str(key)?;
+    text.push_str("\"\nanchor = \"")?;
+    text.push_str(anchor)?;
+    text.push_str("\"\n")?;
+    Ok(Session::read(alloc, text.as_bytes())?)
+}
+
+fn bytes<const N: usize>(text: &str) -> Result<[u8; N], Fail> {
+    let mut bytes = [0u8; N];
+    hex::decode_to_slice(text, &mut bytes)?;
+    Ok(bytes)
+}
+
+// The text of a key of this session.
+fn text(
+    alloc: Global,
+    party: u16,
+    secret: &str,
+    rounds: u32,
+    spent: bool,
+) -> Result<Vec<u8>, Fail> {
+    Ok(key_text(
+        alloc,
+        party,
+        &bytes::<8>(ID)?,
+        rounds,
+        5,
+        1,
+        &bytes::<32>(secret)?,
+        spent,
+    )?)
+}
+
+#[test]
+fn key_texts_are_eight_lines(rt: HostRuntime) -> Result<(), Fail> {
+    for (wanted, party, id, rounds, lms, ots, secret) in [
+        (
+            TEXT_OF_200,
+            200,
+            "0503aabbccddeeff",
+            1,
+            5,
+            3,
+            "8da85f2b03879135b858caa044e81a5dee588ce519ea7506b0dc11024ace3326",
+        ),
+        (
+            TEXT_OF_3,
+            3,
+            "0704aabbccddeeff",
+            1820,
+            7,
+            4,
+            "ec71b63be08df8d680e1bab4f71ca1e81351f78a933b6135b1d993bec8b3ecb8",
+        ),
+    ] {
+        let id = bytes::<8>(id)?;
+        let secret = bytes::<32>(secret)?;
+        let text = key_text(rt.alloc(), party, &id, rounds, lms, ots, &secret, false)?;
+        assert_eq!(rt; text.as_slice(), wanted.as_bytes());
+    }
+    Ok(())
+}
+
+#[test]
+fn a_peers_key_file_has_its_key_and_anchor(rt: HostRuntime) -> Result<(), Fail> {
+    let alloc = rt.alloc();
+    let session = session(alloc, KEY, ANCHOR)?;
+    let file = KeyFile::read(
+        alloc,
+        &text(alloc, 2, SECRET, 1, false)?,
+        &session,
+        false,
+        true,
+    )?;
+    assert_eq!(rt; file.secrets.party, 2);
+    assert_eq!(rt; file.secrets.id, bytes::<8>(ID)?);
+    assert_eq!(rt; file.secrets.secret, bytes::<32>(SECRET)?);
+    assert_eq!(rt; file.signer.public(), bytes::<56>(KEY)?);
+    assert_eq!(rt; file.chain.anchor(), bytes::<32>(ANCHOR)?);
+    let spent = text(alloc, 2, SECRET, 1, true)?;
+    assert!(rt; matches!(KeyFile::read(alloc, &spent, &session, false, false), Ok(_)));
+    Ok(())
+}
+
+#[test]
+fn the_broadcasters_key_file_has_its_key(rt: HostRuntime) -> Result<(), Fail> {
+    let alloc = rt.alloc();
+    let session = session(alloc, KEY, ANCHOR)?;
+    let text = text(alloc, 0, CASTER_SECRET, 1, false)?;
+    let file = KeyFile::read(alloc, &text, &session, true, true)?;
+    assert_eq!(rt; file.signer.public().as_slice(), session.key(0));
+    Ok(())
+}
+
+#[test]
+fn the_first_fault_is_told(rt: HostRuntime) -> Result<(), Fail> {
+    let alloc = rt.alloc();
+    let fresh = text(alloc, 2, SECRET, 1, false)?;
+    let spent = text(alloc, 2, SECRET, 1, true)?;
+    for (name, bytes, key, anchor, caster, wanted) in [
+        (
+            "no document",
+            b"version = ".as_slice(),
+            KEY,
+            ANCHOR,
+            false,
+            KeyFileFault::NotToml,
+        ),
+        (
+            "no values",
+            b"version = 1\n".as_slice(),
+            KEY,
+            ANCHOR,
+            false,
+            KeyFileFault::BadValue,
+        ),
+        (
+            "another key",
+            fresh.as_slice(),
+            OTHER_KEY,
+            ANCHOR,
+            false,
+            KeyFileFault::NotInRoster,
+        ),
+        (
+            "another anchor",
+            fresh.as_slice(),
+            KEY,
+            OTHER_ANCHOR,
+            false,
+            KeyFileFault::NotInRoster,
+        ),
+        (
+            "another role",
+            fresh.as_slice(),
+            KEY,
+            ANCHOR,
+            true,
+            KeyFileFault::NotInRoster,
+        ),
+        (
+            "spent, another key",
+            spent.as_slice(),
+            OTHER_KEY,
+            ANCHOR,
+            false,
+            KeyFileFault::NotInRoster,
+        ),
+        (
+            "spent",
+            spent.as_slice(),
+            KEY,
+            ANCHOR,
+            false,
+            KeyFileFault::Spent,
+        ),
+    ] {
+        let session = session(alloc, key, anchor)?;
+        match KeyFile::read(alloc, bytes, &session, caster, true) {
+            Ok(_) => assert!(rt; false, "{name}"),
+            Err(fault) => assert_eq!(rt; fault, wanted, "{name}"),
+        }
+    }
+    for (party, rounds) in [(1, 1), (3, 1), (2, 2)] {
+        let bytes = text(alloc, party, SECRET, rounds, false)?;
+        let session = session(alloc, KEY, ANCHOR)?;
+        let read = KeyFile::read(alloc, &bytes, &session, false, true);
+        assert!(rt;
+            matches!(read, Err(KeyFileFault::NotInRoster)),
+            "{party} {rounds}"
+        );
+    }
+    Ok(())
+}
+
+#[test]
+fn faults_are_printed_by_their_names(rt: HostRuntime) -> Result<(), Fail> {
+    for (fault, wanted) in [
+        (KeyFileFault::NotToml, "NotToml"),
+        (KeyFileFault::BadValue, "BadValue"),
+        (KeyFileFault::NotInRoster, "NotInRoster"),
+        (KeyFileFault::Spent, "Spent"),
+        (KeyFileFault::NoMemory, "no memory"),
+    ] {
+        let text = format!(in rt.alloc(); "{fault}")?;
+        assert_eq!(rt; text.as_str(), wanted);
+    }
+    Ok(())
+}

@@ -1,4 +1,0 @@
-use Rattle.bar_judge.proofs.verdict_tests.line.Given as goal
-
-abbrev pub ghosts-line_with : goal.ghosts-line_with
-ghosts-line_with a = record { name = a.blank.name; parts = a.blank.parts }

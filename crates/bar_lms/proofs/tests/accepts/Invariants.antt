@@ -1,4 +1,0 @@
-use Rattle.bar_lms.proofs.tests.accepts.Given as goal
-
-abbrev pub ghosts-is_counted : goal.ghosts-is_counted
-ghosts-is_counted a = record { name = a.blank.name; parts = a.blank.parts }

@@ -1,0 +1,651 @@
+//! Whole peers: what they hold, play and send, worked out by hand from the rules.
+
+mod datagrams;
+mod evidence;
+mod pair;
+mod peers;
+mod sessions;
+
+use bar_peer::Peer;
+use bar_seal::LmsScheme;
+use bar_window::{Exchange, XKind};
+use bar_wire::Kind;
+use datagrams::{block_with, front, manifest, signed, tell_block, tell_blocks};
+use evidence::{Evidence, check_evidence, check_report, check_reports, evidence_of};
+use pair::{
+    Pair, Row, check_totals, check_window, give_in_turn, pair_of, part, pass, tell_round, trade,
+};
+use peers::{
+    Sent, answers, check_count, check_played, peer_of, scheme_of, sent_at_tick, tell, ticks,
+};
+use sessions::{session, session_of_five, small_session};
+use std::alloc::{AllocError, Global};
+use std::process::Abort;
+use std::test::Fail;
+
+/// A manifest of round 1 of a block with a content, and of one whose length is above the most.
+fn first_manifest(
+    rt: &impl Abort,
+    alloc: Global,
+    caster: &LmsScheme,
+    content: [u8; 2],
+) -> Result<Vec<u8>, AllocError> {
+    let blocks = [block_with(2, content), block_with(1023, *b"no")];
+    manifest(rt, alloc, caster, 1, &blocks)
+}
+
+/// Checks which manifest of round 1 is held.
+fn check_manifest(rt: &impl Abort, peer: &Peer<LmsScheme>, held: Option<&[u8]>) {
+    assert_eq!(rt; peer.manifest(1), held);
+}
+
+/// Gives a manifest with one bit of its signature changed, which isn't held.
+fn tell_changed(
+    rt: &impl Abort,
+    alloc: Global,
+    peer: &mut Peer<LmsScheme>,
+    manifest: &[u8],
+) -> Result<(), AllocError> {
+    let mut changed = manifest.to_vec(alloc)?;
+    if let Some(byte) = changed.last_mut() {
+        *byte ^= 1;
+    }
+    tell(rt, alloc, peer, &changed)?;
+    check_manifest(rt, peer, None);
+    Ok(())
+}
+
+/// Gives a manifest, after which this is the one that is held.
+fn tell_manifest(
+    rt: &impl Abort,
+    alloc: Global,
+    peer: &mut Peer<LmsScheme>,
+    manifest: &[u8],
+    held: &[u8],
+) -> Result<(), AllocError> {
+    tell(rt, alloc, peer, manifest)?;
+    check_manifest(rt, peer, Some(held));
+    Ok(())
+}
+
+/// Of two manifests of a round the first counts.
+fn tell_manifests(rt: &impl Abort, alloc: Global, pair: &mut Pair) -> Result<(), AllocError> {
+    let first = first_manifest(rt, alloc, &pair.caster, *b"hi")?;
+    tell_changed(rt, alloc, &mut pair.two, &first)?;
+    tell_manifest(rt, alloc, &mut pair.two, &first, &first)?;
+    let other = first_manifest(rt, alloc, &pair.caster, *b"ho")?;
+    tell_manifest(rt, alloc, &mut pair.two, &other, &first)
+}
+
+/// A block of the other manifest, and those of the first, one of them twice.
+fn tell_first_blocks(
+    rt: &impl Abort,
+    alloc: Global,
+    peer: &mut Peer<LmsScheme>,
+) -> Result<(), AllocError> {
+    for (index, len, content) in [
+        (0, 2, *b"ho"),
+        (0, 2, *b"hi"),
+        (0, 2, *b"hi"),
+        (1, 1023, *b"no"),
+    ] {
+        let block = block_with(len, content);
+        tell_block(rt, alloc, peer, 2, (1, index), &block)?;
+    }
+    Ok(())
+}
+
+/// Asks peer 2 for an exchange of round 1, so that it tells what it holds.
+fn check_first_history(
+    rt: &impl Abort,
+    alloc: Global,
+    pair: &mut Pair,
+    rows: [u8; 4],
+) -> Result<(), AllocError> {
+    let request = sent_at_tick(rt, alloc, &mut pair.one, &front(Kind::Request, 1, 2, 1))?;
+    let answered: [Row; 1] = [(2, 0, &[(Kind::Response, 1_344)])];
+    let all = give_in_turn(rt, alloc, pair, request, &answered)?;
+    check_window(rt, &all, 1, 20, rows);
+    Ok(())
+}
+
+fn check_sent_alone(
+    rt: &impl Abort,
+    alloc: Global,
+    peer: &mut Peer<LmsScheme>,
+    front: &[u8],
+) -> Result<(), AllocError> {
+    let sends = ticks(rt, alloc, peer, 1)?.sends;
+    check_count(rt, &sends, b"", 1);
+    check_count(rt, &sends, front, 1);
+    Ok(())
+}
+
+/// Gives peer 2 a block before its manifest, and again, and then another manifest of its round.
+fn tell_first_stream(rt: &impl Abort, alloc: Global, pair: &mut Pair) -> Result<(), AllocError> {
+    let early = block_with(2, *b"hi");
+    tell_block(rt, alloc, &mut pair.two, 2, (1, 0), &early)?;
+    tell_manifests(rt, alloc, pair)?;
+    // there is nothing to offer yet
+    let request = front(Kind::Request, 2, 1, 1);
+    check_sent_alone(rt, alloc, &mut pair.two, &request)?;
+    tell_first_blocks(rt, alloc, &mut pair.two)
+}
+
+fn check_first_stream(rt: &impl Abort, alloc: Global, pair: &mut Pair) -> Result<(), AllocError> {
+    tell_first_stream(rt, alloc, pair)?;
+    check_first_history(rt, alloc, pair, [3, 0, 0, 0])?;
+    for (count, played) in [(31, b"".as_slice()), (1, b"hi"), (15, b"")] {
+        check_played(rt, alloc, &mut pair.two, count, played)?;
+    }
+    Ok(())
+}
+
+#[test]
+fn a_block_is_held_once_its_manifest_is_there(rt: HostRuntime) -> Result<(), Fail> {
+    let alloc = rt.alloc();
+    let mut pair = pair_of(alloc, small_session())?;
+    Ok(check_first_stream(&rt, alloc, &mut pair)?)
+}
+
+/// Checks that no DIVULGE and no CASE is sent.
+fn check_no_case(rt: &impl Abort, sends: &[Sent]) {
+    check_count(rt, sends, &[0xba, 0x47, 1, 5], 0);
+    check_count(rt, sends, &[0xba, 0x47, 1, 8], 0);
+}
+
+/// Nothing is traded where both hold the same: the initiator goes no further after the answer, and says nothing again.
+fn check_same_histories(rt: &impl Abort, alloc: Global, pair: &mut Pair) -> Result<(), AllocError> {
+    let front = front(Kind::Request, 2, 1, 1);
+    let request = sent_at_tick(rt, alloc, &mut pair.two, &front)?;
+    let rows: [Row; 2] = [(1, 0, &[(Kind::Response, 1_504)]), (2, 1, &[])];
+    let all = give_in_turn(rt, alloc, pair, request, &rows)?;
+    check_window(rt, &all, 1, 20, [1, 0, 0, 0]);
+    let again = ticks(rt, alloc, &mut pair.two, 16)?.sends;
+    check_count(rt, &again, &front, 0);
+    check_no_case(rt, &again);
+    Ok(())
+}
+
+/// A request that is not answered is sent again at each further tick of two rounds, and nothing else of the exchange.
+fn check_no_answer(
+    rt: &impl Abort,
+    alloc: Global,
+    peer: &mut Peer<LmsScheme>,
+    request: &[u8],
+) -> Result<(), AllocError> {
+    let front = request.get(..20).unwrap_or(b"");
+    let again = ticks(rt, alloc, peer, 15)?.sends;
+    check_count(rt, &again, front, 15);
+    check_count(rt, &again, request, 15);
+    check_no_case(rt, &again);
+    let late = ticks(rt, alloc, peer, 1)?.sends;
+    check_count(rt, &late, front, 0);
+    Ok(())
+}
+
+/// The exchanges of round 1, in which both peers hold the same: that of peer 2 is answered, and that of peer 1 is not.
+fn check_first_round(rt: &impl Abort, alloc: Global, pair: &mut Pair) -> Result<(), AllocError> {
+    tell_round(rt, alloc, pair, 1, 8)?;
+    tell_blocks(rt, alloc, &mut pair.one, 1, &[(1, 0)])?;
+    tell_blocks(rt, alloc, &mut pair.two, 2, &[(1, 0)])?;
+    let front = front(Kind::Request, 1, 2, 1);
+    let request = sent_at_tick(rt, alloc, &mut pair.one, &front)?;
+    check_same_histories(rt, alloc, pair)?;
+    check_no_answer(rt, alloc, &mut pair.one, &request)
+}
+
+/// A balanced exchange that peer 2 begins. Peer 1 is asked for its key before and after it has the CASE of peer 2, and then again.
+const SMALL_TRADE: &[Row] = &[
+    (1, 0, &[(Kind::Response, 1_504)]),
+    (2, 1, &[(Kind::Divulge, 84), (Kind::Case, 2_596)]),
+    (1, 2, &[(Kind::Case, 2_596)]),
+    (2, 4, &[(Kind::KeyReq, 22)]),
+    (1, 5, &[]),
+    (1, 3, &[(Kind::KeyReq, 22)]),
+    (1, 5, &[(Kind::Key, 1_506)]),
+    (1, 5, &[(Kind::Key, 1_506)]),
+    (2, 6, &[(Kind::Key, 1_506)]),
+    (2, 7, &[]),
+    (1, 9, &[]),
+];
+
+/// Gives both peers what they hold in round 6.
+fn tell_held(rt: &impl Abort, alloc: Global, pair: &mut Pair) -> Result<(), AllocError> {
+    for round in 3..6 {
+        tell_round(rt, alloc, pair, round, 8)?;
+    }
+    tell_blocks(rt, alloc, &mut pair.one, 1, &[(3, 2), (4, 7)])?;
+    let held = [(3, 0), (3, 2), (5, 1), (5, 3)];
+    tell_blocks(rt, alloc, &mut pair.two, 2, &held)
+}
+
+/// The KEYREQ of peer 2, which began the balanced exchange of round 6.
+const KEY_REQUEST: [u8; 22] = [
+    0xba, 0x47, 1, 9, 0x00, 0x11, 0x22, 0x33, 0x44, 0x55, 0x66, 0x77, 0, 2, 0, 1, 0, 0, 0, 6, 0, 0,
+];
+
+fn small_trade(
+    rt: &impl Abort,
+    alloc: Global,
+    pair: &mut Pair,
+) -> Result<Vec<Vec<u8>>, AllocError> {
+    trade(rt, alloc, pair, 6, SMALL_TRADE)
+}
+
+fn check_trade(rt: &impl Abort, alloc: Global, pair: &mut Pair) -> Result<(), AllocError> {
+    let all = small_trade(rt, alloc, pair)?;
+    check_window(rt, &all, 1, 20, [4, 0x80, 0, 0]);
+    check_window(rt, &all, 2, 52, [5, 0, 0xa, 0]);
+    assert_eq!(rt; part(&all, 8, 0, 1_506), part(&all, 7, 0, 1_506));
+    assert_eq!(rt; part(&all, 5, 0, 22), Some(KEY_REQUEST.as_slice()));
+    Ok(())
+}
+
+fn check_traded(rt: &impl Abort, alloc: Global, pair: &mut Pair) -> Result<(), AllocError> {
+    check_trade(rt, alloc, pair)?;
+    let x = Exchange {
+        round: 6,
+        kind: XKind::Balanced,
+        initiator: 2,
+        responder: 1,
+    };
+    check_totals(rt, pair, x, 1);
+    // peer 1 is paid (3, 0), and peer 2 (4, 7)
+    check_played(rt, alloc, &mut pair.one, 24, b"3a3c4h")?;
+    check_played(rt, alloc, &mut pair.two, 24, b"3a3c4h5b5d")
+}
+
+fn check_trades(rt: &impl Abort, alloc: Global, pair: &mut Pair) -> Result<(), AllocError> {
+    check_first_round(rt, alloc, pair)?;
+    pass(rt, alloc, pair, 23)?;
+    tell_held(rt, alloc, pair)?;
+    check_traded(rt, alloc, pair)
+}
+
+#[test]
+fn one_update_is_traded_for_one(rt: HostRuntime) -> Result<(), Fail> {
+    let alloc = rt.alloc();
+    let mut pair = pair_of(alloc, session())?;
+    Ok(check_trades(&rt, alloc, &mut pair)?)
+}
+
+/// A push of a round that peer 1 begins, which holds both updates of the round before, and of three rounds before the first and not the
+/// second: what peer 2 holds and answers, what is sent, how many items each side promises, and what each then plays.
+struct PushRow {
+    round: u8,
+    held: &'static [(u8, u8)],
+    want: [u8; 4],
+    give: [u8; 4],
+    junk: u8,
+    rows: &'static [Row],
+    items: u8,
+    played: [&'static str; 2],
+}
+
+const UPDATE_FOR_UPDATE: PushRow = PushRow {
+    round: 6,
+    held: &[(5, 1), (3, 1)],
+    want: [0, 0, 1, 0],
+    give: [2, 0, 0, 0],
+    junk: 0,
+    rows: &[
+        (2, 0, &[(Kind::Reply, 1_537), (Kind::Case, 2_629)]),
+        (1, 1, &[(Kind::Case, 2_629)]),
+        (1, 2, &[(Kind::KeyReq, 22)]),
+        (2, 4, &[]),
+        (2, 3, &[(Kind::KeyReq, 22)]),
+        (2, 4, &[(Kind::Key, 1_506)]),
+        (1, 5, &[(Kind::Key, 1_506)]),
+        (1, 6, &[]),
+        (2, 7, &[]),
+    ],
+    items: 1,
+    played: ["3a3b5a5b", "3b5a5b"],
+};
+
+const UPDATES_FOR_JUNK: PushRow = PushRow {
+    round: 10,
+    held: &[],
+    want: [0, 0, 3, 0],
+    give: [0, 0, 0, 0],
+    junk: 2,
+    rows: &[
+        (2, 0, &[(Kind::Reply, 1_537), (Kind::Case, 4_165)]),
+        (1, 1, &[(Kind::Case, 3_653)]),
+        (1, 2, &[(Kind::KeyReq, 22)]),
+        (2, 4, &[]),
+        (2, 3, &[(Kind::KeyReq, 22)]),
+        (2, 4, &[(Kind::Key, 1_506)]),
+        (1, 5, &[(Kind::Key, 1_506)]),
+        (1, 6, &[]),
+        (2, 7, &[]),
+    ],
+    items: 2,
+    played: ["7a9a9b", "9a9b"],
+};
+
+/// Gives both peers what they hold in the round of a push.
+fn tell_pushed(
+    rt: &impl Abort,
+    alloc: Global,
+    pair: &mut Pair,
+    case: &PushRow,
+) -> Result<(), AllocError> {
+    let old = case.round.saturating_sub(3);
+    let young = case.round.saturating_sub(1);
+    tell_round(rt, alloc, pair, old, 2)?;
+    tell_round(rt, alloc, pair, young, 2)?;
+    let held = [(old, 0), (young, 0), (young, 1)];
+    tell_blocks(rt, alloc, &mut pair.one, 1, &held)?;
+    tell_blocks(rt, alloc, &mut pair.two, 2, case.held)
+}
+
+/// The next round's push.
+fn push(
+    rt: &impl Abort,
+    alloc: Global,
+    pair: &mut Pair,
+    case: &PushRow,
+) -> Result<Vec<Vec<u8>>, AllocError> {
+    ticks(rt, alloc, &mut pair.two, 1)?;
+    let front = front(Kind::Query, 1, 2, case.round);
+    let query = sent_at_tick(rt, alloc, &mut pair.one, &front)?;
+    give_in_turn(rt, alloc, pair, query, case.rows)
+}
+
+fn check_push(
+    rt: &impl Abort,
+    alloc: Global,
+    pair: &mut Pair,
+    case: &PushRow,
+) -> Result<(), AllocError> {
+    let all = push(rt, alloc, pair, case)?;
+    for (place, from, rows) in [
+        (0, 52, [0, 0, 3, 0]),
+        (0, 84, [2, 0, 0, 0]),
+        (1, 20, case.want),
+        (1, 52, case.give),
+    ] {
+        check_window(rt, &all, place, from, rows);
+    }
+    assert_eq!(rt; part(&all, 1, 84, 1), Some([case.junk].as_slice()));
+    let x = Exchange {
+        round: u32::from(case.round),
+        kind: XKind::Push,
+        initiator: 1,
+        responder: 2,
+    };
+    check_totals(rt, pair, x, case.items);
+    Ok(())
+}
+
+fn check_pushed(
+    rt: &impl Abort,
+    alloc: Global,
+    pair: &mut Pair,
+    case: &PushRow,
+) -> Result<(), AllocError> {
+    tell_pushed(rt, alloc, pair, case)?;
+    check_push(rt, alloc, pair, case)?;
+    check_played(rt, alloc, &mut pair.one, 31, case.played[0].as_bytes())?;
+    check_played(rt, alloc, &mut pair.two, 31, case.played[1].as_bytes())
+}
+
+fn check_first_push(rt: &impl Abort, alloc: Global, pair: &mut Pair) -> Result<(), AllocError> {
+    check_pushed(rt, alloc, pair, &UPDATE_FOR_UPDATE)
+}
+
+fn check_next_push(rt: &impl Abort, alloc: Global, pair: &mut Pair) -> Result<(), AllocError> {
+    check_pushed(rt, alloc, pair, &UPDATES_FOR_JUNK)
+}
+
+fn check_pushes(rt: &impl Abort, alloc: Global, pair: &mut Pair) -> Result<(), AllocError> {
+    pass(rt, alloc, pair, 40)?;
+    check_first_push(rt, alloc, pair)?;
+    check_next_push(rt, alloc, pair)
+}
+
+#[test]
+fn young_updates_are_pushed_for_old_ones_and_junk(rt: HostRuntime) -> Result<(), Fail> {
+    let alloc = rt.alloc();
+    let mut pair = pair_of(alloc, session())?;
+    Ok(check_pushes(&rt, alloc, &mut pair)?)
+}
+
+/// The REQUEST that a peer of five sends to its partner at the first tick.
+fn request_of(
+    rt: &impl Abort,
+    alloc: Global,
+    party: u8,
+    secret: u8,
+    partner: u8,
+) -> Result<Vec<u8>, Fail> {
+    let mut peer = peer_of(alloc, session_of_five(), party, secret)?;
+    let front = front(Kind::Request, party, partner, 1);
+    Ok(sent_at_tick(rt, alloc, &mut peer, &front)?)
+}
+
+/// The REQUEST of peer 4, but to peer 5 and not to its partner.
+fn stray_request(rt: &impl Abort, alloc: Global) -> Result<Vec<u8>, Fail> {
+    let scheme = scheme_of(alloc, session_of_five(), 10)?;
+    let mut message = request_of(rt, alloc, 4, 10, 3)?;
+    message.truncate(84);
+    if let Some(receiver) = message.get_mut(15) {
+        *receiver = 5;
+    }
+    Ok(signed(rt, alloc, &scheme, 0, &message)?)
+}
+
+/// Gives peer 5 the REQUEST of its partner, and counts the RESPONSEs, where nothing else is sent.
+fn check_request(
+    rt: &impl Abort,
+    alloc: Global,
+    peer: &mut Peer<LmsScheme>,
+    party: u8,
+    secret: u8,
+    count: usize,
+) -> Result<(), Fail> {
+    let request = request_of(rt, alloc, party, secret, 5)?;
+    let sends = answers(rt, alloc, peer, &request)?;
+    check_count(rt, &sends, b"", count);
+    let response = front(Kind::Response, 5, party, 1);
+    check_count(rt, &sends, &response, count);
+    Ok(())
+}
+
+/// Gives a peer a datagram of a party that shows a fault, of which it keeps evidence and reports it, once.
+fn check_shown(
+    rt: &impl Abort,
+    alloc: Global,
+    peer: &mut Peer<LmsScheme>,
+    shown: &[u8],
+    evidence: &Evidence,
+) -> Result<(), AllocError> {
+    let sends = answers(rt, alloc, peer, shown)?;
+    check_report(rt, &sends, evidence);
+    check_evidence(rt, peer, evidence);
+    tell(rt, alloc, peer, shown)
+}
+
+/// The REQUEST of peer 4 to another than its partner is evidence against peer 4. It is reported at once and at the last slot of a round.
+fn check_stray(rt: &impl Abort, alloc: Global, peer: &mut Peer<LmsScheme>) -> Result<(), Fail> {
+    let stray = stray_request(rt, alloc)?;
+    let evidence = evidence_of(alloc, 5, 4, &[&stray])?;
+    check_shown(rt, alloc, peer, &stray, &evidence)?;
+    check_reports(rt, alloc, peer, 6, &evidence, 0)?;
+    check_reports(rt, alloc, peer, 1, &evidence, 1)?;
+    check_reports(rt, alloc, peer, 8, &evidence, 1)?;
+    // what others report isn't for a peer
+    Ok(tell(rt, alloc, peer, &evidence.report)?)
+}
+
+#[test]
+fn a_request_to_another_than_the_partner_is_reported(rt: HostRuntime) -> Result<(), Fail> {
+    let alloc = rt.alloc();
+    let mut peer = peer_of(alloc, session_of_five(), 5, 11)?;
+    ticks(&rt, alloc, &mut peer, 1)?;
+    check_stray(&rt, alloc, &mut peer)
+}
+
+/// Gives a peer all fronts of a datagram, none of which is read.
+fn tell_fronts(
+    rt: &impl Abort,
+    alloc: Global,
+    peer: &mut Peer<LmsScheme>,
+    datagram: &[u8],
+) -> Result<(), AllocError> {
+    for len in 0..datagram.len() {
+        tell(rt, alloc, peer, datagram.get(..len).unwrap_or(b""))?;
+    }
+    Ok(())
+}
+
+fn check_requests(rt: &impl Abort, alloc: Global, peer: &mut Peer<LmsScheme>) -> Result<(), Fail> {
+    ticks(rt, alloc, peer, 1)?;
+    let first = request_of(rt, alloc, 1, 8, 5)?;
+    tell_fronts(rt, alloc, peer, &first)?;
+    for (party, secret, count) in [(1, 8, 1), (2, 9, 1), (3, 14, 0)] {
+        check_request(rt, alloc, peer, party, secret, count)?;
+    }
+    Ok(())
+}
+
+#[test]
+fn two_requests_of_a_round_are_answered(rt: HostRuntime) -> Result<(), Fail> {
+    let alloc = rt.alloc();
+    let mut peer = peer_of(alloc, session_of_five(), 5, 11)?;
+    check_requests(&rt, alloc, &mut peer)
+}
+
+/// A KEY of peer 1 for the balanced exchange of round 6 that peer 2 began, which opens its briefcase to other blocks.
+fn bad_key(rt: &impl Abort, alloc: Global) -> Result<Vec<u8>, Fail> {
+    let scheme = scheme_of(alloc, session(), 8)?;
+    let mut message = front(Kind::Key, 1, 2, 6).to_vec(alloc)?;
+    message.extend_from_slice(&[0, 1])?;
+    message.extend_from_slice(&[0; 32])?;
+    Ok(signed(rt, alloc, &scheme, 0, &message)?)
+}
+
+/// A balanced exchange that peer 2 begins, up to its KEYREQ.
+const TRADE_TO_THE_KEY: &[Row] = &[
+    (1, 0, &[(Kind::Response, 1_504)]),
+    (2, 1, &[(Kind::Divulge, 84), (Kind::Case, 2_596)]),
+    (1, 2, &[(Kind::Case, 2_596)]),
+    (2, 4, &[(Kind::KeyReq, 22)]),
+];
+
+/// A key that opens the partner's CASE to other blocks is evidence with the CASE.
+fn check_bad_key(rt: &impl Abort, alloc: Global, pair: &mut Pair) -> Result<(), Fail> {
+    pass(rt, alloc, pair, 40)?;
+    tell_held(rt, alloc, pair)?;
+    let all = trade(rt, alloc, pair, 6, TRADE_TO_THE_KEY)?;
+    let key = bad_key(rt, alloc)?;
+    let case = part(&all, 4, 0, 2_596).unwrap_or(b"");
+    let evidence = evidence_of(alloc, 2, 1, &[case, &key])?;
+    assert_eq!(rt;
+        (evidence.body.len(), evidence.report.len()),
+        (4_107, 4_123)
+    );
+    Ok(check_shown(rt, alloc, &mut pair.two, &key, &evidence)?)
+}
+
+#[test]
+fn a_key_that_opens_badly_is_reported_with_its_briefcase(rt: HostRuntime) -> Result<(), Fail> {
+    let alloc = rt.alloc();
+    let mut pair = pair_of(alloc, session())?;
+    check_bad_key(&rt, alloc, &mut pair)
+}
+
+/// The EVICT of round 1 that names a party.
+fn eviction_of(
+    rt: &impl Abort,
+    alloc: Global,
+    caster: &LmsScheme,
+    party: u8,
+) -> Result<Vec<u8>, AllocError> {
+    let mut message = [
+        0xba, 0x47, 1, 12, 0x00, 0x11, 0x22, 0x33, 0x44, 0x55, 0x66, 0x77, 0, 0, 0xff, 0xff, 0, 0,
+        0, 1, 1, 0,
+    ]
+    .to_vec(alloc)?;
+    message.push(party)?;
+    signed(rt, alloc, caster, 1, &message)
+}
+
+/// A peer asks its partner at each tick, until the partner is announced evicted.
+fn check_eviction(rt: &impl Abort, alloc: Global, pair: &mut Pair) -> Result<(), AllocError> {
+    for _ in 0..8 {
+        check_sent_alone(rt, alloc, &mut pair.one, &front(Kind::Request, 1, 2, 1))?;
+    }
+    let eviction = eviction_of(rt, alloc, &pair.caster, 2)?;
+    tell(rt, alloc, &mut pair.one, &eviction)?;
+    let sends = ticks(rt, alloc, &mut pair.one, 8)?.sends;
+    check_count(rt, &sends, b"", 0);
+    Ok(())
+}
+
+#[test]
+fn nothing_is_sent_to_an_evicted_party(rt: HostRuntime) -> Result<(), Fail> {
+    let alloc = rt.alloc();
+    let mut pair = pair_of(alloc, session())?;
+    Ok(check_eviction(&rt, alloc, &mut pair)?)
+}
+
+/// The session of ten rounds, with larger numbers.
+fn large_session(alloc: Global) -> Result<String, AllocError> {
+    let numbers = "life = 16\ncap = 16\nper_round = 32";
+    session().replace(alloc, "life = 4\ncap = 4\nper_round = 8", numbers)
+}
+
+/// A trade of sixteen updates, up to the keys.
+const LARGE_TRADE: &[Row] = &[
+    (1, 0, &[(Kind::Response, 1_600)]),
+    (2, 1, &[(Kind::Divulge, 180), (Kind::Case, 18_148)]),
+    (1, 2, &[(Kind::Case, 18_148)]),
+    (1, 3, &[(Kind::KeyReq, 22)]),
+    (2, 4, &[(Kind::KeyReq, 22)]),
+    (1, 6, &[(Kind::Key, 1_506)]),
+    (2, 5, &[(Kind::Key, 1_506)]),
+];
+
+fn large_trade(
+    rt: &impl Abort,
+    alloc: Global,
+    pair: &mut Pair,
+) -> Result<Vec<Vec<u8>>, AllocError> {
+    trade(rt, alloc, pair, 2, LARGE_TRADE)
+}
+
+/// Gives each peer twenty updates that the other lacks.
+fn tell_twenty_each(rt: &impl Abort, alloc: Global, pair: &mut Pair) -> Result<(), AllocError> {
+    tell_round(rt, alloc, pair, 1, 20)?;
+    tell_round(rt, alloc, pair, 2, 20)?;
+    for index in 0..20 {
+        tell_blocks(rt, alloc, &mut pair.one, 1, &[(1, index)])?;
+        tell_blocks(rt, alloc, &mut pair.two, 2, &[(2, index)])?;
+    }
+    Ok(())
+}
+
+fn check_cap(rt: &impl Abort, alloc: Global, pair: &mut Pair) -> Result<(), AllocError> {
+    pass(rt, alloc, pair, 8)?;
+    tell_twenty_each(rt, alloc, pair)?;
+    large_trade(rt, alloc, pair)?;
+    let x = Exchange {
+        round: 2,
+        kind: XKind::Balanced,
+        initiator: 2,
+        responder: 1,
+    };
+    check_totals(rt, pair, x, 16);
+    Ok(())
+}
+
+#[test]
+fn no_more_updates_are_traded_than_the_cap(rt: HostRuntime) -> Result<(), Fail> {
+    let alloc = rt.alloc();
+    let text = large_session(alloc)?;
+    let mut pair = pair_of(alloc, &text)?;
+    Ok(check_cap(&rt, alloc, &mut pair)?)
+}

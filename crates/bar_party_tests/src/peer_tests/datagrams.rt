@@ -1,0 +1,121 @@
+//! Datagrams of the broadcaster, and fronts of the others.
+
+use super::peers::tell;
+use bar_peer::Peer;
+use bar_seal::{LmsScheme, Scheme, Verifier};
+use bar_wire::Kind;
+use sha2::{Digest, Sha256};
+use std::alloc::{AllocError, Global};
+use std::process::Abort;
+
+/// A message and its signature.
+pub fn signed(
+    rt: &impl Abort,
+    alloc: Global,
+    scheme: &LmsScheme,
+    leaf: u32,
+    message: &[u8],
+) -> Result<Vec<u8>, AllocError> {
+    let leaves = scheme.leaves();
+    assert!(rt; leaf < leaves);
+    let mut sig = vec![in alloc; 0; scheme.sig_len()]?;
+    scheme.sign(leaf, message, &mut sig);
+    let mut bytes = message.to_vec(alloc)?;
+    bytes.extend_from_slice(&sig)?;
+    Ok(bytes)
+}
+
+/// What a datagram of a kind and a round begins with.
+pub fn front(kind: Kind, from: u8, to: u8, round: u8) -> [u8; 20] {
+    let code = kind.code();
+    [
+        0xba, 0x47, 1, code, 0x00, 0x11, 0x22, 0x33, 0x44, 0x55, 0x66, 0x77, 0, from, 0, to, 0, 0,
+        0, round,
+    ]
+}
+
+/// A block whose content has two bytes, where its length is not said to be another.
+pub fn block_with(len: u16, content: [u8; 2]) -> [u8; 1024] {
+    let mut block = [0u8; 1024];
+    block[..2].copy_from_slice(&len.to_be_bytes());
+    block[2..4].copy_from_slice(&content);
+    block
+}
+
+/// The block of an update, with its round and its index as content.
+fn block(round: u8, index: u8) -> [u8; 1024] {
+    block_with(2, [b'0'.wrapping_add(round), b'a'.wrapping_add(index)])
+}
+
+/// So many blocks of a round.
+pub fn blocks_of(alloc: Global, round: u8, count: u8) -> Result<Vec<[u8; 1024]>, AllocError> {
+    let mut blocks = Vec::new(alloc);
+    for index in 0..count {
+        blocks.push(block(round, index))?;
+    }
+    Ok(blocks)
+}
+
+/// What a manifest has before its signature.
+fn manifest_message(
+    alloc: Global,
+    round: u8,
+    blocks: &[[u8; 1024]],
+) -> Result<Vec<u8>, AllocError> {
+    let count = u8::try_from(blocks.len()).unwrap_or(0);
+    let mut message = [
+        0xba, 0x47, 1, 1, 0x00, 0x11, 0x22, 0x33, 0x44, 0x55, 0x66, 0x77, 0, 0, 0xff, 0xff, 0, 0,
+        0, round, count,
+    ]
+    .to_vec(alloc)?;
+    for block in blocks {
+        message.extend_from_slice(&Sha256::digest(block.as_slice()))?;
+    }
+    Ok(message)
+}
+
+/// The manifest of a round.
+pub fn manifest(
+    rt: &impl Abort,
+    alloc: Global,
+    caster: &LmsScheme,
+    round: u8,
+    blocks: &[[u8; 1024]],
+) -> Result<Vec<u8>, AllocError> {
+    let message = manifest_message(alloc, round, blocks)?;
+    let leaf = 2 * u32::from(round.saturating_sub(1));
+    signed(rt, alloc, caster, leaf, &message)
+}
+
+/// Gives a peer a BLOCK of the broadcaster, which it answers by nothing.
+pub fn tell_block(
+    rt: &impl Abort,
+    alloc: Global,
+    peer: &mut Peer<LmsScheme>,
+    to: u8,
+    update: (u8, u8),
+    block: &[u8; 1024],
+) -> Result<(), AllocError> {
+    let mut bytes = [
+        0xba, 0x47, 1, 2, 0x00, 0x11, 0x22, 0x33, 0x44, 0x55, 0x66, 0x77, 0, 0, 0, to, 0, 0, 0,
+        update.0, update.1,
+    ]
+    .to_vec(alloc)?;
+    bytes.extend_from_slice(block)?;
+    tell(rt, alloc, peer, &bytes)
+}
+
+/// Gives a peer the blocks of these updates.
+pub fn tell_blocks(
+    rt: &impl Abort,
+    alloc: Global,
+    peer: &mut Peer<LmsScheme>,
+    to: u8,
+    updates: &[(u8, u8)],
+) -> Result<(), AllocError> {
+    for (round, index) in updates {
+        let block = block(*round, *index);
+        tell_block(rt, alloc, peer, to, (*round, *index), &block)?;
+    }
+    Ok(())
+}

@@ -1,0 +1,160 @@
+//! Two peers, what is said between them, and what both are told.
+use super::datagrams::{blocks_of, front, manifest};
+use super::peers::{Sent, answers, peer_of, scheme_of, sent_at_tick, tell, ticks};
+use bar_ledger::Totals;
+use bar_peer::Peer;
+use bar_seal::LmsScheme;
+use bar_window::Exchange;
+use bar_wire::Kind;
+use std::alloc::{AllocError, Global};
+use std::process::Abort;
+use std::test::Fail;
+
+/// The peers 1 and 2 of a session, and what signs for its broadcaster.
+#[derive(Drop)]
+pub struct Pair {
+    pub caster: LmsScheme,
+    pub one: Peer<LmsScheme>,
+    pub two: Peer<LmsScheme>,
+}
+
+pub fn pair_of(alloc: Global, session: &str) -> Result<Pair, Fail> {
+    Ok(Pair {
+        caster: scheme_of(alloc, session, 7)?,
+        one: peer_of(alloc, session, 1, 8)?,
+        two: peer_of(alloc, session, 2, 9)?,
+    })
+}
+
+/// Both peers take so many ticks, and nothing is delivered.
+pub fn pass(rt: &impl Abort, alloc: Global, pair: &mut Pair, count: u8) -> Result<(), AllocError> {
+    ticks(rt, alloc, &mut pair.one, count)?;
+    ticks(rt, alloc, &mut pair.two, count)?;
+    Ok(())
+}
+
+/// Tells both peers of so many updates of a round.
+pub fn tell_round(
+    rt: &impl Abort,
+    alloc: Global,
+    pair: &mut Pair,
+    round: u8,
+    count: u8,
+) -> Result<(), AllocError> {
+    let blocks = blocks_of(alloc, round, count)?;
+    let bytes = manifest(rt, alloc, &pair.caster, round, &blocks)?;
+    tell(rt, alloc, &mut pair.one, &bytes)?;
+    tell(rt, alloc, &mut pair.two, &bytes)
+}
+
+/// A party is given a datagram, by its place among those that were sent, and sends these, each with its kind and length, which are added.
+pub type Row = (u16, usize, &'static [(Kind, usize)]);
+
+/// Whether these are sent, to this party.
+fn are_sent(sends: &[Sent], to: u16, kinds: &[(Kind, usize)]) -> bool {
+    let mut all = sends.len() == kinds.len();
+    for (sent, (kind, len)) in sends.iter().zip(kinds) {
+        all = all
+            && sent.to == to
+            && sent.bytes.get(3) == Some(&kind.code())
+            && sent.bytes.len() == *len;
+    }
+    all
+}
+
+fn add_all(all: &mut Vec<Vec<u8>>, sends: Vec<Sent>) -> Result<(), AllocError> {
+    for sent in sends {
+        all.push(sent.bytes)?;
+    }
+    Ok(())
+}
+
+/// What a peer of the pair sends for a datagram.
+fn answers_of(
+    rt: &impl Abort,
+    alloc: Global,
+    pair: &mut Pair,
+    party: u16,
+    datagram: &[u8],
+) -> Result<Vec<Sent>, AllocError> {
+    if party == 1 {
+        answers(rt, alloc, &mut pair.one, datagram)
+    } else {
+        answers(rt, alloc, &mut pair.two, datagram)
+    }
+}
+
+/// What was sent in an exchange, in order, from its first datagram on.
+pub fn give_in_turn(
+    rt: &impl Abort,
+    alloc: Global,
+    pair: &mut Pair,
+    first: Vec<u8>,
+    rows: &[Row],
+) -> Result<Vec<Vec<u8>>, AllocError> {
+    let mut all = Vec::new(alloc);
+    all.push(first)?;
+    for (row, (party, place, kinds)) in rows.iter().enumerate() {
+        let Some(datagram) = all.get(*place) else {
+            panic!(rt; "row {row} gives what was not sent");
+        };
+        let sends = answers_of(rt, alloc, pair, *party, datagram)?;
+        assert!(rt;
+            are_sent(&sends, 3u16.saturating_sub(*party), kinds),
+            "row {row}"
+        );
+        add_all(&mut all, sends)?;
+    }
+    Ok(all)
+}
+
+/// The exchange that peer 2 begins at the next tick.
+pub fn trade(
+    rt: &impl Abort,
+    alloc: Global,
+    pair: &mut Pair,
+    round: u8,
+    rows: &[Row],
+) -> Result<Vec<Vec<u8>>, AllocError> {
+    ticks(rt, alloc, &mut pair.one, 1)?;
+    let front = front(Kind::Request, 2, 1, round);
+    let request = sent_at_tick(rt, alloc, &mut pair.two, &front)?;
+    give_in_turn(rt, alloc, pair, request, rows)
+}
+
+/// The bytes of a window of four rounds by the lowest byte of each word.
+fn window(rows: [u8; 4]) -> [u8; 32] {
+    let mut bytes = [0; 32];
+    bytes[7] = rows[0];
+    bytes[15] = rows[1];
+    bytes[23] = rows[2];
+    bytes[31] = rows[3];
+    bytes
+}
+
+/// Bytes of a datagram of an exchange, by the datagram's place.
+pub fn part(all: &[Vec<u8>], place: usize, from: usize, len: usize) -> Option<&[u8]> {
+    let datagram = all.get(place)?;
+    datagram.get(from..)?.get(..len)
+}
+
+/// Checks the rows of a window, by its place in a datagram.
+pub fn check_window(rt: &impl Abort, all: &[Vec<u8>], place: usize, from: usize, rows: [u8; 4]) {
+    let expected = window(rows);
+    assert_eq!(rt;
+        part(all, place, from, 32),
+        Some(expected.as_slice()),
+        "datagram {place}"
+    );
+}
+
+/// Checks that each side promised, received and opened so many updates in an exchange.
+pub fn check_totals(rt: &impl Abort, pair: &Pair, x: Exchange, count: u8) {
+    let totals = Totals {
+        promised: count,
+        received: count,
+        opened: count,
+    };
+    assert_eq!(rt; pair.one.totals(x), totals);
+    assert_eq!(rt; pair.two.totals(x), totals);
+}

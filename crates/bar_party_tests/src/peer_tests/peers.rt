@@ -1,0 +1,202 @@
+//! Peers, and all that they give out.
+ghost use Rattle.std.specs.Prelude.{◌≡◌, ◌<◌, []};
+ghost use Rattle.bar_store.specs.Orders.{left_in};
+ghost use Rattle.bar_peer.specs.StandsFor.{contents_left};
+
+use super::sessions::ID;
+use bar_bytes::Steps;
+use bar_lms::SecretKey;
+use bar_peer::Peer;
+use bar_roster::{KeyFile, Session, key_text};
+use bar_seal::LmsScheme;
+use bar_wire::{Input, LARGEST_DATAGRAM};
+use std::alloc::{AllocError, Global};
+use std::marker::Brand;
+use std::process::Abort;
+use std::sync::ledger::{Blank, Ledger};
+use std::test::Fail;
+
+/// A datagram and its receiver.
+#[derive(Drop)]
+pub struct Sent {
+    pub to: u16,
+    pub bytes: Vec<u8>,
+}
+
+/// What a peer gave out.
+#[derive(Drop)]
+pub struct Given {
+    pub played: Vec<u8>,
+    pub sends: Vec<Sent>,
+}
+
+/// A peer of a session whose secret is 32 times one byte.
+pub fn peer_of(
+    alloc: Global,
+    session: &str,
+    party: u8,
+    secret: u8,
+) -> Result<Peer<LmsScheme>, Fail> {
+    let session = Session::read(alloc, session.as_bytes())?;
+    let rounds = session.shape().rounds;
+    let params = session.params();
+    let (lms, ots) = (params.lms(), params.ots());
+    let secret = [secret; 32];
+    let text = key_text(
+        alloc,
+        u16::from(party),
+        &ID,
+        rounds,
+        lms,
+        ots,
+        &secret,
+        false,
+    )?;
+    let key = KeyFile::read(alloc, &text, &session, false, false)?;
+    Ok(Peer::of_key_file(alloc, session, key)?)
+}
+
+/// What signs with a secret of 32 times one byte.
+pub fn scheme_of(alloc: Global, session: &str, secret: u8) -> Result<LmsScheme, Fail> {
+    let session = Session::read(alloc, session.as_bytes())?;
+    let signer = SecretKey::make(alloc, session.params(), &ID, &[secret; 32])?;
+    Ok(LmsScheme::new(signer))
+}
+
+fn step_with<L: Ledger>(peer: &mut Peer<LmsScheme>, input: Input<'_>, blank: Blank)
+    requires name { blank.name ≡ L.name }
+    requires parts { blank.parts ≡ L.parts }
+    requires some { 0 < L.parts }
+    requires sends { left_in peer.old.orders ≡ [] }
+    requires contents { contents_left peer.old.memory.store peer.old.playing ≡ [] }
+{
+    peer.step(input, &mut Steps::<L>::new(blank));
+}
+
+fn step(rt: &impl Abort, peer: &mut Peer<LmsScheme>, input: Input<'_>) {
+    let idle = peer.idle();
+    assert!(rt; idle);
+    step_with::<Brand>(peer, input, Blank::new(1));
+}
+
+/// More than any input gives out.
+const MANY: usize = 200;
+
+fn add_played(peer: &mut Peer<LmsScheme>, played: &mut Vec<u8>) -> Result<(), AllocError> {
+    for _ in 0..MANY {
+        let Some(content) = peer.next_played() else {
+            return Ok(());
+        };
+        played.extend_from_slice(content)?;
+    }
+    Ok(())
+}
+
+fn add_sends(
+    alloc: Global,
+    peer: &mut Peer<LmsScheme>,
+    sends: &mut Vec<Sent>,
+) -> Result<(), AllocError> {
+    let mut buf = vec![in alloc; 0; usize::from(LARGEST_DATAGRAM)]?;
+    for _ in 0..MANY {
+        let Some((to, len)) = peer.next_out(&mut buf) else {
+            return Ok(());
+        };
+        let bytes = buf.get(..len).unwrap_or(b"").to_vec(alloc)?;
+        sends.push(Sent { to, bytes })?;
+    }
+    Ok(())
+}
+
+/// Takes so many inputs, and adds all that they give out.
+fn take(
+    rt: &impl Abort,
+    alloc: Global,
+    peer: &mut Peer<LmsScheme>,
+    input: Input<'_>,
+    count: u8,
+) -> Result<Given, AllocError> {
+    let mut given = Given {
+        played: Vec::new(alloc),
+        sends: Vec::new(alloc),
+    };
+    for _ in 0..count {
+        step(rt, peer, input);
+        add_played(peer, &mut given.played)?;
+        add_sends(alloc, peer, &mut given.sends)?;
+    }
+    Ok(given)
+}
+
+/// What so many ticks give out, where nothing is delivered.
+pub fn ticks(
+    rt: &impl Abort,
+    alloc: Global,
+    peer: &mut Peer<LmsScheme>,
+    count: u8,
+) -> Result<Given, AllocError> {
+    take(rt, alloc, peer, Input::Tick, count)
+}
+
+/// What is sent for a datagram, which plays nothing.
+pub fn answers(
+    rt: &impl Abort,
+    alloc: Global,
+    peer: &mut Peer<LmsScheme>,
+    datagram: &[u8],
+) -> Result<Vec<Sent>, AllocError> {
+    let given = take(rt, alloc, peer, Input::Datagram(datagram), 1)?;
+    assert!(rt; given.played.is_empty());
+    Ok(given.sends)
+}
+
+/// Gives a peer a datagram, which it answers by nothing.
+pub fn tell(
+    rt: &impl Abort,
+    alloc: Global,
+    peer: &mut Peer<LmsScheme>,
+    datagram: &[u8],
+) -> Result<(), AllocError> {
+    assert!(rt; answers(rt, alloc, peer, datagram)?.is_empty());
+    Ok(())
+}
+
+/// Takes so many ticks, in which these contents are played.
+pub fn check_played(
+    rt: &impl Abort,
+    alloc: Global,
+    peer: &mut Peer<LmsScheme>,
+    count: u8,
+    played: &[u8],
+) -> Result<(), AllocError> {
+    let given = ticks(rt, alloc, peer, count)?;
+    assert_eq!(rt; given.played.as_slice(), played);
+    Ok(())
+}
+
+/// How many datagrams begin like this.
+fn count_like(sends: &[Sent], front: &[u8]) -> usize {
+    sends
+        .iter()
+        .filter(|sent| sent.bytes.starts_with(front))
+        .count()
+}
+
+/// Checks how many datagrams begin like this.
+pub fn check_count(rt: &impl Abort, sends: &[Sent], front: &[u8], count: usize) {
+    assert_eq!(rt; count_like(sends, front), count);
+}
+
+/// Takes a tick, and answers the first datagram it sends that begins like this.
+pub fn sent_at_tick(
+    rt: &impl Abort,
+    alloc: Global,
+    peer: &mut Peer<LmsScheme>,
+    front: &[u8],
+) -> Result<Vec<u8>, AllocError> {
+    let sends = ticks(rt, alloc, peer, 1)?.sends;
+    match sends.iter().find(|sent| sent.bytes.starts_with(front)) {
+        Some(sent) => sent.bytes.to_vec(alloc),
+        None => panic!(rt; "it was not sent"),
+    }
+}

@@ -1,0 +1,248 @@
+//! Keys over files and sinks in memory, and words that are no line. The expected texts are by programs that share nothing with this one.
+use bar_cli::bar_run;
+use bar_outside::{MemFiles, MemLink, MemSink, MemSpawner};
+use std::alloc::{AllocError, Global};
+use std::test::Fail;
+
+// The words of a line that is written with spaces.
+fn words(alloc: Global, line: &str) -> Result<Vec<String>, AllocError> {
+    let mut words = Vec::new(alloc);
+    for word in line.split(' ') {
+        words.push(String::from_str(alloc, word)?)?;
+    }
+    Ok(words)
+}
+
+/// What a run left.
+#[derive(Drop)]
+struct Left {
+    status: u8,
+    files: MemFiles,
+    out: MemSink,
+    err: MemSink,
+}
+
+// A run of the line with this secret, where these calls of the files and these writes to out fail.
+fn run(
+    alloc: Global,
+    line: &str,
+    secret: &[u8],
+    fail_files: &[u64],
+    fail_out: &[u64],
+) -> Result<Left, AllocError> {
+    let mut files = MemFiles::make(alloc, fail_files.to_vec(alloc)?);
+    files.put("s", secret)?;
+    let mut out = MemSink::make(alloc, fail_out.to_vec(alloc)?);
+    let mut spawn = MemSpawner::make(alloc, Vec::new(alloc), Vec::new(alloc));
+    let mut err = MemSink::make(alloc, Vec::new(alloc));
+    let all = words(alloc, line)?;
+    let mut link = MemLink::make(alloc, Vec::new(alloc), Vec::new(alloc));
+    let status = bar_run(
+        alloc, &all, &mut files, &mut link, &mut out, &mut err, &mut spawn,
+    );
+    Ok(Left {
+        status,
+        files,
+        out,
+        err,
+    })
+}
+
+const SECRET: &str = "a6eef21778369036712f70881cfd21d4e8c5ae7aaa6a1fa5bc3743cfe033355b";
+
+const PEER: &str =
+    "keygen --party 2 --id 0501aabbccddeeff --rounds 1 --lms 5 --ots 1 --secret s --key k";
+
+const PEER_OUT: &str =
+    "key = \"0000000500000001214fcbf092c12b40edd797557739a15c67edceaaeae6787687e838b2d7671595e0c6a07986d99fb99075bfe58fdd7052\"\n\
+    anchor = \"7d42701b352a962f7b93a08f44069823e35a35f58196fe87405a25b0189cf714\"\n";
+
+const PEER_KEY: &str =
+    "version = 1\nid = \"0501aabbccddeeff\"\nparty = 2\nrounds = 1\nlms = 5\nots = 1\n\
+    secret = \"a6eef21778369036712f70881cfd21d4e8c5ae7aaa6a1fa5bc3743cfe033355b\"\nspent = false\n";
+
+// The broadcaster's key, from the secret of 32 bytes 7: it has no anchor.
+const CASTER: &str =
+    "keygen --key=k --secret s --ots=4 --lms 5 --rounds=1 --id 0011223344556677 --party 0";
+
+const CASTER_OUT: &str =
+    "key = \"00000005000000048d1e3644fdcc75d960cb49ec9469684855d80022f946f6a3fe6e69fd38c4e6da8abc3355c589089eab49998762e7de01\"\n";
+
+const CASTER_KEY: &str =
+    "version = 1\nid = \"0011223344556677\"\nparty = 0\nrounds = 1\nlms = 5\nots = 4\n\
+    secret = \"0707070707070707070707070707070707070707070707070707070707070707\"\nspent = false\n";
+
+// The same with zeros before other digits.
+const ZEROS: &str =
+    "keygen --party 00 --id 0011223344556677 --rounds 01 --lms 05 --ots 000000000000000000000000000004 --secret s --key k";
+
+// A key of a session of ten rounds, from the secret of 32 bytes 8.
+const TEN_ROUNDS: &str =
+    "keygen --party 1 --id 0011223344556677 --rounds 10 --lms 6 --ots 4 --secret s --key k";
+
+const TEN_ROUNDS_OUT: &str =
+    "key = \"00000006000000042ef17295b2b2463d8d9beef9c2b84a153262ffbbedd3314d59ffebcd595202b00e84ed977495ad7ce89a0968f687295f\"\n\
+    anchor = \"0f6658ab7e90dda684f49951ffa7345a50488289b1681527c9b1fba610ef4502\"\n";
+
+const TEN_ROUNDS_KEY: &str =
+    "version = 1\nid = \"0011223344556677\"\nparty = 1\nrounds = 10\nlms = 6\nots = 4\n\
+    secret = \"0808080808080808080808080808080808080808080808080808080808080808\"\nspent = false\n";
+
+#[test]
+fn keys_are_made(rt: HostRuntime) -> Result<(), Fail> {
+    let alloc = rt.alloc();
+    let mut secret = [0u8; 32];
+    hex::decode_to_slice(SECRET, &mut secret)?;
+    for (line, secret, out, key) in [
+        (PEER, secret, PEER_OUT, PEER_KEY),
+        (CASTER, [7; 32], CASTER_OUT, CASTER_KEY),
+        (ZEROS, [7; 32], CASTER_OUT, CASTER_KEY),
+        (TEN_ROUNDS, [8; 32], TEN_ROUNDS_OUT, TEN_ROUNDS_KEY),
+    ] {
+        let left = run(alloc, line, &secret, &[], &[])?;
+        assert_eq!(rt; left.status, 0);
+        assert_eq!(rt; left.out.bytes(), out.as_bytes());
+        assert_eq!(rt;
+            left.files.get("k").unwrap_or(b"none".as_slice()),
+            key.as_bytes()
+        );
+        assert_eq!(rt; left.err.bytes(), b"".as_slice());
+    }
+    Ok(())
+}
+
+const NONE: &str = "none";
+
+const FAILED: &str = "bar: file failed\n";
+
+// The rounds and the lms type, the bytes of the secret, the failing calls of the files and writes to out, and the status, what err
+// has, what was printed and what the key file has.
+const ENDS: [(&str, usize, &[u64], &[u64], u8, &str, &str, &str); 9] = [
+    (
+        "57 --lms 6",
+        32,
+        &[],
+        &[],
+        4,
+        "bar: session refused: TooFewLeaves need 1026 have 1024\n",
+        "",
+        NONE,
+    ),
+    (
+        "2 --lms 5",
+        32,
+        &[],
+        &[],
+        4,
+        "bar: session refused: TooFewLeaves need 36 have 32\n",
+        "",
+        NONE,
+    ),
+    (
+        "1 --lms 5",
+        31,
+        &[],
+        &[],
+        8,
+        "bar: input refused: secret length 31\n",
+        "",
+        NONE,
+    ),
+    (
+        "56 --lms 6",
+        33,
+        &[],
+        &[],
+        8,
+        "bar: input refused: secret length 33\n",
+        "",
+        NONE,
+    ),
+    ("1 --lms 5", 32, &[1], &[], 3, FAILED, "", NONE),
+    ("1 --lms 5", 32, &[2], &[], 3, FAILED, "", NONE),
+    ("1 --lms 5", 32, &[3], &[], 3, FAILED, "", HALF_KEY),
+    (
+        "1 --lms 5",
+        32,
+        &[],
+        &[1],
+        7,
+        "bar: output failed\n",
+        HALF_OUT,
+        CASTER_KEY,
+    ),
+    ("1 --lms 5", 32, &[], &[], 0, "", CASTER_OUT, CASTER_KEY),
+];
+
+const HALF_KEY: &str =
+    "version = 1\nid = \"0011223344556677\"\nparty = 0\nrounds = 1\nlms = 5\nots = 4\nsecret =";
+
+const HALF_OUT: &str = "key = \"00000005000000048d1e3644fdcc75d960cb49ec9469684855d80";
+
+#[test]
+fn statuses_and_lines_of_keys(rt: HostRuntime) -> Result<(), Fail> {
+    let alloc = rt.alloc();
+    for (rounds, len, fail_files, fail_out, status, said, out, key) in ENDS {
+        let line = format!(in alloc;
+            "keygen --party 0 --id 0011223344556677 --rounds {rounds} --ots 4 --secret s --key k"
+        )?;
+        let secret = vec![in alloc; 7u8; len]?;
+        let left = run(alloc, line.as_str(), &secret, fail_files, fail_out)?;
+        assert_eq!(rt; left.status, status, "{rounds}");
+        assert_eq!(rt; left.err.bytes(), said.as_bytes());
+        assert_eq!(rt; left.out.bytes(), out.as_bytes());
+        assert_eq!(rt;
+            left.files.get("k").unwrap_or(NONE.as_bytes()),
+            key.as_bytes()
+        );
+    }
+    Ok(())
+}
+
+const NO_LINES: [&str; 30] = [
+    "",
+    "judges --session s --table t --evidence e",
+    "judge --session s --table t",
+    "judge --session s --table t --table t",
+    // an option of a replay is missing, stands twice, or there is a word too many
+    "replay --recording r --session s --found f --played p",
+    "replay --recording r --session s --found f --played p --key k --key k",
+    "replay --recording r --session s --found f --played p --played q",
+    "replay --recording r --session s --found f --played p --key k x",
+    // a peer's time is none, and a broadcaster has no recording
+    "peer --session s --key k --begin -1 --played p --recording r --found f",
+    "peer --session s --key k --begin=18446744073709551616 --played p --recording r --found f",
+    "broadcaster --session=s --key=k --begin=0 --stream=t --found=f --recording=r",
+    // a session's time is none
+    "session --session s --keys k --stream t --begin 1x --results r --program p",
+    "keygen",
+    "keygen --party 1 --id 0011223344556677 --rounds 1 --lms 5 --ots 1 --secret s",
+    "keygen --party 1 --id 0011223344556677 --rounds 1 --lms 5 --ots 1 --secret s --secret s",
+    "keygen --party 1 --id 0011223344556677 --rounds 1 --lms 5 --ots 1 --secret s --key k x",
+    // a value is out of its range, or is none
+    "keygen --party 201 --id 0011223344556677 --rounds 1 --lms 5 --ots 1 --secret s --key k",
+    "keygen --party -1 --id 0011223344556677 --rounds 1 --lms 5 --ots 1 --secret s --key k",
+    "keygen --party +1 --id 0011223344556677 --rounds 1 --lms 5 --ots 1 --secret s --key k",
+    "keygen --party 1a --id 0011223344556677 --rounds 1 --lms 5 --ots 1 --secret s --key k",
+    "keygen --party 111111111111111111111111111111 --id 0011223344556677 --rounds 1 --lms 5 --ots 1 --secret s --key k",
+    "keygen --party 18446744073709551617 --id 0011223344556677 --rounds 1 --lms 5 --ots 1 --secret s --key k",
+    "keygen --party  --id 0011223344556677 --rounds 1 --lms 5 --ots 1 --secret s --key k",
+    "keygen --party 1 --id 001122334455667 --rounds 1 --lms 5 --ots 1 --secret s --key k",
+    "keygen --party 1 --id 001122334455667g --rounds 1 --lms 5 --ots 1 --secret s --key k",
+    "keygen --party 1 --id 0011223344556677 --rounds 0 --lms 5 --ots 1 --secret s --key k",
+    "keygen --party 1 --id 0011223344556677 --rounds 1821 --lms 7 --ots 1 --secret s --key k",
+    "keygen --party 1 --id 0011223344556677 --rounds 1 --lms 4 --ots 1 --secret s --key k",
+    "keygen --party 1 --id 0011223344556677 --rounds 1 --lms 8 --ots 1 --secret s --key k",
+    "keygen --party 1 --id 0011223344556677 --rounds 1 --lms 5 --ots 5 --secret s --key k",
+];
+
+#[test]
+fn words_that_are_no_line(rt: HostRuntime) -> Result<(), Fail> {
+    let alloc = rt.alloc();
+    for line in NO_LINES {
+        let left = run(alloc, line, &[7; 32], &[], &[])?;
+        assert_eq!(rt; left.status, 2, "{line}");
+        assert_eq!(rt; left.err.bytes(), b"bar: usage\n".as_slice());
+    }
+    Ok(())
+}

@@ -1,0 +1,19 @@
+//! Tests of nodes, of child programs and of command lines, over an outside in memory.
+//!
+//! They stand in a crate of their own, since a crate with tests is proved twice.
+#![tactic(auto)]
+
+#[cfg(test)]
+mod children_tests;
+#[cfg(test)]
+mod cli_tests;
+#[cfg(test)]
+mod judge_tests;
+#[cfg(test)]
+mod keygen_tests;
+#[cfg(test)]
+mod live_tests;
+#[cfg(test)]
+mod node_tests;
+#[cfg(test)]
+mod session_tests;

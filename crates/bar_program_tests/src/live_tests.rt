@@ -1,0 +1,204 @@
+//! Whole commands over files, links and outputs in memory. The expected numbers are worked out by hand from the rules.
+ghost use Rattle.std.specs.Prelude.{◌≡◌, true};
+ghost use Rattle.bar_outside.specs.MemTaken.{are_small};
+
+mod sessions;
+
+use bar_live::{CasterNames, Ended, PeerNames, broadcaster, peer};
+use bar_outside::{Fault, MemFiles, MemLink, MemSink, MemTaken};
+use bar_roster::KeyFileFault;
+use sessions::{caster_key, peer_key, session, spent_caster_key, spent_peer_key};
+use std::alloc::{AllocError, Global};
+use std::process::Abort;
+use std::test::Fail;
+
+const PEER: PeerNames<'static> = PeerNames {
+    session: "s",
+    key: "k",
+    begin_ms: 5_000,
+    played: "p",
+    recording: "r",
+    found: "f",
+};
+
+const CASTER: CasterNames<'static> = CasterNames {
+    session: "s",
+    key: "k",
+    begin_ms: 5_000,
+    stream: "t",
+    found: "f",
+};
+
+/// The head of the recording of the session's second peer.
+const HEAD: [u8; 15] = [
+    b'B', b'A', b'R', b'L', 1, 0x00, 0x11, 0x22, 0x33, 0x44, 0x55, 0x66, 0x77, 0, 2,
+];
+
+/// What a command left.
+#[derive(Drop)]
+struct Left {
+    ended: Result<Ended, Fault>,
+    files: MemFiles,
+    link: MemLink,
+    out: MemSink,
+}
+
+/// The session and a key file.
+fn prepared(alloc: Global, key: &str) -> Result<MemFiles, Fail> {
+    let mut files = MemFiles::make(alloc, Vec::new(alloc));
+    files.put("s", session().as_bytes())?;
+    files.put("k", key.as_bytes())?;
+    Ok(files)
+}
+
+/// Adds so many ticks.
+fn add_ticks(list: &mut Vec<MemTaken>, count: u32) -> Result<(), AllocError>
+    requires { are_small list.old.items ≡ true }
+    ensures { are_small list.new.items ≡ true }
+{
+    for before in 0..count {
+        list.push(MemTaken::Tick)?;
+    }
+    Ok(())
+}
+
+/// Adds so many empty datagrams.
+fn add_datagrams(alloc: Global, list: &mut Vec<MemTaken>, count: u32) -> Result<(), AllocError>
+    requires { are_small list.old.items ≡ true }
+    ensures { are_small list.new.items ≡ true }
+{
+    for before in 0..count {
+        list.push(MemTaken::Datagram(Vec::new(alloc)))?;
+    }
+    Ok(())
+}
+
+/// A link of so many ticks, and then so many empty datagrams, of which these calls fail.
+fn link_of(alloc: Global, ticks: u32, datagrams: u32, fail: &[u64]) -> Result<MemLink, AllocError> {
+    let mut list = Vec::new(alloc);
+    add_ticks(&mut list, ticks)?;
+    add_datagrams(alloc, &mut list, datagrams)?;
+    Ok(MemLink::make(alloc, list, fail.to_vec(alloc)?))
+}
+
+/// A peer with these files over this link.
+fn run_peer(alloc: Global, mut files: MemFiles, mut link: MemLink) -> Left {
+    let mut out = MemSink::make(alloc, Vec::new(alloc));
+    let ended = peer(alloc, &PEER, &mut files, &mut link, &mut out);
+    Left {
+        ended,
+        files,
+        link,
+        out,
+    }
+}
+
+/// A broadcaster with a stream of so many bytes over a link of so many ticks.
+fn run_caster(alloc: Global, len: usize, ticks: u32) -> Result<Left, Fail> {
+    let mut files = prepared(alloc, caster_key())?;
+    files.put("t", &vec![in alloc; 7; len]?)?;
+    let mut link = link_of(alloc, ticks, 0, &[])?;
+    let mut out = MemSink::make(alloc, Vec::new(alloc));
+    let ended = broadcaster(alloc, &CASTER, &mut files, &mut link, &mut out);
+    Ok(Left {
+        ended,
+        files,
+        link,
+        out,
+    })
+}
+
+/// Checks that a file holds these bytes.
+fn check_file(rt: &impl Abort, left: &Left, path: &str, bytes: &[u8]) {
+    assert!(rt; left.files.get(path) == Some(bytes), "at {path}");
+}
+
+/// Checks what the link is bound to: the party, the port, and the first tick and the length of a tick in milliseconds.
+fn check_bound(rt: &impl Abort, left: &Left, place: Option<(u16, u16, u64, u32)>) {
+    let bound = left.link.place();
+    assert_eq!(rt; bound.map(|p| (p.me, p.port, p.begin_ms, p.tick_ms)), place);
+}
+
+/// A peer alone asks sixteen times in each round, and plays nothing.
+#[test]
+fn a_peer_alone_asks_in_vain(rt: HostRuntime) -> Result<(), Fail> {
+    let alloc = rt.alloc();
+    let link = link_of(alloc, 120, 0, &[])?;
+    let left = run_peer(alloc, prepared(alloc, peer_key())?, link);
+    assert_eq!(rt; left.ended, Ok(Ended::Done));
+    assert_eq!(rt;
+        left.out.bytes(),
+        b"ticks 120 sent 160 played 0\n".as_slice()
+    );
+    let mut recording = HEAD.to_vec(alloc)?;
+    recording.extend_from_slice(&[1; 120])?;
+    recording.push(0)?;
+    check_file(&rt, &left, "r", &recording);
+    check_file(&rt, &left, "p", b"");
+    check_file(&rt, &left, "k", spent_peer_key().as_bytes());
+    check_bound(&rt, &left, Some((2, 20_000, 5_000, 20)));
+    let again = run_peer(alloc, left.files, link_of(alloc, 120, 0, &[])?);
+    assert_eq!(rt; again.ended, Ok(Ended::KeyRefused(KeyFileFault::Spent)));
+    check_bound(&rt, &again, None);
+    Ok(())
+}
+
+#[test]
+fn a_failed_call_of_the_link_stops_a_peer(rt: HostRuntime) -> Result<(), Fail> {
+    let alloc = rt.alloc();
+    let link = link_of(alloc, 120, 0, &[7])?;
+    let left = run_peer(alloc, prepared(alloc, peer_key())?, link);
+    assert_eq!(rt; left.ended, Err(Fault::Link));
+    assert_eq!(rt; left.link.sent().len(), 2);
+    assert_eq!(rt; left.files.get("r").map(<[u8]>::len), Some(18));
+    assert_eq!(rt; left.out.bytes(), b"".as_slice());
+    Ok(())
+}
+
+/// After 65,536 datagrams in a row a tick is taken that didn't come.
+#[test]
+fn a_tick_is_taken_among_many_datagrams(rt: HostRuntime) -> Result<(), Fail> {
+    let alloc = rt.alloc();
+    let link = link_of(alloc, 1, 65_537, &[])?;
+    let left = run_peer(alloc, prepared(alloc, peer_key())?, link);
+    assert_eq!(rt; left.ended, Ok(Ended::Done));
+    let mut recording = HEAD.to_vec(alloc)?;
+    recording.push(1)?;
+    for _ in 0..65_536u32 {
+        recording.extend_from_slice(&[2, 0, 0])?;
+    }
+    recording.extend_from_slice(&[1, 2, 0, 0, 0])?;
+    check_file(&rt, &left, "r", &recording);
+    Ok(())
+}
+
+#[test]
+fn a_stream_is_cast(rt: HostRuntime) -> Result<(), Fail> {
+    let left = run_caster(rt.alloc(), 1_023, 120)?;
+    assert_eq!(rt; left.ended, Ok(Ended::Done));
+    assert_eq!(rt; left.out.bytes(), b"ticks 120 sent 44\n".as_slice());
+    check_bound(&rt, &left, Some((0, 20_000, 5_000, 20)));
+    Ok(())
+}
+
+#[test]
+fn an_empty_stream_over_an_empty_link(rt: HostRuntime) -> Result<(), Fail> {
+    let left = run_caster(rt.alloc(), 0, 0)?;
+    assert_eq!(rt; left.ended, Ok(Ended::Done));
+    assert_eq!(rt; left.out.bytes(), b"ticks 0 sent 0\n".as_slice());
+    check_file(&rt, &left, "k", spent_caster_key().as_bytes());
+    Ok(())
+}
+
+#[test]
+fn a_stream_that_is_too_long_spends_no_key(rt: HostRuntime) -> Result<(), Fail> {
+    let left = run_caster(rt.alloc(), 81_761, 0)?;
+    let refused = Ended::StreamRefused {
+        have: 81_761,
+        room: 81_760,
+    };
+    assert_eq!(rt; left.ended, Ok(refused));
+    check_file(&rt, &left, "k", caster_key().as_bytes());
+    check_bound(&rt, &left, None);
+    Ok(())
+}

@@ -1,0 +1,123 @@
+//! Sessions over files, sinks and a spawner in memory.
+use crate::cli_tests::{SESSION, words};
+use bar_cli::bar_run;
+use bar_outside::{MemFiles, MemLink, MemSink, MemSpawner};
+use std::alloc::{AllocError, Global};
+use std::test::Fail;
+
+const LINE: [&str; 13] = [
+    "session",
+    "--session",
+    "ses",
+    "--keys",
+    "k",
+    "--stream",
+    "st",
+    "--begin",
+    "5",
+    "--results",
+    "r",
+    "--program",
+    "bar",
+];
+
+/// What a session left.
+#[derive(Drop)]
+struct Left {
+    status: u8,
+    calls: usize,
+    out: MemSink,
+    err: MemSink,
+}
+
+// A session whose children end with these statuses, where these calls of the spawner and these writes to out fail.
+fn run(
+    alloc: Global,
+    session: &str,
+    statuses: &[i32],
+    fail_spawn: &[u64],
+    fail_out: &[u64],
+) -> Result<Left, AllocError> {
+    let mut files = MemFiles::make(alloc, Vec::new(alloc));
+    files.put("ses", session.as_bytes())?;
+    let mut link = MemLink::make(alloc, Vec::new(alloc), Vec::new(alloc));
+    let mut out = MemSink::make(alloc, fail_out.to_vec(alloc)?);
+    let mut err = MemSink::make(alloc, Vec::new(alloc));
+    let mut spawn = MemSpawner::make(alloc, statuses.to_vec(alloc)?, fail_spawn.to_vec(alloc)?);
+    let all = words(alloc, &LINE)?;
+    let status = bar_run(
+        alloc, &all, &mut files, &mut link, &mut out, &mut err, &mut spawn,
+    );
+    Ok(Left {
+        status,
+        calls: spawn.calls().len(),
+        out,
+        err,
+    })
+}
+
+#[test]
+fn children_and_their_statuses(rt: HostRuntime) -> Result<(), Fail> {
+    let alloc = rt.alloc();
+    // statuses, failing calls of the spawner and of out; status, calls of the spawner, and what is printed
+    let rows: [(&[i32], &[u64], &[u64], u8, usize, &str, &str); 5] = [
+        (
+            &[0, 0, 6],
+            &[],
+            &[],
+            9,
+            6,
+            "party 1 status 0\nparty 2 status 0\nparty 0 status 6\n",
+            "bar: child failed\n",
+        ),
+        (
+            &[0, 0, 0],
+            &[],
+            &[],
+            0,
+            6,
+            "party 1 status 0\nparty 2 status 0\nparty 0 status 0\n",
+            "",
+        ),
+        (
+            &[0, 0, 0],
+            &[2],
+            &[],
+            9,
+            2,
+            "party 1 status 0\n",
+            "bar: child failed\n",
+        ),
+        (
+            &[0, 0, 0],
+            &[5],
+            &[],
+            9,
+            6,
+            "party 1 status 0\nparty 0 status 0\n",
+            "bar: child failed\n",
+        ),
+        (
+            &[0, 4, 0],
+            &[],
+            &[1],
+            7,
+            6,
+            "party 1 ",
+            "bar: output failed\n",
+        ),
+    ];
+    for (statuses, fail_spawn, fail_out, status, calls, out, err) in rows {
+        let left = run(alloc, SESSION, statuses, fail_spawn, fail_out)?;
+        assert_eq!(rt; (left.status, left.calls), (status, calls));
+        assert_eq!(rt; left.out.bytes(), out.as_bytes());
+        assert_eq!(rt; left.err.bytes(), err.as_bytes());
+    }
+    let left = run(alloc, "", &[], &[], &[])?;
+    assert_eq!(rt; (left.status, left.calls), (4, 0));
+    assert_eq!(rt;
+        left.err.bytes(),
+        b"bar: session refused: Missing version\n".as_slice()
+    );
+    Ok(())
+}

@@ -1,0 +1,190 @@
+//! Table files of a small session. The broadcaster's key is by a Python program written from RFC 8554.
+ghost use Rattle.std.specs.Prelude.{◌≡◌, ◌<◌};
+
+use bar_bytes::Steps;
+use bar_judge::{TableFault, add_entry, read_table};
+use bar_lms::SecretKey;
+use bar_roster::Session;
+use bar_seal::{LmsScheme, LmsVerifier, Scheme, Verifier};
+use bar_terms::{Digest, Table};
+use bar_window::UpdateId;
+use std::alloc::{AllocError, Global};
+use std::marker::Brand;
+use std::process::Abort;
+use std::sync::ledger::{Blank, Ledger};
+use std::test::Fail;
+
+const ID: [u8; 8] = [0x00, 0x11, 0x22, 0x33, 0x44, 0x55, 0x66, 0x77];
+
+/// A session of two peers and three rounds, whose broadcaster's secret is 32 times 7.
+const SESSION: &str = "version = 1\nid = \"0011223344556677\"\nrounds = 3\nlife = 4\ncap = 4\n\
+    per_round = 8\nfanout = 1\nport = 20000\ntick_ms = 20\nlms = 6\nots = 1\n\
+    key = \"00000006000000018d1e3644fdcc75d960cb49ec946968481554a91f1289fa02a0336e795ad4b25490e95e447533fc4da8ff8806af933922\"\n\n[[peer]]\n\
+    key = \"0000000600000001000000000000000000000000000000000000000000000000000000000000000000000000000000000000000000000001\"\n\
+    anchor = \"0000000000000000000000000000000000000000000000000000000000000001\"\n\n[[peer]]\n\
+    key = \"0000000600000001000000000000000000000000000000000000000000000000000000000000000000000000000000000000000000000002\"\n\
+    anchor = \"0000000000000000000000000000000000000000000000000000000000000002\"\n";
+
+/// A part of a table file.
+#[derive(Clone, Copy)]
+enum Part {
+    /// The entry of the manifest of a round.
+    Manifest(u8),
+    /// The same with another last byte of its signature.
+    Changed(u8),
+    /// The same without its last byte.
+    Cut(u8),
+    /// A byte.
+    Byte(u8),
+}
+
+/// The digest of an update: its round and its index in each byte.
+fn digest_of(round: u8, index: u8) -> [u8; 32] {
+    [round.wrapping_mul(16).wrapping_add(index); 32]
+}
+
+/// The manifest of a round with two digests.
+fn manifest(
+    rt: &impl Abort,
+    alloc: Global,
+    caster: &LmsScheme,
+    round: u8,
+) -> Result<Vec<u8>, AllocError> {
+    let mut bytes = [0xba, 0x47, 1, 1].to_vec(alloc)?;
+    bytes.extend_from_slice(&ID)?;
+    bytes.extend_from_slice(&[0, 0, 0xff, 0xff, 0, 0, 0, round, 2])?;
+    bytes.extend_from_slice(&digest_of(round, 0))?;
+    bytes.extend_from_slice(&digest_of(round, 1))?;
+    let leaf = u32::from(round);
+    let leaves = caster.leaves();
+    assert!(rt; leaf < leaves);
+    let mut sig = vec![in alloc; 0; caster.sig_len()]?;
+    caster.sign(leaf, &bytes, &mut sig);
+    bytes.extend_from_slice(&sig)?;
+    Ok(bytes)
+}
+
+fn add_manifest(
+    rt: &impl Abort,
+    alloc: Global,
+    caster: &LmsScheme,
+    round: u8,
+    out: &mut Vec<u8>,
+) -> Result<(), AllocError> {
+    let manifest = manifest(rt, alloc, caster, round)?;
+    let len = manifest.len();
+    assert!(rt; len < 65_536);
+    add_entry(out, &manifest)
+}
+
+fn add_part(
+    rt: &impl Abort,
+    alloc: Global,
+    caster: &LmsScheme,
+    part: Part,
+    out: &mut Vec<u8>,
+) -> Result<(), AllocError> {
+    match part {
+        Part::Manifest(round) => add_manifest(rt, alloc, caster, round, out)?,
+        Part::Changed(round) => {
+            add_manifest(rt, alloc, caster, round, out)?;
+            if let Some(byte) = out.last_mut() {
+                *byte ^= 1;
+            }
+        }
+        Part::Cut(round) => {
+            add_manifest(rt, alloc, caster, round, out)?;
+            out.pop();
+        }
+        Part::Byte(byte) => out.push(byte)?,
+    }
+    Ok(())
+}
+
+fn file_of(
+    rt: &impl Abort,
+    alloc: Global,
+    caster: &LmsScheme,
+    parts: &[Part],
+) -> Result<Vec<u8>, AllocError> {
+    let mut bytes = Vec::new(alloc);
+    for part in parts {
+        add_part(rt, alloc, caster, *part, &mut bytes)?;
+    }
+    Ok(bytes)
+}
+
+fn read_with<L: Ledger>(
+    alloc: Global,
+    bytes: &[u8],
+    session: &Session,
+    blank: Blank,
+) -> Result<Table, TableFault>
+    requires name { blank.name ≡ L.name }
+    requires parts { blank.parts ≡ L.parts }
+    requires some { 0 < L.parts }
+{
+    let verifier = LmsVerifier::new(session.params());
+    read_table(
+        alloc,
+        bytes,
+        session,
+        &verifier,
+        &mut Steps::<L>::new(blank),
+    )
+}
+
+fn read(alloc: Global, bytes: &[u8], session: &Session) -> Result<Table, TableFault> {
+    read_with::<Brand>(alloc, bytes, session, Blank::new(1))
+}
+
+/// Parts of a file, and the place of its first bad entry. An entry has 8,931 bytes.
+const ROWS: [(&[Part], Option<u64>); 11] = [
+    (&[], None),
+    (&[Part::Manifest(3)], None),
+    (&[Part::Manifest(1), Part::Manifest(3)], None),
+    (&[Part::Changed(1), Part::Manifest(3)], Some(0)),
+    (&[Part::Manifest(1), Part::Changed(3)], Some(8931)),
+    (&[Part::Manifest(2), Part::Manifest(2)], Some(8931)),
+    (&[Part::Manifest(2), Part::Manifest(1)], Some(8931)),
+    (&[Part::Manifest(2), Part::Manifest(4)], Some(8931)),
+    (&[Part::Manifest(1), Part::Cut(2)], Some(8931)),
+    (&[Part::Manifest(1), Part::Byte(0)], Some(8931)),
+    (
+        &[Part::Manifest(1), Part::Byte(0), Part::Byte(0)],
+        Some(8931),
+    ),
+];
+
+#[test]
+fn a_table_file_is_read_up_to_a_bad_entry(rt: HostRuntime) -> Result<(), Fail> {
+    let alloc = rt.alloc();
+    let session = Session::read(alloc, SESSION.as_bytes())?;
+    let signer = SecretKey::make(alloc, session.params(), &ID, &[7; 32])?;
+    let caster = LmsScheme::new(signer);
+    for (parts, place) in ROWS {
+        let bytes = file_of(&rt, alloc, &caster, parts)?;
+        let fault = place.map(|at| TableFault::BadEntry { at });
+        assert_eq!(rt; read(alloc, &bytes, &session).err(), fault);
+    }
+    let parts = [Part::Manifest(1), Part::Manifest(3)];
+    let table = read(alloc, &file_of(&rt, alloc, &caster, &parts)?, &session)?;
+    for round in [1, 3] {
+        for index in [0, 1] {
+            let id = UpdateId {
+                round: u32::from(round),
+                index,
+            };
+            assert_eq!(rt; table.digest(id), Digest::Known(&digest_of(round, index)));
+        }
+    }
+    assert_eq!(rt;
+        table.digest(UpdateId { round: 3, index: 2 }),
+        Digest::PastEnd
+    );
+    assert_eq!(rt;
+        table.digest(UpdateId { round: 2, index: 0 }),
+        Digest::NoManifest
+    );
+    Ok(())
+}

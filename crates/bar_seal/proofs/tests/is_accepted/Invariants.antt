@@ -1,4 +1,0 @@
-use Rattle.bar_seal.proofs.tests.is_accepted.Given as goal
-
-abbrev pub ghosts-is_counted : goal.ghosts-is_counted
-ghosts-is_counted g a = record { name = a.blank.name; parts = a.blank.parts }

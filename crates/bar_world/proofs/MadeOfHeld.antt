@@ -1,0 +1,78 @@
+-- A session that is made of what its parties hold.
+use Rattle.bar_lms.specs.declared.params.Params.{Params}
+use Rattle.bar_lms.specs.Secret.{public_key}
+use Rattle.bar_seeds.specs.declared.secrets.Secrets.{Secrets}
+use Rattle.bar_seeds.specs.Seeds.{anchor_of}
+use Rattle.bar_wire.specs.declared.shape.Shape.{Shape}
+use Rattle.bar_roster.specs.SessionText.{session_of_parts}
+use Rattle.bar_rules.specs.Member.{Session}
+use Rattle.bar_world.specs.declared.numbers.Numbers.{Numbers}
+use Rattle.bar_world.specs.Made.{signing, keys_of, seeding, anchors_from, anchors_of, session_by}
+use Rattle.bar_world.specs.Setups.{AreOfParties}
+use Rattle.std.proofs.Common.{◌≡◌, ℕ, zero, suc, List, [], ◌∷◌, ◌+◌, map, drop, refl, sym, ap, ◌∙◌, arith}
+use Rattle.std.specs.Prelude.{Some, slice_get}
+
+-- what the parties from this one on hold, whose secrets these are
+abbrev pub held_from : List ℕ → ℕ → List (List ℕ) → List Secrets
+held_from id party [] = []
+held_from id party (secret ∷ secrets) = seeding id party secret ∷ held_from id (party + 1) secrets
+
+held-at : (id : List ℕ) (party : ℕ) (secrets : List (List ℕ)) (p : ℕ) (k : Secrets) → slice_get (held_from id party secrets) p ≡ Some k
+    → (k.id ≡ id) × (k.party ≡ party + p)
+held-at id party [] p k at = cc
+held-at id party (secret ∷ secrets) zero k at =
+    let is : seeding id party secret ≡ k = cc in
+    let here : party ≡ party + zero = omega arith in
+    (ap (λ (s : Secrets). s.id) (sym is), ap (λ (s : Secrets). s.party) (sym is) ∙ here)
+held-at id party (secret ∷ secrets) (suc p) k at =
+    let later = held-at id (party + 1) secrets p k at in
+    let place : party + 1 + p ≡ party + suc p = omega arith in
+    (later.0, later.1 ∙ place)
+
+pub held-are : (session : Session) (secrets : List (List ℕ)) → AreOfParties session (held_from session.shape.id 0 secrets)
+held-are session secrets = record {
+  id = λ p k at. (held-at session.shape.id 0 secrets p k at).0;
+  party = λ p k at. let e : k.party ≡ 0 + p = (held-at session.shape.id 0 secrets p k at).1 in omega arith;
+}
+
+-- ---- the session
+
+keys-made : (params : Params) (id : List ℕ) (held : List Secrets) → ((p : ℕ) (k : Secrets) → slice_get held p ≡ Some k → k.id ≡ id)
+    → map (λ (k : Secrets). public_key (signing params k.id k.secret)) held ≡ keys_of params id (map (λ (k : Secrets). k.secret) held)
+keys-made params id [] ids = refl
+keys-made params id (k ∷ held) ids =
+    let here : k.id ≡ id = ids 0 k refl in
+    λ i. public_key (signing params (here i) k.secret) ∷ keys-made params id held (λ p. ids (suc p)) i
+
+anchors-made : (id : List ℕ) (rounds party : ℕ) (held : List Secrets) → ((p : ℕ) (k : Secrets) → slice_get held p ≡ Some k → k.id ≡ id)
+    → ((p : ℕ) (k : Secrets) → slice_get held p ≡ Some k → k.party ≡ party + p)
+    → map (λ (k : Secrets). anchor_of k rounds) held ≡ anchors_from id rounds party (map (λ (k : Secrets). k.secret) held)
+anchors-made id rounds party [] ids parties = refl
+anchors-made id rounds party (k ∷ held) ids parties =
+    let here : k.id ≡ id = ids 0 k refl in
+    let first : k.party ≡ party + 0 = parties 0 k refl in
+    let is : k.party ≡ party = omega arith in
+    let later : (p : ℕ) (s : Secrets) → slice_get held p ≡ Some s → s.party ≡ party + 1 + p =
+    λ p s at. let next : s.party ≡ party + suc p = parties (suc p) s at in omega arith
+    in
+    λ i. anchor_of (seeding (here i) (is i) k.secret) rounds ∷ anchors-made id rounds (party + 1) held (λ p. ids (suc p)) later i
+
+peers-made : (id : List ℕ) (rounds : ℕ) (held : List Secrets) → ((p : ℕ) (k : Secrets) → slice_get held p ≡ Some k → k.id ≡ id)
+    → ((p : ℕ) (k : Secrets) → slice_get held p ≡ Some k → k.party ≡ p)
+    → map (λ (k : Secrets). anchor_of k rounds) (drop 1 held) ≡ anchors_of id rounds (map (λ (k : Secrets). k.secret) held)
+peers-made id rounds [] ids parties = refl
+peers-made id rounds (k ∷ held) ids parties =
+    let later : (p : ℕ) (s : Secrets) → slice_get held p ≡ Some s → s.party ≡ 1 + p =
+    λ p s at. let next : s.party ≡ suc p = parties (suc p) s at in omega arith
+    in
+    anchors-made id rounds 1 held (λ p. ids (suc p)) later
+
+pub session-is : (shape : Shape) (n : Numbers) (held : List Secrets) (keys anchors : List (List ℕ))
+    → AreOfParties (session_by shape n held) held
+    → keys ≡ map (λ (k : Secrets). public_key (signing n.params k.id k.secret)) held
+    → anchors ≡ map (λ (k : Secrets). anchor_of k shape.rounds) (drop 1 held)
+    → session_of_parts shape n.cap n.fanout n.port n.tick_ms n.params keys anchors ≡ session_by shape n held
+session-is shape n held keys anchors are keyed anchored =
+    let all = keyed ∙ keys-made n.params shape.id held are.id in
+    let peers = anchored ∙ peers-made shape.id shape.rounds held are.id are.party in
+    λ i. session_of_parts shape n.cap n.fanout n.port n.tick_ms n.params (all i) (peers i)
