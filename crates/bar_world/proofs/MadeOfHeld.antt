@@ -4,12 +4,18 @@ use Rattle.bar_lms.specs.Secret.{public_key}
 use Rattle.bar_seeds.specs.declared.secrets.Secrets.{Secrets}
 use Rattle.bar_seeds.specs.Seeds.{anchor_of}
 use Rattle.bar_wire.specs.declared.shape.Shape.{Shape}
+use Rattle.bar_roster.specs.declared.key_file.KeyFile.{KeyFile}
 use Rattle.bar_roster.specs.SessionText.{session_of_parts}
 use Rattle.bar_rules.specs.Member.{Session}
+use Rattle.bar_rules.specs.World.World.{IsSetup}
 use Rattle.bar_world.specs.declared.numbers.Numbers.{Numbers}
-use Rattle.bar_world.specs.Made.{signing, keys_of, seeding, anchors_from, anchors_of, session_by}
-use Rattle.bar_world.specs.Setups.{AreOfParties}
-use Rattle.std.proofs.Common.{◌≡◌, ℕ, zero, suc, List, [], ◌∷◌, ◌+◌, map, drop, refl, sym, ap, ◌∙◌, arith}
+use Rattle.bar_world.specs.Keys.{AreMade, anchor_in, held_in, key_by, public_in}
+use Rattle.bar_world.specs.Made.{AreNumbers, signing, keys_of, seeding, anchors_from, anchors_of, session_by}
+use Rattle.bar_world.specs.Setups.{AreOfParties, setup_of}
+use Rattle.bar_world.proofs.MadeLemmas.{made-is-setup}
+use Rattle.std.proofs.Common.{◌≡◌, ℕ, zero, suc, List, [], ◌∷◌, ◌+◌, map, drop, length, refl, sym, ap, ◌∙◌, arith}
+use Rattle.std.proofs.lemmas.List.{drop-map, length-map}
+use Rattle.std.proofs.lemmas.Simd.{map-map}
 use Rattle.std.specs.Prelude.{Some, slice_get}
 
 -- what the parties from this one on hold, whose secrets these are
@@ -67,12 +73,33 @@ peers-made id rounds (k ∷ held) ids parties =
     in
     anchors-made id rounds 1 held (λ p. ids (suc p)) later
 
-pub session-is : (shape : Shape) (n : Numbers) (held : List Secrets) (keys anchors : List (List ℕ))
-    → AreOfParties (session_by shape n held) held
-    → keys ≡ map (λ (k : Secrets). public_key (signing n.params k.id k.secret)) held
-    → anchors ≡ map (λ (k : Secrets). anchor_of k shape.rounds) (drop 1 held)
-    → session_of_parts shape n.cap n.fanout n.port n.tick_ms n.params keys anchors ≡ session_by shape n held
-session-is shape n held keys anchors are keyed anchored =
-    let all = keyed ∙ keys-made n.params shape.id held are.id in
-    let peers = anchored ∙ peers-made shape.id shape.rounds held are.id are.party in
+-- ---- the session of key files
+
+public-made : (params : Params) (rounds : ℕ) (keys : List KeyFile) → AreMade params rounds keys
+    → map public_in keys ≡ map (λ (k : Secrets). public_key (signing params k.id k.secret)) (held_in keys)
+public-made params rounds keys made = ap (map public_in) made ∙ map-map public_in (key_by params rounds) (held_in keys)
+
+anchors-in : (params : Params) (rounds : ℕ) (keys : List KeyFile) → AreMade params rounds keys
+    → map anchor_in (drop 1 keys) ≡ map (λ (k : Secrets). anchor_of k rounds) (drop 1 (held_in keys))
+anchors-in params rounds keys made =
+    ap (λ list. map anchor_in (drop 1 list)) made
+    ∙ ap (map anchor_in) (drop-map (key_by params rounds) 1 (held_in keys))
+    ∙ map-map anchor_in (key_by params rounds) (drop 1 (held_in keys))
+
+pub session-is : (shape : Shape) (n : Numbers) (keys : List KeyFile) (public anchors : List (List ℕ)) → AreMade n.params shape.rounds keys
+    → AreOfParties (session_by shape n (held_in keys)) (held_in keys)
+    → public ≡ map public_in keys → anchors ≡ map anchor_in (drop 1 keys)
+    → session_of_parts shape n.cap n.fanout n.port n.tick_ms n.params public anchors ≡ session_by shape n (held_in keys)
+session-is shape n keys public anchors made are keyed anchored =
+    let held = held_in keys in
+    let all = keyed ∙ public-made n.params shape.rounds keys made ∙ keys-made n.params shape.id held are.id in
+    let peers =
+    anchored ∙ anchors-in n.params shape.rounds keys made ∙ peers-made shape.id shape.rounds held are.id are.party
+    in
     λ i. session_of_parts shape n.cap n.fanout n.port n.tick_ms n.params (all i) (peers i)
+
+pub of-setup : (shape : Shape) (n : Numbers) (keys : List KeyFile) (stream : List ℕ) → AreNumbers shape n → length keys ≡ shape.peers + 1
+    → IsSetup (setup_of (session_by shape n (held_in keys)) (held_in keys) stream)
+of-setup shape n keys stream numbers count =
+    made-is-setup shape n (map (λ (k : Secrets). k.secret) (held_in keys)) stream numbers
+    (length-map (held_in keys) (λ (k : Secrets). k.secret) ∙ length-map keys (λ (key : KeyFile). key.secrets) ∙ count)

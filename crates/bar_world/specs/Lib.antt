@@ -11,6 +11,7 @@ pub mod Moves
 pub mod Given
 pub mod Kept
 pub mod Held
+pub mod Keys
 pub mod Lies
 pub mod Playing
 pub mod Shown

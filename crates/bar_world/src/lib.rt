@@ -2,6 +2,7 @@
 #![tactic(auto)]
 
 mod feeding;
+mod keys;
 pub mod laws;
 mod lies;
 mod making;

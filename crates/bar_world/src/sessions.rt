@@ -1,60 +1,53 @@
-//! A session that is made from its parties' secrets.
-ghost use Rattle.std.specs.Prelude.{◌≡◌, ◌+◌, length, map, IfOk};
-ghost use Rattle.bar_lms.specs.Secret.{public_key};
-ghost use Rattle.bar_seeds.specs.declared.secrets.Secrets.{Secrets as Held};
-ghost use Rattle.bar_seeds.specs.Seeds.{anchor_of};
-ghost use Rattle.bar_world.specs.Made.{AreNumbers, session_by, signing};
-ghost use Rattle.bar_world.specs.Setups.{AreOfParties};
+//! A session that is made from its parties' key files.
+ghost use Rattle.std.specs.Prelude.{◌≡◌, ◌+◌, ℕ, List, length, map, IfOk};
+ghost use Rattle.bar_rules.specs.World.World.{IsSetup};
+ghost use Rattle.bar_world.specs.Keys.{AreMade, anchor_in, held_in, public_in};
+ghost use Rattle.bar_world.specs.Made.{AreNumbers, session_by};
+ghost use Rattle.bar_world.specs.Setups.{AreOfParties, setup_of};
 
 use crate::numbers::Numbers;
-use bar_lms::{Params, SecretKey};
-use bar_roster::Session;
-use bar_seeds::{Secrets, SeedChain};
+use bar_roster::{KeyFile, Session};
 use bar_wire::Shape;
 use std::alloc::{AllocError, Global};
 
-/// The public keys that come from secrets.
-fn public_keys(
-    alloc: Global,
-    params: Params,
-    secrets: &[Secrets],
-) -> Result<Vec<[u8; 56]>, AllocError>
-    ensures { IfOk result (λ keys. keys.items ≡ map (λ (k : Held). public_key (signing params k.id k.secret)) secrets.now) }
+/// The public keys of parties.
+fn public_keys(alloc: Global, keys: &[KeyFile]) -> Result<Vec<[u8; 56]>, AllocError>
+    ensures { IfOk result (λ public. public.items ≡ map public_in keys.now) }
 {
-    let mut keys = Vec::new(alloc);
-    for who in secrets {
-        let signer = SecretKey::make(alloc, params, &who.id, &who.secret)?;
-        keys.push(signer.public())?;
+    let mut public = Vec::new(alloc);
+    for key in keys {
+        public.push(key.signer.public())?;
     }
-    Ok(keys)
+    Ok(public)
 }
 
-/// The anchors that come from secrets, over so many rounds.
-fn anchors(alloc: Global, rounds: u32, secrets: &[Secrets]) -> Result<Vec<[u8; 32]>, AllocError>
-    ensures { IfOk result (λ anchors. anchors.items ≡ map (λ (k : Held). anchor_of k rounds) secrets.now) }
+/// The anchors of parties.
+fn anchors(alloc: Global, keys: &[KeyFile]) -> Result<Vec<[u8; 32]>, AllocError>
+    ensures { IfOk result (λ anchors. anchors.items ≡ map anchor_in keys.now) }
 {
     let mut anchors = Vec::new(alloc);
-    for who in secrets {
-        let chain = SeedChain::make(alloc, &who.id, who.party, rounds, &who.secret)?;
-        anchors.push(chain.anchor())?;
+    for key in keys {
+        anchors.push(key.chain.anchor())?;
     }
     Ok(anchors)
 }
 
-/// The session of these numbers, made from the secrets of its parties, the broadcaster's first.
+/// The session of these numbers, made from the key files of its parties, the broadcaster's first.
 pub(crate) fn session(
     alloc: Global,
     shape: Shape,
     numbers: Numbers,
-    secrets: &[Secrets],
+    keys: &[KeyFile],
 ) -> Result<Session, AllocError>
     requires numbers { AreNumbers shape numbers }
-    requires count { length secrets.now ≡ shape.peers + 1 }
-    requires parties { AreOfParties (session_by shape numbers secrets.now) secrets.now }
-    ensures { IfOk result (λ s. s ≡ session_by shape numbers secrets.now) }
+    requires count { length keys.now ≡ shape.peers + 1 }
+    requires made { AreMade numbers.params shape.rounds keys.now }
+    requires parties { AreOfParties (session_by shape numbers (held_in keys.now)) (held_in keys.now) }
+    ensures value { IfOk result (λ s. s ≡ session_by shape numbers (held_in keys.now)) }
+    ensures setup { IfOk result (λ s. (stream : List ℕ) → IsSetup (setup_of s (held_in keys.now) stream)) }
 {
-    let keys = public_keys(alloc, numbers.params, secrets)?;
-    let anchors = anchors(alloc, shape.rounds, &secrets[1..])?;
+    let public = public_keys(alloc, keys)?;
+    let anchors = anchors(alloc, &keys[1..])?;
     Ok(Session::made(
         shape,
         numbers.cap,
@@ -62,7 +55,7 @@ pub(crate) fn session(
         numbers.port,
         numbers.tick_ms,
         numbers.params,
-        keys,
+        public,
         anchors,
     ))
 }

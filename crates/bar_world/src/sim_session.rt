@@ -1,13 +1,15 @@
 //! The session of a simulation.
 ghost use Rattle.std.specs.Prelude.{◌≡◌, IfOk};
 ghost use Rattle.bar_world.specs.Held.{all_held};
-ghost use Rattle.bar_world.specs.Sim.{setup, shape};
+ghost use Rattle.bar_world.specs.Keys.{keys_by};
+ghost use Rattle.bar_world.specs.Sim.{numbers, setup, shape};
 
+use crate::keys::keys_of;
 use crate::numbers::Numbers;
+use crate::seeds::all_secrets;
 use crate::sessions::session;
 use bar_lms::{Height, Ots, Params};
-use bar_roster::Session;
-use bar_seeds::Secrets;
+use bar_roster::{KeyFile, Session};
 use bar_wire::Shape;
 use std::alloc::{AllocError, Global};
 
@@ -39,14 +41,22 @@ fn shape(seed: u64) -> Shape
     }
 }
 
-/// The session, made from the secrets of its parties.
-pub(crate) fn sim_session(
-    alloc: Global,
-    seed: u64,
-    secrets: &[Secrets; 6],
-) -> Result<Session, AllocError>
-    requires { secrets.now ≡ all_held seed }
+/// The key files of the parties.
+pub(crate) fn sim_keys(alloc: Global, seed: u64) -> Result<Vec<KeyFile>, AllocError>
+    ensures { IfOk result (λ keys. keys.items ≡ keys_by numbers.params (shape seed).rounds (all_held seed)) }
+{
+    keys_of(
+        alloc,
+        NUMBERS.params,
+        shape(seed).rounds,
+        &all_secrets(seed),
+    )
+}
+
+/// The session, made from the key files of its parties.
+pub(crate) fn sim_session(alloc: Global, seed: u64, keys: &[KeyFile]) -> Result<Session, AllocError>
+    requires { keys.now ≡ keys_by numbers.params (shape seed).rounds (all_held seed) }
     ensures { IfOk result (λ s. s ≡ (setup seed).session) }
 {
-    session(alloc, shape(seed), NUMBERS, secrets)
+    session(alloc, shape(seed), NUMBERS, keys)
 }

@@ -9,9 +9,9 @@ ghost use Rattle.bar_world.specs.Sim.{game, sim};
 use crate::laws::{honest_peers_stay, simulations_are_fair};
 use crate::lies::Liar;
 use crate::network::Network;
-use crate::seeds::{all_secrets, draws, stream};
+use crate::seeds::{draws, stream};
 use crate::sim_end::SimEnd;
-use crate::sim_session::sim_session;
+use crate::sim_session::{sim_keys, sim_session};
 use crate::small_list::SmallList;
 use crate::world::World;
 use bar_case::laws::keystreams_have_their_length;
@@ -37,16 +37,16 @@ pub(crate) fn begin(alloc: Global, seed: u64) -> Result<Network, AllocError>
 {
     simulations_are_fair();
     keystreams_have_their_length();
-    let secrets = all_secrets(seed);
-    let session = sim_session(alloc, seed, &secrets)?;
-    let liar = &secrets[LIAR];
+    let keys = sim_keys(alloc, seed)?;
+    let session = sim_session(alloc, seed, &keys)?;
+    let liar = keys[LIAR].secrets;
     let signer = SecretKey::make(alloc, session.params(), &liar.id, &liar.secret)?;
     let liar = Liar {
         party: liar.party,
         shape: session.shape(),
         signer,
     };
-    let world = World::make(alloc, &session, &secrets, stream(alloc, seed)?)?;
+    let world = World::of_keys(alloc, &session, keys, stream(alloc, seed)?)?;
     Ok(Network {
         world,
         liar,

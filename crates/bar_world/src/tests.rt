@@ -2,6 +2,7 @@
 ghost use Rattle.bar_world.specs.Kept.{IsReady};
 ghost use Rattle.std.specs.Prelude.{IfOk, OnOk};
 
+use crate::keys::keys_of;
 use crate::numbers::Numbers;
 use crate::sessions::session;
 use crate::{Move, SimEnd, SmallList, World, run_world, simulate};
@@ -97,9 +98,10 @@ fn two_peers(alloc: Global) -> Result<World, AllocError>
         per_round: 8,
         sig_len: 1452,
     };
-    let session = session(alloc, shape, NUMBERS, &THREE)?;
+    let keys = keys_of(alloc, PARAMS, shape.rounds, &THREE)?;
+    let session = session(alloc, shape, NUMBERS, &keys)?;
     let stream = vec![in alloc; 165; STREAM_LEN]?;
-    World::make(alloc, &session, &THREE, stream)
+    World::of_keys(alloc, &session, keys, stream)
 }
 
 /// The world of a session of five peers.
@@ -115,9 +117,10 @@ fn five_peers(alloc: Global) -> Result<World, AllocError>
         per_round: 8,
         sig_len: 1452,
     };
-    let session = session(alloc, shape, NUMBERS, &SIX)?;
+    let keys = keys_of(alloc, PARAMS, shape.rounds, &SIX)?;
+    let session = session(alloc, shape, NUMBERS, &keys)?;
     let stream = vec![in alloc; 165; STREAM_LEN]?;
-    World::make(alloc, &session, &SIX, stream)
+    World::of_keys(alloc, &session, keys, stream)
 }
 
 /// The broadcaster and each of so many peers ticks.

@@ -1,13 +1,14 @@
-use Rattle.std.proofs.Common.{List, [], refl, ap, subst}
+use Rattle.std.proofs.Common.{◌∙◌, List, [], refl, ap, subst}
 use Rattle.std.specs.Prelude.{slice_index_or}
-use Rattle.bar_seeds.specs.declared.secrets.Secrets.{Secrets}
+use Rattle.bar_roster.specs.declared.key_file.KeyFile.{KeyFile}
+use Rattle.bar_world.specs.Keys.{held_in}
 use Rattle.bar_world.specs.Kept.{StandsFor}
 use Rattle.bar_world.proofs.Begins.{liar-is, setup-is, stream-fits}
 use Rattle.bar_world.proofs.SimEnds.{begun-playing}
 use Rattle.bar_world.proofs.simulation.begin.Goals as goal
 
-pub make-requires-2-clause-room : goal.make-requires-2-clause-room
-make-requires-2-clause-room c =
+pub of_keys-requires-clause-room : goal.of_keys-requires-clause-room
+of_keys-requires-clause-room c =
     stream-fits c.args.seed c.in_ok-session.session _ c.keystreams_have_their_length.ensures.length c.in_ok-session.ensures
     c.in_ok-stream.ensures
 
@@ -15,8 +16,10 @@ pub returns-clause-plays : goal.returns-clause-plays
 returns-clause-plays c =
     begun-playing c.args.seed _
     (subst (λ setup. StandsFor setup [] c.in_ok-world.world)
-    (setup-is c.args.seed _ _ _ c.in_ok-session.ensures c.all_secrets-secrets.ensures c.in_ok-stream.ensures) c.in_ok-world.ensures.stands)
+    (setup-is c.args.seed _ _ _ c.in_ok-session.ensures (ap held_in c.in_ok-keys.ensures) c.in_ok-stream.ensures)
+    c.in_ok-world.ensures.stands)
     (liar-is c.args.seed c.in_ok-session.session _ _ c.params.result c.in_ok-session.ensures
-    (ap (λ (list : List Secrets). slice_index_or list 5 (record { id = []; party = 0; secret = [] })) c.all_secrets-secrets.ensures) refl
+    (ap (λ (key : KeyFile). key.secrets)
+    (c.index.ensures ∙ ap (λ (list : List KeyFile). slice_index_or list 5 c.index.result.now) c.in_ok-keys.ensures)) refl
     c.shape.ensures.value c.params.ensures c.in_ok-signer.ensures)
     c.new.ensures.items c.draws.ensures.key c.draws.ensures.stream c.draws.ensures.place refl refl refl

@@ -1,33 +1,30 @@
-use Rattle.std.proofs.Common.{◌≡◌, ◌+◌, ◌<◌, ◌∙◌, suc, length, refl, ap, arith}
-use Rattle.std.specs.Prelude.{slice_get}
-use Rattle.std.proofs.lemmas.Option.{slice_get-get_or, slice_get_within}
-use Rattle.bar_world.specs.Packets.{packets_of}
-use Rattle.bar_world.proofs.Started.{caster-held, peer-held, started, texts-count}
+use Rattle.std.proofs.Common.{List, [], sym, subst}
+use Rattle.std.specs.Prelude.{IfOk}
+use Rattle.bar_seeds.specs.declared.secrets.Secrets.{Secrets}
+use Rattle.bar_rules.specs.World.World.{IsSetup}
+use Rattle.bar_world.specs.Kept.{StandsFor}
+use Rattle.bar_world.specs.Setups.{AreOfParties, setup_of}
+use Rattle.bar_world.proofs.KeyFiles.{held-is, made-for}
 use Rattle.bar_world.proofs.world.World.make.Goals as goal
 
-pub start_caster-requires-clause-held : goal.start_caster-requires-clause-held
-start_caster-requires-clause-held c =
-    caster-held _ _ _ c.requires.setup c.requires.parties _ (ap (λ xs. slice_get xs 0) c.in-Some.ensures.cases.0)
+pub of_keys-requires-clause-made : goal.of_keys-requires-clause-made
+of_keys-requires-clause-made c =
+    made-for c.args.session.now c.params.result c.shape.result c.args.secrets.now _ c.params.ensures c.shape.ensures.value
+    c.in_ok-keys.ensures
 
-pub start_peers-requires : goal.start_peers-requires
-start_peers-requires c = λ i k at.
-    peer-held _ _ _ c.requires.setup c.requires.parties i k (ap (λ xs. slice_get xs (suc i)) c.in-Some.ensures.cases.0 ∙ at)
+pub of_keys-requires-clause-setup : goal.of_keys-requires-clause-setup
+of_keys-requires-clause-setup c =
+    subst (λ (held : List Secrets). IsSetup (setup_of c.args.session.now held c.args.stream.items))
+    (sym (held-is c.params.result c.shape.result.rounds c.args.secrets.now _ c.in_ok-keys.ensures)) c.requires.setup
 
-pub returns-clause-ready : goal.returns-clause-ready
-returns-clause-ready c =
-    let count : length c.in_ok-peers.peers.items ≡ length c.in-Some.others.now = c.in_ok-peers.ensures.count in
-    let all : length c.in-Some.others.now + 1 ≡ length c.args.secrets.now = c.in-Some.ensures.cases.1 in
-    record {
-      caster = c.in_ok-caster.ensures.idle;
-      peers = λ i peer at.
-          let low : i < length c.in_ok-peers.peers.items = slice_get_within _ i peer at in
-          (c.in_ok-peers.ensures.peers i peer _ at (slice_get-get_or _ i c.in-Some.first.now (omega (arith, low, count)))).idle;
-      texts = texts-count _ _ c.in_ok-played.ensures ∙ omega (arith, count, all);
-      room = omega (arith, c.in_ok-buf.ensures.len, c.from.ensures);
-    }
+pub of_keys-requires-clause-parties : goal.of_keys-requires-clause-parties
+of_keys-requires-clause-parties c =
+    subst (λ (held : List Secrets). AreOfParties c.args.session.now held)
+    (sym (held-is c.params.result c.shape.result.rounds c.args.secrets.now _ c.in_ok-keys.ensures)) c.requires.parties
 
 pub returns-clause-stands : goal.returns-clause-stands
 returns-clause-stands c =
-    started _ _ _ c.requires.setup c.requires.parties _ c.in-Some.first.now c.in-Some.others.now c.in-Some.ensures.cases.0
-    c.in_ok-caster.ensures c.in_ok-peers.ensures.count c.in_ok-peers.ensures.peers _ refl c.in_ok-played.ensures
-    (ap packets_of c.new.ensures.items)
+    subst
+    (λ (held : List Secrets).
+    IfOk c.of_keys.result (λ world. StandsFor (setup_of c.args.session.now held c.args.stream.items) [] world))
+    (held-is c.params.result c.shape.result.rounds c.args.secrets.now _ c.in_ok-keys.ensures) c.of_keys.ensures.stands
