@@ -4,3 +4,4 @@ pub mod HeadLemmas
 pub mod PacingLemmas
 pub mod DueLemmas
 pub mod ReadBackLemmas
+pub mod Worked

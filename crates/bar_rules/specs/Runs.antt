@@ -1,10 +1,8 @@
 -- Runs: what one input leaves, and what a list of inputs leaves, whatever takes them.
-use Rattle.std.specs.Prelude.{ℕ, ◌+◌, ◌==◌, List, [], ◌∷◌, ◌++◌, map, not, nat_le, if◌then◌else◌}
+use Rattle.std.specs.Prelude.{ℕ, ◌+◌, List, [], ◌∷◌, ◌++◌, map}
 use Rattle.std.specs.List.{flat_map, concat}
 use Rattle.bar_wire.specs.Datagram.{Datagram}
 use Rattle.bar_wire.specs.Inputs.{Input}
-use Rattle.bar_wire.specs.Inputs as event
-use Rattle.bar_rules.specs.Member.{Session, last_tick}
 
 -- the state after an input, the datagrams that are sent, each with its receiver, and the contents that are played
 pub record Outcome (S : Type 0) : Type 0 where
@@ -40,22 +38,3 @@ abbrev pub sends_from : {S : Type 0} → (S → Input → Outcome S) → S → �
 sends_from step s number [] = []
 sends_from step s number (input ∷ inputs) =
     map (λ send. (number, send.0, send.1)) (step s input).sends ++ sends_from step (step s input).state (number + 1) inputs
-
--- ---- pacing
-
--- the most datagrams between two ticks
-abbrev pub most_in_a_row : ℕ
-most_in_a_row = 65536
-
--- one tick is put before each datagram that would be one too many in a row; nothing stands after the last tick
-abbrev pub paced_from : ℕ → ℕ → ℕ → List Input → List Input
-paced_from last ticks run [] = []
-paced_from last ticks run (event.Tick ∷ inputs) = if nat_le last ticks then [] else event.Tick ∷ paced_from last (ticks + 1) 0 inputs
-paced_from last ticks run (event.Datagram bytes ∷ inputs) =
-    if nat_le last ticks then []
-    else if not (run == most_in_a_row) then event.Datagram bytes ∷ paced_from last ticks (run + 1) inputs
-    else if nat_le last (ticks + 1) then event.Tick ∷ []
-    else event.Tick ∷ event.Datagram bytes ∷ paced_from last (ticks + 1) 1 inputs
-
-abbrev pub paced : Session → List Input → List Input
-paced s inputs = paced_from (last_tick s) 0 0 inputs
