@@ -4,10 +4,26 @@
 #![tactic(auto)]
 
 #[cfg(test)]
+mod bytes_tests;
+#[cfg(test)]
+mod case_tests;
+#[cfg(test)]
 mod key_tests;
+#[cfg(test)]
+mod lanes_tests;
 #[cfg(test)]
 mod lms_tests;
 #[cfg(test)]
+mod record_tests;
+#[cfg(test)]
 mod seal_tests;
 #[cfg(test)]
+mod seeds_tests;
+#[cfg(test)]
 mod session_tests;
+#[cfg(test)]
+mod terms_tests;
+#[cfg(test)]
+mod window_tests;
+#[cfg(test)]
+mod wire_tests;

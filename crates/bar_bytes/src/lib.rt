@@ -13,6 +13,4 @@ mod room;
 mod rooms;
 mod steps;
 mod tagged;
-#[cfg(test)]
-mod tests;
 mod write;

@@ -12,5 +12,3 @@ pub use findings::{Finding, Opening};
 pub use sealing::seal;
 pub use unsealing::unseal;
 
-#[cfg(test)]
-mod tests;

@@ -27,9 +27,3 @@ pub use caster::Caster;
 pub use fault::CasterFault;
 pub use runs::rules_give_the_run;
 
-#[cfg(test)]
-mod fanout_tests;
-#[cfg(test)]
-mod stream_tests;
-#[cfg(test)]
-mod tests;

@@ -8,7 +8,5 @@ pub use words::{and_not, count};
 mod bytes;
 mod eight;
 mod rounds;
-#[cfg(test)]
-mod tests;
 mod vectors;
 mod words;

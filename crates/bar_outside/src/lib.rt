@@ -19,8 +19,6 @@ mod mem_taken;
 mod schedule;
 mod sink;
 mod spawner;
-#[cfg(test)]
-mod tests;
 
 pub use actions::{
     append_file, bind_link, create_file, read_file, receive_next, send_datagram, show_bytes,

@@ -16,4 +16,8 @@ mod live_tests;
 #[cfg(test)]
 mod node_tests;
 #[cfg(test)]
+mod outside_tests;
+#[cfg(test)]
 mod session_tests;
+#[cfg(test)]
+mod words_tests;

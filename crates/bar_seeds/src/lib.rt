@@ -10,5 +10,3 @@ pub use chain::{SeedChain, seed_ok};
 pub use choice::partner;
 pub use secrets::{Secrets, commitment};
 
-#[cfg(test)]
-mod tests;

@@ -14,5 +14,3 @@ pub use push::{PushAnswer, push_answer};
 pub use table::{Digest, Table};
 pub use valid::{can_promise, offer_ok, terms_fit, terms_ok, within};
 
-#[cfg(test)]
-mod tests;

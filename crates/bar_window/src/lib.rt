@@ -14,5 +14,3 @@ pub use terms::Terms;
 pub use update::UpdateId;
 pub use window::{Listed, Window};
 
-#[cfg(test)]
-mod tests;

@@ -37,5 +37,3 @@ pub use shape::Shape;
 pub use view::{Body, View};
 pub use writing::{encode, kind_of};
 
-#[cfg(test)]
-mod tests;

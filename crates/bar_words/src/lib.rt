@@ -9,5 +9,3 @@ pub use laws::{taken_words_have_values, worked_lines};
 pub use numbers::{id_of, number_in};
 pub use options::{WordsFault, option_values};
 
-#[cfg(test)]
-mod tests;

@@ -1,0 +1,129 @@
+use bar_record::{RecordFault, head, read};
+use bar_wire::Input;
+use std::test::Fail;
+
+const ID: [u8; 8] = [0x00, 0x11, 0x22, 0x33, 0x44, 0x55, 0x66, 0x77];
+
+/// The head of party 2's recording.
+const HEAD: [u8; 15] = [
+    0x42, 0x41, 0x52, 0x4c, 0x01, 0x00, 0x11, 0x22, 0x33, 0x44, 0x55, 0x66, 0x77, 0x00, 0x02,
+];
+
+/// The bytes of a datagram, or none for a tick.
+fn datagram_of(input: Input<'_>) -> Option<&[u8]> {
+    match input {
+        Input::Tick => None,
+        Input::Datagram(bytes) => Some(bytes),
+    }
+}
+
+#[test]
+fn a_recording_is_read_in_order(rt: HostRuntime) -> Result<(), Fail> {
+    assert_eq!(rt; head(&ID, 2), HEAD);
+    assert!(rt;
+        read(
+            b"BARL\x01\x00\x11\x22\x33\x44\x55\x66\x77\x00\x02\x00",
+            &ID,
+            2,
+            120
+        )?
+        .next()
+        .is_none()
+    );
+    let mut bytes = Vec::new(rt.alloc());
+    bytes.extend_from_slice(&HEAD)?;
+    bytes.extend_from_slice(&[1, 2, 0, 3, 0, 1, 2, 2, 0, 0, 1, 0])?;
+    let mut items = read(&bytes, &ID, 2, 2)?;
+    let wanted: [Option<&[u8]>; 4] = [None, Some(&[0, 1, 2]), Some(&[]), None];
+    for datagram in wanted {
+        let item = items.next().map(datagram_of);
+        assert_eq!(rt; item, Some(datagram));
+    }
+    assert!(rt; items.next().is_none());
+    Ok(())
+}
+
+#[test]
+fn refused_recordings_have_their_faults(rt: HostRuntime) -> Result<(), Fail> {
+    let rows: [(&[u8], RecordFault); 12] = [
+        (&[], RecordFault::NoEnd),
+        (&[1], RecordFault::NoEnd),
+        (&[3], RecordFault::BadEntry { at: 15 }),
+        (&[1, 2], RecordFault::BadEntry { at: 16 }),
+        (&[1, 2, 0], RecordFault::BadEntry { at: 16 }),
+        (&[1, 2, 0, 2, 7], RecordFault::BadEntry { at: 16 }),
+        (&[2, 0, 1, 7, 4, 0], RecordFault::BadEntry { at: 19 }),
+        (&[0, 0], RecordFault::AfterEnd),
+        (&[1, 0, 1], RecordFault::AfterEnd),
+        (&[1, 1, 1, 0], RecordFault::AfterLast { at: 17 }),
+        (
+            &[1, 2, 0, 1, 7, 1, 2, 0, 0, 0],
+            RecordFault::AfterLast { at: 21 },
+        ),
+        (&[1, 1, 4, 0], RecordFault::BadEntry { at: 17 }),
+    ];
+    for (entries, fault) in rows {
+        let mut bytes = Vec::new(rt.alloc());
+        bytes.extend_from_slice(&HEAD)?;
+        bytes.extend_from_slice(entries)?;
+        assert_eq!(rt; read(&bytes, &ID, 2, 2).err(), Some(fault), "{entries:?}");
+    }
+    assert_eq!(rt;
+        read(&HEAD[..14], &ID, 2, 2).err(),
+        Some(RecordFault::BadHead)
+    );
+    assert_eq!(rt; read(&HEAD, &ID, 1, 2).err(), Some(RecordFault::BadHead));
+    assert_eq!(rt;
+        read(&HEAD, &[0; 8], 2, 2).err(),
+        Some(RecordFault::BadHead)
+    );
+    Ok(())
+}
+
+#[test]
+fn a_datagram_has_65507_bytes_at_most(rt: HostRuntime) -> Result<(), Fail> {
+    for (high, low, fault) in [
+        (255, 227, None),
+        (255, 228, Some(RecordFault::BadEntry { at: 15 })),
+    ] {
+        let mut bytes = Vec::new(rt.alloc());
+        bytes.extend_from_slice(&HEAD)?;
+        bytes.extend_from_slice(&[2, high, low])?;
+        bytes.resize(18 + 256 * usize::from(high) + usize::from(low), 0)?;
+        bytes.push(0)?;
+        assert_eq!(rt; read(&bytes, &ID, 2, 2).err(), fault);
+    }
+    Ok(())
+}
+
+#[test]
+fn a_put_tick_counts(rt: HostRuntime) -> Result<(), Fail> {
+    let mut bytes = Vec::new(rt.alloc());
+    bytes.extend_from_slice(&HEAD)?;
+    bytes.push(1)?;
+    for _ in 0..65_537 {
+        bytes.extend_from_slice(&[2, 0, 0])?;
+    }
+    bytes.push(0)?;
+    let at = 15 + 1 + 3 * 65_536;
+    let rows = [(2, Some(RecordFault::AfterLast { at })), (3, None)];
+    for (last, fault) in rows {
+        assert_eq!(rt; read(&bytes, &ID, 2, last).err(), fault);
+    }
+    Ok(())
+}
+
+#[test]
+fn faults_are_shown_by_their_names(rt: HostRuntime) -> Result<(), Fail> {
+    let rows = [
+        (RecordFault::BadHead, "BadHead"),
+        (RecordFault::BadEntry { at: 15 }, "BadEntry"),
+        (RecordFault::NoEnd, "NoEnd"),
+        (RecordFault::AfterEnd, "AfterEnd"),
+        (RecordFault::AfterLast { at: 15 }, "AfterLast"),
+    ];
+    for (fault, name) in rows {
+        assert_eq!(rt; format!(in rt.alloc(); "{fault}")?.as_str(), name);
+    }
+    Ok(())
+}

@@ -1,0 +1,169 @@
+//! Outside vectors, and each public call once.
+
+ghost use Rattle.std.specs.Prelude.{◌≡◌, ◌<◌};
+
+use bar_seeds::{Secrets, SeedChain, commitment, partner, seed_ok};
+use bar_bytes::Steps;
+use bar_window::{Exchange, Role, UpdateId, Window, XKind};
+use std::marker::Brand;
+use std::sync::ledger::{Blank, Ledger};
+use std::test::Fail;
+
+// The hashes of ID come from Python's hashlib.
+const ID: [u8; 8] = [0x00, 0x11, 0x22, 0x33, 0x44, 0x55, 0x66, 0x77];
+
+// 0, 1, .., 31
+const SECRET: [u8; 32] = [
+    0, 1, 2, 3, 4, 5, 6, 7, 8, 9, 10, 11, 12, 13, 14, 15, 16, 17, 18, 19, 20, 21, 22, 23, 24, 25,
+    26, 27, 28, 29, 30, 31,
+];
+
+// (id, party, rounds, secret, anchor), made by a program that shares nothing with this one.
+const ANCHORS: [(&str, u16, u32, &str, &str); 3] = [
+    (
+        "0503aabbccddeeff",
+        200,
+        1,
+        "8da85f2b03879135b858caa044e81a5dee588ce519ea7506b0dc11024ace3326",
+        "8d89e61592402a68c9b31fad1ecbffc15c9523f66f712aa0fd1209eb8a3812a0",
+    ),
+    (
+        "0604aabbccddeeff",
+        1,
+        10,
+        "b44d718aacd12e03f086536c37e4ed6822129afb792886d50459c6d50905bcd7",
+        "3350206df8911f303a222ff68a0d87ef19ee7998e9e16158b9583de27ef7cb95",
+    ),
+    (
+        "0704aabbccddeeff",
+        3,
+        1820,
+        "ec71b63be08df8d680e1bab4f71ca1e81351f78a933b6135b1d993bec8b3ecb8",
+        "d9b5fefbbe2c79d5dbe85e1a7d5d842bf74a5ca294d78dd4b81b5fc087f0ab4f",
+    ),
+];
+
+fn is_seed_from<L: Ledger>(
+    id: &[u8; 8],
+    anchor: &[u8; 32],
+    party: u16,
+    round: u32,
+    seed: &[u8; 32],
+    blank: Blank,
+) -> bool
+    requires name { blank.name ≡ L.name }
+    requires parts { blank.parts ≡ L.parts }
+    requires some { 0 < L.parts }
+{
+    seed_ok(id, anchor, party, round, seed, &mut Steps::<L>::new(blank))
+}
+
+fn is_seed(id: &[u8; 8], anchor: &[u8; 32], party: u16, round: u32, seed: &[u8; 32]) -> bool {
+    is_seed_from::<Brand>(id, anchor, party, round, seed, Blank::new(1))
+}
+
+#[test]
+fn chains_meet_others_anchors(rt: HostRuntime) -> Result<(), Fail> {
+    for (id_text, party, rounds, secret_text, anchor_text) in ANCHORS {
+        let mut id = [0u8; 8];
+        hex::decode_to_slice(id_text, &mut id)?;
+        let mut secret = [0u8; 32];
+        hex::decode_to_slice(secret_text, &mut secret)?;
+        let chain = SeedChain::make(rt.alloc(), &id, party, rounds, &secret)?;
+        let anchor = chain.anchor();
+        let text = hex::encode(rt.alloc(), &anchor)?;
+        assert_eq!(rt; text.as_str(), anchor_text);
+        for round in [1, rounds] {
+            let seed = chain.seed(round);
+            assert!(rt; is_seed(&id, &anchor, party, round, &seed), "{round}");
+            assert!(rt; !is_seed(&id, &anchor, party, round - 1, &seed), "{round}");
+            assert!(rt; !is_seed(&id, &anchor, party + 1, round, &seed), "{round}");
+        }
+    }
+    Ok(())
+}
+
+// The partner that a seed of one byte, repeated, gives a peer, or 0 where there is no such peer.
+fn partner_by(byte: u8, kind: XKind, me: u16, peers: u16) -> u16 {
+    if peers < 2 || me < 1 || me > peers {
+        return 0;
+    }
+    partner(&ID, &[byte; 32], kind, me, peers)
+}
+
+// (the byte that the seed repeats, kind, me, peers, partner)
+const PARTNERS: [(u8, XKind, u16, u16, u16); 10] = [
+    (0, XKind::Balanced, 1, 2, 2),
+    (0, XKind::Balanced, 2, 2, 1),
+    (0, XKind::Balanced, 3, 5, 5),
+    (0, XKind::Balanced, 5, 5, 4),
+    (2, XKind::Push, 1, 5, 2),
+    (2, XKind::Push, 5, 5, 1),
+    (2, XKind::Balanced, 3, 5, 4),
+    (5, XKind::Push, 3, 5, 2),
+    (0, XKind::Balanced, 7, 200, 124),
+    (0, XKind::Balanced, 200, 200, 123),
+];
+
+#[test]
+fn partners_are_as_the_seed_says(rt: HostRuntime) {
+    for (byte, kind, me, peers, wanted) in PARTNERS {
+        assert_eq!(rt; partner_by(byte, kind, me, peers), wanted, "{byte} {me}");
+    }
+}
+
+#[test]
+fn a_secret_gives_nonces_and_keys(rt: HostRuntime) -> Result<(), Fail> {
+    let secrets = Secrets {
+        id: ID,
+        party: 258,
+        secret: SECRET,
+    };
+    let x = Exchange {
+        round: 7,
+        kind: XKind::Push,
+        initiator: 258,
+        responder: 3,
+    };
+    for (hash, wanted) in [
+        (
+            secrets.nonce(x),
+            "1eade7bdd3bd7a6090aa6df68b7062d74b81c7ccb548d1f4e66bf1c6292e2165",
+        ),
+        (
+            secrets.key(x, Role::Initiator),
+            "764c5a86aa23fa3b96f00fa4992f7cba1449151dae00a8032e7a775a2da07c01",
+        ),
+        (
+            secrets.key(x, Role::Responder),
+            "3d69c0e969372a6e949d024ee9a4b28117090cf19cadf42ea51614f40ffb0939",
+        ),
+    ] {
+        let text = hex::encode(rt.alloc(), &hash)?;
+        assert_eq!(rt; text.as_str(), wanted);
+    }
+    Ok(())
+}
+
+// A history of updates (5, 1) and (7, 63), where updates live for three rounds.
+#[test]
+fn commitments_hash_the_history(rt: HostRuntime) -> Result<(), Fail> {
+    let x = Exchange {
+        round: 7,
+        kind: XKind::Push,
+        initiator: 258,
+        responder: 3,
+    };
+    let mut history = Window::empty(7, 3);
+    history.put(UpdateId { round: 5, index: 1 });
+    history.put(UpdateId {
+        round: 7,
+        index: 63,
+    });
+    let text = hex::encode(rt.alloc(), &commitment(&ID, x, &SECRET, &history, 3))?;
+    assert_eq!(rt;
+        text.as_str(),
+        "682bb42f13fbd1d7bf0dc4c96a85cdb78d8111cae29306eaae03e7f659515334"
+    );
+    Ok(())
+}

@@ -1,0 +1,231 @@
+use bar_wire::{Body, Input, Shape, WireFault, decode, encode, split_evidence};
+use std::alloc::{AllocError, Global};
+use std::test::Fail;
+
+const ID: [u8; 8] = [0x00, 0x11, 0x22, 0x33, 0x44, 0x55, 0x66, 0x77];
+
+/// A session of two peers and ten rounds, where updates live for four rounds.
+fn shape() -> Shape {
+    Shape {
+        version: 1,
+        id: ID,
+        peers: 2,
+        rounds: 10,
+        life: 4,
+        per_round: 8,
+        sig_len: 1452,
+    }
+}
+
+/// A header, the fields, and zeros up to a length.
+fn datagram(
+    alloc: Global,
+    kind: u8,
+    from: u16,
+    to: u16,
+    fields: &[u8],
+    len: usize,
+) -> Result<Vec<u8>, AllocError> {
+    let mut bytes = Vec::new(alloc);
+    bytes.extend_from_slice(&[0xba, 0x47, 1, kind])?;
+    bytes.extend_from_slice(&ID)?;
+    bytes.extend_from_slice(&from.to_be_bytes())?;
+    bytes.extend_from_slice(&to.to_be_bytes())?;
+    bytes.extend_from_slice(fields)?;
+    bytes.resize(len, 0)?;
+    Ok(bytes)
+}
+
+/// One datagram of each kind: kind, sender, receiver, the first fields, and its length.
+const EACH_KIND: [(u8, u16, u16, &[u8], usize); 12] = [
+    (1, 0, 0xffff, &[0, 0, 0, 1, 1], 1505),
+    (2, 0, 1, &[0, 0, 0, 1, 7], 1045),
+    (3, 1, 2, &[0, 0, 0, 1], 1536),
+    (4, 2, 1, &[0, 0, 0, 1], 1504),
+    (5, 1, 2, &[0, 0, 0, 1], 84),
+    (6, 1, 2, &[0, 0, 0, 1], 1568),
+    (7, 2, 1, &[0, 0, 0, 1], 1537),
+    (8, 1, 2, &[0, 0, 0, 6, 0, 0, 1, 0], 2596),
+    (9, 1, 2, &[0, 0, 0, 1, 0, 0], 22),
+    (10, 1, 2, &[0, 0, 0, 1, 0, 0], 1506),
+    (11, 1, 0, &[1, 0, 3, 7, 7, 7], 22),
+    (12, 0, 0xffff, &[0, 0, 0, 1, 1, 0, 2], 1475),
+];
+
+#[test]
+fn a_datagram_that_is_cut_off_has_the_fault_of_its_length(rt: HostRuntime) -> Result<(), Fail> {
+    for (kind, from, to, fields, len) in EACH_KIND {
+        let bytes = datagram(rt.alloc(), kind, from, to, fields, len)?;
+        assert!(rt; decode(&bytes, &shape()).is_ok(), "kind {kind}");
+        for cut in 0..bytes.len() {
+            let fault = if cut < 16 {
+                WireFault::Short
+            } else {
+                WireFault::BadLength
+            };
+            assert_eq!(rt;
+                decode(&bytes[..cut], &shape()).err(),
+                Some(fault),
+                "kind {kind} cut at {cut}"
+            );
+        }
+    }
+    Ok(())
+}
+
+#[test]
+fn datagrams_out_of_the_grammar_have_their_faults(rt: HostRuntime) -> Result<(), Fail> {
+    let mut late_word = [0; 36];
+    late_word[3] = 2;
+    late_word[27] = 1;
+    let rows: [(u8, u16, u16, &[u8], usize, Option<WireFault>); 10] = [
+        // a byte after a key request
+        (
+            9,
+            2,
+            1,
+            &[0, 0, 0, 5, 0, 0, 0],
+            23,
+            Some(WireFault::BadLength),
+        ),
+        // a window of round 2, and one with a word past it
+        (4, 2, 1, &[0, 0, 0, 2], 1504, None),
+        (4, 2, 1, &late_word, 1504, Some(WireFault::BadField)),
+        // parties that fall, three parties of two peers, and two where three are counted
+        (
+            12,
+            0,
+            0xffff,
+            &[0, 0, 0, 7, 2, 0, 2, 0, 1],
+            1477,
+            Some(WireFault::BadField),
+        ),
+        (
+            12,
+            0,
+            0xffff,
+            &[0, 0, 0, 7, 3, 0, 1, 0, 2, 0, 3],
+            1479,
+            Some(WireFault::BadField),
+        ),
+        (
+            12,
+            0,
+            0xffff,
+            &[0, 0, 0, 7, 3, 0, 1, 0, 2],
+            1477,
+            Some(WireFault::BadLength),
+        ),
+        // a kind of exchange that there is not, in the length of a push, and a case of nothing
+        (
+            8,
+            1,
+            2,
+            &[0, 0, 0, 6, 7, 0, 1, 0],
+            2629,
+            Some(WireFault::BadField),
+        ),
+        (
+            8,
+            1,
+            2,
+            &[0, 0, 0, 6, 0, 0, 0, 0],
+            1572,
+            Some(WireFault::BadField),
+        ),
+        // from a peer to itself, and a round past the last
+        (3, 1, 1, &[0, 0, 0, 1], 1536, Some(WireFault::BadField)),
+        (3, 1, 2, &[0, 0, 0, 11], 1536, Some(WireFault::BadField)),
+    ];
+    for (kind, from, to, fields, len, fault) in rows {
+        let bytes = datagram(rt.alloc(), kind, from, to, fields, len)?;
+        assert_eq!(rt;
+            decode(&bytes, &shape()).err(),
+            fault,
+            "kind {kind}, fields {fields:?}"
+        );
+    }
+    Ok(())
+}
+
+#[test]
+fn a_key_request_is_read_and_written(rt: HostRuntime) -> Result<(), Fail> {
+    let bytes = [
+        0xba, 0x47, 0x01, 0x09, 0x00, 0x11, 0x22, 0x33, 0x44, 0x55, 0x66, 0x77, 0x00, 0x02, 0x00,
+        0x01, 0x00, 0x00, 0x00, 0x05, 0x00, 0x00,
+    ];
+    let Input::Datagram(heard) = Input::Datagram(&bytes) else {
+        return Ok(());
+    };
+    let view = decode(heard, &shape())?;
+    assert_eq!(rt; (view.from, view.to), (2, 1));
+    assert!(rt; view.sig.is_none());
+    assert!(rt;
+        matches!(
+            &view.body,
+            Body::KeyReq {
+                round: 5,
+                xkind: 0,
+                role: 0
+            }
+        )
+    );
+    let mut out = [0; 64];
+    assert!(rt; view.message.len() <= out.len());
+    let len = encode(view.from, view.to, &view.body, &shape(), &mut out);
+    assert_eq!(rt; out.get(..len), Some(bytes.as_slice()));
+    Ok(())
+}
+
+#[test]
+fn a_notice_of_eviction_is_read_and_written(rt: HostRuntime) -> Result<(), Fail> {
+    let message = [
+        0xba, 0x47, 0x01, 0x0c, 0x00, 0x11, 0x22, 0x33, 0x44, 0x55, 0x66, 0x77, 0x00, 0x00, 0xff,
+        0xff, 0x00, 0x00, 0x00, 0x07, 0x01, 0x00, 0x02,
+    ];
+    let bytes = datagram(rt.alloc(), 12, 0, 0xffff, &[0, 0, 0, 7, 1, 0, 2], 1475)?;
+    let shape = shape();
+    let view = decode(&bytes, &shape)?;
+    assert_eq!(rt; view.message, message.as_slice());
+    assert_eq!(rt; view.sig.map_or(0, |sig| sig.len()), 1452);
+    let mut out = [0; 64];
+    assert!(rt; view.message.len() <= out.len());
+    let len = encode(view.from, view.to, &view.body, &shape, &mut out);
+    assert_eq!(rt; out.get(..len), Some(message.as_slice()));
+    Ok(())
+}
+
+#[test]
+fn evidence_is_split(rt: HostRuntime) -> Result<(), Fail> {
+    let view = split_evidence(&[2, 0, 1, 9, 0, 2, 7, 8])?;
+    assert_eq!(rt; view.one, [9].as_slice());
+    assert_eq!(rt; view.two.unwrap_or(&[]), [7, 8].as_slice());
+    let rows: [(&[u8], WireFault); 5] = [
+        (&[], WireFault::BadLength),
+        (&[1, 0, 2, 9], WireFault::BadLength),
+        (&[1, 0, 1, 9, 9], WireFault::BadLength),
+        (&[1, 0, 0], WireFault::BadField),
+        (&[3, 0, 1, 9, 0, 1, 9, 0, 1, 9], WireFault::BadField),
+    ];
+    for (bytes, fault) in rows {
+        assert_eq!(rt; split_evidence(bytes).err(), Some(fault), "{bytes:?}");
+    }
+    Ok(())
+}
+
+#[test]
+fn faults_are_shown_by_their_names(rt: HostRuntime) -> Result<(), Fail> {
+    let rows = [
+        (WireFault::Short, "Short"),
+        (WireFault::BadMagic, "BadMagic"),
+        (WireFault::BadVersion, "BadVersion"),
+        (WireFault::BadKind, "BadKind"),
+        (WireFault::BadSession, "BadSession"),
+        (WireFault::BadLength, "BadLength"),
+        (WireFault::BadField, "BadField"),
+    ];
+    for (fault, name) in rows {
+        assert_eq!(rt; format!(in rt.alloc(); "{fault}")?.as_str(), name);
+    }
+    Ok(())
+}

@@ -1,0 +1,185 @@
+//! Broadcasters, and all that they give out.
+ghost use Rattle.std.specs.Prelude.{◌≡◌, ◌<◌, []};
+ghost use Rattle.bar_store.specs.Orders.{left_in};
+
+use bar_caster::{Caster, CasterFault};
+use bar_bytes::Steps;
+use bar_lms::SecretKey;
+use bar_roster::{KeyFile, Session, key_text};
+use bar_seal::{LmsScheme, Scheme, Verifier};
+use bar_wire::{Input, LARGEST_DATAGRAM};
+use std::alloc::{AllocError, Global};
+use std::marker::Brand;
+use std::process::Abort;
+use std::sync::ledger::{Blank, Ledger};
+use std::test::Fail;
+
+pub const ID: [u8; 8] = [0x00, 0x11, 0x22, 0x33, 0x44, 0x55, 0x66, 0x77];
+
+/// A datagram and its receiver.
+#[derive(Drop)]
+pub struct Sent {
+    pub to: u16,
+    pub bytes: Vec<u8>,
+}
+
+/// The start of the broadcaster of a session by its secret, with a stream of so many bytes.
+fn start_by(
+    alloc: Global,
+    session: &str,
+    secret: &[u8; 32],
+    len: usize,
+) -> Result<Result<Caster<LmsScheme>, CasterFault>, Fail> {
+    let session = Session::read(alloc, session.as_bytes())?;
+    let rounds = session.shape().rounds;
+    let params = session.params();
+    let (lms, ots) = (params.lms(), params.ots());
+    let text = key_text(alloc, 0, &ID, rounds, lms, ots, secret, false)?;
+    let key = KeyFile::read(alloc, &text, &session, true, false)?;
+    let stream = vec![in alloc; 7; len]?;
+    Ok(Caster::of_key_file(alloc, session, key, stream))
+}
+
+/// The same of one whose secret is 32 times 7.
+pub fn start(
+    alloc: Global,
+    session: &str,
+    len: usize,
+) -> Result<Result<Caster<LmsScheme>, CasterFault>, Fail> {
+    start_by(alloc, session, &[7; 32], len)
+}
+
+/// A broadcaster that was started by its secret.
+pub fn caster_by(
+    rt: &impl Abort,
+    alloc: Global,
+    session: &str,
+    secret: &[u8; 32],
+    len: usize,
+) -> Result<Caster<LmsScheme>, Fail> {
+    match start_by(alloc, session, secret, len)? {
+        Ok(caster) => Ok(caster),
+        Err(_) => panic!(rt; "it was not started"),
+    }
+}
+
+/// One whose secret is 32 times 7.
+pub fn caster_of(
+    rt: &impl Abort,
+    alloc: Global,
+    session: &str,
+    len: usize,
+) -> Result<Caster<LmsScheme>, Fail> {
+    caster_by(rt, alloc, session, &[7; 32], len)
+}
+
+/// A message and its signature by a secret of 32 times one byte.
+pub fn signed(
+    rt: &impl Abort,
+    alloc: Global,
+    scheme: &LmsScheme,
+    message: &[u8],
+) -> Result<Vec<u8>, AllocError> {
+    assert!(rt; scheme.leaves() > 0);
+    let mut sig = vec![in alloc; 0; scheme.sig_len()]?;
+    scheme.sign(0, message, &mut sig);
+    let mut bytes = message.to_vec(alloc)?;
+    bytes.extend_from_slice(&sig)?;
+    Ok(bytes)
+}
+
+/// What signs with a secret of 32 times one byte.
+pub fn scheme_of(alloc: Global, session: &str, secret: u8) -> Result<LmsScheme, Fail> {
+    let session = Session::read(alloc, session.as_bytes())?;
+    let signer = SecretKey::make(alloc, session.params(), &ID, &[secret; 32])?;
+    Ok(LmsScheme::new(signer))
+}
+
+fn step_with<L: Ledger>(caster: &mut Caster<LmsScheme>, input: Input<'_>, blank: Blank)
+    requires name { blank.name ≡ L.name }
+    requires parts { blank.parts ≡ L.parts }
+    requires some { 0 < L.parts }
+    requires sends { left_in caster.old.orders ≡ [] }
+{
+    caster.step(input, &mut Steps::<L>::new(blank));
+}
+
+fn step(rt: &impl Abort, caster: &mut Caster<LmsScheme>, input: Input<'_>) {
+    let idle = caster.idle();
+    assert!(rt; idle);
+    step_with::<Brand>(caster, input, Blank::new(1));
+}
+
+/// More than any input gives out.
+const MANY: usize = 200;
+
+/// Takes an input, and adds all that it gives out.
+fn take(
+    rt: &impl Abort,
+    alloc: Global,
+    caster: &mut Caster<LmsScheme>,
+    input: Input<'_>,
+    sends: &mut Vec<Sent>,
+) -> Result<(), AllocError> {
+    step(rt, caster, input);
+    let mut buf = vec![in alloc; 0; usize::from(LARGEST_DATAGRAM)]?;
+    for _ in 0..MANY {
+        let Some((to, len)) = caster.next_out(&mut buf) else {
+            return Ok(());
+        };
+        let bytes = buf.get(..len).unwrap_or(b"").to_vec(alloc)?;
+        sends.push(Sent { to, bytes })?;
+    }
+    Ok(())
+}
+
+/// What so many ticks send.
+pub fn ticks(
+    rt: &impl Abort,
+    alloc: Global,
+    caster: &mut Caster<LmsScheme>,
+    count: u8,
+) -> Result<Vec<Sent>, AllocError> {
+    let mut sends = Vec::new(alloc);
+    for _ in 0..count {
+        take(rt, alloc, caster, Input::Tick, &mut sends)?;
+    }
+    Ok(sends)
+}
+
+/// Gives a broadcaster a datagram, for which it sends nothing.
+pub fn tell(
+    rt: &impl Abort,
+    alloc: Global,
+    caster: &mut Caster<LmsScheme>,
+    datagram: &[u8],
+) -> Result<(), AllocError> {
+    let mut sends = Vec::new(alloc);
+    take(rt, alloc, caster, Input::Datagram(datagram), &mut sends)?;
+    assert!(rt; sends.is_empty());
+    Ok(())
+}
+
+/// How many datagrams begin like this, and have so many bytes.
+pub fn count(sends: &[Sent], front: &[u8], len: usize) -> usize {
+    sends
+        .iter()
+        .filter(|sent| sent.bytes.len() == len && sent.bytes.starts_with(front))
+        .count()
+}
+
+/// How many of them go to a peer.
+fn count_to(sends: &[Sent], front: &[u8], len: usize, to: u16) -> usize {
+    sends
+        .iter()
+        .filter(|sent| sent.to == to && sent.bytes.len() == len && sent.bytes.starts_with(front))
+        .count()
+}
+
+/// How many of them go to peer 1, and to peer 2.
+pub fn counts(sends: &[Sent], front: &[u8], len: usize) -> [usize; 2] {
+    [
+        count_to(sends, front, len, 1),
+        count_to(sends, front, len, 2),
+    ]
+}

@@ -1,5 +1,0 @@
-use Rattle.bar_window.specs.Window.{IsWindowOf}
-use Rattle.bar_terms.proofs.tests.twenty_of.Given as goal
-
-abbrev pub invariant-loop-index : goal.invariant-loop-index
-invariant-loop-index l = IsWindowOf 16 16 l.window
