@@ -1,151 +1,186 @@
 //! Verdicts over files and sinks in memory. The public keys and anchors are by a program that shares nothing with this one.
-use bar_cli::bar_run;
-use bar_outside::{MemFiles, MemLink, MemSink, MemSpawner};
+use crate::outcome::{Left, outside, run};
+use crate::texts::{small_session, three_rounds};
+use bar_lms::SecretKey;
+use bar_outside::MemFiles;
+use bar_roster::Session;
+use bar_seal::{LmsScheme, Scheme, Verifier};
 use std::alloc::{AllocError, Global};
+use std::process::Abort;
 use std::test::Fail;
 
-// A session of one round with a small tree.
-const SESSION: &str = "version = 1\nid = \"0011223344556677\"\nrounds = 1\nlife = 4\ncap = 4\n\
-    per_round = 8\nfanout = 1\nport = 20000\ntick_ms = 20\nlms = 5\nots = 4\n\
-    key = \"00000005000000048d1e3644fdcc75d960cb49ec9469684855d80022f946f6a3fe6e69fd38c4e6da8abc3355c589089eab49998762e7de01\"\n\n[[peer]]\n\
-    key = \"00000005000000042ef17295b2b2463d8d9beef9c2b84a15d83df9a99f5b121d9021a8715332dcdcbc69f029b3dced28192a8c46128f3ed3\"\n\
-    anchor = \"5d6a62cf004c1b80701330f5616ac970374c1888c96a47915e57cf54d60241f9\"\n\n[[peer]]\n\
-    key = \"0000000500000004d87398929b1937843f54974546a2b8d6d2221cbe51c92bd40c40c2996d8e8adf1ba5f6298bd1b7957edb7d343317f01c\"\n\
-    anchor = \"4d31893edc44a4dcff2b4a2837c85d4dd4385677072cca05466f250426f8080d\"\n";
+const ID: [u8; 8] = [0x00, 0x11, 0x22, 0x33, 0x44, 0x55, 0x66, 0x77];
 
-/// What the evidence file has.
-#[derive(Clone, Copy)]
-enum Evidence {
-    /// A REQUEST of party 2 to party 1 without an accepted signature.
-    Unsigned,
-    /// A datagram of one byte.
-    Malformed,
-    Empty,
+/// What signs with a secret of 32 times one byte, by the types of a session.
+fn scheme_of(alloc: Global, session: &str, secret: u8) -> Result<LmsScheme, Fail> {
+    let session = Session::read(alloc, session.as_bytes())?;
+    let signer = SecretKey::make(alloc, session.params(), &ID, &[secret; 32])?;
+    Ok(LmsScheme::new(signer))
 }
 
-// The bytes of the file. A signature of these types has 1,292 bytes.
-fn evidence_bytes(alloc: Global, evidence: Evidence) -> Result<Vec<u8>, AllocError> {
-    match evidence {
-        Evidence::Unsigned => {
-            let mut bytes = [1, 5, 0x60, 0xba, 0x47, 1, 3].to_vec(alloc)?;
-            bytes.extend_from_slice(&[0x00, 0x11, 0x22, 0x33, 0x44, 0x55, 0x66, 0x77])?;
-            bytes.extend_from_slice(&[0, 2, 0, 1, 0, 0, 0, 1])?;
-            bytes.extend_from_slice(&[0; 1356])?;
-            Ok(bytes)
-        }
-        Evidence::Malformed => [1, 0, 1, 9].to_vec(alloc),
-        Evidence::Empty => Ok(Vec::new(alloc)),
+/// What a datagram begins with, up to its round.
+fn front(alloc: Global, kind: u8, parties: [u8; 4], round: u8) -> Result<Vec<u8>, AllocError> {
+    let mut bytes = [0xba, 0x47, 1, kind].to_vec(alloc)?;
+    bytes.extend_from_slice(&ID)?;
+    bytes.extend_from_slice(&parties)?;
+    bytes.extend_from_slice(&[0, 0, 0, round])?;
+    Ok(bytes)
+}
+
+/// Adds the signature of a message to it.
+fn sign(rt: &impl Abort, alloc: Global, scheme: &LmsScheme, message: &mut Vec<u8>) -> Result<(), AllocError> {
+    let leaves = scheme.leaves();
+    assert!(rt; 0 < leaves);
+    let mut sig = vec![in alloc; 0; scheme.sig_len()]?;
+    scheme.sign(0, message, &mut sig);
+    message.extend_from_slice(&sig)
+}
+
+/// A REQUEST of peer 2 to peer 1 in round 1 with a seed of zeros, which isn't its own, and a commitment of 32 times one byte.
+fn request(
+    rt: &impl Abort,
+    alloc: Global,
+    scheme: &LmsScheme,
+    commitment: u8,
+) -> Result<Vec<u8>, AllocError> {
+    let mut bytes = front(alloc, 3, [0, 2, 0, 1], 1)?;
+    bytes.extend_from_slice(&[0; 32])?;
+    bytes.extend_from_slice(&[commitment; 32])?;
+    sign(rt, alloc, scheme, &mut bytes)?;
+    Ok(bytes)
+}
+
+/// A RESPONSE of peer 2 to peer 1 in round 1 with an empty history of four rounds.
+fn response(rt: &impl Abort, alloc: Global, scheme: &LmsScheme) -> Result<Vec<u8>, AllocError> {
+    let mut bytes = front(alloc, 4, [0, 2, 0, 1], 1)?;
+    bytes.extend_from_slice(&[0; 32])?;
+    sign(rt, alloc, scheme, &mut bytes)?;
+    Ok(bytes)
+}
+
+/// The manifest of a round without blocks.
+fn manifest(
+    rt: &impl Abort,
+    alloc: Global,
+    scheme: &LmsScheme,
+    round: u8,
+) -> Result<Vec<u8>, AllocError> {
+    let mut bytes = front(alloc, 1, [0, 0, 0xff, 0xff], round)?;
+    bytes.push(0)?;
+    sign(rt, alloc, scheme, &mut bytes)?;
+    Ok(bytes)
+}
+
+/// A datagram with its last byte changed.
+fn changed(mut datagram: Vec<u8>) -> Vec<u8> {
+    if let Some(byte) = datagram.last_mut() {
+        *byte ^= 1;
     }
+    datagram
 }
 
-/// What a run left.
-#[derive(Drop)]
-struct Left {
-    status: u8,
-    out: MemSink,
-    err: MemSink,
+/// Adds a datagram behind its length.
+fn add_entry(bytes: &mut Vec<u8>, datagram: &[u8]) -> Result<(), AllocError> {
+    let len = u16::try_from(datagram.len()).unwrap_or(0);
+    bytes.extend_from_slice(&len.to_be_bytes())?;
+    bytes.extend_from_slice(datagram)
 }
 
-// A run over these files, where these calls of the files and these writes to out fail.
-fn run(
+/// Evidence of one datagram, or of two.
+fn evidence(alloc: Global, one: &[u8], two: Option<&[u8]>) -> Result<Vec<u8>, AllocError> {
+    let count = if two.is_some() { 2 } else { 1 };
+    let mut bytes = [count].to_vec(alloc)?;
+    add_entry(&mut bytes, one)?;
+    if let Some(two) = two {
+        add_entry(&mut bytes, two)?;
+    }
+    Ok(bytes)
+}
+
+/// A judge of these files, where these calls of the files and these writes to out fail.
+fn judge(
     alloc: Global,
     session: &str,
     table: &[u8],
-    evidence: Evidence,
+    evidence: &[u8],
     fail_files: &[u64],
     fail_out: &[u64],
 ) -> Result<Left, AllocError> {
     let mut files = MemFiles::make(alloc, fail_files.to_vec(alloc)?);
     files.put("s", session.as_bytes())?;
     files.put("t", table)?;
-    files.put("e", &evidence_bytes(alloc, evidence)?)?;
-    let mut out = MemSink::make(alloc, fail_out.to_vec(alloc)?);
-    let mut spawn = MemSpawner::make(alloc, Vec::new(alloc), Vec::new(alloc));
-    let mut err = MemSink::make(alloc, Vec::new(alloc));
-    let mut words = Vec::new(alloc);
-    for word in ["judge", "--table", "t", "--evidence", "e", "--session", "s"] {
-        words.push(String::from_str(alloc, word)?)?;
-    }
-    let mut link = MemLink::make(alloc, Vec::new(alloc), Vec::new(alloc));
-    let status = bar_run(
-        alloc, &words, &mut files, &mut link, &mut out, &mut err, &mut spawn,
-    );
-    Ok(Left { status, out, err })
+    files.put("e", evidence)?;
+    let line = "judge --table t --evidence e --session s";
+    run(alloc, line, outside(alloc, files, fail_out, &[])?)
 }
+
+/// Checks how a judge ended: its status, what it printed, and what standard error has.
+fn check_end(rt: &impl Abort, left: &Left, status: u8, out: &str, err: &str) {
+    assert_eq!(rt; left.status, status);
+    assert_eq!(rt; left.outside.out.bytes(), out.as_bytes());
+    assert_eq!(rt; left.outside.err.bytes(), err.as_bytes());
+}
+
+#[test]
+fn faults_of_one_datagram_and_of_two(rt: HostRuntime) -> Result<(), Fail> {
+    let alloc = rt.alloc();
+    let peer = scheme_of(alloc, small_session(), 9)?;
+    let one = request(&rt, alloc, &peer, 0)?;
+    let other = request(&rt, alloc, &peer, 1)?;
+    let answer = response(&rt, alloc, &peer)?;
+    for (evidence, status, printed) in [
+        (evidence(alloc, &one, None)?, 0, "party 2 fault F3\n"),
+        (evidence(alloc, &one, Some(&other))?, 0, "party 2 fault F4\n"),
+        (evidence(alloc, &answer, None)?, 1, "no fault: Consistent\n"),
+        (evidence(alloc, &changed(one), None)?, 1, "no fault: NotSigned\n"),
+        (evidence(alloc, &[9], None)?, 1, "no fault: Malformed\n"),
+    ] {
+        let left = judge(alloc, small_session(), b"", &evidence, &[], &[])?;
+        check_end(&rt, &left, status, printed, "");
+    }
+    Ok(())
+}
+
+/// An entry of the table has 8,867 bytes: two for its length, 21, and a signature of 8,844.
+#[test]
+fn a_table_whose_second_entry_is_bad(rt: HostRuntime) -> Result<(), Fail> {
+    let alloc = rt.alloc();
+    let caster = scheme_of(alloc, three_rounds(), 7)?;
+    let mut table = Vec::new(alloc);
+    add_entry(&mut table, &manifest(&rt, alloc, &caster, 1)?)?;
+    add_entry(&mut table, &changed(manifest(&rt, alloc, &caster, 2)?))?;
+    let left = judge(alloc, three_rounds(), &table, &[1, 0, 1, 9], &[], &[])?;
+    check_end(&rt, &left, 8, "", "bar: input refused: table at 8867\n");
+    Ok(())
+}
+
+/// Whether the session's text is accepted, the table and the evidence, the failing calls of the files and writes to out, and the status, what
+/// was printed and what standard error has. The evidence is one datagram of one byte, or none.
+const ENDS: [(bool, &[u8], &[u8], &[u64], &[u64], u8, &str, &str); 8] = [
+    (false, b"", MALFORMED, &[], &[], 4, "", NO_TOML),
+    // the table isn't read then
+    (false, b"", MALFORMED, &[2], &[], 4, "", NO_TOML),
+    (true, b"\0", b"", &[], &[], 8, "", "bar: input refused: table at 0\n"),
+    (true, b"", b"", &[], &[], 8, "", "bar: input refused: evidence\n"),
+    (true, b"", MALFORMED, &[1], &[], 3, "", FAILED),
+    (true, b"", MALFORMED, &[2], &[], 3, "", FAILED),
+    (true, b"", MALFORMED, &[3], &[], 3, "", FAILED),
+    (true, b"", MALFORMED, &[], &[1], 7, "no fault: ", "bar: output failed\n"),
+];
+
+const MALFORMED: &[u8] = &[1, 0, 1, 9];
 
 const FAILED: &str = "bar: file failed\n";
 
 const NO_TOML: &str = "bar: session refused: NotToml\n";
 
-// The session, the table and the evidence, the failing calls of the files and writes to out, and the status, what err has and what was
-// printed.
-const ENDS: [(&str, &[u8], Evidence, &[u64], &[u64], u8, &str, &str); 10] = [
-    (
-        SESSION,
-        b"",
-        Evidence::Unsigned,
-        &[],
-        &[],
-        1,
-        "",
-        "no fault: NotSigned\n",
-    ),
-    (
-        SESSION,
-        b"",
-        Evidence::Malformed,
-        &[],
-        &[],
-        1,
-        "",
-        "no fault: Malformed\n",
-    ),
-    ("=", b"", Evidence::Unsigned, &[], &[], 4, NO_TOML, ""),
-    // the table isn't read then
-    ("=", b"", Evidence::Unsigned, &[2], &[], 4, NO_TOML, ""),
-    (
-        SESSION,
-        b"\0",
-        Evidence::Empty,
-        &[],
-        &[],
-        8,
-        "bar: input refused: table at 0\n",
-        "",
-    ),
-    (
-        SESSION,
-        b"",
-        Evidence::Empty,
-        &[],
-        &[],
-        8,
-        "bar: input refused: evidence\n",
-        "",
-    ),
-    (SESSION, b"", Evidence::Unsigned, &[1], &[], 3, FAILED, ""),
-    (SESSION, b"", Evidence::Unsigned, &[2], &[], 3, FAILED, ""),
-    (SESSION, b"", Evidence::Unsigned, &[3], &[], 3, FAILED, ""),
-    (
-        SESSION,
-        b"",
-        Evidence::Unsigned,
-        &[],
-        &[1],
-        7,
-        "bar: output failed\n",
-        "no fault: ",
-    ),
-];
-
 #[test]
-fn statuses_and_lines_of_verdicts(rt: HostRuntime) -> Result<(), Fail> {
+fn refusals_and_failed_calls(rt: HostRuntime) -> Result<(), Fail> {
     let alloc = rt.alloc();
-    for (session, table, evidence, fail_files, fail_out, status, said, out) in ENDS {
-        let left = run(alloc, session, table, evidence, fail_files, fail_out)?;
-        assert_eq!(rt; left.status, status);
-        assert_eq!(rt; left.err.bytes(), said.as_bytes());
-        assert_eq!(rt; left.out.bytes(), out.as_bytes());
+    for (accepted, table, evidence, fail_files, fail_out, status, printed, said) in ENDS {
+        let session = if accepted { small_session() } else { "=" };
+        let left = judge(alloc, session, table, evidence, fail_files, fail_out)?;
+        check_end(&rt, &left, status, printed, said);
     }
     Ok(())
 }

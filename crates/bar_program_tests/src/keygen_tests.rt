@@ -1,29 +1,11 @@
 //! Keys over files and sinks in memory, and words that are no line. The expected texts are by programs that share nothing with this one.
-use bar_cli::bar_run;
-use bar_outside::{MemFiles, MemLink, MemSink, MemSpawner};
+use crate::outcome::{Left, outside, run};
+use bar_outside::MemFiles;
 use std::alloc::{AllocError, Global};
 use std::test::Fail;
 
-// The words of a line that is written with spaces.
-fn words(alloc: Global, line: &str) -> Result<Vec<String>, AllocError> {
-    let mut words = Vec::new(alloc);
-    for word in line.split(' ') {
-        words.push(String::from_str(alloc, word)?)?;
-    }
-    Ok(words)
-}
-
-/// What a run left.
-#[derive(Drop)]
-struct Left {
-    status: u8,
-    files: MemFiles,
-    out: MemSink,
-    err: MemSink,
-}
-
 // A run of the line with this secret, where these calls of the files and these writes to out fail.
-fn run(
+fn run_keygen(
     alloc: Global,
     line: &str,
     secret: &[u8],
@@ -32,20 +14,7 @@ fn run(
 ) -> Result<Left, AllocError> {
     let mut files = MemFiles::make(alloc, fail_files.to_vec(alloc)?);
     files.put("s", secret)?;
-    let mut out = MemSink::make(alloc, fail_out.to_vec(alloc)?);
-    let mut spawn = MemSpawner::make(alloc, Vec::new(alloc), Vec::new(alloc));
-    let mut err = MemSink::make(alloc, Vec::new(alloc));
-    let all = words(alloc, line)?;
-    let mut link = MemLink::make(alloc, Vec::new(alloc), Vec::new(alloc));
-    let status = bar_run(
-        alloc, &all, &mut files, &mut link, &mut out, &mut err, &mut spawn,
-    );
-    Ok(Left {
-        status,
-        files,
-        out,
-        err,
-    })
+    run(alloc, line, outside(alloc, files, fail_out, &[])?)
 }
 
 const SECRET: &str = "a6eef21778369036712f70881cfd21d4e8c5ae7aaa6a1fa5bc3743cfe033355b";
@@ -99,14 +68,14 @@ fn keys_are_made(rt: HostRuntime) -> Result<(), Fail> {
         (ZEROS, [7; 32], CASTER_OUT, CASTER_KEY),
         (TEN_ROUNDS, [8; 32], TEN_ROUNDS_OUT, TEN_ROUNDS_KEY),
     ] {
-        let left = run(alloc, line, &secret, &[], &[])?;
+        let left = run_keygen(alloc, line, &secret, &[], &[])?;
         assert_eq!(rt; left.status, 0);
-        assert_eq!(rt; left.out.bytes(), out.as_bytes());
+        assert_eq!(rt; left.outside.out.bytes(), out.as_bytes());
         assert_eq!(rt;
-            left.files.get("k").unwrap_or(b"none".as_slice()),
+            left.outside.files.get("k").unwrap_or(b"none".as_slice()),
             key.as_bytes()
         );
-        assert_eq!(rt; left.err.bytes(), b"".as_slice());
+        assert_eq!(rt; left.outside.err.bytes(), b"".as_slice());
     }
     Ok(())
 }
@@ -187,12 +156,12 @@ fn statuses_and_lines_of_keys(rt: HostRuntime) -> Result<(), Fail> {
             "keygen --party 0 --id 0011223344556677 --rounds {rounds} --ots 4 --secret s --key k"
         )?;
         let secret = vec![in alloc; 7u8; len]?;
-        let left = run(alloc, line.as_str(), &secret, fail_files, fail_out)?;
+        let left = run_keygen(alloc, line.as_str(), &secret, fail_files, fail_out)?;
         assert_eq!(rt; left.status, status, "{rounds}");
-        assert_eq!(rt; left.err.bytes(), said.as_bytes());
-        assert_eq!(rt; left.out.bytes(), out.as_bytes());
+        assert_eq!(rt; left.outside.err.bytes(), said.as_bytes());
+        assert_eq!(rt; left.outside.out.bytes(), out.as_bytes());
         assert_eq!(rt;
-            left.files.get("k").unwrap_or(NONE.as_bytes()),
+            left.outside.files.get("k").unwrap_or(NONE.as_bytes()),
             key.as_bytes()
         );
     }
@@ -240,9 +209,9 @@ const NO_LINES: [&str; 30] = [
 fn words_that_are_no_line(rt: HostRuntime) -> Result<(), Fail> {
     let alloc = rt.alloc();
     for line in NO_LINES {
-        let left = run(alloc, line, &[7; 32], &[], &[])?;
+        let left = run_keygen(alloc, line, &[7; 32], &[], &[])?;
         assert_eq!(rt; left.status, 2, "{line}");
-        assert_eq!(rt; left.err.bytes(), b"bar: usage\n".as_slice());
+        assert_eq!(rt; left.outside.err.bytes(), b"bar: usage\n".as_slice());
     }
     Ok(())
 }

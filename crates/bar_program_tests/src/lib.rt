@@ -16,8 +16,12 @@ mod live_tests;
 #[cfg(test)]
 mod node_tests;
 #[cfg(test)]
+mod outcome;
+#[cfg(test)]
 mod outside_tests;
 #[cfg(test)]
 mod session_tests;
+#[cfg(test)]
+mod texts;
 #[cfg(test)]
 mod words_tests;

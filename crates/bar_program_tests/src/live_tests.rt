@@ -2,46 +2,21 @@
 ghost use Rattle.std.specs.Prelude.{◌≡◌, true};
 ghost use Rattle.bar_outside.specs.MemTaken.{are_small};
 
-mod sessions;
-
-use bar_live::{CasterNames, Ended, PeerNames, broadcaster, peer};
-use bar_outside::{Fault, MemFiles, MemLink, MemSink, MemTaken};
-use bar_roster::KeyFileFault;
-use sessions::{caster_key, peer_key, session, spent_caster_key, spent_peer_key};
+use crate::outcome::{Left, outside, run};
+use crate::texts::{caster_key, peer_key, session, spent_caster_key, spent_peer_key};
+use bar_outside::{MemFiles, MemLink, MemTaken};
 use std::alloc::{AllocError, Global};
 use std::process::Abort;
 use std::test::Fail;
 
-const PEER: PeerNames<'static> = PeerNames {
-    session: "s",
-    key: "k",
-    begin_ms: 5_000,
-    played: "p",
-    recording: "r",
-    found: "f",
-};
+const PEER: &str = "peer --session s --key k --begin 5000 --played p --recording r --found f";
 
-const CASTER: CasterNames<'static> = CasterNames {
-    session: "s",
-    key: "k",
-    begin_ms: 5_000,
-    stream: "t",
-    found: "f",
-};
+const CASTER: &str = "broadcaster --session s --key k --begin 5000 --stream t --found f";
 
 /// The head of the recording of the session's second peer.
 const HEAD: [u8; 15] = [
     b'B', b'A', b'R', b'L', 1, 0x00, 0x11, 0x22, 0x33, 0x44, 0x55, 0x66, 0x77, 0, 2,
 ];
-
-/// What a command left.
-#[derive(Drop)]
-struct Left {
-    ended: Result<Ended, Fault>,
-    files: MemFiles,
-    link: MemLink,
-    out: MemSink,
-}
 
 /// The session and a key file.
 fn prepared(alloc: Global, key: &str) -> Result<MemFiles, Fail> {
@@ -81,55 +56,50 @@ fn link_of(alloc: Global, ticks: u32, datagrams: u32, fail: &[u64]) -> Result<Me
     Ok(MemLink::make(alloc, list, fail.to_vec(alloc)?))
 }
 
-/// A peer with these files over this link.
-fn run_peer(alloc: Global, mut files: MemFiles, mut link: MemLink) -> Left {
-    let mut out = MemSink::make(alloc, Vec::new(alloc));
-    let ended = peer(alloc, &PEER, &mut files, &mut link, &mut out);
-    Left {
-        ended,
-        files,
-        link,
-        out,
-    }
+/// A run of a line with these files over this link.
+fn run_over(
+    alloc: Global,
+    line: &str,
+    files: MemFiles,
+    link: MemLink,
+) -> Result<Left, AllocError> {
+    let mut outside = outside(alloc, files, &[], &[])?;
+    outside.link = link;
+    run(alloc, line, outside)
 }
 
 /// A broadcaster with a stream of so many bytes over a link of so many ticks.
 fn run_caster(alloc: Global, len: usize, ticks: u32) -> Result<Left, Fail> {
     let mut files = prepared(alloc, caster_key())?;
     files.put("t", &vec![in alloc; 7; len]?)?;
-    let mut link = link_of(alloc, ticks, 0, &[])?;
-    let mut out = MemSink::make(alloc, Vec::new(alloc));
-    let ended = broadcaster(alloc, &CASTER, &mut files, &mut link, &mut out);
-    Ok(Left {
-        ended,
-        files,
-        link,
-        out,
-    })
+    Ok(run_over(alloc, CASTER, files, link_of(alloc, ticks, 0, &[])?)?)
+}
+
+/// Checks how a run ended: its status, what it printed, and what standard error has.
+fn check_end(rt: &impl Abort, left: &Left, status: u8, out: &str, err: &str) {
+    assert_eq!(rt; left.status, status);
+    assert_eq!(rt; left.outside.out.bytes(), out.as_bytes());
+    assert_eq!(rt; left.outside.err.bytes(), err.as_bytes());
 }
 
 /// Checks that a file holds these bytes.
 fn check_file(rt: &impl Abort, left: &Left, path: &str, bytes: &[u8]) {
-    assert!(rt; left.files.get(path) == Some(bytes), "at {path}");
+    assert!(rt; left.outside.files.get(path) == Some(bytes), "at {path}");
 }
 
 /// Checks what the link is bound to: the party, the port, and the first tick and the length of a tick in milliseconds.
 fn check_bound(rt: &impl Abort, left: &Left, place: Option<(u16, u16, u64, u32)>) {
-    let bound = left.link.place();
+    let bound = left.outside.link.place();
     assert_eq!(rt; bound.map(|p| (p.me, p.port, p.begin_ms, p.tick_ms)), place);
 }
 
-/// A peer alone asks sixteen times in each round, and plays nothing.
+/// A peer alone asks sixteen times in each round, and plays nothing. Then its key is spent.
 #[test]
 fn a_peer_alone_asks_in_vain(rt: HostRuntime) -> Result<(), Fail> {
     let alloc = rt.alloc();
     let link = link_of(alloc, 120, 0, &[])?;
-    let left = run_peer(alloc, prepared(alloc, peer_key())?, link);
-    assert_eq!(rt; left.ended, Ok(Ended::Done));
-    assert_eq!(rt;
-        left.out.bytes(),
-        b"ticks 120 sent 160 played 0\n".as_slice()
-    );
+    let left = run_over(alloc, PEER, prepared(alloc, peer_key())?, link)?;
+    check_end(&rt, &left, 0, "ticks 120 sent 160 played 0\n", "");
     let mut recording = HEAD.to_vec(alloc)?;
     recording.extend_from_slice(&[1; 120])?;
     recording.push(0)?;
@@ -137,21 +107,22 @@ fn a_peer_alone_asks_in_vain(rt: HostRuntime) -> Result<(), Fail> {
     check_file(&rt, &left, "p", b"");
     check_file(&rt, &left, "k", spent_peer_key().as_bytes());
     check_bound(&rt, &left, Some((2, 20_000, 5_000, 20)));
-    let again = run_peer(alloc, left.files, link_of(alloc, 120, 0, &[])?);
-    assert_eq!(rt; again.ended, Ok(Ended::KeyRefused(KeyFileFault::Spent)));
+    let link = link_of(alloc, 120, 0, &[])?;
+    let again = run_over(alloc, PEER, left.outside.files, link)?;
+    check_end(&rt, &again, 5, "", "bar: key refused: Spent\n");
     check_bound(&rt, &again, None);
     Ok(())
 }
 
+/// The third send fails, which is the seventh call of the link.
 #[test]
 fn a_failed_call_of_the_link_stops_a_peer(rt: HostRuntime) -> Result<(), Fail> {
     let alloc = rt.alloc();
     let link = link_of(alloc, 120, 0, &[7])?;
-    let left = run_peer(alloc, prepared(alloc, peer_key())?, link);
-    assert_eq!(rt; left.ended, Err(Fault::Link));
-    assert_eq!(rt; left.link.sent().len(), 2);
-    assert_eq!(rt; left.files.get("r").map(<[u8]>::len), Some(18));
-    assert_eq!(rt; left.out.bytes(), b"".as_slice());
+    let left = run_over(alloc, PEER, prepared(alloc, peer_key())?, link)?;
+    check_end(&rt, &left, 6, "", "bar: link failed\n");
+    assert_eq!(rt; left.outside.link.sent().len(), 2);
+    assert_eq!(rt; left.outside.files.get("r").map(<[u8]>::len), Some(18));
     Ok(())
 }
 
@@ -159,11 +130,10 @@ fn a_failed_call_of_the_link_stops_a_peer(rt: HostRuntime) -> Result<(), Fail> {
 #[test]
 fn a_tick_is_taken_among_many_datagrams(rt: HostRuntime) -> Result<(), Fail> {
     let alloc = rt.alloc();
-    let link = link_of(alloc, 1, 65_537, &[])?;
-    let left = run_peer(alloc, prepared(alloc, peer_key())?, link);
-    assert_eq!(rt; left.ended, Ok(Ended::Done));
+    let link = link_of(alloc, 0, 65_537, &[])?;
+    let left = run_over(alloc, PEER, prepared(alloc, peer_key())?, link)?;
+    check_end(&rt, &left, 0, "ticks 1 sent 1 played 0\n", "");
     let mut recording = HEAD.to_vec(alloc)?;
-    recording.push(1)?;
     for _ in 0..65_536u32 {
         recording.extend_from_slice(&[2, 0, 0])?;
     }
@@ -175,8 +145,7 @@ fn a_tick_is_taken_among_many_datagrams(rt: HostRuntime) -> Result<(), Fail> {
 #[test]
 fn a_stream_is_cast(rt: HostRuntime) -> Result<(), Fail> {
     let left = run_caster(rt.alloc(), 1_023, 120)?;
-    assert_eq!(rt; left.ended, Ok(Ended::Done));
-    assert_eq!(rt; left.out.bytes(), b"ticks 120 sent 44\n".as_slice());
+    check_end(&rt, &left, 0, "ticks 120 sent 44\n", "");
     check_bound(&rt, &left, Some((0, 20_000, 5_000, 20)));
     Ok(())
 }
@@ -184,8 +153,7 @@ fn a_stream_is_cast(rt: HostRuntime) -> Result<(), Fail> {
 #[test]
 fn an_empty_stream_over_an_empty_link(rt: HostRuntime) -> Result<(), Fail> {
     let left = run_caster(rt.alloc(), 0, 0)?;
-    assert_eq!(rt; left.ended, Ok(Ended::Done));
-    assert_eq!(rt; left.out.bytes(), b"ticks 0 sent 0\n".as_slice());
+    check_end(&rt, &left, 0, "ticks 0 sent 0\n", "");
     check_file(&rt, &left, "k", spent_caster_key().as_bytes());
     Ok(())
 }
@@ -193,11 +161,8 @@ fn an_empty_stream_over_an_empty_link(rt: HostRuntime) -> Result<(), Fail> {
 #[test]
 fn a_stream_that_is_too_long_spends_no_key(rt: HostRuntime) -> Result<(), Fail> {
     let left = run_caster(rt.alloc(), 81_761, 0)?;
-    let refused = Ended::StreamRefused {
-        have: 81_761,
-        room: 81_760,
-    };
-    assert_eq!(rt; left.ended, Ok(refused));
+    let refused = "bar: input refused: stream have 81761 room 81760\n";
+    check_end(&rt, &left, 8, "", refused);
     check_file(&rt, &left, "k", caster_key().as_bytes());
     check_bound(&rt, &left, None);
     Ok(())

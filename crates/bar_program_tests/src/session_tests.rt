@@ -1,37 +1,12 @@
 //! Sessions over files, sinks and a spawner in memory.
-use crate::cli_tests::{SESSION, words};
-use bar_cli::bar_run;
-use bar_outside::{MemFiles, MemLink, MemSink, MemSpawner};
+use crate::outcome::{Left, outside, run};
+use crate::texts::session;
+use bar_outside::{MemFiles, MemSpawner};
 use std::alloc::{AllocError, Global};
 use std::test::Fail;
 
-const LINE: [&str; 13] = [
-    "session",
-    "--session",
-    "ses",
-    "--keys",
-    "k",
-    "--stream",
-    "st",
-    "--begin",
-    "5",
-    "--results",
-    "r",
-    "--program",
-    "bar",
-];
-
-/// What a session left.
-#[derive(Drop)]
-struct Left {
-    status: u8,
-    calls: usize,
-    out: MemSink,
-    err: MemSink,
-}
-
 // A session whose children end with these statuses, where these calls of the spawner and these writes to out fail.
-fn run(
+fn run_session(
     alloc: Global,
     session: &str,
     statuses: &[i32],
@@ -40,20 +15,10 @@ fn run(
 ) -> Result<Left, AllocError> {
     let mut files = MemFiles::make(alloc, Vec::new(alloc));
     files.put("ses", session.as_bytes())?;
-    let mut link = MemLink::make(alloc, Vec::new(alloc), Vec::new(alloc));
-    let mut out = MemSink::make(alloc, fail_out.to_vec(alloc)?);
-    let mut err = MemSink::make(alloc, Vec::new(alloc));
-    let mut spawn = MemSpawner::make(alloc, statuses.to_vec(alloc)?, fail_spawn.to_vec(alloc)?);
-    let all = words(alloc, &LINE)?;
-    let status = bar_run(
-        alloc, &all, &mut files, &mut link, &mut out, &mut err, &mut spawn,
-    );
-    Ok(Left {
-        status,
-        calls: spawn.calls().len(),
-        out,
-        err,
-    })
+    let mut outside = outside(alloc, files, fail_out, &[])?;
+    outside.spawn = MemSpawner::make(alloc, statuses.to_vec(alloc)?, fail_spawn.to_vec(alloc)?);
+    let line = "session --session ses --keys k --stream st --begin 5 --results r --program bar";
+    run(alloc, line, outside)
 }
 
 #[test]
@@ -108,15 +73,15 @@ fn children_and_their_statuses(rt: HostRuntime) -> Result<(), Fail> {
         ),
     ];
     for (statuses, fail_spawn, fail_out, status, calls, out, err) in rows {
-        let left = run(alloc, SESSION, statuses, fail_spawn, fail_out)?;
-        assert_eq!(rt; (left.status, left.calls), (status, calls));
-        assert_eq!(rt; left.out.bytes(), out.as_bytes());
-        assert_eq!(rt; left.err.bytes(), err.as_bytes());
+        let left = run_session(alloc, session(), statuses, fail_spawn, fail_out)?;
+        assert_eq!(rt; (left.status, left.outside.spawn.calls().len()), (status, calls));
+        assert_eq!(rt; left.outside.out.bytes(), out.as_bytes());
+        assert_eq!(rt; left.outside.err.bytes(), err.as_bytes());
     }
-    let left = run(alloc, "", &[], &[], &[])?;
-    assert_eq!(rt; (left.status, left.calls), (4, 0));
+    let left = run_session(alloc, "", &[], &[], &[])?;
+    assert_eq!(rt; (left.status, left.outside.spawn.calls().len()), (4, 0));
     assert_eq!(rt;
-        left.err.bytes(),
+        left.outside.err.bytes(),
         b"bar: session refused: Missing version\n".as_slice()
     );
     Ok(())
