@@ -2,8 +2,8 @@
 
 ghost use Rattle.std.specs.Prelude.{◌≡◌, ◌<◌};
 
-use bar_seeds::{Secrets, SeedChain, commitment, partner, seed_ok};
 use bar_bytes::Steps;
+use bar_seeds::{Secrets, SeedChain, commitment, partner, seed_ok};
 use bar_window::{Exchange, Role, UpdateId, Window, XKind};
 use std::marker::Brand;
 use std::sync::ledger::{Blank, Ledger};

@@ -1,7 +1,9 @@
 ghost use Rattle.std.specs.Prelude.{◌≡◌, ◌≤◌};
 ghost use Rattle.bar_window.specs.Window.{IsWindowOf};
 
-use bar_terms::{Digest, Item, Table, balanced_count, offer_ok, promise, push_answer, terms_ok, within};
+use bar_terms::{
+    Digest, Item, Table, balanced_count, offer_ok, promise, push_answer, terms_ok, within,
+};
 use bar_window::{Exchange, Role, Terms, UpdateId, Window, XKind};
 use std::process::Abort;
 use std::test::Fail;

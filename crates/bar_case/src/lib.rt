@@ -11,4 +11,3 @@ mod unsealing;
 pub use findings::{Finding, Opening};
 pub use sealing::seal;
 pub use unsealing::unseal;
-

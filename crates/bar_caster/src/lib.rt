@@ -26,4 +26,3 @@ mod told;
 pub use caster::Caster;
 pub use fault::CasterFault;
 pub use runs::rules_give_the_run;
-

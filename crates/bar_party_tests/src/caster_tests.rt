@@ -175,11 +175,7 @@ fn a_longer_stream_is_refused(rt: HostRuntime) -> Result<(), Fail> {
 }
 
 /// The receivers of a block of round 1, in order, each with the first three bytes of the block and its last.
-fn receivers(
-    alloc: Global,
-    sends: &[Sent],
-    index: u8,
-) -> Result<Vec<(u16, [u8; 4])>, AllocError> {
+fn receivers(alloc: Global, sends: &[Sent], index: u8) -> Result<Vec<(u16, [u8; 4])>, AllocError> {
     let mut found = Vec::new(alloc);
     for sent in sends {
         if let [.., place, one, two, three] = sent.bytes.get(..24).unwrap_or(b"")
@@ -205,7 +201,10 @@ fn blocks_go_to_the_least_ranks(rt: HostRuntime) -> Result<(), Fail> {
     let sends = ticks(&rt, alloc, &mut caster, 2)?;
     for (index, peers, ends) in [(0, [2, 5, 6], [3, 254, 7, 7]), (1, [3, 4, 5], [0, 1, 7, 0])] {
         let expected = peers.map(|peer| (peer, ends));
-        assert_eq!(rt; receivers(alloc, &sends, index)?.as_slice(), expected.as_slice());
+        assert_eq!(rt;
+            receivers(alloc, &sends, index)?.as_slice(),
+            expected.as_slice()
+        );
     }
     Ok(())
 }

@@ -11,8 +11,7 @@ use std::test::Fail;
 
 const LINE: &str = "replay --recording rec --session ses --found f --played p --key k";
 
-const PEER_LINE: &str =
-    "peer --session ses --key k --begin 0 --played p --recording rec --found f";
+const PEER_LINE: &str = "peer --session ses --key k --begin 0 --played p --recording rec --found f";
 
 const ID: [u8; 8] = [0x00, 0x11, 0x22, 0x33, 0x44, 0x55, 0x66, 0x77];
 
@@ -253,12 +252,18 @@ fn streams_are_played(rt: HostRuntime) -> Result<(), Fail> {
         let bytes = recording(alloc, &streams, entries)?;
         let left = replay(alloc, small_session(), small_key(), &bytes, &[], &[], &[])?;
         assert_eq!(rt; left.status, 0);
-        assert_eq!(rt; left.outside.files.get("p").unwrap_or(b"none".as_slice()), played);
+        assert_eq!(rt;
+            left.outside.files.get("p").unwrap_or(b"none".as_slice()),
+            played
+        );
         assert_eq!(rt; left.outside.files.get("f.table").is_some(), true);
         assert_eq!(rt; left.outside.files.get("f.1").is_none(), true);
         // the request of round 1 is sent at each tick of the rounds 1 and 2
         let sent = if entries.is_empty() { 0 } else { 16 };
-        assert_eq!(rt; lines_like(left.outside.out.bytes(), REQUEST_OF_1.as_bytes()), sent);
+        assert_eq!(rt;
+            lines_like(left.outside.out.bytes(), REQUEST_OF_1.as_bytes()),
+            sent
+        );
         assert_eq!(rt; lines_like(left.outside.out.bytes(), b" "), sent);
         assert_eq!(rt; left.outside.err.bytes(), b"".as_slice());
     }
@@ -281,7 +286,10 @@ fn a_session_of_ten_rounds_plays_hi(rt: HostRuntime) -> Result<(), Fail> {
         b"hi".as_slice()
     );
     for (front, sent) in SENT {
-        assert_eq!(rt; lines_like(left.outside.out.bytes(), front.as_bytes()), sent);
+        assert_eq!(rt;
+            lines_like(left.outside.out.bytes(), front.as_bytes()),
+            sent
+        );
     }
     assert!(rt; left.outside.out.bytes().starts_with(b"1 1 ba470103"));
     let first = left.outside.out.bytes().split(|byte| *byte == b'\n').next();
@@ -359,7 +367,16 @@ impl Text {
 // how many lines were begun.
 const ENDS: [(Text, Text, &[u64], &[u64], &[u64], u8, &str, &[u8], usize); 16] = [
     (
-        Text::SmallSession, Text::SpentKey, &[], &[], &[], 0, "", b"hi", 16),
+        Text::SmallSession,
+        Text::SpentKey,
+        &[],
+        &[],
+        &[],
+        0,
+        "",
+        b"hi",
+        16,
+    ),
     (
         Text::Plain("version = 1"),
         Text::SmallKey,
@@ -541,7 +558,10 @@ fn what_was_found_is_written(rt: HostRuntime) -> Result<(), Fail> {
     let mut table = len.to_be_bytes().to_vec(alloc)?;
     table.extend_from_slice(&streams.manifest)?;
     assert_eq!(rt;
-        left.outside.files.get("f.table").unwrap_or(b"none".as_slice()),
+        left.outside
+            .files
+            .get("f.table")
+            .unwrap_or(b"none".as_slice()),
         table.as_slice()
     );
     assert_eq!(rt; left.outside.files.get("f.1").is_none(), true);
@@ -557,12 +577,26 @@ fn statuses_and_lines(rt: HostRuntime) -> Result<(), Fail> {
     let whole = recording(alloc, &streams, &entries)?;
     for (session, key, fail_files, fail_out, fail_err, status, said, played, lines) in ENDS {
         let bytes = whole.as_slice();
-        let left = replay(alloc, session.text(), key.text(), bytes, fail_files, fail_out, fail_err)?;
+        let left = replay(
+            alloc,
+            session.text(),
+            key.text(),
+            bytes,
+            fail_files,
+            fail_out,
+            fail_err,
+        )?;
         assert_eq!(rt; left.status, status);
         assert_eq!(rt; left.outside.err.bytes(), said.as_bytes());
-        assert_eq!(rt; left.outside.files.get("p").unwrap_or(b"none".as_slice()), played);
+        assert_eq!(rt;
+            left.outside.files.get("p").unwrap_or(b"none".as_slice()),
+            played
+        );
         assert_eq!(rt; lines_like(left.outside.out.bytes(), b" "), lines);
-        assert_eq!(rt; left.outside.files.get("rec").unwrap_or(b"none".as_slice()), bytes);
+        assert_eq!(rt;
+            left.outside.files.get("rec").unwrap_or(b"none".as_slice()),
+            bytes
+        );
     }
     Ok(())
 }
@@ -594,12 +628,18 @@ fn a_peer_whose_link_ends_at_once(rt: HostRuntime) -> Result<(), Fail> {
     let files = files_of(alloc, small_session(), small_spent_key(), b"", &[])?;
     let spent = run(alloc, PEER_LINE, outside(alloc, files, &[], &[])?)?;
     assert_eq!(rt; spent.status, 5);
-    assert_eq!(rt; spent.outside.err.bytes(), b"bar: key refused: Spent\n".as_slice());
+    assert_eq!(rt;
+        spent.outside.err.bytes(),
+        b"bar: key refused: Spent\n".as_slice()
+    );
     assert_eq!(rt; spent.outside.link.place().is_some(), false);
     let files = files_of(alloc, session(), peer_key(), b"", &[])?;
     let peer = run(alloc, PEER_LINE, outside(alloc, files, &[], &[])?)?;
     assert_eq!(rt; peer.status, 0);
-    assert_eq!(rt; peer.outside.out.bytes(), b"ticks 0 sent 0 played 0\n".as_slice());
+    assert_eq!(rt;
+        peer.outside.out.bytes(),
+        b"ticks 0 sent 0 played 0\n".as_slice()
+    );
     assert_eq!(rt; peer.outside.link.place().is_some(), true);
     let replayed = run(alloc, LINE, outside(alloc, peer.outside.files, &[], &[])?)?;
     assert_eq!(rt; replayed.status, 0);

@@ -28,7 +28,12 @@ fn front(alloc: Global, kind: u8, parties: [u8; 4], round: u8) -> Result<Vec<u8>
 }
 
 /// Adds the signature of a message to it.
-fn sign(rt: &impl Abort, alloc: Global, scheme: &LmsScheme, message: &mut Vec<u8>) -> Result<(), AllocError> {
+fn sign(
+    rt: &impl Abort,
+    alloc: Global,
+    scheme: &LmsScheme,
+    message: &mut Vec<u8>,
+) -> Result<(), AllocError> {
     let leaves = scheme.leaves();
     assert!(rt; 0 < leaves);
     let mut sig = vec![in alloc; 0; scheme.sig_len()]?;
@@ -130,9 +135,17 @@ fn faults_of_one_datagram_and_of_two(rt: HostRuntime) -> Result<(), Fail> {
     let answer = response(&rt, alloc, &peer)?;
     for (evidence, status, printed) in [
         (evidence(alloc, &one, None)?, 0, "party 2 fault F3\n"),
-        (evidence(alloc, &one, Some(&other))?, 0, "party 2 fault F4\n"),
+        (
+            evidence(alloc, &one, Some(&other))?,
+            0,
+            "party 2 fault F4\n",
+        ),
         (evidence(alloc, &answer, None)?, 1, "no fault: Consistent\n"),
-        (evidence(alloc, &changed(one), None)?, 1, "no fault: NotSigned\n"),
+        (
+            evidence(alloc, &changed(one), None)?,
+            1,
+            "no fault: NotSigned\n",
+        ),
         (evidence(alloc, &[9], None)?, 1, "no fault: Malformed\n"),
     ] {
         let left = judge(alloc, small_session(), b"", &evidence, &[], &[])?;
@@ -160,12 +173,39 @@ const ENDS: [(bool, &[u8], &[u8], &[u64], &[u64], u8, &str, &str); 8] = [
     (false, b"", MALFORMED, &[], &[], 4, "", NO_TOML),
     // the table isn't read then
     (false, b"", MALFORMED, &[2], &[], 4, "", NO_TOML),
-    (true, b"\0", b"", &[], &[], 8, "", "bar: input refused: table at 0\n"),
-    (true, b"", b"", &[], &[], 8, "", "bar: input refused: evidence\n"),
+    (
+        true,
+        b"\0",
+        b"",
+        &[],
+        &[],
+        8,
+        "",
+        "bar: input refused: table at 0\n",
+    ),
+    (
+        true,
+        b"",
+        b"",
+        &[],
+        &[],
+        8,
+        "",
+        "bar: input refused: evidence\n",
+    ),
     (true, b"", MALFORMED, &[1], &[], 3, "", FAILED),
     (true, b"", MALFORMED, &[2], &[], 3, "", FAILED),
     (true, b"", MALFORMED, &[3], &[], 3, "", FAILED),
-    (true, b"", MALFORMED, &[], &[1], 7, "no fault: ", "bar: output failed\n"),
+    (
+        true,
+        b"",
+        MALFORMED,
+        &[],
+        &[1],
+        7,
+        "no fault: ",
+        "bar: output failed\n",
+    ),
 ];
 
 const MALFORMED: &[u8] = &[1, 0, 1, 9];

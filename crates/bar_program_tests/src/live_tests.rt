@@ -57,12 +57,7 @@ fn link_of(alloc: Global, ticks: u32, datagrams: u32, fail: &[u64]) -> Result<Me
 }
 
 /// A run of a line with these files over this link.
-fn run_over(
-    alloc: Global,
-    line: &str,
-    files: MemFiles,
-    link: MemLink,
-) -> Result<Left, AllocError> {
+fn run_over(alloc: Global, line: &str, files: MemFiles, link: MemLink) -> Result<Left, AllocError> {
     let mut outside = outside(alloc, files, &[], &[])?;
     outside.link = link;
     run(alloc, line, outside)

@@ -1,5 +1,9 @@
 //! Files, sinks, links and spawners in memory.
-use bar_outside::{ChildFault, Fault, FileFault, Files, Link, LinkFault, MemCall, MemFiles, MemLink, MemSink, MemSpawner, MemTaken, Place, Sink, SinkFault, Spawner, Taken, append_file, bind_link, create_file, read_file, receive_next, send_datagram, show_bytes};
+use bar_outside::{
+    ChildFault, Fault, FileFault, Files, Link, LinkFault, MemCall, MemFiles, MemLink, MemSink,
+    MemSpawner, MemTaken, Place, Sink, SinkFault, Spawner, Taken, append_file, bind_link,
+    create_file, read_file, receive_next, send_datagram, show_bytes,
+};
 use std::test::Fail;
 
 #[test]

@@ -74,7 +74,10 @@ fn children_and_their_statuses(rt: HostRuntime) -> Result<(), Fail> {
     ];
     for (statuses, fail_spawn, fail_out, status, calls, out, err) in rows {
         let left = run_session(alloc, session(), statuses, fail_spawn, fail_out)?;
-        assert_eq!(rt; (left.status, left.outside.spawn.calls().len()), (status, calls));
+        assert_eq!(rt;
+            (left.status, left.outside.spawn.calls().len()),
+            (status, calls)
+        );
         assert_eq!(rt; left.outside.out.bytes(), out.as_bytes());
         assert_eq!(rt; left.outside.err.bytes(), err.as_bytes());
     }

@@ -9,4 +9,3 @@ mod secrets;
 pub use chain::{SeedChain, seed_ok};
 pub use choice::partner;
 pub use secrets::{Secrets, commitment};
-

@@ -13,4 +13,3 @@ pub use promised::{balanced_count, junk_count, promise, update_count};
 pub use push::{PushAnswer, push_answer};
 pub use table::{Digest, Table};
 pub use valid::{can_promise, offer_ok, terms_fit, terms_ok, within};
-

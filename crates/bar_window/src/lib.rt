@@ -13,4 +13,3 @@ pub use exchange::{Exchange, Role, XKind};
 pub use terms::Terms;
 pub use update::UpdateId;
 pub use window::{Listed, Window};
-

@@ -36,4 +36,3 @@ pub use reading::decode;
 pub use shape::Shape;
 pub use view::{Body, View};
 pub use writing::{encode, kind_of};
-

@@ -2,8 +2,8 @@
 ghost use Rattle.std.specs.Prelude.{◌≡◌, ◌<◌, []};
 ghost use Rattle.bar_store.specs.Orders.{left_in};
 
-use bar_caster::{Caster, CasterFault};
 use bar_bytes::Steps;
+use bar_caster::{Caster, CasterFault};
 use bar_lms::SecretKey;
 use bar_roster::{KeyFile, Session, key_text};
 use bar_seal::{LmsScheme, Scheme, Verifier};
