@@ -1,6 +1,6 @@
 //! Balance.
 
-ghost use Rattle.bar_laws.specs.Balance.{Balanced, KeysGoToPartners};
+ghost use Rattle.bar_laws.specs.Balance.{Balanced, KeysGoToPartners, SaidKeysWereSent};
 
 /// Balance of every exchange, whatever datagrams and ticks come.
 pub fn balanced()
@@ -9,4 +9,6 @@ pub fn balanced()
     ensures opened { Balanced }
     // each key that a peer sends goes to its partner in the exchange
     ensures partners { KeysGoToPartners }
+    // a key was sent exactly where it was signed, so the totals by keys that were sent are those by what is known
+    ensures said { SaidKeysWereSent }
 {}

@@ -1,13 +1,14 @@
 -- Pacing of lists of inputs.
-use Rattle.std.proofs.Common.{◌≡◌, ℕ, zero, suc, ◌+◌, ◌≤◌, List, [], ◌∷◌, ◌++◌, refl, arith, false, true, inl, inr, ◌==◌, nat_le, Result, Ok, Err, length}
+use Rattle.std.proofs.Common.{◌≡◌, ℕ, zero, suc, ◌+◌, ◌-◌, ◌*◌, ◌≤◌, List, [], ◌∷◌, ◌++◌, refl, arith, false, true, inl, inr, ◌==◌, nat_le, Result, Ok, Err, length}
 use Rattle.std.proofs.lemmas.Bool.{cases_Bool}
 use Rattle.std.proofs.lemmas.Bool.Decides.{nat_tests}
 use Rattle.std.specs.Prelude.{bytes_eq, take, drop}
+use Rattle.std.specs.List.{AllByRecursion}
 use Rattle.bar_wire.specs.Inputs.{Input, Tick, Datagram}
-use Rattle.bar_record.specs.Pacing.{is_datagram, run_after, ticks_of, with_tick, with_ticks, due, paced_from, EndsAtTheLast, StaysPaced}
+use Rattle.bar_record.specs.Pacing.{is_datagram, run_after, ticks_of, with_tick, with_ticks, due, paced_from, EndsAtTheLast, IsFew, StaysPaced}
 use Rattle.bar_record.specs.declared.fault.RecordFault.{RecordFault}
 use Rattle.bar_record.specs.declared.fault.RecordFault.TheVariants.{AfterEnd, BadHead, AfterLast}
-use Rattle.bar_record.specs.Recording.{First, NoByte, End, Entry, NoEntry, head_bytes, first_of, before, ticks_put, inputs_by, inputs_from, IsTakenWhole}
+use Rattle.bar_record.specs.Recording.{First, NoByte, End, Entry, NoEntry, head_bytes, first_of, before, ticks_put, inputs_by, inputs_from, IsInRange, IsTakenWhole, StaysInRange}
 
 -- ---- what is read is taken whole
 
@@ -121,3 +122,58 @@ again_from last ticks run (Datagram bytes ∷ inputs) = elim (cases_Bool (nat_le
 
 pub paced_again : StaysPaced
 paced_again last inputs = again_from last 0 0 inputs
+
+-- ---- how many inputs are taken
+
+few_from : (last ticks run : ℕ) (inputs : List Input) → run ≤ 65536 → length (paced_from last ticks run inputs) ≤ 65537 * (last - ticks) - run
+few_from last ticks run [] few = omega arith
+few_from last ticks run (Tick ∷ inputs) few = elim (cases_Bool (nat_le last ticks)) [
+  | inl late ↦ rw (none_late last ticks run (Tick ∷ inputs) late) (omega arith)
+  | inr early ↦
+      let more : ticks + 1 ≤ last = grind (arith, nat_tests) in
+      rw early (omega (arith, few_from last (ticks + 1) 0 inputs (omega arith)))
+]
+few_from last ticks run (Datagram bytes ∷ inputs) few = elim (cases_Bool (nat_le last ticks)) [
+  | inl late ↦ rw (none_late last ticks run (Datagram bytes ∷ inputs) late) (omega arith)
+  | inr early ↦
+      let more : ticks + 1 ≤ last = grind (arith, nat_tests) in
+      elim (cases_Bool (run == 65536)) [
+        | inl is ↦ elim (cases_Bool (nat_le last (ticks + 1))) [
+          | inl end ↦ rw (early, is, end, none_late last (ticks + 1) 1 inputs end) (omega arith)
+          | inr on ↦
+              let two : ticks + 2 ≤ last = grind (arith, nat_tests) in
+              rw (early, is, on) (omega (arith, few_from last (ticks + 1) 1 inputs (omega arith)))
+        ]
+        | inr is_not ↦
+            let same : ticks + 0 ≡ ticks = omega arith in
+            let short : run + 1 ≤ 65536 = grind (arith, nat_tests) in
+            rw (early, is_not, same) (omega (arith, few_from last ticks (run + 1) inputs short))
+      ]
+]
+
+pub few_inputs : IsFew
+few_inputs last inputs = omega (arith, few_from last 0 0 inputs (omega arith))
+
+-- ---- each datagram stays as it is
+
+ranged_from : (last ticks run : ℕ) (inputs : List Input) → AllByRecursion IsInRange inputs → AllByRecursion IsInRange (paced_from last ticks run inputs)
+ranged_from last ticks run [] fit = tt
+ranged_from last ticks run (Tick ∷ inputs) fit = elim (cases_Bool (nat_le last ticks)) [
+  | inl late ↦ rw (none_late last ticks run (Tick ∷ inputs) late) tt
+  | inr early ↦ rw early (tt, ranged_from last (ticks + 1) 0 inputs fit.1)
+]
+ranged_from last ticks run (Datagram bytes ∷ inputs) fit = elim (cases_Bool (nat_le last ticks)) [
+  | inl late ↦ rw (none_late last ticks run (Datagram bytes ∷ inputs) late) tt
+  | inr early ↦ elim (cases_Bool (run == 65536)) [
+    | inl is ↦ elim (cases_Bool (nat_le last (ticks + 1))) [
+      | inl end ↦ rw (early, is, end, none_late last (ticks + 1) 1 inputs end) (tt, tt)
+      | inr on ↦ rw (early, is, on) (tt, (fit.0, ranged_from last (ticks + 1) 1 inputs fit.1))
+    ]
+    | inr is_not ↦
+        let same : ticks + 0 ≡ ticks = omega arith in
+        rw (early, is_not, same) (fit.0, ranged_from last ticks (run + 1) inputs fit.1)
+  ]
+]
+
+pub in_range : StaysInRange
+in_range last inputs fit = ranged_from last 0 0 inputs fit

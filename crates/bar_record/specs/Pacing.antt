@@ -1,5 +1,5 @@
 -- Pacing: how many datagrams may stand in a row, where a tick is put before one, and what is taken up to the last tick.
-use Rattle.std.specs.Prelude.{◌≡◌, ℕ, ◌+◌, ◌≤◌, ◌==◌, ◌&&◌, not, nat_le, Bool, true, false, List, [], ◌∷◌, ◌++◌, if◌then◌else◌}
+use Rattle.std.specs.Prelude.{◌≡◌, ℕ, ◌+◌, ◌*◌, ◌≤◌, ◌==◌, ◌&&◌, not, nat_le, Bool, true, false, List, [], ◌∷◌, ◌++◌, length, if◌then◌else◌}
 use Rattle.bar_wire.specs.Inputs.{Input, Tick, Datagram}
 
 abbrev pub is_datagram : Input → Bool
@@ -71,3 +71,7 @@ EndsAtTheLast = (last ticks run : ℕ) (inputs : List Input) → ticks ≤ last 
 -- what is paced already stays as it is
 abbrev pub StaysPaced : Type 0
 StaysPaced = (last : ℕ) (inputs : List Input) → paced last (paced last inputs) ≡ paced last inputs
+
+-- for each tick up to the last there are no more inputs than the datagrams between two ticks and the tick
+abbrev pub IsFew : Type 0
+IsFew = (last : ℕ) (inputs : List Input) → length (paced last inputs) ≤ (most_in_a_row + 1) * last

@@ -100,3 +100,7 @@ abbrev pub ReadsBack : Type 0
 ReadsBack =
     (id : List ℕ) (party last : ℕ) (inputs : List Input) → length id ≡ 8 → AllByRecursion IsInRange inputs →
     recording_of id party last (recording_bytes id party (paced last inputs)) ≡ Ok (paced last inputs)
+
+-- Pacing leaves each datagram as it is, so none has more bytes than one can have.
+abbrev pub StaysInRange : Type 0
+StaysInRange = (last : ℕ) (inputs : List Input) → AllByRecursion IsInRange inputs → AllByRecursion IsInRange (paced last inputs)

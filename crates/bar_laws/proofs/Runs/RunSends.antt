@@ -164,7 +164,7 @@ sent-by-rule me inputs =
 pub key-signed : (x : Exchange) (role : Role) (m : Message) → is_of kinds.Key x role m ≡ true → is_signed m.body ≡ true
 key-signed x role m e = let k : IsKeyOf x role m = is_of-key x role m e in ap is_signed k.body
 
-any-said : (log : Log) (x : Exchange) (role : Role) (sends : List (ℕ × ℕ × Datagram)) → AllByRecursion (IsSentAs log) sends
+pub any-said : (log : Log) (x : Exchange) (role : Role) (sends : List (ℕ × ℕ × Datagram)) → AllByRecursion (IsSentAs log) sends
     → list_any (λ s. is_of kinds.Key x role s.2.message) sends ≡ true → has_said (is_of kinds.Key x role) log ≡ true
 any-said log x role [] a e = cc
 any-said log x role (s ∷ sends) a e = go (or_cases _ _ e) (any-said log x role sends a.1)
