@@ -111,11 +111,13 @@ at-fault actions first final line old new fault other h = record {
     link_rose = h.ends.link_rose;
     output_rose = h.ends.output_rose;
     carried = λ told go. absurd (no-end fault go);
-    at_once = λ none go. absurd (no-end fault go);
     part = h.ends.part;
+    fixed = λ is go. absurd (no-end fault go);
+    fixed_part = λ is. h.ends.fixed_part (record { same = λ other. refl; unread = is.unread });
     complete = λ reliable. elim (h.ends.complete reliable) [ inl e ↦ absurd (other e) | inr e ↦ inr e ];
   };
   line_is = λ either. same-line fault;
+  fixed_line = λ is. same-line fault;
 }
   where
     no-end : (stop : Fault) → is_stop (code_of_fault stop) ≡ false → ⊥

@@ -10,11 +10,11 @@ use Rattle.bar_outside.specs.declared.files.FileFault.TheVariants as file
 use Rattle.bar_outside.specs.Faults.{fault_of_file, code_of_fault, line_of_fault, code_after, line_after}
 use Rattle.bar_outside.specs.declared.fault.Fault.{Fault}
 use Rattle.bar_outside.specs.declared.fault.Fault.TheVariants.{File, Link, Output, NoMemory}
-use Rattle.bar_outside.specs.Plan.{Outside, with_files, Action, Plan, reading, read_then, before, accepting, ending, doing, is_stop, line_at, no_memory, Ran, Reached, Names, CanRun, IsFilesNext}
+use Rattle.bar_outside.specs.Plan.{Outside, with_files, Action, Plan, reading, read_then, before, accepting, ending, doing, is_stop, line_at, no_memory, Ran, Reached, Names, CanRun, IsFilesNext, ReadsNone}
 use Rattle.bar_outside.specs.Plan.Action.{read}
 use Rattle.bar_outside.specs.Follows.{IsLater, Follows}
-use Rattle.bar_outside.specs.Ends.{Ends, Carried, EndsWith, Prints, Says, is_plain}
-use Rattle.bar_outside.proofs.ActionLists.{Reached-whole, Reached-behind, Reached-nothing, Reached-memory, Ran-append, nil-cons}
+use Rattle.bar_outside.specs.Ends.{Ends, Carried, EndsWith, IsFixed, Prints, Says, is_plain}
+use Rattle.bar_outside.proofs.ActionLists.{Reached-whole, Reached-behind, Reached-nothing, Reached-memory, Ran-append}
 use Rattle.bar_outside.proofs.Following.{true-not_false, Ran-nothing, IsLater-trans, later-same, later-files, named-behind}
 
 file-memory : {T : Type 0} → ◌≡◌ {A = Result T Fault} (Err File) (Err NoMemory) → ⊥
@@ -38,8 +38,10 @@ Ends-ending status line old go = record {
   link_rose = λ e. absurd (no_stop 6 refl status go e);
   output_rose = λ e. absurd (no_stop 7 refl status go e);
   carried = λ told go. record { is = refl; ran = Ran-nothing old };
-  at_once = λ none go. refl;
   part = λ told.
+      Reached-whole [] status old old (no_stop 3 refl status go) (no_stop 6 refl status go) (no_stop 7 refl status go) (Ran-nothing old);
+  fixed = λ is go. record { is = refl; ran = Ran-nothing old };
+  fixed_part = λ is.
       Reached-whole [] status old old (no_stop 3 refl status go) (no_stop 6 refl status go) (no_stop 7 refl status go) (Ran-nothing old);
   complete = λ reliable. inl refl;
 }
@@ -55,8 +57,10 @@ module _ (actions : List Action) (final : ℕ) (line : List ℕ) (old new : Outs
     link_rose = λ e. absurd (no_stop 6 refl final go e);
     output_rose = λ e. absurd (no_stop 7 refl final go e);
     carried = λ told go. record { is = refl; ran = f.done };
-    at_once = λ none go. refl;
     part = λ told.
+        Reached-whole actions final old new (no_stop 3 refl final go) (no_stop 6 refl final go) (no_stop 7 refl final go) f.done;
+    fixed = λ is go. record { is = refl; ran = f.done };
+    fixed_part = λ is.
         Reached-whole actions final old new (no_stop 3 refl final go) (no_stop 6 refl final go) (no_stop 7 refl final go) f.done;
     complete = λ reliable. inl refl;
   }
@@ -67,8 +71,9 @@ module _ (actions : List Action) (final : ℕ) (line : List ℕ) (old new : Outs
     link_rose = λ e. absurd (omega arith);
     output_rose = λ e. absurd (omega arith);
     carried = λ told go. cc;
-    at_once = λ none go. cc;
     part = λ told. f.part;
+    fixed = λ is go. cc;
+    fixed_part = λ is. f.part;
     complete = λ reliable. absurd (file-memory {T = T} (f.complete reliable (can reliable.told)));
   }
   Ends-doing {T} (Err Link) f = record {
@@ -78,8 +83,9 @@ module _ (actions : List Action) (final : ℕ) (line : List ℕ) (old new : Outs
     link_rose = λ e. f.link refl;
     output_rose = λ e. absurd (omega arith);
     carried = λ told go. cc;
-    at_once = λ none go. cc;
     part = λ told. f.part;
+    fixed = λ is go. cc;
+    fixed_part = λ is. f.part;
     complete = λ reliable. absurd (link-memory {T = T} (f.complete reliable (can reliable.told)));
   }
   Ends-doing {T} (Err Output) f = record {
@@ -89,8 +95,9 @@ module _ (actions : List Action) (final : ℕ) (line : List ℕ) (old new : Outs
     link_rose = λ e. absurd (omega arith);
     output_rose = λ e. f.output refl;
     carried = λ told go. cc;
-    at_once = λ none go. cc;
     part = λ told. f.part;
+    fixed = λ is go. cc;
+    fixed_part = λ is. f.part;
     complete = λ reliable. absurd (output-memory {T = T} (f.complete reliable (can reliable.told)));
   }
   Ends-doing (Err NoMemory) f = record {
@@ -100,8 +107,9 @@ module _ (actions : List Action) (final : ℕ) (line : List ℕ) (old new : Outs
     link_rose = λ e. absurd (omega arith);
     output_rose = λ e. absurd (omega arith);
     carried = λ told go. cc;
-    at_once = λ none go. cc;
     part = λ told. f.part;
+    fixed = λ is go. cc;
+    fixed_part = λ is. f.part;
     complete = λ reliable. inr refl;
   }
 
@@ -109,9 +117,9 @@ begun-read : (path : List ℕ) (others : List ℕ → Content → Plan) (content
 begun-read path others content None = ([], refl)
 begun-read path others content (Some bytes) = ((others bytes content).actions, refl)
 
--- where a file is read, something is done
-never-nothing : (path : List ℕ) (others : List ℕ → Content → Plan) (content : Content) → (reading path others content).actions ≡ [] → ⊥
-never-nothing path others content e = let b = begun-read path others content (readable content path) in nil-cons (read path) b.0 (sym e ∙ b.1)
+-- a plan that reads a file goes by what it holds
+never-fixed : (path : List ℕ) (others : List ℕ → Content → Plan) (content : Content) → IsFixed (reading path others) content → ⊥
+never-fixed path others content is = let b = begun-read path others content (readable content path) in subst ReadsNone b.1 is.unread
 
 -- a file that was read, and what came after it
 module _ (path : List ℕ) (others : List ℕ → Content → Plan) (old mid : Disk) (w new : Outside) (bytes : Vec ℕ Global) (status : ℕ)
@@ -149,11 +157,12 @@ module _ (path : List ℕ) (others : List ℕ → Content → Plan) (old mid : D
           ran = Ran-append (read path ∷ []) (others bytes.items mid.content).actions (with_files w old) (with_files w mid) new later-mid
               first c.ran;
         });
-    at_once = λ none go. absurd (never-nothing path others old.content (none old.content));
     part = λ told.
         subst (λ (q : Plan). Reached q.actions status (with_files w old) new) (sym (plan-is told))
         (Reached-behind (read path ∷ []) (others bytes.items mid.content).actions status (with_files w old)
         (with_files w mid) new later-mid first (ends.part (told-mid told)));
+    fixed = λ is. absurd (never-fixed path others old.content is);
+    fixed_part = λ is. absurd (never-fixed path others old.content is);
     complete = λ reliable.
         either-same (sym (ap (λ (q : Plan). q.status) (plan-is reliable.told)))
         (ends.complete (record {
@@ -187,8 +196,9 @@ module _ (path : List ℕ) (others : List ℕ → Content → Plan) (old mid : D
     link_rose = λ e. absurd (omega arith);
     output_rose = λ e. absurd (omega arith);
     carried = λ told go. cc;
-    at_once = λ none go. cc;
     part = λ told. unread-part 3 (λ e. absurd (omega arith)) (λ e. absurd (omega arith)) reads.same;
+    fixed = λ is. absurd (never-fixed path others old.content is);
+    fixed_part = λ is. absurd (never-fixed path others old.content is);
     complete = λ reliable. inl (sym (ap (λ o. (read_then path others old.content o).status) (reads.refused reliable.told reliable.files refl)));
   }
   Ends-unread file.NoMemory reads = record {
@@ -198,8 +208,9 @@ module _ (path : List ℕ) (others : List ℕ → Content → Plan) (old mid : D
     link_rose = λ e. absurd (omega arith);
     output_rose = λ e. absurd (omega arith);
     carried = λ told go. cc;
-    at_once = λ none go. cc;
     part = λ told. unread-part 70 (λ e. absurd (omega arith)) (λ e. absurd (omega arith)) reads.same;
+    fixed = λ is. absurd (never-fixed path others old.content is);
+    fixed_part = λ is. absurd (never-fixed path others old.content is);
     complete = λ reliable. inr refl;
   }
 
@@ -213,8 +224,9 @@ Ends-or_memory plan old new status result (inr e) h = record {
   link_rose = λ f. absurd (omega arith);
   output_rose = λ f. absurd (omega arith);
   carried = λ told go. absurd (no_stop 70 refl result go e);
-  at_once = λ none go. absurd (no_stop 70 refl result go e);
   part = λ told. Reached-memory (plan old.files.content).actions status result old new e (h.part told);
+  fixed = λ is go. absurd (no_stop 70 refl result go e);
+  fixed_part = λ is. Reached-memory (plan old.files.content).actions status result old new e (h.fixed_part is);
   complete = λ reliable. inr e;
 }
 
@@ -243,7 +255,11 @@ line_at-stop p q status h = line-cases (status == 3) (status == 6) (status == 7)
 
 -- nothing more is done
 pub EndsWith-ending : (status : ℕ) (line : List ℕ) (old : Outside) → is_stop status ≡ false → EndsWith (ending status line) old old status line
-EndsWith-ending status line old go = record { ends = Ends-ending status line old go; line_is = λ either. sym (line_at-else (ending status line old.files.content) status go) }
+EndsWith-ending status line old go = record {
+  ends = Ends-ending status line old go;
+  line_is = λ either. sym (line_at-else (ending status line old.files.content) status go);
+  fixed_line = λ is. sym (line_at-else (ending status line old.files.content) status go);
+}
 
 -- actions, and then the end
 pub EndsWith-doing : {T : Type 0} (actions : List Action) (final : ℕ) (line : List ℕ) (old new : Outside) →
@@ -252,14 +268,28 @@ pub EndsWith-doing : {T : Type 0} (actions : List Action) (final : ℕ) (line : 
 EndsWith-doing actions final line old new can go (Ok x) f = record {
   ends = Ends-doing actions final line old new can go (Ok x) f;
   line_is = λ either. sym (line_at-else (doing actions final line old.files.content) final go);
+  fixed_line = λ is. sym (line_at-else (doing actions final line old.files.content) final go);
 }
-EndsWith-doing actions final line old new can go (Err File) f = record { ends = Ends-doing actions final line old new can go (Err File) f; line_is = λ either. refl }
+EndsWith-doing actions final line old new can go (Err File) f = record {
+  ends = Ends-doing actions final line old new can go (Err File) f;
+  line_is = λ either. refl;
+  fixed_line = λ is. refl;
+}
 EndsWith-doing actions final line old new can go (Err Link) f = record {
   ends = Ends-doing actions final line old new can go (Err Link) f;
   line_is = λ either. refl;
+  fixed_line = λ is. refl;
 }
-EndsWith-doing actions final line old new can go (Err Output) f = record { ends = Ends-doing actions final line old new can go (Err Output) f; line_is = λ either. refl }
-EndsWith-doing actions final line old new can go (Err NoMemory) f = record { ends = Ends-doing actions final line old new can go (Err NoMemory) f; line_is = λ either. refl }
+EndsWith-doing actions final line old new can go (Err Output) f = record {
+  ends = Ends-doing actions final line old new can go (Err Output) f;
+  line_is = λ either. refl;
+  fixed_line = λ is. refl;
+}
+EndsWith-doing actions final line old new can go (Err NoMemory) f = record {
+  ends = Ends-doing actions final line old new can go (Err NoMemory) f;
+  line_is = λ either. refl;
+  fixed_line = λ is. refl;
+}
 
 told-or : (told stop : Bool) → IsTrue (told || stop) → IsTrue told ⊎ (stop ≡ true)
 told-or true stop h = inl refl
@@ -286,6 +316,7 @@ EndsWith-reading path others old mid w new bytes status line reads h = record {
             ∙ ap (λ (p : Plan). line_at p status) (sym (plan-is path others old mid w new bytes status reads h.ends told))
         | inr stop ↦ h.line_is (or-stop mid.told (is_stop status) stop) ∙ line_at-stop (others bytes.items mid.content) (reading path others old.content) status stop
       ];
+  fixed_line = λ is. absurd (never-fixed path others old.content is);
 }
 
 -- a file that wasn't read
@@ -296,10 +327,12 @@ pub EndsWith-unread : (path : List ℕ) (others : List ℕ → Content → Plan)
 EndsWith-unread path others old mid w file.Failed reads = record {
   ends = Ends-unread path others old mid w file.Failed reads;
   line_is = λ either. refl;
+  fixed_line = λ is. absurd (never-fixed path others old.content is);
 }
 EndsWith-unread path others old mid w file.NoMemory reads = record {
   ends = Ends-unread path others old mid w file.NoMemory reads;
   line_is = λ either. refl;
+  fixed_line = λ is. absurd (never-fixed path others old.content is);
 }
 
 -- what was read stands for something
@@ -322,13 +355,17 @@ EndsWith-memory plan old = record {
     link_rose = λ e. absurd (omega arith);
     output_rose = λ e. absurd (omega arith);
     carried = λ told go. cc;
-    at_once = λ none go. cc;
     part = λ told.
+        Reached-nothing (plan old.files.content).actions 70 old old (λ e. absurd (omega arith)) (λ e. absurd (omega arith))
+        (λ e. absurd (omega arith)) (Ran-nothing old);
+    fixed = λ is go. cc;
+    fixed_part = λ is.
         Reached-nothing (plan old.files.content).actions 70 old old (λ e. absurd (omega arith)) (λ e. absurd (omega arith))
         (λ e. absurd (omega arith)) (Ran-nothing old);
     complete = λ reliable. inr refl;
   };
   line_is = λ either. refl;
+  fixed_line = λ is. refl;
 }
 
 plain-cases : (status : ℕ) → is_plain status ≡ true → (status ≡ 2) ⊎ (is_stop status ≡ true)
@@ -355,14 +392,14 @@ module _ (plan : Content → Plan) (old new : Outside) (status result : ℕ) (li
     no_memory = λ told other. let p = prints.front told in (p.0, result, p.1 ∙ ap (λ xs. before_err.bytes ++ take p.0 xs) line_is);
   }
 
-  said-memory : result ≡ 70 → IsTrue old.files.told → Says (plan old.files.content) result before_err after_err
-  said-memory e files_told = record {
+  said-memory : result ≡ 70 → line ≡ line_at (plan old.files.content) status → Says (plan old.files.content) result before_err after_err
+  said-memory e line_is = record {
     later = prints.later;
     whole = λ told other. absurd (other e);
     front = λ told other. absurd (other e);
     no_memory = λ told other.
         let p = prints.front told in
-        (p.0, status, p.1 ∙ ap (λ xs. before_err.bytes ++ take p.0 xs) (h.line_is (or-told old.files.told (is_stop status) files_told)));
+        (p.0, status, p.1 ∙ ap (λ xs. before_err.bytes ++ take p.0 xs) line_is);
   }
 
   at-same : result ≡ status → IsTrue old.files.told ⊎ (is_plain result ≡ true) → line ≡ line_at (plan old.files.content) result
@@ -377,6 +414,11 @@ module _ (plan : Content → Plan) (old new : Outside) (status result : ℕ) (li
   said (inl e) either = said-same e (at-same e (told-or old.files.told (is_plain result) either))
   said (inr e) either =
       elim (told-or old.files.told (is_plain result) either) [
-        | inl told ↦ said-memory e told
+        | inl told ↦ said-memory e (h.line_is (or-told old.files.told (is_stop status) told))
         | inr plain ↦ absurd (plain-memory result plain e)
       ]
+
+  -- so it is, whatever the files tell, where the plan doesn't go by them
+  pub said-fixed : (result ≡ status) ⊎ (result ≡ 70) → IsFixed plan old.files.content → Says (plan old.files.content) result before_err after_err
+  said-fixed (inl e) is = said-same e (h.fixed_line is ∙ ap (line_at (plan old.files.content)) (sym e))
+  said-fixed (inr e) is = said-memory e (h.fixed_line is)

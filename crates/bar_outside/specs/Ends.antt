@@ -1,15 +1,20 @@
 -- How a command ends.
-use Rattle.std.specs.Prelude.{◌≡◌, ◌≢◌, ◌⊎◌, ◌≤◌, ◌==◌, ◌||◌, ◌++◌, ℕ, Bool, List, [], IsTrue, IsSomeAnd, take, true, false}
+use Rattle.std.specs.Prelude.{◌≡◌, ◌≢◌, ◌⊎◌, ◌≤◌, ◌==◌, ◌||◌, ◌++◌, ℕ, Bool, List, IsTrue, IsSomeAnd, take, true, false}
 use Rattle.bar_outside.specs.Causes.{Rose}
 use Rattle.bar_outside.specs.Disk.{Content}
 use Rattle.bar_outside.specs.Stream.{Stream}
-use Rattle.bar_outside.specs.Plan.{Outside, Plan, Ran, Reached, Names, is_stop, line_at}
+use Rattle.bar_outside.specs.Plan.{Outside, Plan, Ran, Reached, Names, ReadsNone, is_stop, line_at}
 use Rattle.bar_outside.specs.Follows.{IsLater, IsReliable}
 
 -- the plan was carried out to its end, with its status
 pub record Carried (plan : Plan) (old new : Outside) (status : ℕ) : Type 0 where
   pub is : status ≡ plan.status
   pub ran : Ran plan.actions old new
+
+-- the plan is the same whatever the files hold, and reads none
+pub record IsFixed (plan : Content → Plan) (content : Content) : Type 0 where
+  pub same : (other : Content) → plan other ≡ plan content
+  pub unread : ReadsNone (plan content).actions
 
 -- a command with this plan, by what the files held, ended with this status
 pub record Ends (plan : Content → Plan) (old new : Outside) (status : ℕ) : Type 0 where
@@ -23,10 +28,11 @@ pub record Ends (plan : Content → Plan) (old new : Outside) (status : ℕ) : T
   pub output_rose : status ≡ 7 → Rose old.out.faults new.out.faults
   -- any status but 3, 6, 7 and 70 is the plan's, and all of it was done
   pub carried : IsTrue old.files.told → is_stop status ≡ false → Carried (plan old.files.content) old new status
-  -- so it is, whatever the files tell, where nothing is to be done whatever they hold
-  pub at_once : ((content : Content) → (plan content).actions ≡ []) → is_stop status ≡ false → status ≡ (plan old.files.content).status
   -- at every status a front of it was done, and maybe a part of the next action, at which a fault came
   pub part : IsTrue old.files.told → Reached (plan old.files.content).actions status old new
+  -- both hold whatever the files tell, where the plan doesn't go by them
+  pub fixed : IsFixed plan old.files.content → is_stop status ≡ false → Carried (plan old.files.content) old new status
+  pub fixed_part : IsFixed plan old.files.content → Reached (plan old.files.content).actions status old new
   -- where nothing fails by itself, it is the plan's status or 70
   pub complete : IsReliable old → (status ≡ (plan old.files.content).status) ⊎ (status ≡ 70)
 
@@ -34,6 +40,8 @@ pub record Ends (plan : Content → Plan) (old new : Outside) (status : ℕ) : T
 pub record EndsWith (plan : Content → Plan) (old new : Outside) (status : ℕ) (line : List ℕ) : Type 0 where
   pub ends : Ends plan old new status
   pub line_is : IsTrue (old.files.told || is_stop status) → line ≡ line_at (plan old.files.content) status
+  -- so it is, whatever the files tell, where the plan doesn't go by them
+  pub fixed_line : IsFixed plan old.files.content → line ≡ line_at (plan old.files.content) status
 
 -- a line was printed, or a front of it where the count rose or memory was wanting
 pub record Prints (line : List ℕ) (status : ℕ) (old new : Stream) : Type 0 where

@@ -217,3 +217,12 @@ Touches (append name bytes ∷ others) path = (path ≡ name) ⊎ Touches others
 Touches (read name ∷ others) path = Touches others path
 Touches (show bytes ∷ others) path = Touches others path
 Touches (link call ∷ others) path = Touches others path
+
+-- none of the actions reads a file
+abbrev pub ReadsNone : List Action → Type 0
+ReadsNone [] = Unit {0}
+ReadsNone (read path ∷ others) = ⊥
+ReadsNone (create path ∷ others) = ReadsNone others
+ReadsNone (append path bytes ∷ others) = ReadsNone others
+ReadsNone (show bytes ∷ others) = ReadsNone others
+ReadsNone (link call ∷ others) = ReadsNone others

@@ -5,3 +5,4 @@ pub mod PlainText
 pub mod KeyReadBack
 pub mod KeyLemmas
 pub mod SessionLemmas
+pub mod WrittenAnew

@@ -51,7 +51,7 @@ number_by low high m n true is e =
     (omega (arith, above, same), omega (arith, below, same))
 number_by low high m n false is e = cc
 
-number_range : (low high : ℕ) (d : Data) (n : ℕ) → number_in low high d ≡ Some n → (low ≤ n) × (n ≤ high)
+pub number_range : (low high : ℕ) (d : Data) (n : ℕ) → number_in low high d ≡ Some n → (low ≤ n) × (n ≤ high)
 number_range low high (integer (pos m)) n e = number_by low high m n _ refl e
 number_range low high _ n e = cc
 

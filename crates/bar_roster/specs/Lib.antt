@@ -7,3 +7,4 @@ pub mod Sessions
 pub mod KeyText
 pub mod KeyFile
 pub mod KeyFaultText
+pub mod KeyAnew

@@ -1,9 +1,10 @@
 //! What holds of all session and key texts. These functions do nothing: what they ensure is a law.
 
-ghost use Rattle.std.specs.Prelude.{◌≡◌, ℕ, ◌↔◌, Bool, List, Ok, Some, IsTrue};
+ghost use Rattle.std.specs.Prelude.{◌≡◌, ◌≤◌, ℕ, ◌↔◌, Bool, false, length, List, Ok, Some, IsTrue};
 ghost use Rattle.bar_roster.specs.SessionText.{SessionData, session_of};
 ghost use Rattle.bar_roster.specs.Sessions.{IsSession};
 ghost use Rattle.bar_seeds.specs.declared.secrets.Secrets.{Secrets};
+ghost use Rattle.bar_roster.specs.KeyAnew.{longest_text, text_of};
 ghost use Rattle.bar_roster.specs.KeyFile.{Fits, IsHeldBy, fits, key_file_of};
 
 /// The test of a secret is true exactly where the session holds the key, and for a peer the anchor, that come from it.
@@ -20,4 +21,13 @@ pub fn accepted_secrets_are_held()
 /// An accepted session has its numbers in their ranges, a key for each party, an anchor for each peer, and a leaf for each message.
 pub fn accepted_sessions_are_in_range()
     ensures { (bytes : List ℕ) (s : SessionData) → session_of bytes ≡ Ok s → IsSession s }
+{}
+
+/// Where a key text was accepted, its text that is written anew, spent or not, is read back as the same secrets, where a spent one will do;
+/// and it is short.
+pub fn accepted_keys_are_read_back()
+    ensures same { (s : SessionData) (caster fresh spent : Bool) (bytes : List ℕ) (k : Secrets) → key_file_of s caster fresh bytes ≡ Ok k →
+        key_file_of s caster false (text_of s k spent) ≡ Ok k }
+    ensures short { (s : SessionData) (caster fresh spent : Bool) (bytes : List ℕ) (k : Secrets) → key_file_of s caster fresh bytes ≡ Ok k →
+        length (text_of s k spent) ≤ longest_text }
 {}
