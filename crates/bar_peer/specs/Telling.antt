@@ -1,10 +1,13 @@
 -- What a peer tells of an exchange.
-use Rattle.std.specs.Prelude.{◌≡◌, ◌+◌, nat_le, if◌then◌else◌}
+use Rattle.std.specs.Prelude.{◌≡◌, ◌+◌, nat_le, [], if◌then◌else◌}
 use Rattle.bar_window.specs.declared.exchange.Exchange.{Exchange}
 use Rattle.bar_rules.specs.Member.{Member}
-use Rattle.bar_rules.specs.Peer.Knowledge.{Knowledge, this_round}
+use Rattle.bar_rules.specs.Peer.Knowledge.{Knowledge, known, this_round}
+use Rattle.bar_rules.specs.Peer.Run.{log_after}
 use Rattle.bar_rules.specs.Peer.Terms.{Totals, totals}
+use Rattle.bar_laws.specs.Balance.{totals_of}
 use Rattle.bar_ledger.specs.declared.totals.Totals.{Totals as Told}
+use Rattle.bar_peer.specs.StandsFor.{Inputs}
 
 abbrev pub no_totals : Totals
 no_totals = record { promised = 0; received = 0; opened = 0 }
@@ -22,3 +25,13 @@ pub record IsTold (t : Totals) (told : Told) : Type 0 where
 -- told is what is known of the exchange now
 abbrev pub AreTotals : Member → Knowledge → Exchange → Told → Type 0
 AreTotals me k x told = IsTold (totals_now me k x) told
+
+-- The totals of an exchange after a list of inputs, by the KEY that was sent, as balance has them; and zeros once the exchange can't be asked
+-- about any more.
+abbrev pub totals_after : Member → Inputs → Exchange → Totals
+totals_after me inputs x =
+    if nat_le (this_round (known me (log_after me [] inputs))) (x.round + me.session.shape.life) then totals_of me inputs x else no_totals
+
+-- told is what was promised, received and sent a key for
+abbrev pub AreTotalsAfter : Member → Inputs → Exchange → Told → Type 0
+AreTotalsAfter me inputs x told = IsTold (totals_after me inputs x) told

@@ -13,12 +13,13 @@ ghost use Rattle.bar_laws.specs.Rewriting.{IsRewritten};
 ghost use Rattle.bar_laws.specs.Soundness.{IsSound};
 ghost use Rattle.bar_peer.specs.Memory.{member_of, IsMemoryOf};
 ghost use Rattle.bar_peer.specs.StandsFor.{Inputs, StandsFor};
-ghost use Rattle.bar_peer.specs.Telling.{AreTotals};
+ghost use Rattle.bar_peer.specs.Telling.{AreTotals, AreTotalsAfter};
 
 use crate::memory::Memory;
 use crate::peer::Peer;
 use bar_bytes::Rooms;
 use bar_exchange::are_aligned;
+use bar_laws::balance::balanced;
 use bar_laws::memories::logs_are_sound;
 use bar_laws::obedience::signed_by_rule;
 use bar_laws::rewriting::what_was_said_is_written_again;
@@ -137,13 +138,13 @@ impl<S: Scheme> Peer<S> {
         self.memory.evidence.get(usize::from(party))
     }
 
-    /// How many items this peer promised in an exchange, was promised, and gave a key for. Once the exchange can't be asked about any more
+    /// How many items this peer promised in an exchange, was promised, and sent a key for. Once the exchange can't be asked about any more
     /// it tells zeros.
     pub fn totals(&self, x: Exchange) -> Totals
         ensures { (inputs : Inputs) → StandsFor self.now.memory inputs
-            → AreTotals (member_of self.now.memory.who)
-            (known (member_of self.now.memory.who) (log_after (member_of self.now.memory.who) [] inputs)) x result }
+            → AreTotalsAfter (member_of self.now.memory.who) inputs x result }
     {
+        balanced();
         logs_are_sound();
         signed_by_rule();
         what_was_said_is_written_again();

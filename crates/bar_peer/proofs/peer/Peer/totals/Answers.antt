@@ -1,7 +1,11 @@
-use Rattle.std.proofs.Common.{[]}
-use Rattle.bar_rules.specs.Peer.Knowledge.{known}
+-- What is known is told, and a key was sent where it was signed.
+use Rattle.std.proofs.Common.{◌+◌, [], sym, subst}
+use Rattle.std.specs.Prelude.{nat_le, if◌then◌else◌}
+use Rattle.bar_rules.specs.Peer.Knowledge.{known, this_round}
 use Rattle.bar_rules.specs.Peer.Run.{log_after}
+use Rattle.bar_rules.specs.Peer.Terms.{totals_with}
 use Rattle.bar_peer.specs.Memory.{member_of}
+use Rattle.bar_peer.specs.Telling.{IsTold, no_totals}
 use Rattle.bar_peer.proofs.peer.Peer.totals.Goals as goal
 
 pub returns : goal.returns
@@ -9,6 +13,12 @@ returns g c inputs stands =
     let who = c.args.self.now.memory.who in
     let me = member_of who in
     let log = log_after me [] inputs in
+    let k = known me log in
+    let x = c.args.x in
     let obedient = (c.signed_by_rule.ensures me who.is_member inputs).obedient in
-    c.totals.ensures (known me log) stands (c.logs_are_sound.ensures me log obedient)
-    (c.what_was_said_is_written_again.ensures.obedient me log obedient)
+    let told = c.totals.ensures k stands (c.logs_are_sound.ensures me log obedient)
+    (c.what_was_said_is_written_again.ensures.obedient me log obedient) in
+    subst
+    (λ sent. IsTold (if nat_le (this_round k) (x.round + me.session.shape.life) then totals_with me k x sent else no_totals) c.totals.result)
+    (sym (c.balanced.ensures.said me inputs x))
+    told
