@@ -2,12 +2,12 @@
 use Rattle.std.proofs.Common.{◌≡◌, ◌≢◌, ◌⊎◌, ℕ, ◌+◌, ◌≤◌, ◌<◌, List, [], ◌∷◌, ◌++◌, Option, None, Some, IfSome, refl, sym, ap, ◌∙◌, subst, inl, inr, map, take, length, append-nil, arith}
 use Rattle.std.proofs.Math.Seq.{take-length}
 use Rattle.std.specs.List.{AllByRecursion, concat}
-use Rattle.bar_outside.specs.Disk.{Content, Failure, created}
+use Rattle.bar_outside.specs.Disk.{Content, CreatedFiles, Failure, created, with_file}
 use Rattle.bar_outside.specs.Plan.{Action, Begun, CanRun, IsShowNext, Names, Touches, content_after, shown}
 use Rattle.bar_outside.specs.Plan.Action.{create, append}
-use Rattle.bar_outside.proofs.ActionLists.{Begun-both, Begun-first, Begun-none, Begun-whole, no-next, content_after-append, shown-append, part-create, show-next}
+use Rattle.bar_outside.proofs.ActionLists.{Begun-both, Begun-first, Begun-none, Begun-whole, no-next, content_after-append, shown-append, part-create, show-next, with_file-same}
 use Rattle.bar_outside.proofs.Appends.{appends-same, begun-appends, can-appends, named-appends, no-show, shown-appends, touched-appends}
-use Rattle.bar_outside.proofs.Contents.{put_at-same, put_at-there}
+use Rattle.bar_outside.proofs.Contents.{put_at-same}
 use Rattle.bar_outside.proofs.Unlinked.{IsUnlinked, unlinked-append, unlinked-appends}
 use Rattle.bar_outside.proofs.Untouched.{Touches-begun, Touches-split, content-untouched}
 use Rattle.bar_judge.specs.TableFile.{table_bytes}
@@ -17,10 +17,11 @@ use Rattle.bar_findings.proofs.Lists.{all-at, all-both, all-rest, all-so}
 use Rattle.bar_findings.proofs.Names.{AreDistinct}
 
 -- each file is created before it is added to
-pub can-write : (findings : List Finding) (content : Content) → CanRun (findings_actions findings) content
-can-write [] content = tt
-can-write (f ∷ fs) content =
-    can-appends f.name f.pieces (findings_actions fs) (created content f.name) (put_at-there content f.name []) (λ c there. can-write fs c)
+pub can-write : (findings : List Finding) (here : CreatedFiles) → CanRun (findings_actions findings) here
+can-write [] here = tt
+can-write (f ∷ fs) here =
+    let made : CreatedFiles = with_file here f.name in
+    can-appends f.name f.pieces (findings_actions fs) made (with_file-same here f.name) (can-write fs made)
 
 -- nothing is printed
 pub shown-findings : (findings : List Finding) → shown (findings_actions findings) ≡ []

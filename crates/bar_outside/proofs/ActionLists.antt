@@ -1,9 +1,11 @@
 -- Laws of lists of actions.
-use Rattle.std.proofs.Common.{◌≡◌, ℕ, List, [], ◌∷◌, ◌++◌, refl, sym, ap, ◌∙◌, subst, append_assoc, append-nil, IsTrue, ◌⊎◌, inl, inr, arith}
-use Rattle.bar_outside.specs.Disk.{Content, Failure}
+use Rattle.std.proofs.Common.{◌≡◌, ◌||◌, ℕ, Bool, true, false, List, [], ◌∷◌, ◌++◌, refl, sym, ap, ◌∙◌, subst, append_assoc, append-nil, IsTrue, ◌⊎◌, inl, inr, arith}
+use Rattle.std.specs.Str.{bytes_eq}
+use Rattle.std.proofs.lemmas.Slice.Eq.{bytes_eq-Decides}
+use Rattle.bar_outside.specs.Disk.{Content, CreatedFiles, Failure, with_file}
 use Rattle.bar_outside.specs.Wire.{Traffic}
 use Rattle.bar_outside.specs.Follows.{IsLater}
-use Rattle.bar_outside.specs.Plan.{Outside, Action, Ran, Begun, Reached, Names, CanRun, IsFilesNext, IsLinkNext, IsShowNext, IsPartOf, IsPartOfNext, content_after, content_by, shown, shown_by, traffic_after, traffic_by}
+use Rattle.bar_outside.specs.Plan.{Outside, Action, Ran, Begun, Reached, Names, CanRun, IsFilesNext, IsLinkNext, IsShowNext, IsPartOf, IsPartOfNext, content_after, content_by, created_after, created_by, shown, shown_by, traffic_after, traffic_by}
 use Rattle.bar_outside.specs.Plan.Action.{read, create, append, show, link}
 
 pub content_after-append : (xs ys : List Action) (content : Content) → content_after (xs ++ ys) content ≡ content_after ys (content_after xs content)
@@ -181,21 +183,78 @@ Names-behind (append path bytes ∷ others) plan call h = inr (Names-behind othe
 Names-behind (show bytes ∷ others) plan call h = Names-behind others plan call h
 Names-behind (link act ∷ others) plan call h = Names-behind others plan call h
 
-pub CanRun-front : (front rest : List Action) (content : Content) → CanRun (front ++ rest) content → CanRun front content
-CanRun-front [] rest content h = tt
-CanRun-front (read path ∷ others) rest content h = CanRun-front others rest content h
-CanRun-front (create path ∷ others) rest content h = CanRun-front others rest (content_by (create path) content) h
-CanRun-front (append path bytes ∷ others) rest content h = (h.0, CanRun-front others rest (content_by (append path bytes) content) h.1)
-CanRun-front (show bytes ∷ others) rest content h = CanRun-front others rest content h
-CanRun-front (link act ∷ others) rest content h = CanRun-front others rest content h
+pub CanRun-front : (front rest : List Action) (here : CreatedFiles) → CanRun (front ++ rest) here → CanRun front here
+CanRun-front [] rest here h = tt
+CanRun-front (read path ∷ others) rest here h = CanRun-front others rest here h
+CanRun-front (create path ∷ others) rest here h = CanRun-front others rest (with_file here path) h
+CanRun-front (append path bytes ∷ others) rest here h = (h.0, CanRun-front others rest here h.1)
+CanRun-front (show bytes ∷ others) rest here h = CanRun-front others rest here h
+CanRun-front (link act ∷ others) rest here h = CanRun-front others rest here h
 
-pub CanRun-rest : (front rest : List Action) (content : Content) → CanRun (front ++ rest) content → CanRun rest (content_after front content)
-CanRun-rest [] rest content h = h
-CanRun-rest (read path ∷ others) rest content h = CanRun-rest others rest content h
-CanRun-rest (create path ∷ others) rest content h = CanRun-rest others rest (content_by (create path) content) h
-CanRun-rest (append path bytes ∷ others) rest content h = CanRun-rest others rest (content_by (append path bytes) content) h.1
-CanRun-rest (show bytes ∷ others) rest content h = CanRun-rest others rest content h
-CanRun-rest (link act ∷ others) rest content h = CanRun-rest others rest content h
+pub CanRun-rest : (front rest : List Action) (here : CreatedFiles) → CanRun (front ++ rest) here → CanRun rest (created_after front here)
+CanRun-rest [] rest here h = h
+CanRun-rest (read path ∷ others) rest here h = CanRun-rest others rest here h
+CanRun-rest (create path ∷ others) rest here h = CanRun-rest others rest (with_file here path) h
+CanRun-rest (append path bytes ∷ others) rest here h = CanRun-rest others rest here h.1
+CanRun-rest (show bytes ∷ others) rest here h = CanRun-rest others rest here h
+CanRun-rest (link act ∷ others) rest here h = CanRun-rest others rest here h
+
+-- each file of the first is one of the second
+abbrev pub IsWithin : CreatedFiles → CreatedFiles → Type 0
+IsWithin here more = (path : List ℕ) → IsTrue (here path) → IsTrue (more path)
+
+or-more : (test here more : Bool) → (IsTrue here → IsTrue more) → IsTrue (test || here) → IsTrue (test || more)
+or-more true here more within h = refl
+or-more false here more within h = within h
+
+or-here : (test here : Bool) → IsTrue here → IsTrue (test || here)
+or-here true here h = refl
+or-here false here h = h
+
+with-more : (here more : CreatedFiles) (path : List ℕ) → IsWithin here more → IsWithin (with_file here path) (with_file more path)
+with-more here more path within name h = or-more (bytes_eq path name) (here name) (more name) (within name) h
+
+-- a file that is created is there then, and those that were created before it
+pub with_file-same : (here : CreatedFiles) (path : List ℕ) → IsTrue (with_file here path path)
+with_file-same here path = let same = (bytes_eq-Decides path path).1 refl in rw same refl
+
+pub with_file-others : (here : CreatedFiles) (path : List ℕ) → IsWithin here (with_file here path)
+with_file-others here path name h = or-here (bytes_eq path name) (here name) h
+
+-- where more was created, what could be done can be done
+pub CanRun-more : (plan : List Action) (here more : CreatedFiles) → IsWithin here more → CanRun plan here → CanRun plan more
+CanRun-more [] here more within h = tt
+CanRun-more (read path ∷ others) here more within h = CanRun-more others here more within h
+CanRun-more (create path ∷ others) here more within h =
+    CanRun-more others (with_file here path) (with_file more path) (with-more here more path within) h
+CanRun-more (append path bytes ∷ others) here more within h = (within path h.0, CanRun-more others here more within h.1)
+CanRun-more (show bytes ∷ others) here more within h = CanRun-more others here more within h
+CanRun-more (link act ∷ others) here more within h = CanRun-more others here more within h
+
+-- and more is created behind it
+pub created_after-more : (plan : List Action) (here more : CreatedFiles) → IsWithin here more →
+    IsWithin (created_after plan here) (created_after plan more)
+created_after-more [] here more within = within
+created_after-more (read path ∷ others) here more within = created_after-more others here more within
+created_after-more (create path ∷ others) here more within =
+    created_after-more others (with_file here path) (with_file more path) (with-more here more path within)
+created_after-more (append path bytes ∷ others) here more within = created_after-more others here more within
+created_after-more (show bytes ∷ others) here more within = created_after-more others here more within
+created_after-more (link act ∷ others) here more within = created_after-more others here more within
+
+pub created_after-append : (xs ys : List Action) (here : CreatedFiles) →
+    created_after (xs ++ ys) here ≡ created_after ys (created_after xs here)
+created_after-append [] ys here = refl
+created_after-append (x ∷ xs) ys here = created_after-append xs ys (created_by x here)
+
+-- what was created stays created
+pub created-stays : (acts : List Action) (here : CreatedFiles) → IsWithin here (created_after acts here)
+created-stays [] here path h = h
+created-stays (read name ∷ others) here path h = created-stays others here path h
+created-stays (create name ∷ others) here path h = created-stays others (with_file here name) path (with_file-others here name path h)
+created-stays (append name bytes ∷ others) here path h = created-stays others here path h
+created-stays (show bytes ∷ others) here path h = created-stays others here path h
+created-stays (link act ∷ others) here path h = created-stays others here path h
 
 -- what was done of a plan: nothing, a part of its first action, or the first action and then some of the rest
 pub Begun-first : (first : Action) (plan done : List Action) (b : Begun (first ∷ plan) done) →
@@ -330,13 +389,13 @@ Names-split (append path bytes ∷ others) ys call (inr h) = elim (Names-split o
 Names-split (show bytes ∷ others) ys call h = Names-split others ys call h
 Names-split (link act ∷ others) ys call h = Names-split others ys call h
 
-pub CanRun-append : (xs ys : List Action) (content : Content) → CanRun xs content → CanRun ys (content_after xs content) → CanRun (xs ++ ys) content
-CanRun-append [] ys content h k = k
-CanRun-append (read path ∷ others) ys content h k = CanRun-append others ys content h k
-CanRun-append (create path ∷ others) ys content h k = CanRun-append others ys (content_by (create path) content) h k
-CanRun-append (append path bytes ∷ others) ys content h k = (h.0, CanRun-append others ys (content_by (append path bytes) content) h.1 k)
-CanRun-append (show bytes ∷ others) ys content h k = CanRun-append others ys content h k
-CanRun-append (link act ∷ others) ys content h k = CanRun-append others ys content h k
+pub CanRun-append : (xs ys : List Action) (here : CreatedFiles) → CanRun xs here → CanRun ys (created_after xs here) → CanRun (xs ++ ys) here
+CanRun-append [] ys here h k = k
+CanRun-append (read path ∷ others) ys here h k = CanRun-append others ys here h k
+CanRun-append (create path ∷ others) ys here h k = CanRun-append others ys (with_file here path) h k
+CanRun-append (append path bytes ∷ others) ys here h k = (h.0, CanRun-append others ys here h.1 k)
+CanRun-append (show bytes ∷ others) ys here h k = CanRun-append others ys here h k
+CanRun-append (link act ∷ others) ys here h k = CanRun-append others ys here h k
 
 -- how far two plans in order came: within the first; or behind it, and so far in the second
 pub Reached-both : (xs ys : List Action) (status : ℕ) (old new : Outside) (d : Reached (xs ++ ys) status old new) →

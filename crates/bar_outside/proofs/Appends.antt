@@ -1,20 +1,19 @@
 -- Pieces that are appended to one file, in order.
-use Rattle.std.proofs.Common.{◌≡◌, ◌≢◌, ◌⊎◌, ◌≤◌, ℕ, ◌+◌, List, [], ◌∷◌, ◌++◌, Some, IsSome, refl, sym, ap, ◌∙◌, map, length, take, append-nil, append_assoc, inl, inr, subst, min, arith}
+use Rattle.std.proofs.Common.{◌≡◌, ◌≢◌, ◌⊎◌, ◌≤◌, ℕ, ◌+◌, List, [], ◌∷◌, ◌++◌, Some, IsTrue, refl, sym, ap, ◌∙◌, map, length, take, append-nil, append_assoc, inl, inr, subst, min, arith}
 use Rattle.std.proofs.lemmas.List.{take-append-le, take_min}
 use Rattle.std.proofs.Math.Seq.{take-append-add}
 use Rattle.std.specs.List.{concat}
-use Rattle.bar_outside.specs.Disk.{Content, Failure, appended}
+use Rattle.bar_outside.specs.Disk.{Content, CreatedFiles, Failure, appended}
 use Rattle.bar_outside.specs.declared.files.CallKind.TheVariants.{Append}
 use Rattle.bar_outside.specs.Plan.{Action, Begun, CanRun, IsPartOf, IsShowNext, Names, Touches, content_after, shown}
 use Rattle.bar_outside.specs.Plan.Action.{read, create, append, show, link}
-use Rattle.bar_outside.proofs.Contents.{appended-same, appended-other, appended-stays}
+use Rattle.bar_outside.proofs.Contents.{appended-same, appended-other}
 use Rattle.bar_outside.proofs.ActionLists.{Begun-first, Begun-none, nil-cons}
 
-pub can-appends : (path : List ℕ) (pieces : List (List ℕ)) (rest : List Action) (content : Content) → IsSome (content path) →
-    ((c : Content) → IsSome (c path) → CanRun rest c) → CanRun (map (append path) pieces ++ rest) content
-can-appends path [] rest content there h = h content there
-can-appends path (x ∷ xs) rest content there h =
-    (there, can-appends path xs rest (appended content path x) (appended-stays content path x there) h)
+pub can-appends : (path : List ℕ) (pieces : List (List ℕ)) (rest : List Action) (here : CreatedFiles) → IsTrue (here path) →
+    CanRun rest here → CanRun (map (append path) pieces ++ rest) here
+can-appends path [] rest here made h = h
+can-appends path (x ∷ xs) rest here made h = (made, can-appends path xs rest here made h)
 
 -- what the file has then, and the others
 pub appends-same : (path held : List ℕ) (pieces : List (List ℕ)) (content : Content) → content path ≡ Some held →

@@ -48,7 +48,7 @@ Ends-ending status line old go = record {
 
 -- actions, and then the end
 module _ (actions : List Action) (final : ℕ) (line : List ℕ) (old new : Outside)
-    (can : IsTrue old.files.told → CanRun actions old.files.content) (go : is_stop final ≡ false) where
+    (can : IsTrue old.files.told → CanRun actions old.files.created_here) (go : is_stop final ≡ false) where
   pub Ends-doing : {T : Type 0} (r : Result T Fault) → Follows actions old new r → Ends (doing actions final line) old new (code_after final r)
   Ends-doing (Ok x) f = record {
     later = f.later;
@@ -134,7 +134,7 @@ module _ (path : List ℕ) (others : List ℕ → Content → Plan) (old mid : D
   first = record { files = λ tells. reads.same; out = λ tells. sym (append-nil w.out.bytes); wire = λ tells. refl }
 
   later-mid : IsLater (with_files w old) (with_files w mid)
-  later-mid = later-files old mid w reads.call.told reads.call.reliable reads.call.cause.later
+  later-mid = later-files old mid w reads.call.told reads.call.reliable (λ told. reads.same_here) reads.call.cause.later
 
   either-same : {a b : ℕ} → a ≡ b → (status ≡ a) ⊎ (status ≡ 70) → (status ≡ b) ⊎ (status ≡ 70)
   either-same e (inl h) = inl (h ∙ e)
@@ -190,7 +190,7 @@ module _ (path : List ℕ) (others : List ℕ → Content → Plan) (old mid : D
   pub Ends-unread : (cause : FileFault) → Reads path old mid (Err cause) →
       Ends (reading path others) (with_files w old) (with_files w mid) (code_of_fault (fault_of_file cause))
   Ends-unread file.Failed reads = record {
-    later = later-files old mid w reads.call.told reads.call.reliable reads.call.cause.later;
+    later = later-files old mid w reads.call.told reads.call.reliable (λ told. reads.same_here) reads.call.cause.later;
     file_rose = λ e. reads.call.cause.rose refl;
     file_named = λ e told. subst (λ o. IsSomeAnd o (Names (reading path others old.content).actions)) (sym (reads.call.failed told refl)) (unread-named _ refl);
     link_rose = λ e. absurd (omega arith);
@@ -202,7 +202,7 @@ module _ (path : List ℕ) (others : List ℕ → Content → Plan) (old mid : D
     complete = λ reliable. inl (sym (ap (λ o. (read_then path others old.content o).status) (reads.refused reliable.told reliable.files refl)));
   }
   Ends-unread file.NoMemory reads = record {
-    later = later-files old mid w reads.call.told reads.call.reliable reads.call.cause.later;
+    later = later-files old mid w reads.call.told reads.call.reliable (λ told. reads.same_here) reads.call.cause.later;
     file_rose = λ e. absurd (omega arith);
     file_named = λ e. absurd (omega arith);
     link_rose = λ e. absurd (omega arith);
@@ -263,7 +263,7 @@ EndsWith-ending status line old go = record {
 
 -- actions, and then the end
 pub EndsWith-doing : {T : Type 0} (actions : List Action) (final : ℕ) (line : List ℕ) (old new : Outside) →
-    (IsTrue old.files.told → CanRun actions old.files.content) → is_stop final ≡ false → (r : Result T Fault) → Follows actions old new r →
+    (IsTrue old.files.told → CanRun actions old.files.created_here) → is_stop final ≡ false → (r : Result T Fault) → Follows actions old new r →
     EndsWith (doing actions final line) old new (code_after final r) (line_after line r)
 EndsWith-doing actions final line old new can go (Ok x) f = record {
   ends = Ends-doing actions final line old new can go (Ok x) f;

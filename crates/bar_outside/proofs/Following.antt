@@ -1,7 +1,7 @@
 -- Functions that do lists of actions, one after another.
-use Rattle.std.proofs.Common.{◌≡◌, ◌≤◌, ℕ, List, [], ◌∷◌, ◌++◌, Bool, true, false, ◌⊎◌, append-nil, Option, Some, None, refl, sym, ap, ◌∙◌, subst, IsTrue, IsSome, IsNone, IsSomeAnd, Result, Ok, Err, IsErrOf, inl, inr, arith, take}
+use Rattle.std.proofs.Common.{◌≡◌, ◌≤◌, ℕ, List, [], ◌∷◌, ◌++◌, Bool, true, false, ◌⊎◌, append-nil, Option, Some, None, refl, sym, ap, ◌∙◌, subst, IsTrue, IsSomeAnd, Result, Ok, Err, IsErrOf, inl, inr, arith, take}
 use Rattle.bar_outside.specs.Causes.{Rose}
-use Rattle.bar_outside.specs.Disk.{Disk, Failure, Appends, Creates, created, appended}
+use Rattle.bar_outside.specs.Disk.{Disk, CreatedFiles, Failure, Appends, Creates, created, appended}
 use Rattle.bar_outside.specs.Stream.{Stream, Writes}
 use Rattle.bar_outside.specs.Wire.{Wire, Traffic, Acts}
 use Rattle.bar_outside.specs.declared.files.FileFault.{FileFault}
@@ -13,10 +13,10 @@ use Rattle.bar_outside.specs.declared.link.LinkFault.TheVariants as wire
 use Rattle.bar_outside.specs.declared.fault.Fault.{Fault}
 use Rattle.bar_outside.specs.declared.fault.Fault.TheVariants.{File, Link, Output, NoMemory}
 use Rattle.bar_outside.specs.Faults.{fault_of_file, fault_of_sink, fault_of_link, code_of_fault}
-use Rattle.bar_outside.specs.Plan.{Outside, with_files, with_out, with_wire, Action, LinkCall, Ran, Reached, Names, CanRun}
+use Rattle.bar_outside.specs.Plan.{Outside, with_files, with_out, with_wire, Action, LinkCall, Ran, Reached, Names, CanRun, created_after}
 use Rattle.bar_outside.specs.Plan.Action.{create, append, show, link}
-use Rattle.bar_outside.specs.Follows.{IsLater, IsReliable, FilesFailed, Follows}
-use Rattle.bar_outside.proofs.ActionLists.{Ran-append, Reached-behind, Reached-longer, Reached-nothing, Names-longer, Names-behind, CanRun-front, CanRun-rest}
+use Rattle.bar_outside.specs.Follows.{HasCreated, IsLater, IsReliable, FilesFailed, Follows}
+use Rattle.bar_outside.proofs.ActionLists.{Ran-append, Reached-behind, Reached-longer, Reached-nothing, Names-longer, Names-behind, CanRun-front, CanRun-more, CanRun-rest, created_after-append, created_after-more}
 
 pub IsLater-trans : (old mid new : Outside) → IsLater old mid → IsLater mid new → IsLater old new
 IsLater-trans old mid new p q = record {
@@ -26,6 +26,7 @@ IsLater-trans old mid new p q = record {
   out_reliable = q.out_reliable ∙ p.out_reliable;
   wire_told = q.wire_told ∙ p.wire_told;
   wire_reliable = q.wire_reliable ∙ p.wire_reliable;
+  created = λ told path h. q.created (subst IsTrue (sym p.told) told) path (p.created told path h);
   faults = omega arith;
   out_faults = omega arith;
   wire_faults = omega arith;
@@ -48,8 +49,9 @@ stopped plan more old new fault f = record {
   link = f.link;
   output = f.output;
   done = tt;
+  created = tt;
   part = Reached-longer plan more (code_of_fault fault) old new f.part;
-  complete = λ reliable can. f.complete reliable (CanRun-front plan more old.files.content can);
+  complete = λ reliable can. f.complete reliable (CanRun-front plan more old.files.created_here can);
 }
 
 module _ {S : Type 0} (front plan : List Action) (old mid new : Outside) (x : S) (first : Follows front old mid (Ok x)) where
@@ -61,8 +63,16 @@ module _ {S : Type 0} (front plan : List Action) (old mid new : Outside) (x : S)
     wire = subst IsTrue (sym first.later.wire_reliable) r.wire;
   }
 
-  can-mid : IsTrue old.files.told → CanRun (front ++ plan) old.files.content → CanRun plan mid.files.content
-  can-mid told can = subst (CanRun plan) (sym (first.done.files told)) (CanRun-rest front plan old.files.content can)
+  can-mid : IsTrue old.files.told → CanRun (front ++ plan) old.files.created_here → CanRun plan mid.files.created_here
+  can-mid told can =
+      CanRun-more plan (created_after front old.files.created_here) mid.files.created_here (first.created told)
+      (CanRun-rest front plan old.files.created_here can)
+
+  created-then : HasCreated plan mid new → HasCreated (front ++ plan) old new
+  created-then second told path h =
+      second (subst IsTrue (sym first.later.told) told) path
+      (created_after-more plan (created_after front old.files.created_here) mid.files.created_here (first.created told) path
+      (subst (λ (c : CreatedFiles). IsTrue (c path)) (created_after-append front plan old.files.created_here) h))
 
   file-then : {T : Type 0} {r : Result T Fault} → Follows plan mid new r → IsErrOf r File → FilesFailed (front ++ plan) old new
   file-then second e = record {
@@ -84,6 +94,7 @@ module _ {S : Type 0} (front plan : List Action) (old mid new : Outside) (x : S)
     link = link-then second;
     output = output-then second;
     done = Ran-append front plan old mid new first.later first.done second.done;
+    created = created-then second.created;
     part = tt;
     complete = λ reliable can. tt;
   }
@@ -93,6 +104,7 @@ module _ {S : Type 0} (front plan : List Action) (old mid new : Outside) (x : S)
     link = link-then second;
     output = output-then second;
     done = tt;
+    created = tt;
     part = Reached-behind front plan (code_of_fault fault) old mid new first.later first.done second.part;
     complete = λ reliable can. second.complete (reliable-mid reliable) (can-mid reliable.told can);
   }
@@ -111,20 +123,22 @@ later-same old = record {
   out_reliable = refl;
   wire_told = refl;
   wire_reliable = refl;
+  created = λ told path h. h;
   faults = omega arith;
   out_faults = omega arith;
   wire_faults = omega arith;
 }
 
-pub later-files : (old new : Disk) (w : Outside) → new.told ≡ old.told → new.reliable ≡ old.reliable → old.faults ≤ new.faults →
-    IsLater (with_files w old) (with_files w new)
-later-files old new w told reliable faults = record {
+pub later-files : (old new : Disk) (w : Outside) → new.told ≡ old.told → new.reliable ≡ old.reliable →
+    (IsTrue old.told → new.created_here ≡ old.created_here) → old.faults ≤ new.faults → IsLater (with_files w old) (with_files w new)
+later-files old new w told reliable here faults = record {
   told = told;
   reliable = reliable;
   out_told = refl;
   out_reliable = refl;
   wire_told = refl;
   wire_reliable = refl;
+  created = λ tells path h. subst (λ (c : CreatedFiles). IsTrue (c path)) (sym (here tells)) h;
   faults = faults;
   out_faults = omega arith;
   wire_faults = omega arith;
@@ -139,6 +153,7 @@ later-out w old new told reliable faults = record {
   out_reliable = reliable;
   wire_told = refl;
   wire_reliable = refl;
+  created = λ tells path h. h;
   faults = omega arith;
   out_faults = faults;
   wire_faults = omega arith;
@@ -153,6 +168,7 @@ later-wire w old new told reliable faults = record {
   out_reliable = refl;
   wire_told = told;
   wire_reliable = reliable;
+  created = λ tells path h. h;
   faults = omega arith;
   out_faults = omega arith;
   wire_faults = faults;
@@ -166,6 +182,7 @@ nothing_done old = record {
   link = λ e. cc;
   output = λ e. cc;
   done = Ran-nothing old;
+  created = λ told path h. h;
   part = tt;
   complete = λ reliable can. tt;
 }
@@ -178,6 +195,7 @@ no_memory plan old = record {
   link = λ e. cc;
   output = λ e. cc;
   done = tt;
+  created = tt;
   part =
       Reached-nothing plan 70 old old (λ e. absurd (omega arith)) (λ e. absurd (omega arith)) (λ e. absurd (omega arith))
       (Ran-nothing old);
@@ -193,6 +211,7 @@ answered plan old new x y f = record {
   link = λ e. cc;
   output = λ e. cc;
   done = f.done;
+  created = f.created;
   part = tt;
   complete = λ reliable can. tt;
 }
@@ -213,12 +232,10 @@ handed plan old new fault f = record {
   link = λ e. f.link (same-stop fault Link e);
   output = λ e. f.output (same-stop fault Output e);
   done = tt;
+  created = tt;
   part = f.part;
   complete = λ reliable can. ap (λ (e : Fault). Err e) (same-fault fault NoMemory (f.complete reliable can));
 }
-
-some-none : {A : Type 0} (o : Option A) → IsSome o → IsNone o → ⊥
-some-none o h k = cc
 
 pub named-one : (plan : List Action) (o : Option Failure) (call : Failure) → o ≡ Some call → Names plan call → IsSomeAnd o (Names plan)
 named-one plan o call e h = subst (λ x. IsSomeAnd x (Names plan)) (sym e) h
@@ -256,20 +273,22 @@ pub failed_append : {S T : Type 0} (path bytes : List ℕ) (old new : Disk) (w :
     Appends {T = S} path bytes old new (Err e) → Follows {T = T} (append path bytes ∷ []) (with_files w old) (with_files w new)
     (Err (fault_of_file e))
 failed_append path bytes old new w file.Failed a = record {
-  later = later-files old new w a.call.told a.call.reliable a.call.cause.later;
+  later = later-files old new w a.call.told a.call.reliable (λ told. a.same_here) a.call.cause.later;
   file = λ e. record { rose = a.call.cause.rose refl; named = λ told. named-one (append path bytes ∷ []) new.failed _ (a.call.failed told refl) (inl refl) };
   link = λ e. cc;
   output = λ e. cc;
   done = tt;
+  created = tt;
   part = reached-append path bytes 3 old new w (λ e. absurd (omega arith)) (λ e. absurd (omega arith)) a.fault old.told refl;
-  complete = λ reliable can. absurd (some-none (old.content path) can.0 (a.refused reliable.told reliable.files refl));
+  complete = λ reliable can. absurd (true-not_false (sym can.0 ∙ a.refused reliable.told reliable.files refl));
 }
 failed_append path bytes old new w file.NoMemory a = record {
-  later = later-files old new w a.call.told a.call.reliable a.call.cause.later;
+  later = later-files old new w a.call.told a.call.reliable (λ told. a.same_here) a.call.cause.later;
   file = λ e. cc;
   link = λ e. cc;
   output = λ e. cc;
   done = tt;
+  created = tt;
   part = reached-append path bytes 70 old new w (λ e. absurd (omega arith)) (λ e. absurd (omega arith)) a.fault old.told refl;
   complete = λ reliable can. refl;
 }
@@ -303,20 +322,22 @@ reached-create path status old new w no_link no_output p false untold =
 pub failed_create : {S T : Type 0} (path : List ℕ) (old new : Disk) (w : Outside) (e : FileFault) →
     Creates {T = S} path old new (Err e) → Follows {T = T} (create path ∷ []) (with_files w old) (with_files w new) (Err (fault_of_file e))
 failed_create path old new w file.Failed a = record {
-  later = later-files old new w a.call.told a.call.reliable a.call.cause.later;
+  later = later-files old new w a.call.told a.call.reliable a.fault_here a.call.cause.later;
   file = λ e. record { rose = a.call.cause.rose refl; named = λ told. named-one (create path ∷ []) new.failed _ (a.call.failed told refl) (inl refl) };
   link = λ e. cc;
   output = λ e. cc;
   done = tt;
+  created = tt;
   part = reached-create path 3 old new w (λ e. absurd (omega arith)) (λ e. absurd (omega arith)) a.fault old.told refl;
   complete = λ reliable can. absurd (a.refused reliable.told reliable.files refl);
 }
 failed_create path old new w file.NoMemory a = record {
-  later = later-files old new w a.call.told a.call.reliable a.call.cause.later;
+  later = later-files old new w a.call.told a.call.reliable a.fault_here a.call.cause.later;
   file = λ e. cc;
   link = λ e. cc;
   output = λ e. cc;
   done = tt;
+  created = tt;
   part = reached-create path 70 old new w (λ e. absurd (omega arith)) (λ e. absurd (omega arith)) a.fault old.told refl;
   complete = λ reliable can. refl;
 }
@@ -349,6 +370,7 @@ failed_write piece w old new sink.Failed a = record {
   link = λ e. cc;
   output = λ e. a.cause.rose refl;
   done = tt;
+  created = tt;
   part = reached-write piece 7 w old new (λ e. absurd (omega arith)) (λ e. absurd (omega arith)) a.fault old.told refl;
   complete = λ reliable can. absurd (a.refused reliable.out refl);
 }
@@ -358,6 +380,7 @@ failed_write piece w old new sink.NoMemory a = record {
   link = λ e. cc;
   output = λ e. cc;
   done = tt;
+  created = tt;
   part = reached-write piece 70 w old new (λ e. absurd (omega arith)) (λ e. absurd (omega arith)) a.fault old.told refl;
   complete = λ reliable can. refl;
 }
@@ -371,6 +394,7 @@ failed_call call change w old new wire.Failed a = record {
   link = λ e. a.cause.rose refl;
   output = λ e. cc;
   done = tt;
+  created = tt;
   part =
       Reached-nothing (link call ∷ []) 6 _ _ (λ e. absurd (omega arith)) (λ e. tt) (λ e. absurd (omega arith))
       (record { files = λ tells. refl; out = λ tells. nothing_shown w.out; wire = a.fault });
@@ -382,6 +406,7 @@ failed_call call change w old new wire.NoMemory a = record {
   link = λ e. cc;
   output = λ e. cc;
   done = tt;
+  created = tt;
   part =
       Reached-nothing (link call ∷ []) 70 _ _ (λ e. absurd (omega arith)) (λ e. tt) (λ e. absurd (omega arith))
       (record { files = λ tells. refl; out = λ tells. nothing_shown w.out; wire = a.fault });

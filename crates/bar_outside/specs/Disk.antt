@@ -1,5 +1,5 @@
 -- Files by name, and what each call does to them.
-use Rattle.std.specs.Prelude.{◌≡◌, ◌≢◌, ◌⊎◌, ℕ, Bool, List, [], ◌++◌, Option, Some, None, Result, take, length, nat_le, if◌then◌else◌, IsTrue, IfOk, OnOk, OnErr, IsErrOf, Vec, Err, IsSome, IsNone}
+use Rattle.std.specs.Prelude.{◌≡◌, ◌≢◌, ◌⊎◌, ℕ, Bool, false, List, [], ◌++◌, ◌||◌, Option, Some, None, Result, take, length, nat_le, if◌then◌else◌, IsTrue, IfOk, OnOk, OnErr, IsErrOf, Vec, Err, IsSome}
 use Rattle.std.specs.Option.{option_map, option_and_then}
 use Rattle.std.specs.Map.{update}
 use Rattle.std.specs.Str.{bytes_eq}
@@ -14,6 +14,10 @@ use Rattle.bar_outside.specs.Causes.{HasCause}
 abbrev pub Content : Type 0
 Content = List ℕ → Option (List ℕ)
 
+-- the names of the files that were created in this run
+abbrev pub CreatedFiles : Type 0
+CreatedFiles = List ℕ → Bool
+
 -- a call that failed
 pub record Failure : Type 0 where
   pub kind : CallKind
@@ -21,11 +25,12 @@ pub record Failure : Type 0 where
 
 -- the files, as far as they are told
 pub record Disk : Type 0 where
-  -- content and failed are told
+  -- all but the count of faults is told
   pub told : Bool
   -- no call fails, but for a file that isn't there or is too large
   pub reliable : Bool
   pub content : Content
+  pub created_here : CreatedFiles
   -- the last call that failed
   pub failed : Option Failure
   pub faults : ℕ
@@ -50,6 +55,10 @@ created content path = put_at content path []
 unfoldable pub appended : Content → List ℕ → List ℕ → Content
 appended content path bytes = update bytes_eq content path (option_map (λ held. held ++ bytes) (content path))
 
+-- the same with this file
+abbrev pub with_file : CreatedFiles → List ℕ → CreatedFiles
+with_file here path name = bytes_eq path name || here name
+
 -- what every call says of faults
 pub record Calls {T : Type 0} (kind : CallKind) (path : List ℕ) (old new : Disk) (result : Result T FileFault) : Type 0 where
   pub told : new.told ≡ old.told
@@ -62,6 +71,7 @@ pub record Calls {T : Type 0} (kind : CallKind) (path : List ℕ) (old new : Dis
 pub record Reads (path : List ℕ) (old new : Disk) (result : Result (Vec ℕ Global) FileFault) : Type 0 where
   pub call : Calls Read path old new result
   pub same : new.content ≡ old.content
+  pub same_here : new.created_here ≡ old.created_here
   pub found : IsTrue old.told → IfOk result (λ bytes. readable old.content path ≡ Some bytes.items)
   pub refused : IsTrue old.told → IsTrue old.reliable → IsErrOf result Failed → readable old.content path ≡ None
 
@@ -69,14 +79,20 @@ pub record Reads (path : List ℕ) (old new : Disk) (result : Result (Vec ℕ Gl
 pub record Creates {T : Type 0} (path : List ℕ) (old new : Disk) (result : Result T FileFault) : Type 0 where
   pub call : Calls Create path old new result
   pub made : IsTrue old.told → OnOk result (new.content ≡ created old.content path)
+  pub made_here : IsTrue old.told → OnOk result (new.created_here ≡ with_file old.created_here path)
   pub fault : IsTrue old.told → OnErr result ((new.content ≡ old.content) ⊎ (new.content ≡ created old.content path))
+  pub fault_here : IsTrue old.told → OnErr result (new.created_here ≡ old.created_here)
   pub refused : IsTrue old.told → IsTrue old.reliable → result ≢ Err Failed
 
--- the adding of bytes to a file
+-- the adding of bytes to a file that was created in this run
 pub record Appends {T : Type 0} (path bytes : List ℕ) (old new : Disk) (result : Result T FileFault) : Type 0 where
   pub call : Calls Append path old new result
+  pub same_here : new.created_here ≡ old.created_here
+  pub here : IsTrue old.told → OnOk result (IsTrue (old.created_here path))
   pub there : IsTrue old.told → OnOk result (IsSome (old.content path))
   pub added : IsTrue old.told → OnOk result (new.content ≡ appended old.content path bytes)
   -- a part of them may stand, from the front
   pub fault : IsTrue old.told → OnErr result ((k : ℕ) × (new.content ≡ appended old.content path (take k bytes)))
-  pub refused : IsTrue old.told → IsTrue old.reliable → IsErrOf result Failed → IsNone (old.content path)
+  -- nothing is added to any other file
+  pub left : IsTrue old.told → old.created_here path ≡ false → new.content ≡ old.content
+  pub refused : IsTrue old.told → IsTrue old.reliable → IsErrOf result Failed → old.created_here path ≡ false

@@ -1,5 +1,5 @@
 -- What a function says that does a list of actions.
-use Rattle.std.specs.Prelude.{◌≡◌, ℕ, ◌≤◌, List, Vec, Result, Ok, Err, IsTrue, IfErr, OnOk, OnErr, IsErrOf, IsSomeAnd}
+use Rattle.std.specs.Prelude.{◌≡◌, ℕ, ◌≤◌, List, [], Vec, Result, Ok, Err, IsTrue, IfErr, OnOk, OnErr, IsErrOf, IsSomeAnd}
 use Rattle.bar_outside.specs.Causes.{Rose}
 use Rattle.bar_outside.specs.Disk.{Disk, Reads}
 use Rattle.std.specs.declared.alloc.Global.{Global}
@@ -7,9 +7,14 @@ use Rattle.bar_outside.specs.declared.files.FileFault.{FileFault}
 use Rattle.bar_outside.specs.Faults.{fault_of_file, code_of_fault}
 use Rattle.bar_outside.specs.declared.fault.Fault.{Fault}
 use Rattle.bar_outside.specs.declared.fault.Fault.TheVariants.{File, Link, Output, NoMemory}
-use Rattle.bar_outside.specs.Plan.{Outside, Action, Ran, Reached, Names, CanRun}
+use Rattle.bar_outside.specs.Plan.{Outside, Action, Ran, Reached, Names, CanRun, created_after}
 
--- no count fell, and the outside tells as much as before
+-- what these actions create is created, and what was created before them, where the files tell
+abbrev pub HasCreated : List Action → Outside → Outside → Type 0
+HasCreated plan old new =
+    IsTrue old.files.told → (path : List ℕ) → IsTrue (created_after plan old.files.created_here path) → IsTrue (new.files.created_here path)
+
+-- no count fell, what was created stays created, and the outside tells as much as before
 pub record IsLater (old new : Outside) : Type 0 where
   pub told : new.files.told ≡ old.files.told
   pub reliable : new.files.reliable ≡ old.files.reliable
@@ -17,6 +22,7 @@ pub record IsLater (old new : Outside) : Type 0 where
   pub out_reliable : new.out.reliable ≡ old.out.reliable
   pub wire_told : new.wire.told ≡ old.wire.told
   pub wire_reliable : new.wire.reliable ≡ old.wire.reliable
+  pub created : HasCreated [] old new
   pub faults : old.files.faults ≤ new.files.faults
   pub out_faults : old.out.faults ≤ new.out.faults
   pub wire_faults : old.wire.faults ≤ new.wire.faults
@@ -26,7 +32,7 @@ pub record FilesFailed (plan : List Action) (old new : Outside) : Type 0 where
   pub rose : Rose old.files.faults new.files.faults
   pub named : IsTrue old.files.told → IsSomeAnd new.files.failed (Names plan)
 
--- nothing of the outside fails but for files that aren't there
+-- nothing of the outside fails but for files that aren't there or weren't created
 pub record IsReliable (outside : Outside) : Type 0 where
   pub told : IsTrue outside.files.told
   pub files : IsTrue outside.files.reliable
@@ -40,8 +46,9 @@ pub record Follows {T : Type 0} (plan : List Action) (old new : Outside) (result
   pub link : IsErrOf result Link → Rose old.wire.faults new.wire.faults
   pub output : IsErrOf result Output → Rose old.out.faults new.out.faults
   pub done : OnOk result (Ran plan old new)
+  pub created : OnOk result (HasCreated plan old new)
   pub part : IfErr result (λ fault. Reached plan (code_of_fault fault) old new)
-  pub complete : IsReliable old → CanRun plan old.files.content → OnErr result (result ≡ Err NoMemory)
+  pub complete : IsReliable old → CanRun plan old.files.created_here → OnErr result (result ≡ Err NoMemory)
 
 -- a read of a file, whose fault is handed on
 abbrev pub ReadsFile : List ℕ → Disk → Disk → Result (Vec ℕ Global) Fault → Type 0

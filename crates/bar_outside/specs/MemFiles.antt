@@ -1,16 +1,20 @@
 -- What files in memory tell.
-use Rattle.std.specs.Prelude.{ℕ, true, string_bytes, Vec, String}
-use Rattle.std.specs.Option.{option_map}
+use Rattle.std.specs.Prelude.{true, false, string_bytes, String}
+use Rattle.std.specs.Option.{option_map, option_map_or}
 use Rattle.std.specs.BTreeMap.{get_by_text, BTreeMap}
 use Rattle.std.specs.declared.alloc.Global.{Global}
-use Rattle.bar_outside.specs.Disk.{Disk, Content, Failure}
+use Rattle.bar_outside.specs.Disk.{Disk, Content, CreatedFiles, Failure}
 use Rattle.bar_outside.specs.Schedule.{fails_never}
 use Rattle.bar_outside.specs.declared.schedule.Schedule.{Schedule}
+use Rattle.bar_outside.specs.declared.mem_file.MemFile.{MemFile}
 use Rattle.bar_outside.specs.declared.mem_files.MemFiles.{MemFiles}
 use Rattle.bar_outside.specs.declared.mem_files.FailedCall.{FailedCall}
 
-abbrev pub content_of : BTreeMap (String Global) (Vec ℕ Global) → Content
-content_of files path = option_map (λ bytes. bytes.items) (get_by_text files path)
+abbrev pub content_of : BTreeMap (String Global) MemFile → Content
+content_of files path = option_map (λ file. file.bytes.items) (get_by_text files path)
+
+abbrev pub created_in : BTreeMap (String Global) MemFile → CreatedFiles
+created_in files path = option_map_or (λ file. file.created) (get_by_text files path) false
 
 abbrev pub failure_of : FailedCall → Failure
 failure_of call = record { kind = call.kind; path = string_bytes call.path }
@@ -26,6 +30,7 @@ disk_of files =
       told = true;
       reliable = fails_never files.schedule;
       content = content_of files.files;
+      created_here = created_in files.files;
       failed = option_map failure_of files.failed;
       faults = files.faults;
     }

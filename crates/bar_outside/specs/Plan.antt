@@ -1,6 +1,6 @@
 -- What a command does to the outside: a list of actions, in order.
-use Rattle.std.specs.Prelude.{◌≡◌, ◌⊎◌, ℕ, List, [], ◌∷◌, ◌++◌, IsTrue, IsSome, take, Bool, Option, None, Some, Result, Ok, Err, ◌==◌, ◌||◌, if◌then◌else◌, codes}
-use Rattle.bar_outside.specs.Disk.{Disk, Content, Failure, readable, created, appended}
+use Rattle.std.specs.Prelude.{◌≡◌, ◌⊎◌, ℕ, List, [], ◌∷◌, ◌++◌, IsTrue, take, Bool, Option, None, Some, Result, Ok, Err, ◌==◌, ◌||◌, if◌then◌else◌, codes}
+use Rattle.bar_outside.specs.Disk.{Disk, Content, CreatedFiles, Failure, readable, created, appended, with_file}
 use Rattle.bar_outside.specs.Stream.{Stream}
 use Rattle.bar_outside.specs.Wire.{Arrival, Bound, Traffic, Wire, bound_to, gave_if, sent_to}
 use Rattle.bar_outside.specs.declared.files.CallKind.TheVariants.{Read, Create, Append}
@@ -49,6 +49,18 @@ content_by (link call) content = content
 abbrev pub content_after : List Action → Content → Content
 content_after [] content = content
 content_after (a ∷ others) content = content_after others (content_by a content)
+
+-- which files are created after an action
+abbrev pub created_by : Action → CreatedFiles → CreatedFiles
+created_by (read path) here = here
+created_by (create path) here = with_file here path
+created_by (append path bytes) here = here
+created_by (show bytes) here = here
+created_by (link call) here = here
+
+abbrev pub created_after : List Action → CreatedFiles → CreatedFiles
+created_after [] here = here
+created_after (a ∷ others) here = created_after others (created_by a here)
 
 -- what an action prints
 abbrev pub shown_by : Action → List ℕ
@@ -144,11 +156,11 @@ Names (append path bytes ∷ others) call = (call ≡ record { kind = Append; pa
 Names (show bytes ∷ others) call = Names others call
 Names (link done ∷ others) call = Names others call
 
--- each append is to a file that is there then
-abbrev pub CanRun : List Action → Content → Type 0
-CanRun [] content = Unit {0}
-CanRun (append path bytes ∷ others) content = IsSome (content path) × CanRun others (content_by (append path bytes) content)
-CanRun (a ∷ others) content = CanRun others (content_by a content)
+-- each append is to a file that is created by then
+abbrev pub CanRun : List Action → CreatedFiles → Type 0
+CanRun [] here = Unit {0}
+CanRun (append path bytes ∷ others) here = IsTrue (here path) × CanRun others here
+CanRun (a ∷ others) here = CanRun others (created_by a here)
 
 -- the lines that are printed at a stop
 

@@ -52,11 +52,11 @@ pub trait Files {
     fn read(&mut self, path: &str) -> Result<Vec<u8>, FileFault>
         ensures { Reads path.now (disk self.old) (disk self.new) result };
 
-    /// Leaves an empty file of this name. After a fault the file is as it was, or empty.
+    /// Leaves an empty file of this name. After a fault the file is as it was, or empty, and no more can be added to it than before.
     fn create(&mut self, path: &str) -> Result<(), FileFault>
         ensures { Creates path.now (disk self.old) (disk self.new) result };
 
-    /// Adds the bytes to a file that was created. After a fault a part of them, from the front, may stand.
+    /// Adds the bytes to a file that was created in this run; any other is `Failed`. After a fault a part of them, from the front, may stand.
     fn append(&mut self, path: &str, bytes: &[u8]) -> Result<(), FileFault>
         ensures { Appends path.now bytes.now (disk self.old) (disk self.new) result };
 }

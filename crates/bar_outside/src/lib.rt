@@ -9,6 +9,7 @@ mod files;
 mod laws;
 mod link;
 mod mem_call;
+mod mem_file;
 mod mem_files;
 mod mem_link;
 mod mem_place;

@@ -1,10 +1,11 @@
 //! Files in memory.
-ghost use Rattle.std.specs.Prelude.{◌≡◌, ◌⊎◌, ℕ, [], List, true, IfOk, OnOk, OnErr, IsErr, IsNone, IsTrue, None, Some, Err, is_some};
+ghost use Rattle.std.specs.Prelude.{◌≡◌, ◌⊎◌, ℕ, [], List, true, false, IfOk, OnOk, OnErr, IsErr, IsNone, IsTrue, None, Some, Ok, Err};
 ghost use Rattle.std.specs.Option.{option_copied};
-ghost use Rattle.bar_outside.specs.Disk.{created, appended, put_at, readable};
+ghost use Rattle.bar_outside.specs.Disk.{created, appended, put_at, readable, with_file};
 ghost use Rattle.bar_outside.specs.Schedule.{failing, next_call, fails_next, fails_never};
-ghost use Rattle.bar_outside.specs.MemFiles.{content_of};
+ghost use Rattle.bar_outside.specs.MemFiles.{content_of, created_in};
 
+use crate::mem_file::MemFile;
 use crate::schedule::{Schedule, is_listed, new_schedule};
 use crate::{CallKind, FileFault, Files, LARGEST_FILE, NoMemory};
 use std::alloc::Global;
@@ -21,7 +22,7 @@ pub struct FailedCall {
 #[derive(Drop)]
 pub struct MemFiles {
     alloc: Global,
-    files: BTreeMap<String, Vec<u8>>,
+    files: BTreeMap<String, MemFile>,
     schedule: Schedule,
     faults: u64,
     failed: Option<FailedCall>,
@@ -35,7 +36,14 @@ impl MemFiles {
     /// No files. `fail` has the numbers of the calls that are to fail.
     pub fn make(alloc: Global, fail: Vec<u64>) -> MemFiles
         ensures disk { disk_of result ≡
-            record { told = true; reliable = fails_never (failing fail); content = λ path. None; failed = None; faults = 0 } }
+            record {
+              told = true;
+              reliable = fails_never (failing fail);
+              content = λ path. None;
+              created_here = λ path. false;
+              failed = None;
+              faults = 0;
+            } }
         ensures schedule { schedule_of result ≡ failing fail }
     {
         MemFiles {
@@ -47,7 +55,7 @@ impl MemFiles {
         }
     }
 
-    /// Prepares a file. It counts as no call.
+    /// Prepares a file. It counts as no call, and creates nothing.
     pub fn put(&mut self, path: &str, bytes: &[u8]) -> Result<(), NoMemory>
         ensures put { OnOk result (disk_of self.new ≡
             record (disk_of self.old) { content = put_at (disk_of self.old).content path.now bytes.now }) }
@@ -55,7 +63,9 @@ impl MemFiles {
         ensures uncounted { schedule_of self.new ≡ schedule_of self.old }
     {
         let name = String::from_str(self.alloc, path)?;
-        self.files.insert(name, bytes.to_vec(self.alloc)?)?;
+        let bytes = bytes.to_vec(self.alloc)?;
+        let created = is_created(&self.files, path);
+        self.files.insert(name, MemFile { bytes, created })?;
         Ok(())
     }
 
@@ -64,7 +74,7 @@ impl MemFiles {
         ensures { option_copied result ≡ (disk_of self.now).content path.now }
     {
         match self.files.get(path) {
-            Some(bytes) => Some(bytes.as_slice()),
+            Some(file) => Some(file.bytes.as_slice()),
             None => None,
         }
     }
@@ -103,7 +113,7 @@ impl Files for MemFiles {
             return Err(self.note_fault(CallKind::Read, path));
         }
         match self.files.get(path) {
-            Some(bytes) if bytes.len() <= LARGEST_FILE => Ok(bytes.to_vec(self.alloc)?),
+            Some(file) if file.bytes.len() <= LARGEST_FILE => Ok(file.bytes.to_vec(self.alloc)?),
             _ => Err(self.note_fault(CallKind::Read, path)),
         }
     }
@@ -126,7 +136,7 @@ impl Files for MemFiles {
         ensures counted { schedule_of self.new ≡ next_call (schedule_of self.old) }
         ensures listed { IsTrue (fails_next (schedule_of self.old)) → IsErr result }
         ensures only_listed { result ≡ Err FileFault.Failed →
-            IsTrue (fails_next (schedule_of self.old)) ⊎ IsNone ((disk_of self.old).content path.now) }
+            IsTrue (fails_next (schedule_of self.old)) ⊎ ((disk_of self.old).created_here path.now ≡ false) }
     {
         if is_listed(&mut self.schedule) {
             let _ = add_bytes(&mut self.files, path, &bytes[..bytes.len() / 2]);
@@ -142,32 +152,44 @@ impl Files for MemFiles {
 // Leaves an empty file of this name.
 fn put_empty(
     alloc: Global,
-    files: &mut BTreeMap<String, Vec<u8>>,
+    files: &mut BTreeMap<String, MemFile>,
     path: &str,
 ) -> Result<(), NoMemory>
     ensures made { OnOk result (content_of files.new ≡ created (content_of files.old) path.now) }
+    ensures here { OnOk result (created_in files.new ≡ with_file (created_in files.old) path.now) }
     ensures err { OnErr result (content_of files.new ≡ content_of files.old) }
+    ensures err_here { OnErr result (created_in files.new ≡ created_in files.old) }
 {
     let name = String::from_str(alloc, path)?;
-    files.insert(name, Vec::new(alloc))?;
+    let bytes = Vec::new(alloc);
+    let created = true;
+    files.insert(name, MemFile { bytes, created })?;
     Ok(())
 }
 
-// Adds the bytes to the file of this name, and says whether there is one.
+// A file of this name was created in this run.
+fn is_created(files: &BTreeMap<String, MemFile>, path: &str) -> bool
+    ensures { result ≡ created_in files.now path.now }
+{
+    match files.get(path) {
+        Some(file) => file.created,
+        None => false,
+    }
+}
+
+// Adds the bytes to the file of this name where it was created in this run, and says whether it was.
 fn add_bytes(
-    files: &mut BTreeMap<String, Vec<u8>>,
+    files: &mut BTreeMap<String, MemFile>,
     path: &str,
     bytes: &[u8],
 ) -> Result<bool, NoMemory>
-    ensures there { IfOk result (λ there. there ≡ is_some (content_of files.old path.now)) }
-    ensures added { OnOk result (content_of files.new ≡ appended (content_of files.old) path.now bytes.now) }
-    ensures err { OnErr result (content_of files.new ≡ appended (content_of files.old) path.now []) }
+    ensures done { IfOk result (λ done. done ≡ created_in files.old path.now) }
+    ensures added { result ≡ Ok true → content_of files.new ≡ appended (content_of files.old) path.now bytes.now }
+    ensures left { (result ≡ Ok true → ⊥) → content_of files.new ≡ content_of files.old }
+    ensures same { created_in files.new ≡ created_in files.old }
 {
     match files.get_mut(path) {
-        Some(held) => {
-            held.extend_from_slice(bytes)?;
-            Ok(true)
-        }
+        Some(file) => file.add(bytes),
         None => Ok(false),
     }
 }
