@@ -99,6 +99,7 @@ keeps-rules signed balance keys caught shown unframed leaves = λ me member inpu
   balance = balance me member inputs;
   keys = keys me member inputs;
   evidence = proves-bad_keys caught shown me inputs;
+  shown = shown me inputs;
   unframed = unframed me member inputs;
   leaves = leaves me member inputs;
 }

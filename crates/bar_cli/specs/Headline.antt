@@ -17,7 +17,7 @@ use Rattle.bar_rules.specs.Peer.Exchanges.{partner_in}
 use Rattle.bar_rules.specs.Peer.Log.{Log, kept, table}
 use Rattle.bar_rules.specs.Peer.Run.{log_after, sends_of}
 use Rattle.bar_laws.specs.Balance.{GoesToPartner, IsEven, totals_of}
-use Rattle.bar_laws.specs.Evidence.{OpensBadly}
+use Rattle.bar_laws.specs.Evidence.{KeepsGoodEvidence, OpensBadly}
 use Rattle.bar_laws.specs.Framing.{IsNotFramed}
 use Rattle.bar_laws.specs.Leaves.{KeepsLeaves}
 use Rattle.bar_laws.specs.Obedience.{IsRuled}
@@ -29,6 +29,10 @@ abbrev pub OfItsRun : ReplayFiles → Content → (Member → List Input → Typ
 OfItsRun names content P =
     (accepted : Accepted names content) (inputs later : List Input) → accepted.inputs ≡ inputs ++ later →
     P (peer_of names content accepted) inputs
+
+-- at each moment over these inputs
+abbrev pub AtEachMoment : (Member → List Input → Type 0) → Member → List Input → Type 0
+AtEachMoment P me inputs = (earlier later : List Input) → inputs ≡ earlier ++ later → P me earlier
 
 -- of each list of inputs that the peer of a fresh key may take, where its session and its key are accepted
 abbrev pub OfItsRuns : PeerNames → Content → (Member → List Input → Type 0) → Type 0
@@ -92,5 +96,6 @@ pub record KeepsTheRules (me : Member) (inputs : List Input) : Type 0 where
   pub keys : AllByRecursion (GoesToPartner me) (sends_of me inputs)
   pub evidence : (x : Exchange) (key : Datagram) → OpensBadly me (log_after me [] inputs) x key →
       HasProof me (log_after me [] inputs) (partner_in me x)
+  pub shown : KeepsGoodEvidence me (log_after me [] inputs)
   pub unframed : IsNotFramed me (log_after me [] inputs)
   pub leaves : KeepsLeaves me (log_after me [] inputs)
