@@ -116,7 +116,8 @@ summary_of r inputs =
 
 -- The link isn't asked again once the run is at its end: before each arrival it wasn't.
 abbrev pub AsksToTheEnd : Rules → List Arrival → Type 0
-AsksToTheEnd r given = (front : List Arrival) (next : Arrival) (rest : List Arrival) → given ≡ front ++ next ∷ rest → is_ended r front ≡ false
+AsksToTheEnd r given =
+    (front : List Arrival) (next : Arrival) (rest : List Arrival) → given ≡ front ++ next ∷ rest → is_ended r front ≡ false
 
 -- What a link gave: no datagram is larger than one can be, the link was asked up to the run's end and no further, and the inputs are few.
 pub record IsGiven (r : Rules) (given : List Arrival) : Type 0 where

@@ -54,8 +54,8 @@ pub record StoppedSending (r : Rules) (given : List Arrival) (wire wire_new : Wi
 abbrev pub end_of : Rules → List Arrival → List ℕ
 end_of r given = if is_ended r given then 0 ∷ [] else []
 
--- A peer that was stopped: it sent, played and recorded all of the inputs begun but the last one, and a front of the last one's. What it sent
--- is told where the link tells, and what the files have where their names differ and the files tell.
+-- A peer that was stopped: it sent, played and recorded all of the inputs begun but the last one, and a front of the last one's. What it
+-- sent is told where the link tells, and what the files have where their names differ and the files tell.
 pub record StoppedPeer (recording played found : List ℕ) (r : Rules) (given : List Arrival) (files files_new : Disk)
     (wire wire_new : Wire) : Type 0 where
   pub cut : Cut (taken_of r given)
