@@ -1,6 +1,7 @@
 -- What follows of a list of actions where it is known of which kinds they are.
-use Rattle.std.proofs.Common.{◌≡◌, ℕ, ◌+◌, List, [], ◌∷◌, ◌++◌, None, Some, refl, sym, ap, ◌∙◌, subst, inl, inr, take, length, min, append-nil}
+use Rattle.std.proofs.Common.{◌≡◌, ◌||◌, ℕ, ◌+◌, List, [], ◌∷◌, ◌++◌, None, Some, refl, sym, ap, ◌∙◌, subst, inl, inr, take, length, min, append-nil}
 use Rattle.std.proofs.Math.Seq.{take-append-add}
+use Rattle.std.proofs.Math.Bool.{or-false, or-true}
 use Rattle.std.specs.List.{AllByRecursion}
 use Rattle.bar_outside.specs.Disk.{Content}
 use Rattle.bar_outside.specs.Wire.{Datagram, End, Tick, Traffic}
@@ -10,6 +11,8 @@ use Rattle.bar_outside.specs.Plan.LinkCall.{bind, receive, send}
 use Rattle.bar_outside.proofs.ActionLists.{shown-append}
 use Rattle.bar_outside.proofs.Appends.{take-more}
 use Rattle.bar_findings.proofs.Lists.{all-append, all-front, all-rest}
+use Rattle.bar_node.specs.Effects.{received_in}
+use Rattle.bar_node.specs.Runs.{has_end}
 
 -- The action writes a file of such a name, makes such a call of the link, or prints, where that may be.
 abbrev pub IsAmong : (List ℕ → Type 0) → (LinkCall → Type 0) → Type 0 → Action → Type 0
@@ -105,6 +108,30 @@ among-unlinked P S (create name ∷ others) t k = among-unlinked P S others t k.
 among-unlinked P S (append name bytes ∷ others) t k = among-unlinked P S others t k.1
 among-unlinked P S (show bytes ∷ others) t k = among-unlinked P S others t k.1
 among-unlinked P S (link call ∷ others) t k = absurd k.0
+
+-- and nothing is received
+pub among-unreceived : (P : List ℕ → Type 0) (S : Type 0) (acts : List Action) → AreAmong P NoCall S acts → received_in acts ≡ []
+among-unreceived P S [] k = refl
+among-unreceived P S (read name ∷ others) k = among-unreceived P S others k.1
+among-unreceived P S (create name ∷ others) k = among-unreceived P S others k.1
+among-unreceived P S (append name bytes ∷ others) k = among-unreceived P S others k.1
+among-unreceived P S (show bytes ∷ others) k = among-unreceived P S others k.1
+among-unreceived P S (link call ∷ others) k = absurd k.0
+
+-- a link that isn't bound anew tells its end where it did, or where it is received
+pub among-ended : (P : List ℕ → Type 0) (S : Type 0) (acts : List Action) (t : Traffic) → AreAmong P IsUnbinding S acts →
+    (traffic_after acts t).ended ≡ (t.ended || has_end (received_in acts))
+among-ended P S [] t k = sym (or-false t.ended)
+among-ended P S (read name ∷ others) t k = among-ended P S others t k.1
+among-ended P S (create name ∷ others) t k = among-ended P S others t k.1
+among-ended P S (append name bytes ∷ others) t k = among-ended P S others t k.1
+among-ended P S (show bytes ∷ others) t k = among-ended P S others t k.1
+among-ended P S (link (bind to) ∷ others) t k = absurd k.0
+among-ended P S (link (send to bytes) ∷ others) t k = among-ended P S others _ k.1
+among-ended P S (link (receive None) ∷ others) t k = among-ended P S others t k.1
+among-ended P S (link (receive (Some Tick)) ∷ others) t k = among-ended P S others _ k.1
+among-ended P S (link (receive (Some (Datagram bytes))) ∷ others) t k = among-ended P S others _ k.1
+among-ended P S (link (receive (Some End)) ∷ others) t k = among-ended P S others _ k.1 ∙ sym (or-true t.ended)
 
 -- the link stays bound as it is
 pub among-bound : (P : List ℕ → Type 0) (S : Type 0) (acts : List Action) (t : Traffic) → AreAmong P IsUnbinding S acts →

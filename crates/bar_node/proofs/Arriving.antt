@@ -1,10 +1,10 @@
 -- What is taken, and done, at one arrival behind others.
-use Rattle.std.proofs.Common.{◌≡◌, ℕ, ◌+◌, Some, List, [], ◌∷◌, ◌++◌, refl, sym, ap, ◌∙◌, subst, arith, append-nil, append_assoc, Result, Ok, Err}
+use Rattle.std.proofs.Common.{◌≡◌, ℕ, Some, List, [], ◌∷◌, ◌++◌, refl, sym, ap, ◌∙◌, subst, append-nil, append_assoc, Result, Ok}
 use Rattle.bar_wire.specs.Inputs.{Input}
 use Rattle.bar_record.specs.Pacing.{paced_from, ticks_of}
-use Rattle.bar_outside.specs.Wire.{Arrival, Tick, Datagram, End}
+use Rattle.bar_outside.specs.Wire.{Arrival}
 use Rattle.bar_outside.specs.declared.fault.Fault.{Fault}
-use Rattle.bar_outside.specs.Plan.{Outside, Action}
+use Rattle.bar_outside.specs.Plan.{Outside}
 use Rattle.bar_outside.specs.Plan.Action.{link}
 use Rattle.bar_outside.specs.Plan.LinkCall.{receive}
 use Rattle.bar_outside.specs.Follows.{Follows}
@@ -77,7 +77,7 @@ module _ (lay : Layout) (r : Rules) (given : List Arrival) (a : Arrival) where
       ∙ taken_from-append r.last [] 0 given (a ∷ [])
       ∙ ap (λ taken. taken ++ due_if r.last (ticks_of taken) (run_from 0 given) (input_of a)) (taken-is r given)
 
-  node-next : node_from lay r [] 0 (given ++ a ∷ [])
+  pub node-next : node_from lay r [] 0 (given ++ a ∷ [])
       ≡ node_from lay r [] 0 given ++ link (receive (Some a)) ∷ turns lay r (taken_of r given) due_next
   node-next =
       node_from-append lay r [] 0 given (a ∷ [])

@@ -1,23 +1,24 @@
 -- Where a plan of turns was stopped.
-use Rattle.std.proofs.Common.{◌≡◌, ◌≢◌, ◌≤◌, ◌⊎◌, ℕ, ◌+◌, ◌==◌, nat_le, not, Bool, true, false, cond, List, [], ◌∷◌, ◌++◌, length, refl, sym, ap, ◌∙◌, subst, inl, inr, arith, append-nil, append_assoc, length-append, Option, Some, None}
+use Rattle.std.proofs.Common.{◌≡◌, ◌≤◌, ◌⊎◌, ℕ, ◌+◌, ◌==◌, nat_le, not, Bool, true, false, cond, List, [], ◌∷◌, ◌++◌, length, refl, sym, ap, ◌∙◌, subst, inl, inr, arith, append-nil, append_assoc, length-append, Option, Some, None}
 use Rattle.std.specs.List.{flat_map}
 use Rattle.std.proofs.lemmas.Grind.{flat_map-append}
 use Rattle.std.proofs.lemmas.List.{append_cancel_left}
 use Rattle.bar_wire.specs.Inputs.{Input}
 use Rattle.bar_wire.specs.Inputs as plain
 use Rattle.bar_record.specs.Pacing.{paced_from, ticks_of}
-use Rattle.bar_outside.specs.Wire.{Arrival, Datagram, End, Tick}
-use Rattle.bar_outside.specs.Plan.{Action, Begun, IsPartOf, IsPartOfNext, LinkCall}
+use Rattle.bar_outside.specs.Wire.{Arrival}
+use Rattle.bar_outside.specs.Plan.{Action, Begun, IsPartOf, LinkCall}
 use Rattle.bar_outside.specs.Plan.Action.{append, create, link, read, show}
 use Rattle.bar_outside.specs.Plan.LinkCall.{receive}
 use Rattle.bar_outside.proofs.ActionLists.{Begun-both, Begun-first}
 use Rattle.bar_core.specs.Rules.{Rules}
 use Rattle.bar_node.specs.Turns.{Layout, turn, turns}
-use Rattle.bar_node.specs.Runs.{due_if, heard, input_of, inputs_of, node_from, run_if, taken_of}
+use Rattle.bar_node.specs.Effects.{received_by, received_in}
+use Rattle.bar_node.specs.Runs.{due_if, input_of, inputs_of, node_from, run_if, taken_of}
 use Rattle.bar_node.specs.Stops.{Cut, IsFront}
-use Rattle.bar_node.proofs.TurnLists.{paced-step, received, received_by}
-use Rattle.bar_node.proofs.Receiving.{TakeNothing, received-nothing, take-nothing-begun}
-use Rattle.bar_node.proofs.Yields.{Yields, cons-nil, front-behind, front-none, front-same, front-trans, front-gives, over, own, own-then, own_of, same-gives, turns-give}
+use Rattle.bar_node.proofs.TurnLists.{paced-step}
+use Rattle.bar_node.proofs.Receiving.{AreQuiet, received-quiet, quiet-begun}
+use Rattle.bar_node.proofs.Yields.{Yields, cons-nil, front-behind, front-none, front-same, front-trans, front-gives, over, own, own-then, same-gives, turns-give}
 
 -- ---- one input after another
 
@@ -106,11 +107,6 @@ no-part-link (append path bytes) call h = h
 no-part-link (show bytes) call h = h
 no-part-link (link other) call h = h
 
-heard-cons : (a : Arrival) (rest : List Arrival) → heard (a ∷ rest) ≡ heard (a ∷ []) ++ heard rest
-heard-cons Tick rest = refl
-heard-cons (Datagram bytes) rest = refl
-heard-cons End rest = refl
-
 few-due : (last ticks run : ℕ) (o : Option Input) → length (due_if last ticks run o) ≤ 2
 few-due last ticks run None = omega arith
 few-due last ticks run (Some plain.Tick) = by_test (nat_le last ticks)
@@ -129,19 +125,7 @@ few-due last ticks run (Some (plain.Datagram bytes)) = by_tests (nat_le last tic
 
 -- ---- one arrival after another
 
-nil-or-not : {X : Type 0} (xs : List X) → (xs ≡ []) ⊎ (xs ≢ [])
-nil-or-not [] = inl refl
-nil-or-not (x ∷ xs) = inr (λ e. cc)
-
--- where all that is given is the end, no input is due and nothing is done
-ends-only : (lay : Layout) (r : Rules) (before : List Input) (run : ℕ) (given : List Arrival) → heard given ≡ [] →
-    (inputs_of given ≡ []) × (own (node_from lay r before run given) ≡ [])
-ends-only lay r before run [] e = (refl, refl)
-ends-only lay r before run (Tick ∷ given) e = absurd (cons-nil Tick (heard given) e)
-ends-only lay r before run (Datagram bytes ∷ given) e = absurd (cons-nil (Datagram bytes) (heard given) e)
-ends-only lay r before run (End ∷ given) e = ends-only lay r (before ++ []) run given e
-
--- The turns of the inputs of all arrivals that are told but the last were done, and the last was received.
+-- The turns of the inputs of all arrivals but the last were done, and the last arrival was received.
 pub record Late (lay : Layout) (r : Rules) (before now : List Input) (run : ℕ) (given : List Arrival)
     (tail done : List Action) : Type 0 where
   pub earlier : List Input
@@ -149,36 +133,24 @@ pub record Late (lay : Layout) (r : Rules) (before now : List Input) (run : ℕ)
   pub few : length due_now ≤ 2
   pub is : now ++ paced_from r.last (ticks_of (before ++ now)) run (inputs_of given) ≡ earlier ++ due_now
   pub more : List Action
-  pub rest : List Action
   pub done_is : own done ≡ own (turns lay r before earlier ++ more)
-  pub rest_is : own rest ≡ own tail
-  pub begun : Begun (turns lay r (before ++ earlier) due_now ++ rest) more
+  pub begun : Begun (turns lay r (before ++ earlier) due_now ++ tail) more
 
-module _ (lay : Layout) (r : Rules) (silent : (before inputs : List Input) → TakeNothing (turns lay r before inputs))
+module _ (lay : Layout) (r : Rules) (silent : (before inputs : List Input) → AreQuiet (turns lay r before inputs))
     (tail : List Action) where
-  -- some inputs are due, and no more come
-  late-end : (before now : List Input) (run : ℕ) (given : List Arrival) (done : List Action) → length now ≤ 2 → heard given ≡ [] →
-      Begun (turns lay r before now ++ (node_from lay r (before ++ now) run given ++ tail)) done → Late lay r before now run given tail done
-  late-end before now run given done few none b =
-      let acts : List Action = node_from lay r (before ++ now) run given in
-      let e = ends-only lay r (before ++ now) run given none in
-      record {
-        earlier = [];
-        due_now = now;
-        few = few;
-        is = ap (λ inputs. now ++ paced_from r.last (ticks_of (before ++ now)) run inputs) e.0 ∙ append-nil now;
-        more = done;
-        rest = acts ++ tail;
-        done_is = refl;
-        rest_is = flat_map-append own_of acts tail ∙ ap (λ xs. xs ++ own tail) e.1;
-        begun = subst (λ h. Begun (turns lay r h now ++ (acts ++ tail)) done) (sym (append-nil before)) b;
-      }
-
   -- some inputs are due, and others come with what the link gave
   pub late : (before now : List Input) (run : ℕ) (given : List Arrival) (done : List Action) → length now ≤ 2 →
-      received done ≡ heard given → Begun (turns lay r before now ++ (node_from lay r (before ++ now) run given ++ tail)) done →
+      received_in done ≡ given → Begun (turns lay r before now ++ (node_from lay r (before ++ now) run given ++ tail)) done →
       Late lay r before now run given tail done
-  late before now run [] done few all b = late-end before now run [] done few refl b
+  late before now run [] done few all b = record {
+    earlier = [];
+    due_now = now;
+    few = few;
+    is = append-nil now;
+    more = done;
+    done_is = refl;
+    begun = subst (λ h. Begun (turns lay r h now ++ tail) done) (sym (append-nil before)) b;
+  }
   late before now run (a ∷ given) done few all b =
       let last : ℕ = r.last in
       let then : List Input = due_if last (ticks_of (before ++ now)) run (input_of a) in
@@ -186,44 +158,38 @@ module _ (lay : Layout) (r : Rules) (silent : (before inputs : List Input) → T
       let others : List Action = node_from lay r ((before ++ now) ++ then) next given in
       let first : Action = link (receive (Some a)) in
       let plan : List Action = (turns lay r (before ++ now) then ++ others) ++ tail in
-      elim (nil-or-not (heard (a ∷ given))) [
-        | inl none ↦ late-end before now run (a ∷ given) done few none b
-        | inr some ↦ elim (Begun-both (turns lay r before now) (first ∷ plan) done b) [
-          | inl m ↦
-              let none : received done ≡ [] =
-              received-nothing done (take-nothing-begun (turns lay r before now) done (silent before now) m.2) in
-              absurd (some (sym all ∙ none))
-          | inr m ↦
-              let received_is : received m.0 ≡ heard (a ∷ given) =
-              ap (λ xs. xs ++ received m.0) (sym (received-nothing (turns lay r before now) (silent before now)))
-              ∙ sym (flat_map-append received_by (turns lay r before now) m.0)
-              ∙ sym (ap received m.1) ∙ all in
-              elim (Begun-first first plan m.0 m.2) [
-                | inl e ↦ absurd (some (sym received_is ∙ ap received e.0))
-                | inr two ↦ elim two [
-                  | inl part ↦ absurd (no-part-link part.0 (receive (Some a)) part.2)
-                  | inr n ↦
-                      let rest : received n.0 ≡ heard given =
-                      append_cancel_left (heard (a ∷ [])) (received n.0) (heard given)
-                      (sym (ap received n.1) ∙ received_is ∙ heard-cons a given) in
-                      let i =
-                      late (before ++ now) then next given n.0 (few-due last (ticks_of (before ++ now)) run (input_of a)) rest
-                      (subst (λ p. Begun p n.0) (append_assoc (turns lay r (before ++ now) then) others tail) n.2) in
-                      record {
-                        earlier = now ++ i.earlier;
-                        due_now = i.due_now;
-                        few = i.few;
-                        is = ap (λ xs. now ++ xs) (paced-step last (before ++ now) run a given ∙ i.is)
-                            ∙ sym (append_assoc now i.earlier i.due_now);
-                        more = i.more;
-                        rest = i.rest;
-                        done_is = own-then lay r before now i.earlier done m.0 i.more (ap own m.1) (ap own n.1 ∙ i.done_is);
-                        rest_is = i.rest_is;
-                        begun = subst (λ h. Begun (turns lay r h i.due_now ++ i.rest) i.more) (append_assoc before now i.earlier) i.begun;
-                      }
-                ]
+      elim (Begun-both (turns lay r before now) (first ∷ plan) done b) [
+        | inl m ↦
+            let none : received_in done ≡ [] =
+            received-quiet done (quiet-begun (turns lay r before now) done (silent before now) m.2) in
+            absurd (cons-nil a given (sym all ∙ none))
+        | inr m ↦
+            let received_is : received_in m.0 ≡ a ∷ given =
+            ap (λ xs. xs ++ received_in m.0) (sym (received-quiet (turns lay r before now) (silent before now)))
+            ∙ sym (flat_map-append received_by (turns lay r before now) m.0)
+            ∙ sym (ap received_in m.1) ∙ all in
+            elim (Begun-first first plan m.0 m.2) [
+              | inl e ↦ absurd (cons-nil a given (sym received_is ∙ ap received_in e.0))
+              | inr two ↦ elim two [
+                | inl part ↦ absurd (no-part-link part.0 (receive (Some a)) part.2)
+                | inr n ↦
+                    let rest : received_in n.0 ≡ given =
+                    append_cancel_left (a ∷ []) (received_in n.0) given (sym (ap received_in n.1) ∙ received_is) in
+                    let i =
+                    late (before ++ now) then next given n.0 (few-due last (ticks_of (before ++ now)) run (input_of a)) rest
+                    (subst (λ p. Begun p n.0) (append_assoc (turns lay r (before ++ now) then) others tail) n.2) in
+                    record {
+                      earlier = now ++ i.earlier;
+                      due_now = i.due_now;
+                      few = i.few;
+                      is = ap (λ xs. now ++ xs) (paced-step last (before ++ now) run a given ∙ i.is)
+                          ∙ sym (append_assoc now i.earlier i.due_now);
+                      more = i.more;
+                      done_is = own-then lay r before now i.earlier done m.0 i.more (ap own m.1) (ap own n.1 ∙ i.done_is);
+                      begun = subst (λ h. Begun (turns lay r h i.due_now ++ tail) i.more) (append_assoc before now i.earlier) i.begun;
+                    }
               ]
-        ]
+            ]
       ]
 
 -- ---- where a run was stopped
@@ -235,10 +201,10 @@ pub record StopAt (lay : Layout) (r : Rules) (given : List Arrival) (tail done :
   pub rest : List Action
   pub done_is : own done ≡ own (turns lay r [] cut.whole ++ part)
   pub begun : Begun (turns lay r cut.whole cut.last ++ rest) part
-  pub rest_is : (rest ≡ []) ⊎ (own rest ≡ own tail)
+  pub rest_is : (rest ≡ []) ⊎ (rest ≡ tail)
 
 stop-late : (lay : Layout) (r : Rules) (tail : List Action) (given : List Arrival) (done : List Action)
-    (l : Late lay r [] [] 0 given tail done) → InTurn lay r l.earlier l.due_now l.rest l.more → StopAt lay r given tail done
+    (l : Late lay r [] [] 0 given tail done) → InTurn lay r l.earlier l.due_now tail l.more → StopAt lay r given tail done
 stop-late lay r tail given done l t = record {
   cut = record {
     whole = l.earlier ++ t.whole;
@@ -252,16 +218,16 @@ stop-late lay r tail given done l t = record {
   rest = t.rest;
   done_is = own-then lay r [] l.earlier t.whole done l.more t.part l.done_is (ap own t.done_is);
   begun = t.begun;
-  rest_is = elim t.rest_is [ inl none ↦ inl none | inr same ↦ inr (ap own same ∙ l.rest_is) ];
+  rest_is = t.rest_is;
 }
 
--- where a run was stopped that tells all that was given
-pub stop-at : (lay : Layout) (r : Rules) (silent : (before inputs : List Input) → TakeNothing (turns lay r before inputs))
-    (tail : List Action) (given : List Arrival) (done : List Action) → received done ≡ heard given →
+-- where a run was stopped that received all that was given
+pub stop-at : (lay : Layout) (r : Rules) (silent : (before inputs : List Input) → AreQuiet (turns lay r before inputs))
+    (tail : List Action) (given : List Arrival) (done : List Action) → received_in done ≡ given →
     Begun (node_from lay r [] 0 given ++ tail) done → StopAt lay r given tail done
 stop-at lay r silent tail given done all b =
     let l = late lay r silent tail [] [] 0 given done (omega arith) all b in
-    stop-late lay r tail given done l (in-turn lay r l.earlier l.due_now l.rest l.more l.begun)
+    stop-late lay r tail given done l (in-turn lay r l.earlier l.due_now tail l.more l.begun)
 
 -- what was given until then
 module _ {X : Type 0} (lay : Layout) (r : Rules) (gives : Action → List X) (one : List Input → Input → List X) (y : Yields lay r gives one)
@@ -282,6 +248,5 @@ module _ {X : Type 0} (lay : Layout) (r : Rules) (gives : Action → List X) (on
       (front-behind (over one s.cut.whole s.cut.last) (flat_map gives s.rest) end
       (elim s.rest_is [
         | inl none ↦ subst (λ acts. IsFront (flat_map gives acts) end) (sym none) (front-none end)
-        | inr same ↦
-            subst (IsFront (flat_map gives s.rest)) (same-gives gives y.none s.rest tail same ∙ e) (front-same (flat_map gives s.rest))
+        | inr same ↦ subst (IsFront (flat_map gives s.rest)) (ap (flat_map gives) same ∙ e) (front-same (flat_map gives s.rest))
       ]))

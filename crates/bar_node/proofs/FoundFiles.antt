@@ -21,7 +21,7 @@ use Rattle.bar_node.specs.Turns.{Layout, kept, node_layout, sent, turn, turns}
 use Rattle.bar_node.specs.Runs.{RanNode, behind, closing, due_if, found_after, input_of, is_ended, node_from, node_plan, run_if, taken_of}
 use Rattle.bar_node.specs.Stops.{FoundBy, IsOther}
 use Rattle.bar_node.specs.declared.summary.Summary.{Summary}
-use Rattle.bar_node.proofs.Stopping.{beside}
+use Rattle.bar_node.proofs.Doing.{beside}
 
 -- ---- which files are touched
 

@@ -5,6 +5,7 @@ pub mod GivingOut
 pub mod Turning
 pub mod Receiving
 pub mod Arriving
+pub mod Doing
 pub mod RunSteps
 pub mod RunEnds
 pub mod Shown

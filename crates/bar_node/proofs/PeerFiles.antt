@@ -1,11 +1,11 @@
 -- What a peer has played and recorded, whole or stopped.
-use Rattle.std.proofs.Common.{◌≡◌, ◌≢◌, ℕ, ◌+◌, cond, List, [], ◌∷◌, ◌++◌, length, refl, sym, ap, ◌∙◌, subst, inl, inr, append-nil, IsTrue, Some}
+use Rattle.std.proofs.Common.{◌≡◌, ◌≢◌, ℕ, ◌+◌, Bool, true, false, cond, eqb, eq-eqb, List, [], ◌∷◌, ◌++◌, length, refl, sym, ap, ◌∙◌, subst, inl, inr, append-nil, IsTrue, Some}
 use Rattle.std.specs.List.{AllByRecursion, concat, flat_map}
 use Rattle.std.proofs.lemmas.Grind.{flat_map-append}
 use Rattle.std.proofs.lemmas.List.Folds.{concat-append}
 use Rattle.bar_wire.specs.Inputs.{Input}
 use Rattle.bar_record.specs.Recording.{entry_bytes}
-use Rattle.bar_outside.specs.Disk.{Content, Disk}
+use Rattle.bar_outside.specs.Disk.{Content}
 use Rattle.bar_outside.specs.Wire.{Arrival}
 use Rattle.bar_outside.specs.Plan.{Action, Begun, Outside, Ran}
 use Rattle.bar_outside.specs.Plan.Action.{append}
@@ -19,7 +19,7 @@ use Rattle.bar_node.specs.Effects.{added_by, added_in}
 use Rattle.bar_node.specs.Runs.{behind, found_after, is_ended, node_plan, taken_of}
 use Rattle.bar_node.specs.Stops.{AreApart, DonePeer, HasRun, IsAddedTo, IsApart, IsFront, StoppedPeer, end_of}
 use Rattle.bar_node.proofs.TurnLists.{each-none}
-use Rattle.bar_node.proofs.Yields.{Yields, front-gives, front-of-none, over, run-gives}
+use Rattle.bar_node.proofs.Yields.{Yields, cons-nil, front-behind, front-gives, front-none, front-of-none, over, run-gives}
 use Rattle.bar_node.proofs.Cutting.{StopAt, given-part, given-whole}
 use Rattle.bar_node.proofs.Behind.{GivesNone, behind-gives, behind-none}
 use Rattle.bar_node.proofs.Stopping.{stopped-at}
@@ -133,12 +133,33 @@ module _ (path found : List ℕ) (apart : IsApart path found) (r : Rules) (taken
 
 -- ---- what a file has of a stopped run
 
--- all that some inputs add, and a front of what those behind them add, and the end
-record FileUntil (path : List ℕ) (one : List Input → Input → List ℕ) (whole last : List Input) (end : List ℕ)
-    (files files_new : Disk) : Type 0 where
-  bytes : List ℕ
-  front : IsFront bytes (over one whole last ++ end)
-  is : IsAddedTo path files files_new (over one [] whole ++ bytes)
+-- the longest front that bytes share with others
+shared : List ℕ → List ℕ → List ℕ
+shared [] ys = []
+shared (x ∷ xs) [] = []
+shared (x ∷ xs) (y ∷ ys) = cond (eqb x y) (y ∷ shared xs ys) []
+
+one-more : (b : Bool) (y : ℕ) (front ys : List ℕ) → IsFront front ys → IsFront (cond b (y ∷ front) []) (y ∷ ys)
+one-more true y front ys f = front-behind (y ∷ []) front ys f
+one-more false y front ys f = front-none (y ∷ ys)
+
+shared-front : (xs ys : List ℕ) → IsFront (shared xs ys) ys
+unfolding shared
+shared-front [] ys = front-none ys
+shared-front (x ∷ xs) [] = front-none []
+shared-front (x ∷ xs) (y ∷ ys) = one-more (eqb x y) y (shared xs ys) ys (shared-front xs ys)
+
+-- it is all of them where they are such a front
+shared-same : (xs ys : List ℕ) → IsFront xs ys → shared xs ys ≡ xs
+unfolding shared
+shared-same [] ys f = refl
+shared-same (x ∷ xs) [] f = absurd (cons-nil x (xs ++ f.rest) (sym f.is))
+shared-same (x ∷ xs) (y ∷ ys) f =
+    let e : y ≡ x = let is = f.is in cc in
+    let rest : ys ≡ xs ++ f.rest = let is = f.is in cc in
+    ap (λ b. cond b (y ∷ shared xs ys) []) (eq-eqb x y (sym e))
+    ∙ ap (λ v. v ∷ shared xs ys) e
+    ∙ ap (λ vs. x ∷ vs) (shared-same xs ys (record { rest = f.rest; is = rest }))
 
 module _ (recording played found : List ℕ) (r : Rules) where
   abbrev the_lay : Layout
@@ -177,43 +198,50 @@ module _ (recording played found : List ℕ) (r : Rules) where
 
     -- so it has all that was added to it
     file-until : (path : List ℕ) (one : List Input → Input → List ℕ) → Yields the_lay r (added_by path) one → IsApart path found →
-        (end : List ℕ) → added_in path (the_tail given) ≡ end → (done : List Action) → Begun the_plan done → Ran done old new →
-        (s : StopAt the_lay r given (the_tail given) done) → FileUntil path one s.cut.whole s.cut.last end old.files new.files
-    file-until path one y apart end tail_is done begun ran s =
+        (done : List Action) → Begun the_plan done → Ran done old new → (s : StopAt the_lay r given (the_tail given) done) →
+        AddedTo path (over one [] s.cut.whole ++ added_in path s.part)
+    file-until path one y apart done begun ran s told held there =
         let made_is : flat_map (made_by path) done ≡ [] =
         front-of-none _ _ (front-gives the_lay r (made_by path) makes_none (yields-made recording played path r) the_plan done begun)
         (made-plan path apart) in
-        record {
-          bytes = added_in path s.part;
-          front = given-part the_lay r (added_by path) one y given (the_tail given) done s end tail_is;
-          is = λ told held there.
-              ap (λ (holds : Content). holds path) (ran.files told)
-              ∙ content-added path held done old.files.content made_is there
-              ∙ ap (λ ys. Some (held ++ ys)) (given-whole the_lay r (added_by path) one y given (the_tail given) done s);
-        }
+        ap (λ (holds : Content). holds path) (ran.files told)
+        ∙ content-added path held done old.files.content made_is there
+        ∙ ap (λ ys. Some (held ++ ys)) (given-whole the_lay r (added_by path) one y given (the_tail given) done s)
 
-    pub peer-part : HasRun (Some recording) (Some played) found r given old new → IsTrue old.wire.told → AreApart recording played found →
-        StoppedPeer recording played r given old.files new.files old.wire new.wire
-    peer-part h told apart =
-        let s = stopped-at (Some recording) (Some played) found r given old new h told in
+    pub peer-part : HasRun (Some recording) (Some played) found r given old new →
+        StoppedPeer recording played found r given old.files new.files old.wire new.wire
+    peer-part h =
+        let s = stopped-at (Some recording) (Some played) found r given old new h in
         let u = sent-until (Some recording) (Some played) found r given old new h.done h.ran s in
-        let p =
-        file-until played (plays_bytes r) (yields-played recording played apart.differ r) apart.played_apart []
-        (played-behind given apart.differ apart.played_apart) h.done h.begun h.ran s in
-        let e =
-        file-until recording has_entry (yields-entries recording played apart.differ r) apart.recording_apart (end_of r given)
-        (recorded-behind given apart.recording_apart) h.done h.begun h.ran s in
+        let played_all = concat (contents_over r s.cut.whole s.cut.last) in
+        let recorded_all = flat_map entry_bytes s.cut.last ++ end_of r given in
         record {
           cut = s.cut;
           sent = u.sent;
-          bytes = p.bytes;
-          entries = e.bytes;
+          bytes = shared (added_in played s.part) played_all;
+          entries = shared (added_in recording s.part) recorded_all;
           sent_front = u.front;
-          bytes_front = subst (IsFront p.bytes) (append-nil _ ∙ over-plays r s.cut.whole s.cut.last) p.front;
-          entries_front = subst (λ ys. IsFront e.bytes (ys ++ end_of r given)) (over-entries s.cut.whole s.cut.last) e.front;
+          bytes_front = shared-front (added_in played s.part) played_all;
+          entries_front = shared-front (added_in recording s.part) recorded_all;
           sent_is = u.is;
-          played_is = subst (λ ys. AddedTo played (ys ++ p.bytes)) (over-plays r [] s.cut.whole) p.is;
-          recorded_is = subst (λ ys. AddedTo recording (ys ++ e.bytes)) (over-entries [] s.cut.whole) e.is;
+          played_is = λ apart.
+              let y = yields-played recording played apart.differ r in
+              let none = played-behind given apart.differ apart.played_apart in
+              subst (λ ys. AddedTo played (concat (contents_over r [] s.cut.whole) ++ ys))
+              (sym (shared-same (added_in played s.part) played_all
+              (subst (IsFront (added_in played s.part)) (append-nil _ ∙ over-plays r s.cut.whole s.cut.last)
+              (given-part the_lay r (added_by played) (plays_bytes r) y given (the_tail given) h.done s [] none))))
+              (subst (λ ys. AddedTo played (ys ++ added_in played s.part)) (over-plays r [] s.cut.whole)
+              (file-until played (plays_bytes r) y apart.played_apart h.done h.begun h.ran s));
+          recorded_is = λ apart.
+              let y = yields-entries recording played apart.differ r in
+              let end = recorded-behind given apart.recording_apart in
+              subst (λ ys. AddedTo recording (flat_map entry_bytes s.cut.whole ++ ys))
+              (sym (shared-same (added_in recording s.part) recorded_all
+              (subst (λ ys. IsFront (added_in recording s.part) (ys ++ end_of r given)) (over-entries s.cut.whole s.cut.last)
+              (given-part the_lay r (added_by recording) has_entry y given (the_tail given) h.done s (end_of r given) end))))
+              (subst (λ ys. AddedTo recording (ys ++ added_in recording s.part)) (over-entries [] s.cut.whole)
+              (file-until recording has_entry y apart.recording_apart h.done h.begun h.ran s));
         }
 
     -- ---- what a file has of a whole run

@@ -6,41 +6,45 @@ use Rattle.bar_wire.specs.Inputs.{Input}
 use Rattle.bar_record.specs.Recording.{entry_bytes}
 use Rattle.bar_outside.specs.Wire.{Traffic, Wire, Arrival, Tick, Datagram, End, gave}
 use Rattle.bar_outside.specs.declared.fault.Fault.{Fault}
-use Rattle.bar_outside.specs.Plan.{Outside, Action, LinkCall, Ran, Begun, IsPartOf, IsPartOfNext, traffic_after, traffic_by}
+use Rattle.bar_outside.specs.Plan.{Outside, Action, LinkCall, Ran, Begun, IsPartOf, IsPartOfNext, shown, traffic_after, traffic_by}
 use Rattle.bar_outside.specs.Plan.Action.{read, create, append, show, link}
 use Rattle.bar_outside.specs.Plan.LinkCall.{bind, receive, send}
 use Rattle.bar_outside.specs.Follows.{Follows}
 use Rattle.bar_core.specs.Rules.{Rules, Send}
 use Rattle.bar_node.specs.Turns.{turn, turns, node_layout, kept, sent}
+use Rattle.bar_node.specs.Effects.{received_by, received_in}
 use Rattle.bar_node.specs.Runs.{heard, has_end}
-use Rattle.bar_node.proofs.TurnLists.{received, received_by}
 
--- ---- actions by which the link gives nothing, and isn't bound
+-- ---- actions by which the link gives nothing and isn't bound, and which print nothing
 
-abbrev pub CallsNothing : LinkCall → Type 0
-CallsNothing (bind to) = ⊥
-CallsNothing (receive None) = Unit {0}
-CallsNothing (receive (Some arrival)) = ⊥
-CallsNothing (send to bytes) = Unit {0}
+abbrev pub IsQuietCall : LinkCall → Type 0
+IsQuietCall (bind to) = ⊥
+IsQuietCall (receive None) = Unit {0}
+IsQuietCall (receive (Some arrival)) = ⊥
+IsQuietCall (send to bytes) = Unit {0}
 
-abbrev pub TakesNothing : Action → Type 0
-TakesNothing (read path) = Unit {0}
-TakesNothing (create path) = Unit {0}
-TakesNothing (append path bytes) = Unit {0}
-TakesNothing (show bytes) = Unit {0}
-TakesNothing (link call) = CallsNothing call
+abbrev pub IsQuiet : Action → Type 0
+IsQuiet (read path) = Unit {0}
+IsQuiet (create path) = Unit {0}
+IsQuiet (append path bytes) = Unit {0}
+IsQuiet (show bytes) = ⊥
+IsQuiet (link call) = IsQuietCall call
 
-abbrev pub TakeNothing : List Action → Type 0
-TakeNothing [] = Unit {0}
-TakeNothing (a ∷ acts) = TakesNothing a × TakeNothing acts
+abbrev pub AreQuiet : List Action → Type 0
+AreQuiet [] = Unit {0}
+AreQuiet (a ∷ acts) = IsQuiet a × AreQuiet acts
 
-pub take-nothing-both : (xs ys : List Action) → TakeNothing xs → TakeNothing ys → TakeNothing (xs ++ ys)
-take-nothing-both [] ys h k = k
-take-nothing-both (x ∷ xs) ys h k = (h.0, take-nothing-both xs ys h.1 k)
+pub quiet-both : (xs ys : List Action) → AreQuiet xs → AreQuiet ys → AreQuiet (xs ++ ys)
+quiet-both [] ys h k = k
+quiet-both (x ∷ xs) ys h k = (h.0, quiet-both xs ys h.1 k)
 
-take-nothing-front : (xs ys : List Action) → TakeNothing (xs ++ ys) → TakeNothing xs
-take-nothing-front [] ys h = tt
-take-nothing-front (x ∷ xs) ys h = (h.0, take-nothing-front xs ys h.1)
+quiet-front : (xs ys : List Action) → AreQuiet (xs ++ ys) → AreQuiet xs
+quiet-front [] ys h = tt
+quiet-front (x ∷ xs) ys h = (h.0, quiet-front xs ys h.1)
+
+quiet-rest : (xs ys : List Action) → AreQuiet (xs ++ ys) → AreQuiet ys
+quiet-rest [] ys h = h
+quiet-rest (x ∷ xs) ys h = quiet-rest xs ys h.1
 
 -- no call of the link is a part of an action
 pub no-link-part : (call : LinkCall) (b : Action) → IsPartOf (link call) b → ⊥
@@ -50,24 +54,32 @@ no-link-part call (append path bytes) h = h
 no-link-part call (show bytes) h = h
 no-link-part call (link other) h = h
 
-take-nothing-part : (part rest : List Action) → IsPartOfNext part rest → TakeNothing part
-take-nothing-part [] rest h = tt
-take-nothing-part (a ∷ []) [] h = absurd h
-take-nothing-part (link call ∷ []) (b ∷ rest) h = absurd (no-link-part call b h)
-take-nothing-part (read path ∷ []) (b ∷ rest) h = (tt, tt)
-take-nothing-part (create path ∷ []) (b ∷ rest) h = (tt, tt)
-take-nothing-part (append path bytes ∷ []) (b ∷ rest) h = (tt, tt)
-take-nothing-part (show bytes ∷ []) (b ∷ rest) h = (tt, tt)
-take-nothing-part (a ∷ b ∷ more) rest h = absurd h
+-- nor of a quiet one what is printed
+no-show-part : (bytes : List ℕ) (b : Action) → IsPartOf (show bytes) b → IsQuiet b → ⊥
+no-show-part bytes (read path) h k = h
+no-show-part bytes (create path) h k = h
+no-show-part bytes (append path whole) h k = h
+no-show-part bytes (show whole) h k = k
+no-show-part bytes (link call) h k = h
+
+quiet-part : (part rest : List Action) → IsPartOfNext part rest → AreQuiet rest → AreQuiet part
+quiet-part [] rest h k = tt
+quiet-part (a ∷ []) [] h k = absurd h
+quiet-part (link call ∷ []) (b ∷ rest) h k = absurd (no-link-part call b h)
+quiet-part (read path ∷ []) (b ∷ rest) h k = (tt, tt)
+quiet-part (create path ∷ []) (b ∷ rest) h k = (tt, tt)
+quiet-part (append path bytes ∷ []) (b ∷ rest) h k = (tt, tt)
+quiet-part (show bytes ∷ []) (b ∷ rest) h k = absurd (no-show-part bytes b h k.0)
+quiet-part (a ∷ b ∷ more) rest h k = absurd h
 
 -- so does what was done of them
-pub take-nothing-begun : (plan done : List Action) → TakeNothing plan → Begun plan done → TakeNothing done
-take-nothing-begun plan done h b =
-    subst TakeNothing (sym b.done_is)
-    (take-nothing-both b.front b.part (take-nothing-front b.front b.rest (subst TakeNothing b.plan_is h))
-    (take-nothing-part b.part b.rest b.part_is))
+pub quiet-begun : (plan done : List Action) → AreQuiet plan → Begun plan done → AreQuiet done
+quiet-begun plan done h b =
+    let all = subst AreQuiet b.plan_is h in
+    subst AreQuiet (sym b.done_is)
+    (quiet-both b.front b.part (quiet-front b.front b.rest all) (quiet-part b.part b.rest b.part_is (quiet-rest b.front b.rest all)))
 
-received-one : (a : Action) → TakesNothing a → received_by a ≡ []
+received-one : (a : Action) → IsQuiet a → received_by a ≡ []
 received-one (link (receive None)) h = refl
 received-one (link (receive (Some arrival))) h = absurd h
 received-one (link (bind to)) h = absurd h
@@ -75,12 +87,21 @@ received-one (link (send to bytes)) h = refl
 received-one (read path) h = refl
 received-one (create path) h = refl
 received-one (append path bytes) h = refl
-received-one (show bytes) h = refl
+received-one (show bytes) h = absurd h
 
 -- nothing is received by them
-pub received-nothing : (acts : List Action) → TakeNothing acts → received acts ≡ []
-received-nothing [] h = refl
-received-nothing (a ∷ acts) h = ap (λ xs. xs ++ received acts) (received-one a h.0) ∙ received-nothing acts h.1
+pub received-quiet : (acts : List Action) → AreQuiet acts → received_in acts ≡ []
+received-quiet [] h = refl
+received-quiet (a ∷ acts) h = ap (λ xs. xs ++ received_in acts) (received-one a h.0) ∙ received-quiet acts h.1
+
+-- and nothing is printed
+pub shown-quiet : (acts : List Action) → AreQuiet acts → shown acts ≡ []
+shown-quiet [] h = refl
+shown-quiet (link call ∷ acts) h = shown-quiet acts h.1
+shown-quiet (read path ∷ acts) h = shown-quiet acts h.1
+shown-quiet (create path ∷ acts) h = shown-quiet acts h.1
+shown-quiet (append path bytes ∷ acts) h = shown-quiet acts h.1
+shown-quiet (show bytes ∷ acts) h = absurd h.0
 
 -- ---- what a link gave stays as it was
 
@@ -88,7 +109,7 @@ pub record SameTaken (old new : Traffic) : Type 0 where
   pub taken : new.taken ≡ old.taken
   pub ended : new.ended ≡ old.ended
 
-same-by : (a : Action) (t : Traffic) → TakesNothing a → SameTaken t (traffic_by a t)
+same-by : (a : Action) (t : Traffic) → IsQuiet a → SameTaken t (traffic_by a t)
 same-by (link (receive None)) t h = record { taken = refl; ended = refl }
 same-by (link (receive (Some arrival))) t h = absurd h
 same-by (link (bind to)) t h = absurd h
@@ -96,53 +117,53 @@ same-by (link (send to bytes)) t h = record { taken = refl; ended = refl }
 same-by (read path) t h = record { taken = refl; ended = refl }
 same-by (create path) t h = record { taken = refl; ended = refl }
 same-by (append path bytes) t h = record { taken = refl; ended = refl }
-same-by (show bytes) t h = record { taken = refl; ended = refl }
+same-by (show bytes) t h = absurd h
 
-same-after : (acts : List Action) (t : Traffic) → TakeNothing acts → SameTaken t (traffic_after acts t)
+same-after : (acts : List Action) (t : Traffic) → AreQuiet acts → SameTaken t (traffic_after acts t)
 same-after [] t h = record { taken = refl; ended = refl }
 same-after (a ∷ acts) t h =
     let one = same-by a t h.0 in
     let rest = same-after acts (traffic_by a t) h.1 in
     record { taken = rest.taken ∙ one.taken; ended = rest.ended ∙ one.ended }
 
-same-ran : (done : List Action) (old new : Outside) → TakeNothing done → IsTrue old.wire.told → Ran done old new →
+same-ran : (done : List Action) (old new : Outside) → AreQuiet done → IsTrue old.wire.told → Ran done old new →
     SameTaken old.wire.traffic new.wire.traffic
 same-ran done old new h told ran = subst (SameTaken old.wire.traffic) (sym (ran.wire told)) (same-after done old.wire.traffic h)
 
 -- so it does under a plan that takes nothing, wherever it was stopped
-pub same-taken : {T : Type 0} (plan : List Action) (old new : Outside) (q : Result T Fault) → TakeNothing plan → IsTrue old.wire.told →
+pub same-taken : {T : Type 0} (plan : List Action) (old new : Outside) (q : Result T Fault) → AreQuiet plan → IsTrue old.wire.told →
     Follows plan old new q → SameTaken old.wire.traffic new.wire.traffic
 same-taken plan old new (Ok y) h told f = same-ran plan old new h told f.done
 same-taken plan old new (Err fault) h told f =
-    same-ran f.part.done old new (take-nothing-begun plan f.part.done h f.part.begun) told f.part.ran
+    same-ran f.part.done old new (quiet-begun plan f.part.done h f.part.begun) told f.part.ran
 
 -- ---- the turns of a node take nothing
 
-nothing-kept : (path : Option (List ℕ)) (bytes : List ℕ) → TakeNothing (kept path bytes)
-nothing-kept None bytes = tt
-nothing-kept (Some path) bytes = (tt, tt)
+pub quiet-kept : (path : Option (List ℕ)) (bytes : List ℕ) → AreQuiet (kept path bytes)
+quiet-kept None bytes = tt
+quiet-kept (Some path) bytes = (tt, tt)
 
-nothing-plays : (path : Option (List ℕ)) (contents : List (List ℕ)) → TakeNothing (flat_map (kept path) contents)
-nothing-plays path [] = tt
-nothing-plays path (x ∷ xs) = take-nothing-both (kept path x) (flat_map (kept path) xs) (nothing-kept path x) (nothing-plays path xs)
+quiet-plays : (path : Option (List ℕ)) (contents : List (List ℕ)) → AreQuiet (flat_map (kept path) contents)
+quiet-plays path [] = tt
+quiet-plays path (x ∷ xs) = quiet-both (kept path x) (flat_map (kept path) xs) (quiet-kept path x) (quiet-plays path xs)
 
-nothing-sends : (number : ℕ) (sends : List Send) → TakeNothing (flat_map (sent number) sends)
-nothing-sends number [] = tt
-nothing-sends number (x ∷ xs) = (tt, nothing-sends number xs)
+quiet-sends : (number : ℕ) (sends : List Send) → AreQuiet (flat_map (sent number) sends)
+quiet-sends number [] = tt
+quiet-sends number (x ∷ xs) = (tt, quiet-sends number xs)
 
-nothing-turn : (recording played : Option (List ℕ)) (r : Rules) (before : List Input) (input : Input) →
-    TakeNothing (turn (node_layout recording played) r before input)
-nothing-turn recording played r before input =
-    take-nothing-both (kept recording (entry_bytes input)) _ (nothing-kept recording (entry_bytes input))
-    (take-nothing-both (flat_map (kept played) (r.contents before input)) _ (nothing-plays played (r.contents before input))
-    (nothing-sends (length before + 1) (r.sends before input)))
+quiet-turn : (recording played : Option (List ℕ)) (r : Rules) (before : List Input) (input : Input) →
+    AreQuiet (turn (node_layout recording played) r before input)
+quiet-turn recording played r before input =
+    quiet-both (kept recording (entry_bytes input)) _ (quiet-kept recording (entry_bytes input))
+    (quiet-both (flat_map (kept played) (r.contents before input)) _ (quiet-plays played (r.contents before input))
+    (quiet-sends (length before + 1) (r.sends before input)))
 
-pub nothing-turns : (recording played : Option (List ℕ)) (r : Rules) (before inputs : List Input) →
-    TakeNothing (turns (node_layout recording played) r before inputs)
-nothing-turns recording played r before [] = tt
-nothing-turns recording played r before (x ∷ xs) =
-    take-nothing-both (turn (node_layout recording played) r before x) _ (nothing-turn recording played r before x)
-    (nothing-turns recording played r (before ++ x ∷ []) xs)
+pub quiet-turns : (recording played : Option (List ℕ)) (r : Rules) (before inputs : List Input) →
+    AreQuiet (turns (node_layout recording played) r before inputs)
+quiet-turns recording played r before [] = tt
+quiet-turns recording played r before (x ∷ xs) =
+    quiet-both (turn (node_layout recording played) r before x) _ (quiet-turn recording played r before x)
+    (quiet-turns recording played r (before ++ x ∷ []) xs)
 
 -- ---- what a link gave
 

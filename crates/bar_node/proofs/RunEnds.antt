@@ -1,25 +1,26 @@
 -- How a run over a link ends.
-use Rattle.std.proofs.Common.{◌≡◌, ◌∙◌, ℕ, ◌+◌, ◌≤◌, cond, min, Bool, true, false, ◌||◌, List, [], ◌∷◌, ◌++◌, refl, sym, subst, arith, append-nil, Option, None, Result, Ok, Err}
+use Rattle.std.proofs.Common.{◌≡◌, ◌∙◌, ℕ, cond, min, Bool, true, false, List, [], ◌∷◌, ◌++◌, refl, sym, subst, arith, append-nil, Option, None, Result, Ok, Err}
 use Rattle.bar_wire.specs.Inputs.{Input}
 use Rattle.bar_record.specs.Pacing.{paced, ticks_of}
 use Rattle.bar_record.proofs.PacingLemmas.{few_ticks}
 use Rattle.bar_outside.specs.Disk.{Disk}
-use Rattle.bar_outside.specs.Wire.{Wire, Arrival}
+use Rattle.bar_outside.specs.Wire.{Wire}
 use Rattle.bar_outside.specs.declared.fault.Fault.{Fault}
 use Rattle.bar_outside.specs.declared.fault.Fault.TheVariants.{NoMemory}
-use Rattle.bar_outside.specs.Plan.{Outside, Action, with_files, with_wire}
+use Rattle.bar_outside.specs.Plan.{Outside, Action, Begun, Ran, with_files, with_wire}
 use Rattle.bar_outside.specs.Plan.Action.{link}
 use Rattle.bar_outside.specs.Plan.LinkCall.{receive}
 use Rattle.bar_outside.specs.Follows.{Follows}
-use Rattle.bar_outside.proofs.ActionLists.{Ran-append}
-use Rattle.bar_outside.proofs.Following.{true-not_false, answered, followed, stopped, handed, no_memory}
+use Rattle.bar_outside.proofs.ActionLists.{Begun-nothing, Begun-whole, Ran-append}
+use Rattle.bar_outside.proofs.Following.{Ran-nothing, true-not_false, answered, followed, stopped, handed, no_memory}
 use Rattle.bar_core.specs.Rules.{Rules}
 use Rattle.bar_node.specs.Turns.{node_layout}
 use Rattle.bar_node.specs.Counting.{counts_over}
-use Rattle.bar_node.specs.Runs.{RanInputs, RanNode, behind, closing, has_end, inputs_of, is_ended, node_from, node_plan, summary_of, taken_of}
+use Rattle.bar_node.specs.Runs.{HasDone, RanInputs, RanNode, closing, is_ended, node_from, node_plan, summary_of, taken_of}
 use Rattle.bar_node.specs.declared.counts.Counts.{Counts}
 use Rattle.bar_node.specs.declared.summary.Summary.{Summary}
-use Rattle.bar_node.proofs.Receiving.{heard-none}
+use Rattle.bar_node.proofs.Receiving.{heard-none, quiet-turns}
+use Rattle.bar_node.proofs.Doing.{beside, did-before, did-behind, given-none, quiet-closing, received-node, shown-node}
 
 -- a plan of inputs that was stopped, and what was to come behind it
 module _ {S T : Type 0} (front more asked : List Action) (old new : Outside) (fault : Fault) where
@@ -42,12 +43,13 @@ module _ (recording played : Option (List ℕ)) (found : List ℕ) (r : Rules) (
   pub not-run : RanNode recording played found r now files files wire wire (Err NoMemory)
   not-run = record {
     given = [];
+    is_given = given-none r;
     follows = λ w. no_memory _ _;
+    did = record { done = []; begun = Begun-nothing _; received = refl; ran = λ w. Ran-nothing _ };
     taken = λ told. (heard-none wire).taken;
     told_end = λ told. (heard-none wire).ended;
     stands = tt;
     ended = tt;
-    after_end = λ e. absurd (true-not_false (sym e));
     summary = tt;
   }
 
@@ -57,14 +59,16 @@ module _ (recording played : Option (List ℕ)) (found : List ℕ) (r : Rules) (
         RanNode recording played found r now files files_at wire wire_at (Err fault)
     run-failed fault i = record {
       given = i.given;
+      is_given = i.is_given;
       follows = λ w.
           stopped-before (node_from (node_layout recording played) r [] 0 i.given) (closing recording found r (taken_of r i.given))
           (link (receive None) ∷ []) _ _ fault (is_ended r i.given) (i.follows w);
       taken = i.taken;
       told_end = i.told_end;
+      did = did-before i.given files files_at wire wire_at (node_from (node_layout recording played) r [] 0 i.given)
+          (closing recording found r (taken_of r i.given)) (link (receive None) ∷ []) (is_ended r i.given) i.did;
       stands = tt;
       ended = tt;
-      after_end = λ e. absurd (true-not_false (sym e ∙ i.goes_on));
       summary = tt;
     }
 
@@ -97,6 +101,20 @@ module _ (recording played : Option (List ℕ)) (found : List ℕ) (r : Rules) (
           (subst (λ b. Follows (node_from (node_layout recording played) r [] 0 i.given ++ cond b [] (link (receive None) ∷ []))
           (with_wire (with_files w files) wire) (with_wire (with_files w files_at) wire_at) (Ok counts)) i.ended (i.follows w))
 
+      -- some of its closing was done
+      did-closed : (files_new : Disk) (part : List Action) → Begun (closing recording found r (taken_of r i.given)) part →
+          Ran part (beside files_at wire_at) (beside files_new wire_at) →
+          HasDone (node_plan recording played found r i.given) i.given files files_new wire wire_at
+      did-closed files_new part begun ran =
+          let lay = node_layout recording played in
+          let front = node_from lay r [] 0 i.given in
+          let more = closing recording found r (taken_of r i.given) in
+          let first = turned (beside files wire) in
+          subst (λ b. HasDone (front ++ cond b more (link (receive None) ∷ [])) i.given files files_new wire wire_at) (sym i.ended)
+          (did-behind i.given files files_new wire wire_at front more part (received-node lay (quiet-turns recording played) r [] 0 i.given)
+          (shown-node lay (quiet-turns recording played) r [] 0 i.given) (quiet-closing recording found r (taken_of r i.given)) begun
+          (Ran-append front part _ _ _ first.later first.done ran))
+
       -- a fault stopped its closing
       pub close-failed : {S : Type 0} (files_new : Disk) (fault : Fault) →
           ((w : Outside) → Follows {T = S} (closing recording found rules_at (taken_of r i.given))
@@ -104,15 +122,13 @@ module _ (recording played : Option (List ℕ)) (found : List ℕ) (r : Rules) (
           RanNode recording played found r now files files_new wire wire_at (Err fault)
       close-failed files_new fault f = record {
         given = i.given;
+        is_given = i.is_given;
         follows = λ w. handed _ _ _ fault (closes files_new (Err fault) f w);
+        did = let part = (closed files_new (Err fault) f (beside files_at wire_at)).part in did-closed files_new part.done part.begun part.ran;
         taken = i.taken;
         told_end = i.told_end;
         stands = tt;
         ended = tt;
-        after_end = λ e w.
-            let first = turned w in
-            let second = (closed files_new (Err fault) f (with_wire w wire_at)).part in
-            (second.done, second.begun, Ran-append _ second.done _ _ _ first.later first.done second.ran);
         summary = tt;
       }
 
@@ -124,12 +140,13 @@ module _ (recording played : Option (List ℕ)) (found : List ℕ) (r : Rules) (
           RanNode recording played found r now files files_new wire wire_at (Ok summary)
       run-done files_new y summary f stands e = record {
         given = i.given;
+        is_given = i.is_given;
         follows = λ w. answered _ _ _ y summary (closes files_new (Ok y) f w);
         taken = i.taken;
         told_end = i.told_end;
+        did = did-closed files_new (closing recording found r (taken_of r i.given)) (Begun-whole _) (closed files_new (Ok y) f (beside files_at wire_at)).done;
         stands = stands;
         ended = i.ended;
-        after_end = tt;
         summary = e;
       }
 

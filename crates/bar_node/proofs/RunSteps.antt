@@ -1,27 +1,30 @@
 -- The exits of a run over what a link gives.
-use Rattle.std.proofs.Common.{◌≡◌, ◌≤◌, ◌<◌, ℕ, nat_le, min, cond, Bool, true, false, ◌||◌, List, [], ◌∷◌, ◌++◌, refl, sym, ap, ◌∙◌, subst, arith, append-nil, IsTrue, Option, Some, None, Result, Ok, Err}
+use Rattle.std.proofs.Common.{◌≡◌, ◌≤◌, ◌<◌, ℕ, nat_le, min, cond, Bool, true, false, List, [], ◌∷◌, ◌++◌, refl, sym, ap, ◌∙◌, subst, append-nil, IsTrue, IfSome, Some, None, Result, Ok, Err}
 use Rattle.std.proofs.lemmas.Bool.{or_from, or_left, or_right}
-use Rattle.std.proofs.Math.Bool.{or-false}
 use Rattle.bar_wire.specs.Inputs.{Input}
 use Rattle.bar_record.specs.Pacing.{due, is_datagram, run_after, ticks_of}
 use Rattle.bar_outside.specs.Disk.{Disk}
 use Rattle.bar_outside.specs.Wire.{Wire, Arrival, Tick, Datagram, End}
 use Rattle.bar_outside.specs.declared.fault.Fault.{Fault}
-use Rattle.bar_outside.specs.Plan.{Outside, Action, with_files, with_wire}
+use Rattle.bar_outside.specs.Faults.{code_of_fault}
+use Rattle.bar_outside.specs.Plan.{Outside, Action, Reached, with_files, with_wire}
 use Rattle.bar_outside.specs.Plan.Action.{link}
 use Rattle.bar_outside.specs.Plan.LinkCall.{receive}
 use Rattle.bar_outside.specs.Follows.{Follows}
+use Rattle.bar_outside.proofs.ActionLists.{Ran-append}
 use Rattle.bar_outside.proofs.Following.{answered, followed, handed, nothing_done, stopped}
 use Rattle.bar_core.specs.Rules.{Rules}
 use Rattle.bar_core.specs.Face.{Face, IsIdle}
 use Rattle.bar_node.specs.Turns.{Layout, turns}
 use Rattle.bar_node.specs.Taking.{Took}
 use Rattle.bar_node.specs.Counting.{both}
-use Rattle.bar_node.specs.Runs.{input_of, has_end, due_if, run_if, node_from, is_ended, taken_of, RanInputs}
+use Rattle.bar_node.specs.Runs.{input_of, has_end, due_if, run_if, node_from, is_ended, taken_of, HasDone, IsGiven, RanInputs}
 use Rattle.bar_node.specs.declared.counts.Counts.{Counts}
 use Rattle.bar_node.proofs.Turning.{took-both, took-along}
-use Rattle.bar_record.proofs.DueLemmas.{all-count, row-stays, ticks-early, ticks-late}
-use Rattle.bar_node.proofs.Receiving.{Heard, TakeNothing, SameTaken, has_end-append, heard-more, heard-still, same-taken}
+use Rattle.bar_record.proofs.DueLemmas.{all-count, not-late, row-stays, ticks-early, ticks-late}
+use Rattle.bar_record.specs.Recording.{IsInRange}
+use Rattle.bar_node.proofs.Doing.{IsSilent, beside, did-all, did-behind, did-longer, did-turns, given-more, received-node, shown-node}
+use Rattle.bar_node.proofs.Receiving.{Heard, has_end-append, heard-more, heard-still, same-taken}
 use Rattle.bar_node.proofs.Arriving.{run_from, due_next, taken-next, arrive, run_from-append}
 
 -- some arrivals, none of which is the end, and what was done over them
@@ -30,6 +33,7 @@ pub record Arrived (lay : Layout) (now : List Input → Type 0) (r : Rules) (at 
   pub rules : at.rules ≡ r
   pub idle : IsIdle at
   pub given : List Arrival
+  pub is_given : IsGiven r given
   pub took : Took [] now r (taken_of r given) counts
   pub goes_on : has_end given ≡ false
   pub run_is : run ≡ run_from 0 given
@@ -37,14 +41,6 @@ pub record Arrived (lay : Layout) (now : List Input → Type 0) (r : Rules) (at 
   pub follows : (w : Outside) → Follows {T = Unit {0}} (node_from lay r [] 0 given)
       (with_wire (with_files w files) wire) (with_wire (with_files w files_at) wire_at) (Ok tt)
   pub gave : IsTrue wire.told → Heard given wire wire_at
-
--- no turn takes anything from the link
-abbrev pub IsSilent : Layout → Type 0
-IsSilent lay = (r : Rules) (before inputs : List Input) → TakeNothing (turns lay r before inputs)
-
--- some outside; what the link tells doesn't depend on it
-some_outside : Disk → Wire → Outside
-some_outside files wire = record { files = files; out = record { told = false; reliable = true; bytes = []; faults = 0 }; wire = wire }
 
 -- ---- whether the run is at its end
 
@@ -74,12 +70,19 @@ module _ {T : Type 0} (plan more : List Action) (old new : Outside) where
 
 module _ (lay : Layout) (now : List Input → Type 0) (r : Rules) (at : Face) (run : ℕ) (files files_at : Disk) (wire wire_at : Wire)
     (counts : Counts) (i : Arrived lay now r at run files files_at wire wire_at counts)
-    (timed : at.ticks ≡ min (ticks_of (taken_of r i.given)) at.rules.last) where
+    (timed : at.ticks ≡ min (ticks_of (taken_of r i.given)) at.rules.last) (silent : IsSilent lay) where
   last-is : at.rules.last ≡ r.last
   last-is = ap (λ (rules : Rules). rules.last) i.rules
 
   told-at : IsTrue wire.told → IsTrue wire_at.told
-  told-at told = subst IsTrue (sym (i.follows (some_outside files wire)).later.wire_told) told
+  told-at told = subst IsTrue (sym (i.follows (beside files wire)).later.wire_told) told
+
+  -- where the time isn't over, the run isn't at its end
+  goes-on : false ≡ nat_le at.rules.last at.ticks → is_ended r i.given ≡ false
+  goes-on goes = or_from _ _ i.goes_on (ticks-early (taken_of r i.given) _ _ _ timed last-is goes)
+
+  first : Follows {T = Unit {0}} (node_from lay r [] 0 i.given) (beside files wire) (beside files_at wire_at) (Ok tt)
+  first = i.follows (beside files wire)
 
   -- ---- at the link
 
@@ -90,22 +93,29 @@ module _ (lay : Layout) (now : List Input → Type 0) (r : Rules) (at : Face) (r
       RanInputs lay later r files files_at wire wire_new (Err fault)
   failed-receiving later wire_new fault goes f = record {
     given = i.given;
+    is_given = i.is_given;
     follows = λ w.
-        before-its-end _ _ _ _ (is_ended r i.given) (Err fault)
-        (or_from _ _ i.goes_on (ticks-early (taken_of r i.given) _ _ _ timed last-is goes))
+        before-its-end _ _ _ _ (is_ended r i.given) (Err fault) (goes-on goes)
         (followed _ _ _ _ _ (tt {0}) (i.follows w) (Err fault) (handed _ _ _ fault (f (with_files w files_at))));
     taken = λ told. (gave_new told).taken;
     told_end = λ told. (gave_new told).ended;
+    did = subst (λ b. HasDone (node_from lay r [] 0 i.given ++ cond b [] (link (receive None) ∷ [])) i.given files files_at wire wire_new)
+        (sym (goes-on goes))
+        (did-behind i.given files files_at wire wire_new (node_from lay r [] 0 i.given) (link (receive None) ∷ []) asking.done
+        (received-node lay silent r [] 0 i.given) (shown-node lay silent r [] 0 i.given) (tt, tt) asking.begun
+        (Ran-append (node_from lay r [] 0 i.given) asking.done _ _ _ first.later first.done asking.ran));
     took = tt;
     ended = tt;
-    goes_on = i.goes_on;
   }
     where
+      asking : Reached (link (receive None) ∷ []) (code_of_fault fault) (beside files_at wire_at) (beside files_at wire_new)
+      asking = (f (beside files_at wire_at)).part
+
       gave_new : IsTrue wire.told → Heard i.given wire wire_new
       gave_new told =
           heard-still i.given wire wire_at wire_new (i.gave told)
-          (same-taken (link (receive None) ∷ []) (with_wire (some_outside files_at wire_at) wire_at)
-          (with_wire (some_outside files_at wire_at) wire_new) (Err fault) (tt, tt) (told-at told) (f (some_outside files_at wire_at)))
+          (same-taken (link (receive None) ∷ []) (beside files_at wire_at) (beside files_at wire_new) (Err fault) (tt, tt) (told-at told)
+          (f (beside files_at wire_at)))
 
   -- the last tick was taken
   pub at-last : true ≡ nat_le at.rules.last at.ticks → RanInputs lay now r files files_at wire wire_at (Ok counts)
@@ -113,50 +123,58 @@ module _ (lay : Layout) (now : List Input → Type 0) (r : Rules) (at : Face) (r
       let ended = or_right (has_end i.given) _ (ticks-late (taken_of r i.given) _ _ _ timed last-is over) in
       record {
         given = i.given;
+        is_given = i.is_given;
         follows = λ w. at-its-end _ _ _ _ (is_ended r i.given) (Ok counts) ended (answered _ _ _ (tt {0}) counts (i.follows w));
+        did = did-all lay silent r i.given files files_at wire wire_at ended first.done;
         taken = λ told. (i.gave told).taken;
         told_end = λ told. (i.gave told).ended;
         took = i.took;
         ended = ended;
-        goes_on = tt;
       }
 
   module _ (wire_mid : Wire) (a : Arrival) {S : Type 0} (y : S)
       (f : (w : Outside) → Follows (link (receive (Some a)) ∷ []) (with_wire w wire_at) (with_wire w wire_mid) (Ok y)) where
     told-mid : IsTrue wire.told → IsTrue wire_mid.told
-    told-mid told = subst IsTrue (sym (f (some_outside files_at wire_at)).later.wire_told) (told-at told)
+    told-mid told = subst IsTrue (sym (f (beside files_at wire_at)).later.wire_told) (told-at told)
 
     gave-mid : IsTrue wire.told → Heard (i.given ++ a ∷ []) wire wire_mid
     gave-mid told =
-        heard-more a i.given wire (with_wire (some_outside files_at wire_at) wire_at) (with_wire (some_outside files_at wire_at) wire_mid) y
-        (told-at told) (i.gave told) (f (some_outside files_at wire_at))
+        heard-more a i.given wire (beside files_at wire_at) (beside files_at wire_mid) y (told-at told) (i.gave told)
+        (f (beside files_at wire_at))
 
     -- the end was given
-    pub at-end : None ≡ input_of a → RanInputs lay now r files files_at wire wire_mid (Ok counts)
-    at-end e =
+    pub at-end : false ≡ nat_le at.rules.last at.ticks → None ≡ input_of a → RanInputs lay now r files files_at wire wire_mid (Ok counts)
+    at-end goes e =
         let none : due_next lay r i.given a ≡ [] =
         ap (λ o. due_if r.last (ticks_of (taken_of r i.given)) (run_from 0 i.given) o) (sym e) in
         let ended = or_left (has_end (i.given ++ a ∷ [])) _ (has_end-append i.given (a ∷ []) ∙ or_right _ _ (is-end a e)) in
+        let arrived = λ (w : Outside).
+        arrive lay r i.given a _ _ _ _ (tt {0}) y (Ok counts) (i.follows w) (f (with_files w files_at))
+        (subst (λ ds. Follows (turns lay r (taken_of r i.given) ds) (with_wire (with_files w files_at) wire_mid)
+        (with_wire (with_files w files_at) wire_mid) (Ok counts)) (sym none)
+        (answered [] _ _ (tt {0}) counts (nothing_done (with_wire (with_files w files_at) wire_mid)))) in
         record {
           given = i.given ++ a ∷ [];
-          follows = λ w.
-              at-its-end _ _ _ _ (is_ended r (i.given ++ a ∷ [])) (Ok counts) ended
-              (arrive lay r i.given a _ _ _ _ (tt {0}) y (Ok counts) (i.follows w) (f (with_files w files_at))
-              (subst (λ ds. Follows (turns lay r (taken_of r i.given) ds) (with_wire (with_files w files_at) wire_mid)
-              (with_wire (with_files w files_at) wire_mid) (Ok counts)) (sym none)
-              (answered [] _ _ (tt {0}) counts (nothing_done (with_wire (with_files w files_at) wire_mid)))));
+          is_given = given-more r i.given a i.is_given (goes-on goes) (subst (λ o. IfSome o IsInRange) e tt);
+          follows = λ w. at-its-end _ _ _ _ (is_ended r (i.given ++ a ∷ [])) (Ok counts) ended (arrived w);
+          did = did-all lay silent r (i.given ++ a ∷ []) files files_at wire wire_mid ended (arrived (beside files wire)).done;
           taken = λ told. (gave-mid told).taken;
           told_end = λ told. (gave-mid told).ended;
           took =
               took-along _ _ _ _ _ _
               (taken-next lay r i.given a ∙ ap (λ ds. taken_of r i.given ++ ds) none ∙ append-nil (taken_of r i.given)) i.took;
           ended = ended;
-          goes_on = tt;
         }
 
     -- ---- at the turns of what is due
 
-    module _ (input : Input) (is : Some input ≡ input_of a) (goes : at.ticks < at.rules.last) where
+    module _ (input : Input) (is : Some input ≡ input_of a) (fits : IsInRange input) (early : false ≡ nat_le at.rules.last at.ticks) where
+      goes : at.ticks < at.rules.last
+      goes = not-late _ _ early
+
+      given-now : IsGiven r (i.given ++ a ∷ [])
+      given-now = given-more r i.given a i.is_given (goes-on early) (subst (λ o. IfSome o IsInRange) is fits)
+
       same-due : due at.rules.last at.ticks run input ≡ due_next lay r i.given a
       same-due =
           let t : at.ticks ≡ ticks_of (taken_of r i.given) = sym (all-count (taken_of r i.given) _ _ timed goes) in
@@ -172,7 +190,7 @@ module _ (lay : Layout) (now : List Input → Type 0) (r : Rules) (at : Face) (r
           subst (λ (rules : Rules). Follows (turns lay rules (taken_of r i.given) (due_next lay r i.given a)) old new q) i.rules
           (subst (λ ds. Follows (turns lay at.rules (taken_of r i.given) ds) old new q) same-due h)
 
-      module _ (files_new : Disk) (wire_new : Wire) (silent : IsSilent lay) where
+      module _ (files_new : Disk) (wire_new : Wire) where
         gave-new : {T : Type 0} (q : Result T Fault) →
             ((w : Outside) → Follows (turns lay at.rules (taken_of r i.given) (due at.rules.last at.ticks run input))
             (with_wire (with_files w files_at) wire_mid) (with_wire (with_files w files_new) wire_new) q) →
@@ -180,9 +198,7 @@ module _ (lay : Layout) (now : List Input → Type 0) (r : Rules) (at : Face) (r
         gave-new q h told =
             heard-still (i.given ++ a ∷ []) wire wire_mid wire_new (gave-mid told)
             (same-taken (turns lay at.rules (taken_of r i.given) (due at.rules.last at.ticks run input))
-            (with_wire (with_files (some_outside files_at wire_at) files_at) wire_mid)
-            (with_wire (with_files (some_outside files_at wire_at) files_new) wire_new) q
-            (silent at.rules _ _) (told-mid told) (h (some_outside files_at wire_at)))
+            (beside files_at wire_mid) (beside files_new wire_new) q (silent at.rules _ _) (told-mid told) (h (beside files_at wire_at)))
 
         -- a turn was stopped
         pub failed-taking : (later : List Input → Type 0) (fault : Fault) →
@@ -191,16 +207,28 @@ module _ (lay : Layout) (now : List Input → Type 0) (r : Rules) (at : Face) (r
             RanInputs lay later r files files_new wire wire_new (Err fault)
         failed-taking later fault h = record {
           given = i.given ++ a ∷ [];
+          is_given = given-now;
           follows = λ w.
               stopped _ (cond (is_ended r (i.given ++ a ∷ [])) [] (link (receive None) ∷ [])) _ _ fault
               (arrive lay r i.given a _ _ _ _ (tt {0}) y (Err fault) (i.follows w) (f (with_files w files_at))
               (same-turns _ _ (Err fault) (h w)));
           taken = λ told. (gave-new (Err fault) h told).taken;
           told_end = λ told. (gave-new (Err fault) h told).ended;
+          did = did-longer (i.given ++ a ∷ []) files files_new wire wire_new (node_from lay r [] 0 (i.given ++ a ∷ [])) _
+              (did-turns lay silent r i.given files files_new wire wire_new a taking.done taking.begun
+              (Ran-append (node_from lay r [] 0 i.given ++ link (receive (Some a)) ∷ []) taking.done _ _ _ received.later received.done
+              taking.ran));
           took = tt;
           ended = tt;
-          goes_on = goes-on-more i.given a input i.goes_on is;
         }
+          where
+            received : Follows (node_from lay r [] 0 i.given ++ link (receive (Some a)) ∷ []) (beside files wire) (beside files_at wire_mid) (Ok y)
+            received =
+                followed (node_from lay r [] 0 i.given) (link (receive (Some a)) ∷ []) _ _ _ (tt {0}) first (Ok y) (f (beside files_at wire_at))
+
+            taking : Reached (turns lay r (taken_of r i.given) (due_next lay r i.given a)) (code_of_fault fault)
+                (beside files_at wire_mid) (beside files_new wire_new)
+            taking = (same-turns _ _ (Err fault) (h (beside files_at wire_mid))).part
 
         -- it was taken
         pub arrived-more : (later : List Input → Type 0) (new : Face) (run_new : ℕ) (more : Counts) →
@@ -213,6 +241,7 @@ module _ (lay : Layout) (now : List Input → Type 0) (r : Rules) (at : Face) (r
           rules = rules ∙ i.rules;
           idle = idle;
           given = i.given ++ a ∷ [];
+          is_given = given-now;
           took =
               took-along _ _ _ _ _ _ (taken-next lay r i.given a ∙ ap (λ ds. taken_of r i.given ++ ds) (sym same-due))
               (took-both [] _ _ r (taken_of r i.given) _ _ _ i.took

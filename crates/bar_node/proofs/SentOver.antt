@@ -131,8 +131,8 @@ module _ (recording played : Option (List ℕ)) (found : List ℕ) (r : Rules) (
             ∙ ap (λ ys. ys ++ sent_in s.part) (over-sends r [] s.cut.whole));
       }
 
-  pub sent-part : HasRun recording played found r given old new → IsTrue old.wire.told → StoppedSending r given old.wire new.wire
-  sent-part h told =
-      let s = stopped-at recording played found r given old new h told in
+  pub sent-part : HasRun recording played found r given old new → StoppedSending r given old.wire new.wire
+  sent-part h =
+      let s = stopped-at recording played found r given old new h in
       let u = sent-until h.done h.ran s in
       record { cut = s.cut; sent = u.sent; front = u.front; is = u.is }

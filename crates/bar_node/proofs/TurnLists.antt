@@ -1,17 +1,15 @@
--- The turns of inputs, one after another, and what actions receive.
-use Rattle.std.proofs.Common.{◌≡◌, ℕ, ◌+◌, List, [], ◌∷◌, ◌++◌, length, refl, sym, ap, ◌∙◌, append-nil, append_assoc, Option, Some, None, arith}
+-- The turns of inputs, one after another, and what actions add to a link's traffic.
+use Rattle.std.proofs.Common.{◌≡◌, ℕ, ◌+◌, List, [], ◌∷◌, ◌++◌, refl, sym, ap, ◌∙◌, append-nil, append_assoc, arith}
 use Rattle.std.specs.List.{flat_map}
 use Rattle.std.proofs.lemmas.Grind.{flat_map-append}
 use Rattle.bar_wire.specs.Inputs.{Input}
 use Rattle.bar_record.specs.Pacing.{paced_from, ticks_of}
 use Rattle.bar_record.proofs.PacingLemmas.{ticks_joined}
 use Rattle.bar_outside.specs.Wire.{Arrival, Datagram, End, Tick, Traffic}
-use Rattle.bar_outside.specs.Plan.{Action, LinkCall, traffic_after, traffic_by}
-use Rattle.bar_outside.specs.Plan.Action.{append, create, link, read, show}
-use Rattle.bar_outside.specs.Plan.LinkCall.{bind, receive, send}
+use Rattle.bar_outside.specs.Plan.{Action, traffic_after, traffic_by}
 use Rattle.bar_core.specs.Rules.{Rules}
 use Rattle.bar_node.specs.Turns.{Layout, turn, turns}
-use Rattle.bar_node.specs.Runs.{due_if, heard, input_of, inputs_of, run_if}
+use Rattle.bar_node.specs.Runs.{due_if, input_of, inputs_of, run_if}
 
 -- ---- turns, and what is taken
 
@@ -56,38 +54,6 @@ traffic-adds part gives one (a ∷ acts) t =
     traffic-adds part gives one acts (traffic_by a t)
     ∙ ap (λ xs. xs ++ flat_map gives acts) (one a t)
     ∙ append_assoc (part t) (gives a) (flat_map gives acts)
-
-abbrev pub received_by_call : LinkCall → List Arrival
-received_by_call (bind to) = []
-received_by_call (receive None) = []
-received_by_call (receive (Some arrival)) = heard (arrival ∷ [])
-received_by_call (send to bytes) = []
-
-abbrev pub received_by : Action → List Arrival
-received_by (read path) = []
-received_by (create path) = []
-received_by (append path bytes) = []
-received_by (show bytes) = []
-received_by (link call) = received_by_call call
-
--- what actions receive
-abbrev pub received : List Action → List Arrival
-received acts = flat_map received_by acts
-
-taken-by : (a : Action) (t : Traffic) → (traffic_by a t).taken ≡ t.taken ++ received_by a
-taken-by (link (receive (Some Tick))) t = refl
-taken-by (link (receive (Some (Datagram bytes)))) t = refl
-taken-by (link (receive (Some End))) t = sym (append-nil t.taken)
-taken-by (link (receive None)) t = sym (append-nil t.taken)
-taken-by (link (bind to)) t = sym (append-nil t.taken)
-taken-by (link (send to bytes)) t = sym (append-nil t.taken)
-taken-by (read path) t = sym (append-nil t.taken)
-taken-by (create path) t = sym (append-nil t.taken)
-taken-by (append path bytes) t = sym (append-nil t.taken)
-taken-by (show bytes) t = sym (append-nil t.taken)
-
-pub taken-after : (acts : List Action) (t : Traffic) → (traffic_after acts t).taken ≡ t.taken ++ received acts
-taken-after = traffic-adds (λ t. t.taken) received_by taken-by
 
 -- ---- what actions don't give
 

@@ -7,7 +7,7 @@ use Rattle.bar_outside.specs.declared.fault.Fault.{Fault}
 use Rattle.bar_outside.specs.Plan.{Outside, Action}
 use Rattle.bar_outside.specs.Follows.{Follows}
 use Rattle.bar_outside.proofs.Following.{followed, stopped, handed}
-use Rattle.bar_core.specs.Rules.{Rules, Send}
+use Rattle.bar_core.specs.Rules.{Rules}
 use Rattle.bar_core.specs.Runs.{sends_over, contents_over}
 use Rattle.bar_core.proofs.OverLists.{sends_over-append, contents_over-append}
 use Rattle.bar_node.specs.Turns.{Layout, turn, turns}

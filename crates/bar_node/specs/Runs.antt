@@ -1,9 +1,10 @@
 -- Whole runs: over what a link gives, and over a recording.
-use Rattle.std.specs.Prelude.{◌≡◌, ℕ, ◌||◌, Bool, true, false, List, [], ◌∷◌, ◌++◌, length, nat_le, Option, None, Some, Result, if◌then◌else◌, IsTrue, IfOk, OnOk, OnErr}
-use Rattle.std.specs.List.{concat}
+use Rattle.std.specs.Prelude.{◌≡◌, ◌≤◌, ℕ, ◌+◌, ◌*◌, ◌||◌, Bool, true, false, List, [], ◌∷◌, ◌++◌, length, nat_le, Option, None, Some, Result, if◌then◌else◌, IsTrue, IfOk, OnOk}
+use Rattle.std.specs.List.{AllByRecursion, concat}
 use Rattle.bar_wire.specs.Inputs.{Input}
 use Rattle.bar_wire.specs.Inputs as plain
-use Rattle.bar_record.specs.Pacing.{due, is_datagram, paced, run_after, ticks_of}
+use Rattle.bar_record.specs.Pacing.{due, is_datagram, most_in_a_row, paced, run_after, ticks_of}
+use Rattle.bar_record.specs.Recording.{IsInRange}
 use Rattle.bar_outside.specs.Disk.{Disk}
 use Rattle.bar_outside.specs.Wire.{Arrival, Datagram, End, Tick, Wire}
 use Rattle.bar_outside.specs.Plan.{Action, Begun, Outside, Ran, with_files, with_wire}
@@ -15,6 +16,7 @@ use Rattle.bar_findings.specs.Findings.{Finding, findings_actions, findings_of}
 use Rattle.bar_core.specs.Rules.{Rules}
 use Rattle.bar_core.specs.Runs.{contents_over, sends_over}
 use Rattle.bar_node.specs.Counting.{capped}
+use Rattle.bar_node.specs.Effects.{received_in}
 use Rattle.bar_node.specs.Taking.{Took}
 use Rattle.bar_node.specs.Turns.{Layout, kept, node_layout, replay_layout, turns}
 use Rattle.bar_node.specs.declared.counts.Counts.{Counts}
@@ -76,6 +78,10 @@ node_from lay r before run (a ∷ arrivals) =
 
 -- ---- the plans
 
+-- the turns over what a link gave; where the run isn't at its end, the link is asked once more
+abbrev pub inputs_plan : Layout → Rules → List Arrival → List Action
+inputs_plan lay r given = node_from lay r [] 0 given ++ (if is_ended r given then [] else link (receive None) ∷ [])
+
 -- what a core found behind these inputs, in files whose names begin with this word
 abbrev pub found_after : List ℕ → Rules → List Input → List Finding
 found_after found r taken = findings_of found (r.manifest taken) r.rounds (r.evidence taken) r.peers
@@ -108,34 +114,51 @@ summary_of r inputs =
 
 -- ---- what is said of a node's run
 
+-- The link isn't asked again once the run is at its end: before each arrival it wasn't.
+abbrev pub AsksToTheEnd : Rules → List Arrival → Type 0
+AsksToTheEnd r given =
+    (front : List Arrival) (next : Arrival) (rest : List Arrival) → given ≡ front ++ next ∷ rest → is_ended r front ≡ false
+
+-- What a link gave: no datagram is larger than one can be, the link was asked up to the run's end and no further, and the inputs are few.
+pub record IsGiven (r : Rules) (given : List Arrival) : Type 0 where
+  pub within : AllByRecursion IsInRange (inputs_of given)
+  pub asked : AsksToTheEnd r given
+  pub few : length (taken_of r given) ≤ (most_in_a_row + 1) * r.last
+
+-- So much was done of a plan: a front of it, and maybe a part of the action behind it. What it received is exactly what the link gave.
+pub record HasDone (plan : List Action) (given : List Arrival) (files files_new : Disk) (wire wire_new : Wire) : Type 0 where
+  pub done : List Action
+  pub begun : Begun plan done
+  pub received : received_in done ≡ given
+  pub ran : (w : Outside) → Ran done (with_wire (with_files w files) wire) (with_wire (with_files w files_new) wire_new)
+
 -- What a link gave was taken: all of it, in order, up to the run's end or to a fault.
 pub record RanInputs (lay : Layout) (now : List Input → Type 0) (r : Rules) (files files_new : Disk) (wire wire_new : Wire)
     (result : Result Counts Fault) : Type 0 where
   pub given : List Arrival
-  -- where the run isn't at its end, the link was asked once more
-  pub follows : (w : Outside) → Follows (node_from lay r [] 0 given ++ (if is_ended r given then [] else link (receive None) ∷ []))
+  pub is_given : IsGiven r given
+  pub follows : (w : Outside) → Follows (inputs_plan lay r given)
       (with_wire (with_files w files) wire) (with_wire (with_files w files_new) wire_new) result
+  -- whatever the result, what was done received exactly these arrivals
+  pub did : HasDone (inputs_plan lay r given) given files files_new wire wire_new
   pub taken : IsTrue wire.told → wire_new.traffic.taken ≡ wire.traffic.taken ++ heard given
   -- the link tells whether it gave its end
   pub told_end : IsTrue wire.told → wire_new.traffic.ended ≡ (wire.traffic.ended || has_end given)
   pub took : IfOk result (Took [] now r (taken_of r given))
   pub ended : OnOk result (IsTrue (is_ended r given))
-  pub goes_on : OnErr result (has_end given ≡ false)
 
 -- A node's run: there is a list that the link gave, which is what it tells as taken, and the plan over this list was followed.
 pub record RanNode (recording played : Option (List ℕ)) (found : List ℕ) (r : Rules) (now : List Input → Type 0) (files files_new : Disk)
     (wire wire_new : Wire) (result : Result Summary Fault) : Type 0 where
   pub given : List Arrival
+  pub is_given : IsGiven r given
   pub follows : (w : Outside) → Follows (node_plan recording played found r given)
       (with_wire (with_files w files) wire) (with_wire (with_files w files_new) wire_new) result
+  -- whatever the result, what was done received exactly these arrivals
+  pub did : HasDone (node_plan recording played found r given) given files files_new wire wire_new
   pub taken : IsTrue wire.told → wire_new.traffic.taken ≡ wire.traffic.taken ++ heard given
   -- the link tells whether it gave its end
   pub told_end : IsTrue wire.told → wire_new.traffic.ended ≡ (wire.traffic.ended || has_end given)
   pub stands : OnOk result (now (taken_of r given))
   pub ended : OnOk result (IsTrue (is_ended r given))
-  -- where the end was given, all turns were done, and some of what comes behind them
-  pub after_end : OnErr result (has_end given ≡ true → (w : Outside) →
-      (done : List Action) × Begun (closing recording found r (taken_of r given)) done
-      × Ran (node_from (node_layout recording played) r [] 0 given ++ done)
-      (with_wire (with_files w files) wire) (with_wire (with_files w files_new) wire_new))
   pub summary : IfOk result (λ summary. summary ≡ summary_of r (taken_of r given))

@@ -1,5 +1,5 @@
 -- What stands after a run over a link, in words of the run itself.
-use Rattle.std.specs.Prelude.{◌≡◌, ◌≢◌, ◌≤◌, ℕ, List, [], ◌∷◌, ◌++◌, length, Option, Some, true, IfSome, IsTrue, if◌then◌else◌}
+use Rattle.std.specs.Prelude.{◌≡◌, ◌≢◌, ◌≤◌, ℕ, List, [], ◌∷◌, ◌++◌, length, Option, Some, IfSome, IsTrue, if◌then◌else◌}
 use Rattle.std.specs.List.{AllByRecursion, concat, flat_map}
 use Rattle.bar_wire.specs.Inputs.{Input}
 use Rattle.bar_record.specs.Recording.{entry_bytes}
@@ -10,7 +10,8 @@ use Rattle.bar_judge.specs.TableFile.{table_bytes}
 use Rattle.bar_findings.specs.Findings.{Finding, evidence_name, in_order, table_name}
 use Rattle.bar_core.specs.Rules.{Rules, Send}
 use Rattle.bar_core.specs.Runs.{contents_over, sends_over}
-use Rattle.bar_node.specs.Runs.{found_after, has_end, heard, is_ended, node_plan, taken_of}
+use Rattle.bar_node.specs.Effects.{received_in}
+use Rattle.bar_node.specs.Runs.{found_after, is_ended, node_plan, taken_of}
 
 -- what stands is a front of what was to come
 pub record IsFront {X : Type 0} (front all : List X) : Type 0 where
@@ -37,7 +38,7 @@ pub record AreApart (recording played found : List ℕ) : Type 0 where
   pub played_apart : IsApart played found
   pub recording_apart : IsApart recording found
 
--- Bytes were added to a file that was there.
+-- Bytes were added to a file that was there, where the files tell.
 abbrev pub IsAddedTo : List ℕ → Disk → Disk → List ℕ → Type 0
 IsAddedTo path files files_new bytes =
     IsTrue files.told → (held : List ℕ) → files.content path ≡ Some held → files_new.content path ≡ Some (held ++ bytes)
@@ -53,8 +54,9 @@ pub record StoppedSending (r : Rules) (given : List Arrival) (wire wire_new : Wi
 abbrev pub end_of : Rules → List Arrival → List ℕ
 end_of r given = if is_ended r given then 0 ∷ [] else []
 
--- A peer that was stopped: it sent, played and recorded all of the inputs begun but the last one, and a front of the last one's.
-pub record StoppedPeer (recording played : List ℕ) (r : Rules) (given : List Arrival) (files files_new : Disk)
+-- A peer that was stopped: it sent, played and recorded all of the inputs begun but the last one, and a front of the last one's. What it
+-- sent is told where the link tells, and what the files have where their names differ and the files tell.
+pub record StoppedPeer (recording played found : List ℕ) (r : Rules) (given : List Arrival) (files files_new : Disk)
     (wire wire_new : Wire) : Type 0 where
   pub cut : Cut (taken_of r given)
   pub sent : List Send
@@ -64,8 +66,8 @@ pub record StoppedPeer (recording played : List ℕ) (r : Rules) (given : List A
   pub bytes_front : IsFront bytes (concat (contents_over r cut.whole cut.last))
   pub entries_front : IsFront entries (flat_map entry_bytes cut.last ++ end_of r given)
   pub sent_is : IsTrue wire.told → wire_new.traffic.sent ≡ wire.traffic.sent ++ (sends_over r [] cut.whole ++ sent)
-  pub played_is : IsAddedTo played files files_new (concat (contents_over r [] cut.whole) ++ bytes)
-  pub recorded_is : IsAddedTo recording files files_new (flat_map entry_bytes cut.whole ++ entries)
+  pub played_is : AreApart recording played found → IsAddedTo played files files_new (concat (contents_over r [] cut.whole) ++ bytes)
+  pub recorded_is : AreApart recording played found → IsAddedTo recording files files_new (flat_map entry_bytes cut.whole ++ entries)
 
 -- A peer that was done: it sent all, its played file has all that is played, and its recording is that of the list taken, with its end.
 pub record DonePeer (recording played : List ℕ) (r : Rules) (given : List Arrival) (files files_new : Disk)
@@ -74,14 +76,13 @@ pub record DonePeer (recording played : List ℕ) (r : Rules) (given : List Arri
   pub played_is : IsAddedTo played files files_new (concat (contents_over r [] (taken_of r given)))
   pub recorded_is : IsAddedTo recording files files_new (flat_map entry_bytes (taken_of r given) ++ 0 ∷ [])
 
--- So much was done of a node's run over what a link gave.
+-- So much was done of a node's run, which received exactly what the link gave.
 pub record HasRun (recording played : Option (List ℕ)) (found : List ℕ) (r : Rules) (given : List Arrival)
     (old new : Outside) : Type 0 where
   pub done : List Action
   pub begun : Begun (node_plan recording played found r given) done
+  pub received : received_in done ≡ given
   pub ran : Ran done old new
-  pub taken : IsTrue old.wire.told → new.wire.traffic.taken ≡ old.wire.traffic.taken ++ heard given
-  pub told_end : IsTrue old.wire.told → has_end given ≡ true → new.wire.traffic.ended ≡ true
 
 -- The file of this name is none of those that a run adds to, and none of those of what was found.
 pub record IsOther (recording played : Option (List ℕ)) (findings : List Finding) (path : List ℕ) : Type 0 where

@@ -1,5 +1,5 @@
 //! What stands after a run over a link.
-ghost use Rattle.std.specs.Prelude.{◌≡◌, ◌++◌, ◌<◌, ◌^◌, [], ℕ, List, Option, Result, Some, Ok, Err, IsTrue, false};
+ghost use Rattle.std.specs.Prelude.{◌≡◌, ◌++◌, ◌<◌, ◌^◌, [], ℕ, List, Option, Result, Some, Ok, Err, IsTrue};
 ghost use Rattle.bar_outside.specs.Disk.{Disk};
 ghost use Rattle.bar_outside.specs.Plan.{Outside, Ran, Touches};
 ghost use Rattle.bar_outside.specs.Wire.{Arrival, Wire};
@@ -25,7 +25,7 @@ pub fn a_run_sends<C: Core>()
 pub fn a_stopped_run_sent<C: Core>()
     ensures { (recording played : Option (List ℕ)) (found : List ℕ) (r : Rules) (core : C) (files files_new : Disk)
         (wire wire_new : Wire) (fault : Fault) →
-        (ran : RanNode recording played found r (C.stands core) files files_new wire wire_new (Err fault)) → IsTrue wire.told →
+        (ran : RanNode recording played found r (C.stands core) files files_new wire wire_new (Err fault)) →
         StoppedSending r ran.given wire wire_new }
 {}
 
@@ -37,13 +37,13 @@ pub fn a_peer_keeps<C: Core>()
         AreApart recording played found → DonePeer recording played r ran.given files files_new wire wire_new }
 {}
 
-/// A peer that is stopped has sent, played and recorded all of the inputs begun but the last one, and a front of the last one's.
+/// A peer that is stopped has sent, played and recorded all of the inputs begun but the last one, and a front of the last one's. What it
+/// sent is told where the link tells, and what its files have where they tell and their names differ.
 pub fn a_stopped_peer_kept<C: Core>()
     ensures { (recording played found : List ℕ) (r : Rules) (core : C) (files files_new : Disk) (wire wire_new : Wire)
         (fault : Fault) →
         (ran : RanNode (Some recording) (Some played) found r (C.stands core) files files_new wire wire_new (Err fault)) →
-        IsTrue wire.told → AreApart recording played found →
-        StoppedPeer recording played r ran.given files files_new wire wire_new }
+        StoppedPeer recording played found r ran.given files files_new wire wire_new }
 {}
 
 /// A run that ends has written what was found of the list taken, and changed no file but these, the recording and the played file.
@@ -90,16 +90,15 @@ pub fn a_run_finds()
 /// A run of which so much was done has sent what all inputs begun but the last one send, and a front of what the last one sends.
 pub fn a_part_of_a_run_sent()
     ensures { (recording played : Option (List ℕ)) (found : List ℕ) (r : Rules) (given : List Arrival) (old new : Outside) →
-        HasRun recording played found r given old new → IsTrue old.wire.told → old.wire.traffic.ended ≡ false →
-        StoppedSending r given old.wire new.wire }
+        HasRun recording played found r given old new → StoppedSending r given old.wire new.wire }
 {}
 
 /// A peer's run of which so much was done has sent, played and recorded all of the inputs begun but the last one, and a front of the last
 /// one's.
 pub fn a_part_of_a_peer_kept()
     ensures { (recording played found : List ℕ) (r : Rules) (given : List Arrival) (old new : Outside) →
-        HasRun (Some recording) (Some played) found r given old new → IsTrue old.wire.told → old.wire.traffic.ended ≡ false →
-        AreApart recording played found → StoppedPeer recording played r given old.files new.files old.wire new.wire }
+        HasRun (Some recording) (Some played) found r given old new →
+        StoppedPeer recording played found r given old.files new.files old.wire new.wire }
 {}
 
 /// A run creates and adds to no file but the recording, the played file and those of what was found.

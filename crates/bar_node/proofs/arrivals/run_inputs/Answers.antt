@@ -7,7 +7,8 @@ use Rattle.bar_outside.specs.Wire.{arrival_of}
 use Rattle.bar_outside.proofs.Following.{nothing_done}
 use Rattle.bar_core.specs.Rules.{Rules}
 use Rattle.bar_node.proofs.Turning.{took-none}
-use Rattle.bar_node.proofs.Receiving.{heard-none, nothing-turns}
+use Rattle.bar_node.proofs.Receiving.{heard-none, quiet-turns}
+use Rattle.bar_node.proofs.Doing.{given-none}
 use Rattle.bar_node.proofs.RunSteps.{failed-receiving, at-last, at-end, failed-taking, arrived-more}
 use Rattle.bar_node.proofs.arrivals.run_inputs.Goals as goal
 
@@ -16,6 +17,7 @@ arrivals-init g c = record {
   rules = refl;
   idle = c.requires.idle;
   given = [];
+  is_given = given-none _;
   took = rw c.none-counts.ensures (took-none [] (g.C.Core.stands c.args.core.now) (g.C.Core.face c.args.core.now).rules c.requires.stands);
   goes_on = refl;
   run_is = c.new-paced.ensures;
@@ -29,34 +31,36 @@ returns-in_err-taken-clause-ran g c =
     let p = err_from_is_err_and c.from_residual.result c.from_residual.ensures.1 in
     let i = c.arrivals.invariant in
     rw (p.1, p.2)
-    (failed-receiving _ _ _ _ _ _ _ _ _ _ i (g.met.C.Core.timed c.arrivals.core _ i.took.stands) _ _ _ c.arrivals-test.ensures
+    (failed-receiving _ _ _ _ _ _ _ _ _ _ i (g.met.C.Core.timed c.arrivals.core _ i.took.stands)
+    (quiet-turns (option_copied c.args.kept.now.recording) (option_copied c.args.kept.now.played)) _ _ _ c.arrivals-test.ensures
     c.in_err-taken.ensures.follows)
 
 pub returns-in_default-clause-ran : goal.returns-in_default-clause-ran
 returns-in_default-clause-ran g c =
     let i = c.arrivals.invariant in
-    at-end _ _ _ _ _ _ _ _ _ _ i (g.met.C.Core.timed c.arrivals.core _ i.took.stands) _
-    (arrival_of c.receive_next.new.buf c.in_ok-taken.taken) _ c.in_ok-taken.ensures.follows c.in_default.ensures.is
+    at-end _ _ _ _ _ _ _ _ _ _ i (g.met.C.Core.timed c.arrivals.core _ i.took.stands)
+    (quiet-turns (option_copied c.args.kept.now.recording) (option_copied c.args.kept.now.played)) _
+    (arrival_of c.receive_next.new.buf c.in_ok-taken.taken) _ c.in_ok-taken.ensures.follows c.arrivals-test.ensures c.in_default.ensures.is
 
 pub returns-in_err-more-clause-ran : goal.returns-in_err-more-clause-ran
 returns-in_err-more-clause-ran g c =
     let p = err_from_is_err_and c.from_residual-in_err-more.result c.from_residual-in_err-more.ensures.1 in
     let i = c.arrivals.invariant in
     rw (p.1, p.2)
-    (failed-taking _ _ _ _ _ _ _ _ _ _ i (g.met.C.Core.timed c.arrivals.core _ i.took.stands) _
+    (failed-taking _ _ _ _ _ _ _ _ _ _ i (g.met.C.Core.timed c.arrivals.core _ i.took.stands)
+    (quiet-turns (option_copied c.args.kept.now.recording) (option_copied c.args.kept.now.played)) _
     (arrival_of c.receive_next.new.buf c.in_ok-taken.taken) _ c.in_ok-taken.ensures.follows
-    (plain_input c.in-Some.input) c.in-Some.ensures.is (not-late _ _ c.arrivals-test.ensures) _ _
-    (nothing-turns (option_copied c.args.kept.now.recording) (option_copied c.args.kept.now.played)) _ _
+    (plain_input c.in-Some.input) c.in-Some.ensures.is c.in-Some.ensures.within c.arrivals-test.ensures _ _ _ _
     (c.in_err-more.ensures.follows _ i.took.stands))
 
 pub arrivals-preserved : goal.arrivals-preserved
 arrivals-preserved g c =
     let i = c.arrivals.invariant in
     rw c.with-counts.ensures
-    (arrived-more _ _ _ _ _ _ _ _ _ _ i (g.met.C.Core.timed c.arrivals.core _ i.took.stands) _
+    (arrived-more _ _ _ _ _ _ _ _ _ _ i (g.met.C.Core.timed c.arrivals.core _ i.took.stands)
+    (quiet-turns (option_copied c.args.kept.now.recording) (option_copied c.args.kept.now.played)) _
     (arrival_of c.receive_next.new.buf c.in_ok-taken.taken) _ c.in_ok-taken.ensures.follows
-    (plain_input c.in-Some.input) c.in-Some.ensures.is (not-late _ _ c.arrivals-test.ensures) _ _
-    (nothing-turns (option_copied c.args.kept.now.recording) (option_copied c.args.kept.now.played)) _ _ _ _
+    (plain_input c.in-Some.input) c.in-Some.ensures.is c.in-Some.ensures.within c.arrivals-test.ensures _ _ _ _ _ _
     (c.in_ok-more.ensures.follows _ i.took.stands) (c.in_ok-more.ensures.took _ i.took.stands) c.in_ok-more.ensures.idle
     c.in_ok-more.ensures.rules c.in_ok-more.ensures.run)
 
@@ -70,4 +74,5 @@ arrivals-smaller g c =
 pub returns-clause-ran : goal.returns-clause-ran
 returns-clause-ran g c =
     let i = c.arrivals.invariant in
-    at-last _ _ _ _ _ _ _ _ _ _ i (g.met.C.Core.timed c.arrivals.core _ i.took.stands) c.arrivals-test.ensures
+    at-last _ _ _ _ _ _ _ _ _ _ i (g.met.C.Core.timed c.arrivals.core _ i.took.stands)
+    (quiet-turns (option_copied c.args.kept.now.recording) (option_copied c.args.kept.now.played)) c.arrivals-test.ensures

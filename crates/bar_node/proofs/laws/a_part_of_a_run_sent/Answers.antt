@@ -2,4 +2,4 @@ use Rattle.bar_node.proofs.SentOver.{sent-part}
 use Rattle.bar_node.proofs.laws.a_part_of_a_run_sent.Goals as goal
 
 pub returns : goal.returns
-returns c = λ recording played found r given old new h told begins. sent-part recording played found r given old new h told
+returns c = sent-part

@@ -1,6 +1,7 @@
 use Rattle.std.proofs.Common.{Some}
 use Rattle.bar_node.proofs.PeerFiles.{peer-whole}
-use Rattle.bar_node.proofs.Stopping.{beside, whole-run}
+use Rattle.bar_node.proofs.Doing.{beside}
+use Rattle.bar_node.proofs.Stopping.{whole-run}
 use Rattle.bar_node.proofs.laws.a_peer_keeps.Goals as goal
 
 pub returns : goal.returns

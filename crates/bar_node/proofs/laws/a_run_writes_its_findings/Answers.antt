@@ -1,5 +1,6 @@
 use Rattle.bar_node.proofs.FoundFiles.{found-whole}
-use Rattle.bar_node.proofs.Stopping.{beside, whole-run}
+use Rattle.bar_node.proofs.Doing.{beside}
+use Rattle.bar_node.proofs.Stopping.{whole-run}
 use Rattle.bar_node.proofs.laws.a_run_writes_its_findings.Goals as goal
 
 pub returns : goal.returns

@@ -1,6 +1,7 @@
 use Rattle.std.proofs.Common.{Some}
 use Rattle.bar_node.proofs.PeerFiles.{peer-part}
-use Rattle.bar_node.proofs.Stopping.{beside, part-run}
+use Rattle.bar_node.proofs.Doing.{beside}
+use Rattle.bar_node.proofs.Stopping.{part-run}
 use Rattle.bar_node.proofs.laws.a_stopped_peer_kept.Goals as goal
 
 pub returns : goal.returns

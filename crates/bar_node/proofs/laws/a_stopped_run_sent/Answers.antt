@@ -1,5 +1,6 @@
 use Rattle.bar_node.proofs.SentOver.{sent-part}
-use Rattle.bar_node.proofs.Stopping.{beside, part-run}
+use Rattle.bar_node.proofs.Doing.{beside}
+use Rattle.bar_node.proofs.Stopping.{part-run}
 use Rattle.bar_node.proofs.laws.a_stopped_run_sent.Goals as goal
 
 pub returns : goal.returns

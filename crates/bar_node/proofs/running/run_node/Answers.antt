@@ -1,4 +1,4 @@
-use Rattle.std.proofs.Common.{[], ap}
+use Rattle.std.proofs.Common.{ap}
 use Rattle.std.proofs.lemmas.Result.{err_from_is_err_and}
 use Rattle.bar_core.specs.Rules.{Rules}
 use Rattle.bar_node.proofs.RunEnds.{not-run, run-failed, close-failed, run-done, summary-is}
