@@ -97,6 +97,7 @@ pub same_evictions : (s : Session) (e : Evictions) (x : Entry) (log : Log) → (
 same_evictions s e x log none h = record {
   peers = h.peers;
   evidence = λ p peer. h.evidence p peer ∙ ap (option_map evidence_bytes) (sym (same_kept x log none p));
+  others = h.others;
   list = h.list ∙ sym (same_evicted s x log none);
 }
 

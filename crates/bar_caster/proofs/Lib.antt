@@ -4,6 +4,7 @@ pub mod Judged
 pub mod Stepped
 pub mod Short
 pub mod Listing
+pub mod Everyone
 pub mod Pieces
 pub mod Manifests
 pub mod Announced

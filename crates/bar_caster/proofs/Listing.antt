@@ -88,6 +88,16 @@ kept_so s e f log q ev h none keeps p peer = elim (cases_eq p q) [
       ∙ ap (option_map evidence_bytes) (sym (kept_elsewhere log q p ev (ne_eqb q p (λ same. other (sym same)))))
 ]
 
+-- the room of a number that is no peer's stays empty
+others_so : (s : Session) (e f : Evictions) (q : ℕ) (ev : List (List ℕ)) → IsPeer s.shape q
+    → ((p : ℕ) → (IsPeer s.shape p → ⊥) → kept_in e.evidence p ≡ None) → IsKept e.evidence f.evidence q ev
+    → (p : ℕ) → (IsPeer s.shape p → ⊥) → kept_in f.evidence p ≡ None
+others_so s e f q ev peer empty keeps p other =
+    keeps p
+    ∙ (λ i. if ne_eqb p q (λ same. other (subst (λ (n : ℕ). IsPeer s.shape n) (sym same) peer)) i
+    then Some (evidence_bytes ev) else kept_in e.evidence p)
+    ∙ empty p other
+
 -- what is kept in the rooms of the peers says who is evicted
 listed_so : (s : Session) (rooms : Rooms) (log : Log)
     → ((p : ℕ) → IsPeer s.shape p → kept_in rooms p ≡ option_map evidence_bytes (kept log p))
@@ -96,14 +106,15 @@ listed_so s rooms log is =
     same_filtered (λ q. is_some (kept_in rooms q)) (λ q. is_some (kept log q)) 1 s.shape.peers
     (λ p low high. ap is_some (is p (omega (arith, low), omega (arith, high))) ∙ some_mapped evidence_bytes (kept log p))
 
-pub evicts : (s : Session) (e f : Evictions) (log : Log) (q : ℕ) (ev : List (List ℕ)) → AreOfLog s e log → kept log q ≡ None
-    → IsKept e.evidence f.evidence q ev → f.peers ≡ e.peers → f.list.items ≡ peers_with_evidence f.evidence f.peers
+pub evicts : (s : Session) (e f : Evictions) (log : Log) (q : ℕ) (ev : List (List ℕ)) → AreOfLog s e log → IsPeer s.shape q
+    → kept log q ≡ None → IsKept e.evidence f.evidence q ev → f.peers ≡ e.peers → f.list.items ≡ peers_with_evidence f.evidence f.peers
     → AreOfLog s f (Kept q ev ∷ log)
-evicts s e f log q ev h none keeps peers listed =
+evicts s e f log q ev h peer none keeps peers listed =
     let is = kept_so s e f log q ev h none keeps in
     record {
       peers = peers ∙ h.peers;
       evidence = is;
+      others = others_so s e f q ev peer h.others keeps;
       list = listed ∙ (λ i. peers_with_evidence f.evidence ((peers ∙ h.peers) i)) ∙ listed_so s f.evidence (Kept q ev ∷ log) is;
     }
 
@@ -116,6 +127,7 @@ stays s e log q ev h other =
     record {
       peers = h.peers;
       evidence = λ p peer. h.evidence p peer ∙ ap (option_map evidence_bytes) (same p peer);
+      others = h.others;
       list = h.list ∙ same_filtered (λ q. is_some (kept log q)) (λ p. is_some (kept (Kept q ev ∷ log) p)) 1 s.shape.peers
           (λ p low high. ap is_some (same p (omega (arith, low), omega (arith, high))));
     }
@@ -132,4 +144,4 @@ none_passes a (suc n) = none_passes (a + 1) n
 pub empty-stands : (s : Session) (e : Evictions) → e.peers ≡ s.shape.peers → ((p : ℕ) → kept_in e.evidence p ≡ None) → e.list.items ≡ []
     → AreOfLog s e []
 empty-stands s e peers none empty =
-    record { peers = peers; evidence = λ p peer. none p; list = empty ∙ sym (none_passes 1 s.shape.peers) }
+    record { peers = peers; evidence = λ p peer. none p; others = λ p other. none p; list = empty ∙ sym (none_passes 1 s.shape.peers) }

@@ -1,8 +1,7 @@
 //! What a broadcaster tells of itself.
-ghost use Rattle.std.specs.Prelude.{◌≡◌, ◌+◌, ℕ, List, length, nat_le, option_copied, option_map};
+ghost use Rattle.std.specs.Prelude.{◌≡◌, ◌+◌, ℕ, None, List, Contains, length, nat_le, option_copied, option_map};
 ghost use Rattle.bar_bytes.specs.Rooms.{kept_in};
 ghost use Rattle.bar_wire.specs.Evidence.{evidence_bytes};
-ghost use Rattle.bar_wire.specs.Grammar.{IsPeer};
 ghost use Rattle.bar_wire.specs.declared.kind.Kind.TheVariants.{Manifest};
 ghost use Rattle.bar_roster.specs.Sessions.{IsSession};
 ghost use Rattle.bar_rules.specs.Broadcaster.Sending.{evicted};
@@ -14,6 +13,7 @@ ghost use Rattle.bar_caster.specs.StandsFor.{Inputs, StandsFor, log_of};
 
 use crate::caster::Caster;
 use bar_bytes::Rooms;
+use bar_laws::broadcasting::evicts_exactly_the_shown;
 use bar_seal::Scheme;
 use bar_wire::Shape;
 
@@ -49,20 +49,24 @@ impl<S: Scheme> Caster<S> {
         self.memory.evictions.evicted()
     }
 
-    /// The first accepted evidence against a peer, as the body of an EVIDENCE has it, or `None` where it isn't evicted.
+    /// The first accepted evidence against an evicted party, as the body of an EVIDENCE has it, or `None` for every other number.
     pub fn evidence(&self, party: u16) -> Option<&[u8]>
-        ensures { (inputs : Inputs) → StandsFor self.now.memory inputs → IsPeer self.now.memory.session.shape party
+        ensures kept { (inputs : Inputs) → StandsFor self.now.memory inputs
             → option_copied result ≡ option_map evidence_bytes (kept (log_of self.now.memory inputs) party) }
+        ensures others { (inputs : Inputs) → StandsFor self.now.memory inputs
+            → (¬ Contains (evicted self.now.memory.session (log_of self.now.memory inputs)) party) → result ≡ None }
     {
+        evicts_exactly_the_shown();
         self.memory.evictions.evidence(party)
     }
 
-    /// The first accepted evidence against each evicted peer, by its number, as the body of an EVIDENCE has it.
+    /// The first accepted evidence against each evicted party, by its number, as the body of an EVIDENCE has it. No other number has any.
     pub fn kept_evidence(&self) -> &Rooms
-        ensures kept { (inputs : Inputs) → StandsFor self.now.memory inputs → (party : ℕ) → IsPeer self.now.memory.session.shape party
+        ensures kept { (inputs : Inputs) → StandsFor self.now.memory inputs → (party : ℕ)
             → kept_in result.now party ≡ option_map evidence_bytes (kept (log_of self.now.memory inputs) party) }
         ensures count { length result.now.rooms.items ≡ self.now.memory.session.shape.peers + 1 }
     {
+        evicts_exactly_the_shown();
         self.memory.evictions.kept()
     }
 

@@ -67,7 +67,7 @@ pub trait Core {
 
     /// The evidence that it keeps, by party, as the body of an EVIDENCE has it.
     fn evidence_by_party(&self) -> &Rooms
-        ensures { (taken : List plain.Input) → stands self.now taken → (party : ℕ) → 1 ≤ party → party ≤ (face self.now).rules.peers →
+        ensures { (taken : List plain.Input) → stands self.now taken → (party : ℕ) →
             kept_in result.now party ≡ (face self.now).rules.evidence taken party };
 
     ghost timed: { (c : Self) (taken : List plain.Input) → stands c taken → (face c).ticks ≡ min (ticks_of taken) (face c).rules.last };

@@ -21,5 +21,5 @@ pub returns : goal.returns
 returns g c = λ inputs stands is w.
     line-then _ _ (c.as_bytes.ensures.value ∙ c.in_ok-caster_line.ensures ∙ ap caster_line is) _ evicted_word _ _ _ _ _ _ _ _
     (ap (λ (s : Shape). s.peers) c.shape-shape.ensures.value)
-    (λ party low high. c.kept_evidence.ensures.kept inputs stands party (low, high))
+    (λ party low high. c.kept_evidence.ensures.kept inputs stands party)
     (c.in_ok-show_bytes.ensures w) (c.show_parties.ensures w)

@@ -17,7 +17,7 @@ returns g c = λ taken stands w.
     findings_of c.args.found.now manifests shape.result.rounds evidence shape.result.peers ≡ found_after c.args.found.now r taken =
     (λ i. findings_of c.args.found.now manifests (shape.ensures.rounds i) evidence (shape.ensures.peers i))
     ∙ findings-same c.args.found.now (r.manifest taken) manifests r.rounds (r.evidence taken) evidence r.peers
-    (c.kept_manifests.ensures.are taken stands) (c.evidence_by_party.ensures taken stands)
+    (c.kept_manifests.ensures.are taken stands) (λ party low high. c.evidence_by_party.ensures taken stands party)
     in
     subst (λ (findings : List Finding). Follows (findings_actions findings) (with_files w (g.F.Files.disk c.args.files.now))
     (with_files w (g.F.Files.disk c.write_findings.new.files)) c.write_findings.result) same

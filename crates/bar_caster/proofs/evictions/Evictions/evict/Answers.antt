@@ -15,5 +15,7 @@ returns-then-party-eq0-clause-kept c = λ s log h none range fits.
 
 pub returns-clause-kept : goal.returns-clause-kept
 returns-clause-kept c = λ s log h none range fits.
-    evicts s c.args.self.now _ log c.args.party (datagrams_of c.args.evidence.now) h none (c.keep_evidence.ensures.kept range fits) refl
+    evicts s c.args.self.now _ log c.args.party (datagrams_of c.args.evidence.now) h
+    (omega (arith, c.if-party-eq0.false), omega (arith, c.if-self-party.false, h.peers))
+    none (c.keep_evidence.ensures.kept range fits) refl
     c.list_evicted.ensures.listed
