@@ -16,3 +16,5 @@ pub mod RunLemmas
 pub mod WordLemmas
 pub mod SessionLemmas
 pub mod SimulateLemmas
+pub mod HeadlineLemmas
+pub mod FinishedLemmas

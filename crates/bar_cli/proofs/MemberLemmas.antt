@@ -22,7 +22,7 @@ use Rattle.bar_laws.specs.Framing.{IsNotFramed}
 use Rattle.bar_laws.specs.Leaves.{KeepsLeaves}
 use Rattle.bar_laws.specs.Obedience.{IsRuled}
 use Rattle.bar_laws.specs.Evidence.{BadKeysLeaveEvidence, KeptEvidenceIsShown, OpensBadly}
-use Rattle.bar_cli.specs.Headline.{OfItsRun, OfItsRuns, HasProof, KeepsTheRules}
+use Rattle.bar_cli.specs.Headline.{AtEachMoment, HasProof, KeepsTheRules, OfItsRuns}
 use Rattle.bar_live.specs.Accepting.{fresh_key_of, session_of}
 use Rattle.bar_live.specs.PeerPlan.{PeerAccepted, PeerNames}
 use Rattle.bar_cli.specs.Replay.{secrets_of_key}
@@ -65,10 +65,11 @@ pub is-live_member : AreHeld → AreInRange → (names : PeerNames) (content : C
 unfolding fresh_key_of
 is-live_member held ranged names content s k a = member-of held ranged true a.in_session.text a.bytes s k a.in_session.is a.is
 
-pub of-its_run : AreHeld → AreInRange → (P : Member → List Input → Type 0) → OfEachPeer P →
-    (names : ReplayFiles) (content : Content) → OfItsRun names content P
-of-its_run held ranged P always names content = λ accepted inputs later front.
-    always (peer_of names content accepted) (is-member held ranged names content accepted) inputs
+-- what holds of each peer and its inputs holds of the peer of a replay at each moment of its recording
+pub of-each_moment : AreHeld → AreInRange → (P : Member → List Input → Type 0) → OfEachPeer P →
+    (names : ReplayFiles) (content : Content) (a : Accepted names content) → AtEachMoment P (peer_of names content a) a.inputs
+of-each_moment held ranged P always names content a = λ earlier later is.
+    always (peer_of names content a) (is-member held ranged names content a) earlier
 
 -- where a key opens badly evidence is kept, and what is kept is shown
 pub proves-bad_keys : BadKeysLeaveEvidence → KeptEvidenceIsShown → (me : Member) (inputs : List Input) (x : Exchange) (key : Datagram) →

@@ -1,20 +1,21 @@
 -- How a command ends over a link.
-use Rattle.std.proofs.Common.{◌≡◌, ◌⊎◌, ◌||◌, ℕ, true, false, List, [], ◌++◌, Option, None, Some, Result, Ok, Err, IsTrue, refl, sym, ap, ◌∙◌, subst, take, inl, inr, arith}
+use Rattle.std.proofs.Common.{◌≡◌, ◌⊎◌, ◌||◌, ℕ, Bool, true, false, true≢false, is_err, List, [], ◌++◌, Option, None, Some, Result, Ok, Err, IsTrue, refl, sym, ap, ◌∙◌, subst, take, inl, inr, arith}
 use Rattle.bar_outside.specs.Disk.{Content, Disk, readable}
-use Rattle.bar_outside.specs.Ends.{EndsWith, Prints, Says, is_plain}
+use Rattle.bar_outside.specs.Ends.{EndsWith, IsFixed, Prints, Says, is_plain}
 use Rattle.bar_outside.specs.Plan.{Outside, Plan, accepting, ending, line_at, no_memory, outside, read_then, reading}
 use Rattle.bar_outside.specs.Stream.{Stream}
 use Rattle.bar_outside.specs.Wire.{Arrival, Wire}
-use Rattle.bar_outside.proofs.Ending.{EndsWith-memory, Ends-or_memory, said}
+use Rattle.bar_outside.proofs.Ending.{EndsWith-memory, Ends-or_memory, said, said-fixed}
 use Rattle.bar_seeds.specs.declared.secrets.Secrets.{Secrets}
-use Rattle.bar_roster.specs.SessionText.{SessionData}
+use Rattle.bar_roster.specs.SessionText.{SessionData, enough_leaves}
 use Rattle.bar_live.specs.Accepting.{fresh_key_of, room_of, session_of, stream_in}
 use Rattle.bar_live.specs.CasterPlan.{CasterNames, caster_key_plan, caster_plan, caster_run_plan, caster_stream_plan}
 use Rattle.bar_live.specs.PeerPlan.{PeerNames, peer_key_plan, peer_plan, peer_run_plan}
 use Rattle.bar_live.specs.Refusals.{key_refused, session_refused, stream_refused}
 use Rattle.bar_live.specs.Running.{RunEnds, RunEndsWith}
 use Rattle.bar_live.proofs.RunFollowing.{heard-nothing}
-use Rattle.bar_cli.specs.Line.{Line, peer, broadcaster, replay, keygen, judge, session_run, simulate, plan_of, usage}
+use Rattle.bar_cli.specs.Line.{Line, peer, broadcaster, replay, keygen, judge, session_run, simulate, plan_of, reads_nothing, usage}
+use Rattle.bar_cli.specs.KeygenPlan.{secret_plan}
 
 -- ---- which plan it was
 
@@ -147,13 +148,51 @@ usage-line : (words : Option Line) (given : List Arrival) (content : Content) (t
     text ≡ (plan_of words given content).line
 usage-line words given content text none is = is ∙ sym (ap (λ asked. (plan_of asked given content).line) none)
 
--- what err has of it
+-- ---- plans that are the same whatever the files hold
+
+refused-fixed : {A E : Type 0} (r : Result A E) (others : A → Content → Plan) (line : E → List ℕ) (content : Content) → is_err r ≡ true →
+    IsFixed (accepting r others (λ fault. ending 4 (line fault))) content
+refused-fixed (Ok meant) others line content h = absurd (true≢false (sym h))
+refused-fixed (Err fault) others line content h = record { same = λ other. refl; unread = tt }
+
+plan-fixed : (words : Option Line) (given : List Arrival) (content : Content) → reads_nothing words ≡ true → IsFixed (plan_of words given) content
+plan-fixed None given content h = record { same = λ other. refl; unread = tt }
+plan-fixed (Some (peer names)) given content h = absurd (true≢false (sym h))
+plan-fixed (Some (broadcaster names)) given content h = absurd (true≢false (sym h))
+plan-fixed (Some (replay names)) given content h = absurd (true≢false (sym h))
+plan-fixed (Some (keygen asked)) given content h =
+    refused-fixed (enough_leaves asked.rounds asked.params.height) (λ _. secret_plan asked) session_refused content h
+plan-fixed (Some (judge names)) given content h = absurd (true≢false (sym h))
+plan-fixed (Some (session_run names)) given content h = absurd (true≢false (sym h))
+plan-fixed (Some (simulate seed)) given content h = record { same = λ other. refl; unread = tt }
+
+-- too few leaves are refused
+pub few-leaves : {A E : Type 0} (r : Result A E) → is_err r ≡ true → (fault : E) × (r ≡ Err fault)
+few-leaves (Ok meant) h = absurd (true≢false (sym h))
+few-leaves (Err fault) h = (fault, refl)
+
+-- what err has of it, where the files tell, or the line is the same whatever they hold
 pub run-said : (words : Option Line) (old new : Outside) (status result : ℕ) (text : List ℕ) (err err_new : Stream) →
     RunEndsWith (plan_of words) old new status text → Prints text result err err_new → (status ≡ 2 → words ≡ None) →
-    (status ≡ 2 → text ≡ usage) → (result ≡ status) ⊎ (result ≡ 70) → IsTrue (old.files.told || is_plain result) →
+    (status ≡ 2 → text ≡ usage) → (result ≡ status) ⊎ (result ≡ 70) → IsTrue (old.files.told || is_plain result || reads_nothing words) →
     Says (plan_of words [] old.files.content) result err err_new
-run-said words old new status result text err err_new r prints none is code either =
-    says-same (plan_of words r.given old.files.content) (plan_of words [] old.files.content) result err err_new
-    (plan-line words r.given old.files.content)
-    (said (plan_of words r.given) old new status result text err err_new r.ends prints
-    (λ two. usage-line words r.given old.files.content text (none two) (is two)) code either)
+run-said words old new status result text err err_new r prints none is code =
+    by_tests (old.files.told || is_plain result) (reads_nothing words) refl refl
+  where
+    plan : Content → Plan
+    plan = plan_of words r.given
+
+    usage-is : status ≡ 2 → text ≡ (plan old.files.content).line
+    usage-is two = usage-line words r.given old.files.content text (none two) (is two)
+
+    as-first : Says (plan old.files.content) result err err_new → Says (plan_of words [] old.files.content) result err err_new
+    as-first = says-same (plan old.files.content) (plan_of words [] old.files.content) result err err_new
+        (plan-line words r.given old.files.content)
+
+    by_tests : (either alone : Bool) → (old.files.told || is_plain result) ≡ either → reads_nothing words ≡ alone → IsTrue (either || alone) →
+        Says (plan_of words [] old.files.content) result err err_new
+    by_tests true alone e f h = as-first (said plan old new status result text err err_new r.ends prints usage-is code e)
+    by_tests false true e f h =
+        as-first (said-fixed plan old new status result text err err_new r.ends prints usage-is code
+        (plan-fixed words r.given old.files.content f))
+    by_tests false false e f h = absurd (true≢false (sym h))

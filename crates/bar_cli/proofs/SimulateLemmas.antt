@@ -1,9 +1,16 @@
 -- What is printed of a simulation.
-use Rattle.std.proofs.Common.{◌≡◌, ◌<◌, ◌+◌, ◌++◌, ◌∷◌, ◌∙◌, ℕ, zero, suc, List, [], refl, sym, ap, append-nil, append_assoc, arith, get_or, length, take}
+use Rattle.std.proofs.Common.{◌≡◌, ◌<◌, ◌+◌, ◌++◌, ◌∷◌, ◌∙◌, ℕ, zero, suc, List, [], refl, sym, ap, inl, inr, append-nil, append_assoc, arith, get_or, length, take}
+use Rattle.std.proofs.lemmas.Bool.{cases_Bool}
+use Rattle.bar_outside.specs.Ends.{Ends, IsFixed, SameFiles}
+use Rattle.bar_outside.specs.Plan.{Outside, is_stop}
+use Rattle.bar_outside.specs.Plan.Action.{show}
+use Rattle.bar_outside.specs.Stages.{HasShown}
+use Rattle.bar_outside.proofs.Unlinked.{same-traffic}
 use Rattle.bar_world.specs.Ends.{sim_end}
 use Rattle.bar_world.specs.Shown.{IsEnd}
 use Rattle.bar_world.specs.declared.sim_end.SimEnd.{SimEnd}
-use Rattle.bar_cli.specs.SimulatePlan.{end_view, played_line, played_lines, simulation_text, text_of}
+use Rattle.bar_cli.specs.SimulatePlan.{end_view, played_line, played_lines, simulate_plan, simulation_text, text_of}
+use Rattle.bar_cli.proofs.UpToLemmas.{begun-shows}
 
 end-is : (seed : ℕ) (end : SimEnd) → IsEnd seed end → end_view end ≡ sim_end seed
 end-is seed end h = rw (h.played, h.delivered, h.lost, h.repeated, h.evicted.all) refl
@@ -23,3 +30,19 @@ lines-more (x ∷ xs) party (suc i) d h =
     ap (λ ys. played_line party x ++ ys) rest
     ∙ (sym (append_assoc (played_line party x) (played_lines (suc party) (take i xs)) (played_line (suc party + i) (get_or xs i d)))
     ∙ ap (λ n. (played_line party x ++ played_lines (suc party) (take i xs)) ++ played_line n (get_or xs i d)) (omega arith))
+
+-- of the text of a seed a front was printed, or all of it, where no file was changed
+pub has-shown : (seed : ℕ) (old new : Outside) (status : ℕ) → SameFiles old new → Ends (simulate_plan seed) old new status →
+    HasShown (simulation_text seed) 0 old new status
+has-shown seed old new status same ends =
+    let text : List ℕ = simulation_text seed in
+    let is : IsFixed (simulate_plan seed) old.files.content = record { same = λ other. refl; unread = tt } in
+    let d = ends.fixed_part is in
+    let b = begun-shows (text ∷ []) d.done d.begun in
+    record {
+      files = same;
+      wire = same-traffic (show text ∷ []) status old new tt d;
+      front = λ tells. (b.0, d.ran.out tells ∙ ap (λ bytes. old.out.bytes ++ bytes) (b.1 ∙ ap (take b.0) (append-nil text)));
+      whole = λ go tells. (ends.fixed is go).ran.out tells ∙ ap (λ bytes. old.out.bytes ++ bytes) (append-nil text);
+      ended = elim (cases_Bool (is_stop status)) [ inl stop ↦ inr stop | inr go ↦ inl (ends.fixed is go).is ];
+    }

@@ -15,7 +15,8 @@ use Rattle.bar_cli.specs.Turns.{Turn, turn_actions, turns_actions, played_bytes,
 use Rattle.bar_outside.proofs.Appends.{appends-same, begun-appends, no-show, shown-appends, take-more}
 use Rattle.bar_cli.proofs.ReplayLemmas.{turn-played, shown-turn}
 
-begun-shows : (lines : List (List ℕ)) (done : List Action) → Begun (map show lines) done →
+-- what was done of showing some lines
+pub begun-shows : (lines : List (List ℕ)) (done : List Action) → Begun (map show lines) done →
     (k : ℕ) × (shown done ≡ take k (concat lines)) × ((c : Content) → content_after done c ≡ c)
 begun-shows [] done b = let e = Begun-none done b in (0, ap shown e, λ c. ap (λ xs. content_after xs c) e)
 begun-shows (x ∷ xs) done b =
@@ -178,7 +179,7 @@ up-to played held (t ∷ ts) content done there b =
     ]
 
 -- bytes and a front of more are a front of all
-front-of : (before this later : List ℕ) (k : ℕ) →
+pub front-of : (before this later : List ℕ) (k : ℕ) →
     before ++ take k this ≡ take (length before + min k (length this)) (before ++ (this ++ later))
 front-of before this later k =
     sym (take-append-add before (this ++ later) (min k (length this)) ∙ ap (λ bytes. before ++ bytes) (take-more k this later))

@@ -1,11 +1,12 @@
 -- Which words are a line, and what they ask for.
-use Rattle.std.specs.Prelude.{◌==◌, ◌||◌, ◌++◌, ◌-◌, ◌^◌, ℕ, Bool, true, false, List, [], ◌∷◌, Option, None, Some, if◌then◌else◌, codes}
+use Rattle.std.specs.Prelude.{◌==◌, ◌||◌, ◌++◌, ◌-◌, ◌^◌, ℕ, Bool, true, false, List, [], ◌∷◌, Option, None, Some, if◌then◌else◌, codes, is_err}
 use Rattle.std.specs.Option.{option_and_then}
 use Rattle.std.specs.Str.{bytes_eq}
 use Rattle.bar_outside.specs.Disk.{Content}
 use Rattle.bar_outside.specs.Plan.{Plan, ending}
 use Rattle.bar_outside.specs.Wire.{Arrival}
 use Rattle.bar_roster.specs.NumberRanges.{most_rounds}
+use Rattle.bar_roster.specs.SessionText.{enough_leaves}
 use Rattle.bar_words.specs.Numbers.{id_of, number_in}
 use Rattle.bar_words.specs.Options.{values_of}
 use Rattle.bar_children.specs.Names.{SessionNames}
@@ -211,3 +212,14 @@ starts_children (Some (keygen asked)) = false
 starts_children (Some (judge names)) = false
 starts_children (Some (session_run names)) = true
 starts_children (Some (simulate seed)) = false
+
+-- the lines whose plan is the same whatever the files hold, and leaves them alone
+abbrev pub reads_nothing : Option Line → Bool
+reads_nothing None = true
+reads_nothing (Some (peer names)) = false
+reads_nothing (Some (broadcaster names)) = false
+reads_nothing (Some (replay names)) = false
+reads_nothing (Some (keygen asked)) = is_err (enough_leaves asked.rounds asked.params.height)
+reads_nothing (Some (judge names)) = false
+reads_nothing (Some (session_run names)) = false
+reads_nothing (Some (simulate seed)) = true

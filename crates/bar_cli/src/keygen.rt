@@ -39,6 +39,7 @@ pub fn keygen<F: Files, K: Sink>(
         (with_out (with_files w (F.disk files.new)) (K.stream out.new)) (code_of_run result) (said_by_run result) }
     ensures answers { IfOk result (λ status. IsTrue (is_keygen_end status)) }
     ensures leaves { (code_of_run result ≡ 4) ↔ HasFewLeaves (keygen_view asked.now) }
+    ensures unread { HasFewLeaves (keygen_view asked.now) → F.disk files.new ≡ F.disk files.old }
     ensures unprinted { keygen_may_print (code_of_run result) ≡ false → K.stream out.new ≡ K.stream out.old }
 {
     match check_leaves(asked.rounds, asked.params.height) {

@@ -11,12 +11,22 @@ ghost use Rattle.bar_roster.specs.declared.key_fault.KeyFileFault.{KeyFileFault}
 ghost use Rattle.bar_roster.specs.SessionText.{SessionData};
 ghost use Rattle.bar_record.specs.declared.fault.RecordFault.{RecordFault};
 ghost use Rattle.bar_findings.specs.Findings.{IsFindingName};
+ghost use Rattle.bar_cli.specs.Finished.{IsReplayed};
+ghost use Rattle.bar_cli.specs.Headline.{ReplayHeadline};
 ghost use Rattle.bar_cli.specs.Line.{usage};
 ghost use Rattle.bar_cli.specs.Refusals.{session_refused, key_refused, recording_refused};
 ghost use Rattle.bar_cli.specs.ReplayPlan.{ReplayFiles, SessionAccepted, SessionRefused, KeyAccepted, KeyRefused, InputRefused, Accepted, Replayed, PlayedFront, PlayedUpTo, FoundUpTo, IsUntouched, IsMade, IsReplayCall, replay_plan};
 
+use bar_laws::balance::balanced;
+use bar_laws::evidence::{bad_keys_leave_evidence, kept_evidence_is_shown};
+use bar_laws::framing::no_framing;
+use bar_laws::leaves::leaf_discipline;
+use bar_laws::obedience::signed_by_rule;
 use bar_outside::plans_go_in_order;
-use bar_roster::laws::{accepted_secrets_are_held, accepted_sessions_are_in_range};
+use bar_record::{paced_inputs_stay_paced, recordings_read_back};
+use bar_roster::laws::{
+    accepted_keys_are_read_back, accepted_secrets_are_held, accepted_sessions_are_in_range,
+};
 
 /// 0 comes exactly where all files are accepted, but for a fault or want of memory; then all inputs were played, and what was found behind
 /// them is written.
@@ -143,4 +153,31 @@ pub fn a_front_is_played()
 {
     accepted_sessions_are_in_range();
     plans_go_in_order();
+}
+
+/// Whatever its status, a replay printed nothing; or its files were accepted, what it printed is a front of the transcript up to one place of
+/// its recording, and its peer keeps the rules at each moment of the recording.
+pub fn a_replay_keeps_the_rules()
+    ensures { (names : ReplayFiles) → OfEachEnd (replay_plan names) (ReplayHeadline names) }
+{
+    accepted_secrets_are_held();
+    accepted_sessions_are_in_range();
+    bad_keys_leave_evidence();
+    balanced();
+    kept_evidence_is_shown();
+    leaf_discipline();
+    no_framing();
+    plans_go_in_order();
+    signed_by_rule();
+}
+
+/// A replay of the recording that a peer left which is done ends with 0, but for a fault or want of memory. Then it shows exactly what the
+/// peer sent, plays the same bytes, and finds the same.
+pub fn a_finished_recording_is_replayed()
+    ensures { IsReplayed }
+{
+    accepted_keys_are_read_back();
+    done_exactly();
+    paced_inputs_stay_paced();
+    recordings_read_back();
 }

@@ -10,8 +10,8 @@ ghost use Rattle.bar_live.specs.CasterStands as caster;
 ghost use Rattle.bar_live.specs.PeerPlan.{PeerNames};
 ghost use Rattle.bar_live.specs.PeerStands as peer;
 ghost use Rattle.bar_live.specs.Running.{RunEnds, RunEndsWith};
-ghost use Rattle.bar_cli.specs.Headline.{SendsByTheRules, IsSignedByRule, OpensWhatIsPromised, GivesKeysToPartners, LeavesEvidence, IsNeverFramed, KeepsItsLeaves, KeepsTheRules, OfItsRuns};
-ghost use Rattle.bar_cli.specs.Line.{line_of, plan_of, has_plan, is_status_of, may_print, starts_children, uses_link};
+ghost use Rattle.bar_cli.specs.Headline.{KeepsTheRules, OfItsRuns, ReplayHeadline, SendsByTheRules};
+ghost use Rattle.bar_cli.specs.Line.{line_of, plan_of, has_plan, is_status_of, may_print, reads_nothing, starts_children, uses_link};
 ghost use Rattle.bar_cli.specs.Line as line;
 ghost use Rattle.bar_cli.specs.Status.{code_of, said_at};
 ghost use Rattle.bar_cli.specs.Views.{command_view};
@@ -25,6 +25,7 @@ ghost use Rattle.bar_cli.specs.SessionPlan.{SessionEnds, SessionRuns, is_plain_e
 
 use crate::judge::judge;
 use crate::keygen::keygen;
+use crate::laws::a_replay_keeps_the_rules;
 use crate::line::{Command, command_of};
 use crate::replay::replay;
 use crate::session::session;
@@ -69,8 +70,12 @@ pub fn bar_run<F: Files, L: Link, K: Sink, S: Spawner>(
         (outside (F.disk files.new) (K.stream out.new) (L.wire link.new)) result }
 
     // what err has; the line of a status is the same whatever the link gives
-    ensures said { has_plan (line_of (map string_bytes words.now)) ≡ true → IsTrue ((F.disk files.old).told || is_plain result) →
+    ensures said { has_plan (line_of (map string_bytes words.now)) ≡ true →
+        IsTrue ((F.disk files.old).told || is_plain result || reads_nothing (line_of (map string_bytes words.now))) →
         Says (plan_of (line_of (map string_bytes words.now)) [] (F.disk files.old).content) result (K.stream err.old) (K.stream err.new) }
+
+    // nothing is said at 0 and at 1
+    ensures silent { (result ≡ 0) ⊎ (result ≡ 1) → K.stream err.new ≡ K.stream err.old }
 
     // what a session does, and which status comes when: its text is accepted and its children are started by their words and waited for,
     // each status is printed, and no file is changed
@@ -83,9 +88,8 @@ pub fn bar_run<F: Files, L: Link, K: Sink, S: Spawner>(
         IsTrue ((F.disk files.old).told || is_plain_end result) →
         SaysBy (session_line names (F.disk files.old).content) result (K.stream err.old) (K.stream err.new) }
 
-    // a simulation that ends with 0 has printed how the simulation of its seed ends, and nothing else was done
-    ensures simulated { (seed : ℕ) → line_of (map string_bytes words.now) ≡ Some (line.simulate seed) → result ≡ 0 →
-        IsTrue (F.disk files.old).told → HasShown (simulation_text seed) 0
+    // a simulation prints how the simulation of its seed ends, all of it where it ends with 0, and nothing else is done
+    ensures simulated { (seed : ℕ) → line_of (map string_bytes words.now) ≡ Some (line.simulate seed) → HasShown (simulation_text seed) 0
         (outside (F.disk files.old) (K.stream out.old) (L.wire link.old))
         (outside (F.disk files.new) (K.stream out.new) (L.wire link.new)) result }
 
@@ -103,6 +107,9 @@ pub fn bar_run<F: Files, L: Link, K: Sink, S: Spawner>(
 
     // nothing is printed where the words aren't a line, and none but at the statuses at which the command may print
     ensures unprinted { may_print (line_of (map string_bytes words.now)) result ≡ false → K.stream out.new ≡ K.stream out.old }
+
+    // files are left alone where the words aren't a line, by `simulate`, and by `keygen` where there are too few leaves
+    ensures unread { reads_nothing (line_of (map string_bytes words.now)) ≡ true → F.disk files.new ≡ F.disk files.old }
 
     // only `peer` and `broadcaster` use the link
     ensures unlinked { uses_link (line_of (map string_bytes words.now)) ≡ false → L.wire link.new ≡ L.wire link.old }
@@ -173,29 +180,13 @@ pub fn bar_run<F: Files, L: Link, K: Sink, S: Spawner>(
         (outside (F.disk files.old) (K.stream out.old) (L.wire link.old))
         (outside (F.disk files.new) (K.stream out.new) (L.wire link.new)) }
 
-    // whatever the inputs are, at each moment, the peer signs by its rules, and sends what it signed
-    ensures signed { (names : ReplayFiles) → line_of (map string_bytes words.now) ≡ Some (line.replay names) →
-        IsSignedByRule names (F.disk files.old).content }
-
-    // in each exchange it opens nothing, or as much as it promised and as it was promised
-    ensures balance { (names : ReplayFiles) → line_of (map string_bytes words.now) ≡ Some (line.replay names) →
-        OpensWhatIsPromised names (F.disk files.old).content }
-
-    // each of its keys goes to the partner of the exchange
-    ensures keys { (names : ReplayFiles) → line_of (map string_bytes words.now) ≡ Some (line.replay names) →
-        GivesKeysToPartners names (F.disk files.old).content }
-
-    // an admitted key that opens the partner's briefcase badly leaves evidence against the partner that the broadcaster accepts
-    ensures evidence { (names : ReplayFiles) → line_of (map string_bytes words.now) ≡ Some (line.replay names) →
-        LeavesEvidence names (F.disk files.old).content }
-
-    // no evidence of what it signed is accepted against it
-    ensures unframed { (names : ReplayFiles) → line_of (map string_bytes words.now) ≡ Some (line.replay names) →
-        IsNeverFramed names (F.disk files.old).content }
-
-    // no leaf of its key signs two messages
-    ensures leaves { (names : ReplayFiles) → line_of (map string_bytes words.now) ≡ Some (line.replay names) →
-        KeepsItsLeaves names (F.disk files.old).content }
+    // whatever its status, a replay printed nothing, or a front of the transcript up to one place of its recording; and whatever the
+    // recording's inputs are, at each moment, each datagram is signed by rule, exchanges balance, keys go to partners, bad keys leave
+    // evidence, all evidence is shown, nobody frames the peer, and no leaf signs twice
+    ensures replay_headline { (names : ReplayFiles) → line_of (map string_bytes words.now) ≡ Some (line.replay names) →
+        IsTrue (F.disk files.old).told → ReplayHeadline names
+        (outside (F.disk files.old) (K.stream out.old) (L.wire link.old))
+        (outside (F.disk files.new) (K.stream out.new) (L.wire link.new)) result }
 
     // a key that was made has its file and its lines
     ensures key_made { (asked : Keygen) → line_of (map string_bytes words.now) ≡ Some (line.keygen asked) →
@@ -219,6 +210,7 @@ pub fn bar_run<F: Files, L: Link, K: Sink, S: Spawner>(
     a_broadcaster_stands();
     a_peer_is_done();
     a_peer_stands();
+    a_replay_keeps_the_rules();
     accepted_secrets_are_held();
     accepted_sessions_are_in_range();
     bad_keys_leave_evidence();
@@ -255,6 +247,7 @@ fn run_words<F: Files, L: Link, K: Sink, S: Spawner>(
     ensures usage { code_of result ≡ 2 → line_of (map string_bytes words.now) ≡ None }
     ensures unprinted { may_print (line_of (map string_bytes words.now)) (code_of result) ≡ false →
         K.stream out.new ≡ K.stream out.old }
+    ensures unread { reads_nothing (line_of (map string_bytes words.now)) ≡ true → F.disk files.new ≡ F.disk files.old }
     ensures unlinked { uses_link (line_of (map string_bytes words.now)) ≡ false → L.wire link.new ≡ L.wire link.old }
     ensures session { (names : SessionNames) → line_of (map string_bytes words.now) ≡ Some (line.session_run names) → SessionEnds names
         (outside (F.disk files.old) (K.stream out.old) (L.wire link.old))
@@ -284,6 +277,7 @@ fn run_command<F: Files, L: Link, K: Sink, S: Spawner>(
     ensures statuses { IsTrue (is_status_of (Some (command_view command.now)) (code_of result)) }
     ensures leaves { (asked : Keygen) → command_view command.now ≡ line.keygen asked → (code_of result ≡ 4) ↔ HasFewLeaves asked }
     ensures unprinted { may_print (Some (command_view command.now)) (code_of result) ≡ false → K.stream out.new ≡ K.stream out.old }
+    ensures unread { reads_nothing (Some (command_view command.now)) ≡ true → F.disk files.new ≡ F.disk files.old }
     ensures unlinked { uses_link (Some (command_view command.now)) ≡ false → L.wire link.new ≡ L.wire link.old }
     ensures session { (names : SessionNames) → command_view command.now ≡ line.session_run names → SessionEnds names
         (outside (F.disk files.old) (K.stream out.old) (L.wire link.old))

@@ -212,6 +212,7 @@ fn table_refusal(alloc: Global, at: u64) -> Result<String, AllocError>
 pub fn report<K: Sink>(alloc: Global, status: &Status, err: &mut K) -> u8
     ensures code { (result ≡ code_of status.now) ⊎ (result ≡ 70) }
     ensures said { Prints (said_at status.now) result (K.stream err.old) (K.stream err.new) }
+    ensures silent { (result ≡ 0) ⊎ (result ≡ 1) → K.stream err.new ≡ K.stream err.old }
 {
     let code = status.code();
     match status {

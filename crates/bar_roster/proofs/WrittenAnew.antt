@@ -1,9 +1,8 @@
 -- The text of an accepted key, written anew, is read back as the same secrets.
-use Rattle.std.proofs.Common.{◌≡◌, ◌∙◌, ℕ, ◌<◌, ◌≤◌, ◌^◌, ◌&&◌, not, cond, nat_lt, Bool, true, false, List, ◌++◌, codes, length, Option, Some, None, Result, Ok, Err, refl, sym, ap, subst, arith, length-append}
+use Rattle.std.proofs.Common.{◌≡◌, ◌∙◌, ℕ, ◌≤◌, ◌&&◌, not, cond, Bool, true, false, List, codes, length, Option, Some, None, Result, Ok, Err, refl, sym, ap, subst, arith, length-append}
 use Rattle.std.specs.Prelude.{option_and_then}
 use Rattle.std.specs.Result.{result_ok}
 use Rattle.std.specs.Fmt.{decimal}
-use Rattle.std.specs.Str.{bytes_eq}
 use Rattle.std.proofs.lemmas.Bool.{and_parts, eqb-true}
 use Rattle.std.proofs.lemmas.Fmt.{length-decimal-le}
 use Rattle.std.proofs.lemmas.Option.{none-some}
@@ -17,7 +16,7 @@ use Rattle.bar_seeds.specs.declared.secrets.Secrets.{Secrets}
 use Rattle.bar_roster.specs.Fields.{bytes_of, document, number_in}
 use Rattle.bar_roster.specs.KeyAnew.{longest_text, text_of}
 use Rattle.bar_roster.specs.KeyFile.{checked_key, checked_table, fits, is_of_session, key_file_of, secrets_in}
-use Rattle.bar_roster.specs.KeyText.{first_lines, key_data, key_fields, key_of_text, key_text_of, last_lines, truth}
+use Rattle.bar_roster.specs.KeyText.{first_lines, key_data, key_fields, key_text_of, last_lines, truth}
 use Rattle.bar_roster.specs.NumberRanges.{most_rounds}
 use Rattle.bar_roster.specs.SessionText.{SessionData}
 use Rattle.bar_roster.specs.declared.key_fault.KeyFileFault.{KeyFileFault}

@@ -1,26 +1,17 @@
-use Rattle.std.proofs.Common.{◌∙◌, [], Option, IsTrue, ap, sym, subst, inl, inr, arith}
-use Rattle.std.specs.List.{AllByRecursion}
-use Rattle.bar_window.specs.declared.exchange.Exchange.{Exchange}
-use Rattle.bar_wire.specs.Datagram.{Datagram}
-use Rattle.bar_rules.specs.Peer.Exchanges.{partner_in}
-use Rattle.bar_rules.specs.Peer.Run.{log_after, sends_of}
-use Rattle.bar_laws.specs.Balance.{GoesToPartner, IsEven, totals_of}
-use Rattle.bar_laws.specs.Evidence.{OpensBadly}
-use Rattle.bar_laws.specs.Framing.{IsNotFramed}
-use Rattle.bar_laws.specs.Leaves.{KeepsLeaves}
-use Rattle.bar_laws.specs.Obedience.{IsRuled}
-use Rattle.bar_cli.specs.Headline.{HasProof, KeepsTheRules}
+use Rattle.std.proofs.Common.{◌∙◌, Option, IsTrue, ap, sym, subst, inl, inr, arith}
+use Rattle.bar_outside.specs.Disk.{Disk}
+use Rattle.bar_cli.specs.Headline.{KeepsTheRules}
 use Rattle.bar_cli.specs.JudgePlan.{judge_plan}
 use Rattle.bar_cli.specs.KeygenPlan.{keygen_plan}
-use Rattle.bar_cli.specs.Line.{Line, peer, broadcaster, replay, keygen, judge, simulate, has_plan, is_status_of}
+use Rattle.bar_cli.specs.Line.{Line, peer, broadcaster, replay, keygen, judge, simulate, has_plan, is_status_of, reads_nothing}
 use Rattle.bar_cli.specs.ReplayPlan.{replay_plan}
-use Rattle.bar_cli.specs.SimulatePlan.{simulate_plan, simulation_text}
 use Rattle.bar_cli.proofs.JudgeRows.{judged_so, outcome, same_files}
 use Rattle.bar_cli.proofs.KeygenRows as making
-use Rattle.bar_cli.proofs.MemberLemmas.{keeps-rules, of-its_run, of-its_runs, proves-bad_keys}
+use Rattle.bar_cli.proofs.MemberLemmas.{keeps-rules, of-its_runs}
 use Rattle.bar_cli.proofs.Rows as replaying
 use Rattle.bar_cli.proofs.RunLemmas.{ends-as, run-ends, run-said}
 use Rattle.bar_cli.proofs.SessionLemmas.{session-said}
+use Rattle.bar_cli.proofs.SimulateLemmas.{has-shown}
 use Rattle.bar_cli.proofs.StatusLemmas.{no-line, or-memory, said-at_two, unprinted-by}
 use Rattle.bar_cli.proofs.run.bar_run.Goals as goal
 
@@ -86,10 +77,9 @@ returns-clause-session_said g c = λ names is.
 -- ---- `simulate`
 
 pub returns-clause-simulated : goal.returns-clause-simulated
-returns-clause-simulated g c = λ seed is zero told.
-    let law = c.plans_go_in_order.ensures in
+returns-clause-simulated g c = λ seed is.
     let ends = (ends-as _ (simulate seed) _ _ _ _ _ is c.report.ensures.code (c.run_words-status.ensures.ends (ap has_plan is))).ends in
-    law.shows (simulation_text seed) 0 [] _ _ _ told (law.went (simulate_plan seed) _ _ _ ends told)
+    has-shown seed _ _ _ (ap (λ (disk : Disk). disk.content) (c.run_words-status.ensures.unread (ap reads_nothing is))) ends
 
 pub returns-clause-spared : goal.returns-clause-spared
 returns-clause-spared g c = λ seed peer low high is. c.honest_peers_stay.ensures seed peer low high is
@@ -163,39 +153,10 @@ returns-clause-sends g c = λ names is told zero.
     in
     (done.accepted, done.sent)
 
-pub returns-clause-signed : goal.returns-clause-signed
-returns-clause-signed g c = λ names is.
-    of-its_run c.accepted_secrets_are_held.ensures c.accepted_sessions_are_in_range.ensures IsRuled c.signed_by_rule.ensures
-    names (g.F.Files.disk c.args.files.now).content
-
-pub returns-clause-balance : goal.returns-clause-balance
-returns-clause-balance g c = λ names is.
-    of-its_run c.accepted_secrets_are_held.ensures c.accepted_sessions_are_in_range.ensures
-    (λ me inputs. (x : Exchange) → IsEven (totals_of me inputs x)) c.balanced.ensures.opened names (g.F.Files.disk c.args.files.now).content
-
-pub returns-clause-keys : goal.returns-clause-keys
-returns-clause-keys g c = λ names is.
-    of-its_run c.accepted_secrets_are_held.ensures c.accepted_sessions_are_in_range.ensures
-    (λ me inputs. AllByRecursion (GoesToPartner me) (sends_of me inputs)) c.balanced.ensures.partners
-    names (g.F.Files.disk c.args.files.now).content
-
-pub returns-clause-evidence : goal.returns-clause-evidence
-returns-clause-evidence g c = λ names is.
-    of-its_run c.accepted_secrets_are_held.ensures c.accepted_sessions_are_in_range.ensures
-    (λ me inputs. (x : Exchange) (key : Datagram) → OpensBadly me (log_after me [] inputs) x key →
-    HasProof me (log_after me [] inputs) (partner_in me x))
-    (λ me member inputs. proves-bad_keys c.bad_keys_leave_evidence.ensures c.kept_evidence_is_shown.ensures me inputs)
-    names (g.F.Files.disk c.args.files.now).content
-
-pub returns-clause-unframed : goal.returns-clause-unframed
-returns-clause-unframed g c = λ names is.
-    of-its_run c.accepted_secrets_are_held.ensures c.accepted_sessions_are_in_range.ensures
-    (λ me inputs. IsNotFramed me (log_after me [] inputs)) c.no_framing.ensures names (g.F.Files.disk c.args.files.now).content
-
-pub returns-clause-leaves : goal.returns-clause-leaves
-returns-clause-leaves g c = λ names is.
-    of-its_run c.accepted_secrets_are_held.ensures c.accepted_sessions_are_in_range.ensures
-    (λ me inputs. KeepsLeaves me (log_after me [] inputs)) c.leaf_discipline.ensures names (g.F.Files.disk c.args.files.now).content
+pub returns-clause-replay_headline : goal.returns-clause-replay_headline
+returns-clause-replay_headline g c = λ names is told.
+    let ends = (ends-as _ (replay names) _ _ _ _ _ is c.report.ensures.code (c.run_words-status.ensures.ends (ap has_plan is))).ends in
+    c.a_replay_keeps_the_rules.ensures names _ _ _ ends told
 
 -- ---- `keygen` and `judge`
 

@@ -11,7 +11,7 @@ use Rattle.bar_cli.specs.Line.{Line, peer, broadcaster, replay, keygen, judge, s
 use Rattle.bar_cli.specs.ReplayPlan.{ReplayFiles}
 use Rattle.bar_cli.specs.Status.{code_of_run}
 use Rattle.bar_cli.specs.Views.{names_view, keygen_view, judge_view, command_view}
-use Rattle.bar_cli.proofs.RunLemmas.{over-no_link}
+use Rattle.bar_cli.proofs.RunLemmas.{few-leaves, over-no_link}
 use Rattle.bar_cli.proofs.StatusLemmas.{never-linked, never-six, quiet, peer-statuses, broadcaster-statuses, replay-statuses, keygen-statuses, judge-statuses, never-filed, simulate-statuses}
 use Rattle.bar_cli.proofs.run.run_command.Goals as goal
 
@@ -75,6 +75,9 @@ pub returns-in-Peer-clause-leaves : goal.returns-in-Peer-clause-leaves
 returns-in-Peer-clause-leaves g c =
     λ asked is. absurd (peer-other (peer_view c.in-Peer.names) asked (sym (ap command_view c.in-Peer.is) ∙ is))
 
+pub returns-in-Peer-clause-unread : goal.returns-in-Peer-clause-unread
+returns-in-Peer-clause-unread g c = rw c.in-Peer.is (λ alone. absurd (true≢false (sym alone)))
+
 pub returns-in-Peer-clause-unprinted : goal.returns-in-Peer-clause-unprinted
 returns-in-Peer-clause-unprinted g c = rw (c.in-Peer.is, c.status_of_live.ensures.code) c.peer.ensures.unprinted
 
@@ -96,6 +99,9 @@ returns-in-Broadcaster-clause-statuses g c =
 pub returns-in-Broadcaster-clause-leaves : goal.returns-in-Broadcaster-clause-leaves
 returns-in-Broadcaster-clause-leaves g c =
     λ asked is. absurd (broadcaster-other (caster_view c.in-Broadcaster.names) asked (sym (ap command_view c.in-Broadcaster.is) ∙ is))
+
+pub returns-in-Broadcaster-clause-unread : goal.returns-in-Broadcaster-clause-unread
+returns-in-Broadcaster-clause-unread g c = rw c.in-Broadcaster.is (λ alone. absurd (true≢false (sym alone)))
 
 pub returns-in-Broadcaster-clause-unprinted : goal.returns-in-Broadcaster-clause-unprinted
 returns-in-Broadcaster-clause-unprinted g c =
@@ -121,6 +127,9 @@ pub returns-in-Replay-clause-leaves : goal.returns-in-Replay-clause-leaves
 returns-in-Replay-clause-leaves g c =
     λ asked is. absurd (replay-other (names_view c.in-Replay.names) asked (sym (ap command_view c.in-Replay.is) ∙ is))
 
+pub returns-in-Replay-clause-unread : goal.returns-in-Replay-clause-unread
+returns-in-Replay-clause-unread g c = rw c.in-Replay.is (λ alone. absurd (true≢false (sym alone)))
+
 pub returns-in-Replay-clause-unprinted : goal.returns-in-Replay-clause-unprinted
 returns-in-Replay-clause-unprinted g c = rw (c.in-Replay.is, c.status_of.ensures.code) c.replay.ensures.unprinted
 
@@ -144,6 +153,9 @@ returns-in-Keygen-clause-leaves g c = λ asked is.
     rw c.status_of-in-Keygen.ensures.code
     (subst (λ (a : Keygen). (code_of_run c.keygen.result ≡ 4) ↔ HasFewLeaves a) same c.keygen.ensures.leaves)
 
+pub returns-in-Keygen-clause-unread : goal.returns-in-Keygen-clause-unread
+returns-in-Keygen-clause-unread g c = rw c.in-Keygen.is (λ few. c.keygen.ensures.unread (few-leaves _ few))
+
 pub returns-in-Keygen-clause-unprinted : goal.returns-in-Keygen-clause-unprinted
 returns-in-Keygen-clause-unprinted g c = rw (c.in-Keygen.is, c.status_of-in-Keygen.ensures.code) c.keygen.ensures.unprinted
 
@@ -164,6 +176,9 @@ returns-in-Judge-clause-statuses g c =
 pub returns-in-Judge-clause-leaves : goal.returns-in-Judge-clause-leaves
 returns-in-Judge-clause-leaves g c =
     λ asked is. absurd (judge-other (judge_view c.in-Judge.names) asked (sym (ap command_view c.in-Judge.is) ∙ is))
+
+pub returns-in-Judge-clause-unread : goal.returns-in-Judge-clause-unread
+returns-in-Judge-clause-unread g c = rw c.in-Judge.is (λ alone. absurd (true≢false (sym alone)))
 
 pub returns-in-Judge-clause-unprinted : goal.returns-in-Judge-clause-unprinted
 returns-in-Judge-clause-unprinted g c = rw (c.in-Judge.is, c.status_of-in-Judge.ensures.code) c.judge.ensures.unprinted
@@ -199,6 +214,9 @@ returns-in-Session-clause-statuses g c = rw (c.in-Session.is, c.status_of-in-Ses
 pub returns-in-Session-clause-leaves : goal.returns-in-Session-clause-leaves
 returns-in-Session-clause-leaves g c =
     λ asked is. absurd (session-other (family_view c.in-Session.names) asked (sym (ap command_view c.in-Session.is) ∙ is))
+
+pub returns-in-Session-clause-unread : goal.returns-in-Session-clause-unread
+returns-in-Session-clause-unread g c = rw c.in-Session.is (λ alone. absurd (true≢false (sym alone)))
 
 pub returns-in-Session-clause-unprinted : goal.returns-in-Session-clause-unprinted
 returns-in-Session-clause-unprinted g c = rw (c.in-Session.is, c.status_of-in-Session.ensures.code) c.session.ensures.unprinted

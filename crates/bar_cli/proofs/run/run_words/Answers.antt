@@ -2,7 +2,7 @@ use Rattle.std.proofs.Common.{◌≡◌, ◌∙◌, Option, None, Some, Err, IsT
 use Rattle.bar_outside.specs.Plan.{outside}
 use Rattle.bar_outside.proofs.Ending.{EndsWith-ending}
 use Rattle.bar_live.specs.Running.{RunEndsWith}
-use Rattle.bar_cli.specs.Line.{Line, has_plan, is_status_of, may_print, plan_of, starts_children, usage, uses_link}
+use Rattle.bar_cli.specs.Line.{Line, has_plan, is_status_of, may_print, plan_of, reads_nothing, starts_children, usage, uses_link}
 use Rattle.bar_cli.specs.Status.{code_of, said_at}
 use Rattle.bar_cli.specs.Views.{command_view}
 use Rattle.bar_cli.proofs.RunLemmas.{no-memory, over-no_link}
@@ -49,6 +49,10 @@ returns-in-Ok-clause-unprinted g c = λ quiet.
 pub returns-in-Ok-clause-unlinked : goal.returns-in-Ok-clause-unlinked
 returns-in-Ok-clause-unlinked g c = λ none.
     c.run_command.ensures.unlinked (subst (λ (line : Option Line). uses_link line ≡ false) c.in-Ok.ensures.line none)
+
+pub returns-in-Ok-clause-unread : goal.returns-in-Ok-clause-unread
+returns-in-Ok-clause-unread g c = λ alone.
+    c.run_command.ensures.unread (subst (λ (line : Option Line). reads_nothing line ≡ true) c.in-Ok.ensures.line alone)
 
 pub returns-in-Ok-clause-session : goal.returns-in-Ok-clause-session
 returns-in-Ok-clause-session g c = λ names is. c.run_command.ensures.session names (some-line (sym c.in-Ok.ensures.line ∙ is))
