@@ -1,9 +1,10 @@
 -- How far a broadcaster came, from how it ended.
-use Rattle.std.proofs.Common.{◌≡◌, ◌⊎◌, ◌<◌, ℕ, Bool, List, true, false, nat_le, length, cond, None, Some, Result, Ok, Err, refl, sym, ap, ◌∙◌, subst, inl, inr, IsTrue, arith, true≢false}
+use Rattle.std.proofs.Common.{◌≡◌, ◌⊎◌, ◌<◌, ℕ, Bool, List, ◌∷◌, true, false, nat_le, length, cond, None, Some, Result, Ok, Err, refl, sym, ap, ◌∙◌, subst, inl, inr, IsTrue, arith, true≢false}
 use Rattle.std.proofs.lemmas.Bool.{leb-false}
 use Rattle.bar_outside.specs.Disk.{Content, readable}
 use Rattle.bar_outside.specs.Wire.{Arrival}
-use Rattle.bar_outside.specs.Plan.{Action, Outside, Plan, Touches, accepting, ending, is_stop, read_then}
+use Rattle.bar_outside.specs.Plan.{Action, Outside, Plan, Touches, accepting, before, ending, is_stop, read_then}
+use Rattle.bar_outside.specs.Plan.Action.{read}
 use Rattle.bar_outside.specs.Stages.{EndsThere, IsUnchanged, ReadsFirst, Went}
 use Rattle.bar_outside.proofs.Untouched.{untouched-reached}
 use Rattle.bar_seeds.specs.declared.secrets.Secrets.{Secrets}
@@ -11,16 +12,17 @@ use Rattle.bar_roster.specs.declared.fault.SessionFault.{SessionFault}
 use Rattle.bar_roster.specs.declared.key_fault.KeyFileFault.{KeyFileFault}
 use Rattle.bar_roster.specs.SessionText.{SessionData}
 use Rattle.bar_findings.specs.Findings.{IsFindingName}
-use Rattle.bar_node.specs.Runs.{is_ended}
+use Rattle.bar_node.specs.Runs.{AsksToTheEnd, is_ended}
 use Rattle.bar_live.specs.Accepting.{fresh_key_of, room_of, session_of, stream_in}
 use Rattle.bar_live.specs.PeerPlan.{HasSession}
 use Rattle.bar_live.specs.CasterPlan.{CasterAccepted, CasterNames, caster_actions, caster_key_plan, caster_plan, caster_run, caster_run_plan, caster_stream_plan, rules_by}
 use Rattle.bar_live.specs.CasterStands.{IsCasterFile, KeyRefused, SessionRefused, StreamRefused}
 use Rattle.bar_live.specs.Refusals.{key_refused, session_refused, stream_refused}
-use Rattle.bar_live.specs.Running.{place_of, spending, status_of}
+use Rattle.bar_live.specs.Running.{AsksNoFurther, HasReached, place_of, spending, status_of}
 use Rattle.bar_live.specs.Stands.{IsUntouched}
 use Rattle.bar_live.specs.Summaries.{at_end, caster_summary}
-use Rattle.bar_live.proofs.Endings.{as-untouched, no-refusal}
+use Rattle.bar_live.proofs.Endings.{as-untouched, no-refusal, not-ended}
+use Rattle.bar_live.proofs.Reaching.{behind-read}
 use Rattle.bar_live.proofs.Printed.{caster-prints, end-prints}
 use Rattle.bar_node.proofs.RunActions.{of-run}
 use Rattle.bar_live.proofs.RunSplits.{AreOfKinds, touched-binding}
@@ -134,16 +136,42 @@ module _ (reads : ReadsFirst) (ends : EndsThere) (names : CasterNames) (given : 
         | inr on ↦ outcome-session on.bytes (session_of on.bytes) on.read refl on.rest
       ]
 
--- where all three files are accepted, the plan's status is that of the run
+-- where all three files are accepted, they are read, and the plan goes on with the run
+accepted-plan : (names : CasterNames) (given : List Arrival) (content : Content) (s : SessionData) (k : Secrets) (stream : List ℕ) →
+    CasterAccepted names content s k stream →
+    caster_plan names given content
+    ≡ before (read names.session) (before (read names.key) (before (read names.stream) (caster_run_plan names s k given stream content)))
+accepted-plan names given content s k stream a =
+    let behind = λ (p : Plan). before (read names.session) (before (read names.key) p) in
+    ap (read_then names.session (with-session names given) content) a.in_session.read
+    ∙ ap (λ r. before (read names.session) (by-session names given r content)) a.in_session.is
+    ∙ ap (λ o. before (read names.session) (read_then names.key (with-key names given s) content o)) a.read
+    ∙ ap (λ r. behind (by-secrets names given s r content)) a.is
+    ∙ ap (λ o. behind (read_then names.stream (with-stream names s given k) content o)) a.stream_read
+    ∙ ap (λ r. behind (before (read names.stream) (by-stream names s given k r content))) a.fits
+
+-- its status is that of the run
 pub accepted-status : (names : CasterNames) (given : List Arrival) (content : Content) (s : SessionData) (k : Secrets) (stream : List ℕ) →
     CasterAccepted names content s k stream → (caster_plan names given content).status ≡ status_of (rules_by s k stream) given
-accepted-status names given content s k stream a =
-    ap (λ o. (read_then names.session (with-session names given) content o).status) a.in_session.read
-    ∙ ap (λ r. (by-session names given r content).status) a.in_session.is
-    ∙ ap (λ o. (read_then names.key (with-key names given s) content o).status) a.read
-    ∙ ap (λ r. (by-secrets names given s r content).status) a.is
-    ∙ ap (λ o. (read_then names.stream (with-stream names s given k) content o).status) a.stream_read
-    ∙ ap (λ r. (by-stream names s given k r content).status) a.fits
+accepted-status names given content s k stream a = ap (λ (p : Plan). p.status) (accepted-plan names given content s k stream a)
+
+-- and it came as far in the run
+pub accepted-reached : (names : CasterNames) (given : List Arrival) (s : SessionData) (k : Secrets) (stream : List ℕ) (old new : Outside) →
+    CasterAccepted names old.files.content s k stream → HasReached (caster_plan names given old.files.content).actions given old new →
+    HasReached (caster_actions names s k stream given) given old new
+accepted-reached names given s k stream old new a r =
+    let actions = caster_actions names s k stream given in
+    behind-read names.stream actions given old new
+    (behind-read names.key (read names.stream ∷ actions) given old new
+    (behind-read names.session (read names.key ∷ read names.stream ∷ actions) given old new
+    (subst (λ (p : Plan). HasReached p.actions given old new) (accepted-plan names given old.files.content s k stream a) r)))
+
+-- the link was asked no further than up to the end of the run
+pub accepted-asked : (names : CasterNames) (given : List Arrival) (content : Content) (s : SessionData) (k : Secrets) (stream : List ℕ) →
+    CasterAccepted names content s k stream → AsksNoFurther (λ front. caster_plan names front content) given →
+    AsksToTheEnd (rules_by s k stream) given
+accepted-asked names given content s k stream a asked front next rest e =
+    not-ended (is_ended (rules_by s k stream) front) (sym (accepted-status names front content s k stream a) ∙ asked front next rest e)
 
 -- ---- refusals
 

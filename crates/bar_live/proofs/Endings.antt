@@ -1,5 +1,5 @@
 -- What the status of a run tells, and what an unchanged outside is.
-use Rattle.std.proofs.Common.{◌≡◌, ◌⊎◌, ℕ, Bool, true, false, cond, refl, inl, inr}
+use Rattle.std.proofs.Common.{◌≡◌, ◌⊎◌, ℕ, Bool, true, false, cond, refl, inl, inr, arith}
 use Rattle.bar_outside.specs.Plan.{Outside}
 use Rattle.bar_outside.specs.Stages.{IsUnchanged}
 use Rattle.bar_live.specs.Stands.{IsUntouched}
@@ -8,6 +8,11 @@ use Rattle.bar_live.specs.Stands.{IsUntouched}
 pub ended-at : (ended : Bool) (status : ℕ) → (status ≡ 6 → ⊥) → status ≡ cond ended 0 6 → ended ≡ true
 ended-at true status other e = refl
 ended-at false status other e = absurd (other e)
+
+-- a plan whose link is asked again isn't at its end
+pub not-ended : (ended : Bool) → ◌≡◌ {A = ℕ} (cond ended 0 6) 6 → ended ≡ false
+not-ended true e = absurd (omega arith)
+not-ended false e = refl
 
 -- a refusal's status is none of a run's
 pub no-refusal : (ended : Bool) (status : ℕ) → (status ≡ 0 → ⊥) → (status ≡ 6 → ⊥) → status ≡ cond ended 0 6 → ⊥

@@ -1,4 +1,5 @@
 pub mod Shown
+pub mod Reaching
 pub mod RunFollowing
 pub mod RunEnding
 pub mod Planned

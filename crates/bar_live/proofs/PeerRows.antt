@@ -1,8 +1,9 @@
 -- How far a peer came, from how it ended.
-use Rattle.std.proofs.Common.{◌≡◌, ◌⊎◌, ℕ, List, true, false, Some, Result, Ok, Err, refl, sym, ap, ◌∙◌, inl, inr, IsTrue, true≢false, arith}
+use Rattle.std.proofs.Common.{◌≡◌, ◌⊎◌, ℕ, List, ◌∷◌, subst, true, false, Some, Result, Ok, Err, refl, sym, ap, ◌∙◌, inl, inr, IsTrue, true≢false, arith}
 use Rattle.bar_outside.specs.Disk.{Content, readable}
 use Rattle.bar_outside.specs.Wire.{Arrival}
-use Rattle.bar_outside.specs.Plan.{Action, Outside, Plan, Touches, accepting, ending, is_stop, read_then}
+use Rattle.bar_outside.specs.Plan.{Action, Outside, Plan, Touches, accepting, before, ending, is_stop, read_then}
+use Rattle.bar_outside.specs.Plan.Action.{read}
 use Rattle.bar_outside.specs.Stages.{EndsThere, IsUnchanged, ReadsFirst, Went}
 use Rattle.bar_outside.proofs.Untouched.{untouched-reached}
 use Rattle.bar_seeds.specs.declared.secrets.Secrets.{Secrets}
@@ -10,15 +11,16 @@ use Rattle.bar_roster.specs.declared.fault.SessionFault.{SessionFault}
 use Rattle.bar_roster.specs.declared.key_fault.KeyFileFault.{KeyFileFault}
 use Rattle.bar_roster.specs.SessionText.{SessionData}
 use Rattle.bar_findings.specs.Findings.{IsFindingName}
-use Rattle.bar_node.specs.Runs.{is_ended}
+use Rattle.bar_node.specs.Runs.{AsksToTheEnd, is_ended}
 use Rattle.bar_live.specs.Accepting.{fresh_key_of, session_of}
 use Rattle.bar_live.specs.PeerPlan.{HasSession, PeerAccepted, PeerNames, before_binding, peer_actions, peer_key_plan, peer_plan, peer_run, peer_run_plan, rules_by}
 use Rattle.bar_live.specs.PeerStands.{IsPeerFile, KeyRefused, SessionRefused}
 use Rattle.bar_live.specs.Refusals.{key_refused, session_refused}
-use Rattle.bar_live.specs.Running.{place_of, status_of}
+use Rattle.bar_live.specs.Running.{AsksNoFurther, HasReached, place_of, status_of}
 use Rattle.bar_live.specs.Stands.{IsUntouched}
 use Rattle.bar_live.specs.Summaries.{at_end, peer_summary}
-use Rattle.bar_live.proofs.Endings.{as-untouched, no-refusal}
+use Rattle.bar_live.proofs.Endings.{as-untouched, no-refusal, not-ended}
+use Rattle.bar_live.proofs.Reaching.{behind-read}
 use Rattle.bar_node.proofs.RunActions.{of-run}
 use Rattle.bar_live.proofs.RunSplits.{AreOfKinds, touched-binding}
 use Rattle.bar_live.proofs.Printed.{end-prints, peer-prints}
@@ -87,14 +89,35 @@ module _ (reads : ReadsFirst) (ends : EndsThere) (names : PeerNames) (given : Li
         | inr on ↦ outcome-session on.bytes (session_of on.bytes) on.read refl on.rest
       ]
 
--- where both files are accepted, the plan's status is that of the run
+-- where both files are accepted, they are read, and the plan goes on with the run
+accepted-plan : (names : PeerNames) (given : List Arrival) (content : Content) (s : SessionData) (k : Secrets) →
+    PeerAccepted names content s k →
+    peer_plan names given content ≡ before (read names.session) (before (read names.key) (peer_run_plan names s given k content))
+accepted-plan names given content s k a =
+    ap (read_then names.session (with-session names given) content) a.in_session.read
+    ∙ ap (λ r. before (read names.session) (by-session names given r content)) a.in_session.is
+    ∙ ap (λ o. before (read names.session) (read_then names.key (with-key names given s) content o)) a.read
+    ∙ ap (λ r. before (read names.session) (before (read names.key) (by-secrets names given s r content))) a.is
+
+-- its status is that of the run
 pub accepted-status : (names : PeerNames) (given : List Arrival) (content : Content) (s : SessionData) (k : Secrets) →
     PeerAccepted names content s k → (peer_plan names given content).status ≡ status_of (rules_by s k) given
-accepted-status names given content s k a =
-    ap (λ o. (read_then names.session (with-session names given) content o).status) a.in_session.read
-    ∙ ap (λ r. (by-session names given r content).status) a.in_session.is
-    ∙ ap (λ o. (read_then names.key (with-key names given s) content o).status) a.read
-    ∙ ap (λ r. (by-secrets names given s r content).status) a.is
+accepted-status names given content s k a = ap (λ (p : Plan). p.status) (accepted-plan names given content s k a)
+
+-- and it came as far in the run
+pub accepted-reached : (names : PeerNames) (given : List Arrival) (s : SessionData) (k : Secrets) (old new : Outside) →
+    PeerAccepted names old.files.content s k → HasReached (peer_plan names given old.files.content).actions given old new →
+    HasReached (peer_actions names s k given) given old new
+accepted-reached names given s k old new a r =
+    behind-read names.key (peer_actions names s k given) given old new
+    (behind-read names.session (read names.key ∷ peer_actions names s k given) given old new
+    (subst (λ (p : Plan). HasReached p.actions given old new) (accepted-plan names given old.files.content s k a) r))
+
+-- the link was asked no further than up to the end of the run
+pub accepted-asked : (names : PeerNames) (given : List Arrival) (content : Content) (s : SessionData) (k : Secrets) →
+    PeerAccepted names content s k → AsksNoFurther (λ front. peer_plan names front content) given → AsksToTheEnd (rules_by s k) given
+accepted-asked names given content s k a asked front next rest e =
+    not-ended (is_ended (rules_by s k) front) (sym (accepted-status names front content s k a) ∙ asked front next rest e)
 
 -- ---- refusals
 

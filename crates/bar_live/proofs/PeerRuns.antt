@@ -1,5 +1,5 @@
 -- What a peer has done that ended, or was stopped.
-use Rattle.std.proofs.Common.{◌≡◌, ◌<◌, ◌^◌, ℕ, List, [], ◌++◌, cond, false, Some, refl, ap, ◌∙◌, inl, inr, IsTrue, true≢false, sym, arith}
+use Rattle.std.proofs.Common.{◌≡◌, ◌<◌, ◌^◌, ℕ, List, [], ◌++◌, cond, Some, refl, ap, ◌∙◌, inl, inr, IsTrue, true≢false, sym, arith}
 use Rattle.bar_outside.specs.Wire.{Arrival}
 use Rattle.bar_outside.specs.Plan.{Action, Outside, Ran, shown}
 use Rattle.bar_seeds.specs.declared.secrets.Secrets.{Secrets}
@@ -10,28 +10,31 @@ use Rattle.bar_core.specs.Rules.{Rules}
 use Rattle.bar_rules.specs.Member.{Member}
 use Rattle.bar_rules.specs.Members.{member_by}
 use Rattle.bar_peer.specs.Runs.{RulesPlay, RulesSend}
-use Rattle.bar_node.specs.Runs.{is_ended, node_plan, taken_of}
+use Rattle.bar_record.specs.Pacing.{IsFew}
+use Rattle.bar_node.specs.Effects.{received_in}
+use Rattle.bar_node.specs.Runs.{IsGiven, has_end, inputs_of, is_ended, node_plan, taken_of}
 use Rattle.bar_node.specs.Stops.{AreApart, DonePeer, HasRun as HasRunSoFar, StoppedPeer}
-use Rattle.bar_live.specs.PeerPlan.{PeerNames, before_binding, peer_actions, rules_by}
+use Rattle.bar_node.proofs.Doing.{received-run}
+use Rattle.bar_live.specs.PeerPlan.{PeerAccepted, PeerNames, before_binding, peer_actions, peer_plan, rules_by}
 use Rattle.bar_live.specs.PeerStands.{HasOwnNames, HasRun, HasStopped, PeerDone, PeerStands}
-use Rattle.bar_live.specs.Running.{HasHeard, place_of}
+use Rattle.bar_live.specs.Running.{AsksNoFurther, HasHeard, HasReached, place_of}
 use Rattle.bar_live.specs.Stands.{IsFrontPrinted}
 use Rattle.bar_live.specs.Summaries.{peer_summary}
 use Rattle.bar_live.proofs.Accepted.{AreHeld, AreInRange, few-peers}
 use Rattle.bar_live.proofs.Endings.{as-untouched, ended-at}
 use Rattle.bar_live.proofs.PeerBound.{IsPeerBehind, all-peer, is-bound, is-of, played-at, recorded-at, split-peer}
-use Rattle.bar_live.proofs.PeerRows.{Outcome, peer-kinds}
+use Rattle.bar_live.proofs.PeerRows.{Outcome, accepted-asked, accepted-reached, peer-kinds}
 use Rattle.bar_live.proofs.Printed.{front-at_end}
 use Rattle.bar_live.proofs.RunLaws.{Finds, WholeSent, found-at}
-use Rattle.bar_live.proofs.RunSplits.{begun-first, front-behind, outside-at, printed-behind, ran-behind}
+use Rattle.bar_live.proofs.RunSplits.{begun-first, ended-behind, front-behind, outside-at, printed-behind, ran-behind, received-behind}
 
 -- what holds of each peer's run, done in part or whole
 
 abbrev pub PeerPartKept : Type 0
 PeerPartKept =
     (recording played found : List ℕ) (r : Rules) (given : List Arrival) (old new : Outside) →
-    HasRunSoFar (Some recording) (Some played) found r given old new → IsTrue old.wire.told → old.wire.traffic.ended ≡ false →
-    AreApart recording played found → StoppedPeer recording played r given old.files new.files old.wire new.wire
+    HasRunSoFar (Some recording) (Some played) found r given old new →
+    StoppedPeer recording played found r given old.files new.files old.wire new.wire
 
 abbrev pub WholePeerKept : Type 0
 WholePeerKept =
@@ -39,8 +42,7 @@ WholePeerKept =
     Ran (node_plan (Some recording) (Some played) found r given) old new → IsTrue (is_ended r given) → AreApart recording played found →
     DonePeer recording played r given old.files new.files old.wire new.wire
 
-module _ (names : PeerNames) (s : SessionData) (k : Secrets) (given : List Arrival) (old new : Outside) (heard : HasHeard given old new)
-    (told : IsTrue old.files.told) where
+module _ (names : PeerNames) (s : SessionData) (k : Secrets) (given : List Arrival) (old new : Outside) (told : IsTrue old.files.told) where
   abbrev r : Rules
   r = rules_by s k
 
@@ -53,23 +55,28 @@ module _ (names : PeerNames) (s : SessionData) (k : Secrets) (given : List Arriv
 
   -- ---- stopped behind the binding
 
-  module _ {done : List Action} (ran : Ran done old new) (b : IsPeerBehind names s k given done) where
+  module _ {done : List Action} (ran : Ran done old new) (received : received_in done ≡ given) (b : IsPeerBehind names s k given done) where
     -- a front of the summary is printed, where the run is at its end
     printed-front : IsFrontPrinted (peer_summary r (taken_of r given)) old new
     printed-front = front-at_end peer_summary r given old new (front-behind (peer-kinds names s k given) ran b)
+
+    received-more : received_in b.more ≡ given
+    received-more = received-behind (peer-kinds names s k given) ran b ∙ received
 
     has-run : HasRunSoFar (Some names.recording) (Some names.played) names.found r given bound new
     has-run = record {
       done = b.more;
       begun = b.run_begun;
+      received = received-more;
       ran = ran-behind (peer-kinds names s k given) ran b;
-      taken = heard.taken;
-      told_end = heard.told_end;
     }
 
-    has-stopped : PeerPartKept → HasOwnNames names → IsTrue old.wire.told → HasStopped names s k given old new
-    has-stopped keeps own tells =
-        let p = keeps names.recording names.played names.found r given bound new has-run tells refl own.apart in
+    told-end : IsTrue old.wire.told → new.wire.traffic.ended ≡ has_end given
+    told-end tells = ended-behind (peer-kinds names s k given) ran b tells ∙ ap has_end received-more
+
+    has-stopped : PeerPartKept → HasStopped names s k given old new
+    has-stopped keeps =
+        let p = keeps names.recording names.played names.found r given bound new has-run in
         record {
           cut = p.cut;
           sent = p.sent;
@@ -78,9 +85,9 @@ module _ (names : PeerNames) (s : SessionData) (k : Secrets) (given : List Arriv
           sent_front = p.sent_front;
           bytes_front = p.bytes_front;
           entries_front = p.entries_front;
-          sent_is = p.sent_is tells;
-          played_is = p.played_is told [] (played-at names own s k old.files.content);
-          recorded_is = p.recorded_is told head (recorded-at names own s k old.files.content);
+          sent_is = p.sent_is;
+          played_is = λ own. p.played_is own.apart told [] (played-at names own s k old.files.content);
+          recorded_is = λ own. p.recorded_is own.apart told head (recorded-at names own s k old.files.content);
         }
 
   -- ---- done
@@ -114,15 +121,23 @@ module _ (names : PeerNames) (s : SessionData) (k : Secrets) (given : List Arriv
 
 -- ---- by how it ended
 
-module _ (held : AreHeld) (names : PeerNames) (given : List Arrival) (old new : Outside) (heard : HasHeard given old new)
-    (told : IsTrue old.files.told) where
+module _ (held : AreHeld) (few : IsFew) (names : PeerNames) (given : List Arrival) (old new : Outside) (heard : HasHeard given old new)
+    (told : IsTrue old.files.told) (reached : HasReached (peer_plan names given old.files.content).actions given old new)
+    (asked : AsksNoFurther (λ front. peer_plan names front old.files.content) given) where
+  is-given : (s : SessionData) (k : Secrets) → PeerAccepted names old.files.content s k → IsGiven (rules_by s k) given
+  is-given s k accepted = record {
+    within = heard.within;
+    asked = accepted-asked names given old.files.content s k accepted asked;
+    few = few (rules_by s k).last (inputs_of given);
+  }
+
   -- whatever the status
   pub peer-stands : PeerPartKept → (status : ℕ) → Outcome names given old new status → PeerStands names old new
   peer-stands keeps status (inl stayed) = inl (as-untouched status old new stayed.0)
   peer-stands keeps status (inr b) =
       let s : SessionData = b.session in
       let k : Secrets = b.secrets in
-      let d = b.went.part in
+      let d = accepted-reached names given s k old new b.accepted reached in
       let of = is-of held names old.files.content s k b.accepted in
       elim (split-peer names s k given d.begun) [
         | inl front ↦
@@ -134,9 +149,11 @@ module _ (held : AreHeld) (names : PeerNames) (given : List Arrival) (old new : 
               is_of = of;
               bound = is-bound names s k given d.ran told behind;
               given = given;
+              is_given = is-given s k b.accepted;
               taken = heard.taken;
-              run = has-stopped names s k given old new heard told d.ran behind keeps;
-              printed = printed-front names s k given old new heard told d.ran behind;
+              told_end = told-end names s k given old new told d.ran d.received behind;
+              run = has-stopped names s k given old new told d.ran d.received behind keeps;
+              printed = printed-front names s k given old new told d.ran d.received behind;
             }))
       ]
 
@@ -152,14 +169,19 @@ module _ (held : AreHeld) (names : PeerNames) (given : List Arrival) (old new : 
       let k : Secrets = b.secrets in
       let c = b.went.carried refl in
       let ended : IsTrue (is_ended (rules_by s k) given) = ended-at (is_ended (rules_by s k) given) 0 (λ e. absurd (omega arith)) c.is in
-      let few = few-peers ranged names.session old.files.content s b.accepted.in_session in
+      let few_others = few-peers ranged names.session old.files.content s b.accepted.in_session in
+      let kinds = peer-kinds names s k given in
       record {
         session = s;
         secrets = k;
         is_of = is-of held names old.files.content s k b.accepted;
         bound = is-bound names s k given c.ran told (all-peer names s k given);
         given = given;
+        is_given = is-given s k b.accepted;
         taken = heard.taken;
+        told_end = λ tells.
+            ended-behind kinds c.ran (all-peer names s k given) tells
+            ∙ ap has_end (received-run (Some names.recording) (Some names.played) names.found (rules_by s k) given);
         ended = ended;
-        run = has-done names s k given old new heard told sends plays keeps all_sent finds few c.ran ended;
+        run = has-done names s k given old new told sends plays keeps all_sent finds few_others c.ran ended;
       }

@@ -23,6 +23,9 @@ use Rattle.bar_live.specs.CasterPlan as caster
 use Rattle.bar_live.specs.PeerPlan as peer
 use Rattle.bar_live.specs.Running.{RunFollows, place_of, spent_text}
 use Rattle.bar_live.specs.Summaries.{caster_summary, peer_summary}
+use Rattle.bar_node.proofs.ActionKinds.{AreAmong, NoCall}
+use Rattle.bar_live.proofs.Printed.{caster-prints, peer-prints}
+use Rattle.bar_live.proofs.Reaching.{AnyName}
 use Rattle.bar_live.proofs.RunFollowing.{AtFiles, AtLink, AtOutput, at-binding, before-binding, behind-run, in-run, run_actions}
 
 -- the place that a link is bound to
@@ -46,6 +49,10 @@ module _ (names : peer.PeerNames) (s : SessionData) (k : Secrets) (text head : L
   abbrev PeerFollows : {T : Type 0} → Outside → Outside → Result T Fault → Type 0
   PeerFollows old new result = RunFollows (peer.peer_actions names s k) (peer.rules_by s k) old new result
 
+  -- before its link is bound a peer calls nothing of it
+  peer-firsts : AreAmong AnyName NoCall ⊥ (written names.key text ++ begun)
+  peer-firsts = (tt, (tt, (tt, (tt, (tt, tt)))))
+
   -- the run with these in their places
   as-peer : {T : Type 0} (old new : Outside) (result : Result T Fault) →
       RunFollows (run_actions (written names.key text ++ begun) to (Some names.recording) (Some names.played) names.found peer_summary
@@ -67,7 +74,7 @@ module _ (names : peer.PeerNames) (s : SessionData) (k : Secrets) (text head : L
     peer-unspent mid fault first =
         as-peer _ _ _
         (before-binding (written names.key text ++ begun) to (Some names.recording) (Some names.played) names.found peer_summary
-        (peer_rules me) files out wire mid fault (λ w. stopped (written names.key text) begun _ _ fault (first w)))
+        (peer_rules me) peer-firsts (peer-prints (peer_rules me)) files out wire mid fault (λ w. stopped (written names.key text) begun _ _ fault (first w)))
 
     module _ {R : Type 0} (spent_files : Disk) (z : R) (first : AtFiles (written names.key text) files spent_files (Ok z)) where
       front : {S : Type 0} (mid : Disk) (result : Result S Fault) → AtFiles begun spent_files mid result →
@@ -80,7 +87,7 @@ module _ (names : peer.PeerNames) (s : SessionData) (k : Secrets) (text head : L
       peer-unbegun mid fault second =
           as-peer _ _ _
           (before-binding (written names.key text ++ begun) to (Some names.recording) (Some names.played) names.found peer_summary
-          (peer_rules me) files out wire mid fault (front mid (Err fault) second))
+          (peer_rules me) peer-firsts (peer-prints (peer_rules me)) files out wire mid fault (front mid (Err fault) second))
 
       module _ {S : Type 0} (mid : Disk) (x : S) (second : AtFiles begun spent_files mid (Ok x)) where
         -- its link wasn't bound
@@ -90,7 +97,7 @@ module _ (names : peer.PeerNames) (s : SessionData) (k : Secrets) (text head : L
         peer-unbound wire_new fault third =
             as-peer _ _ _
             (at-binding (written names.key text ++ begun) to (Some names.recording) (Some names.played) names.found peer_summary
-            (peer_rules me) files out wire mid x (front mid (Ok x) second) wire_new fault third)
+            (peer_rules me) peer-firsts (peer-prints (peer_rules me)) files out wire mid x (front mid (Ok x) second) wire_new fault third)
 
         module _ {U : Type 0} (late : Wire) (y : U) (third : AtLink (link (bind to) ∷ []) wire late (Ok y)) (now : List Input → Type 0)
             (files_new : Disk) (wire_new : Wire) where
@@ -100,7 +107,7 @@ module _ (names : peer.PeerNames) (s : SessionData) (k : Secrets) (text head : L
           peer-in-run fault ran =
               as-peer _ _ _
               (in-run (written names.key text ++ begun) to (Some names.recording) (Some names.played) names.found peer_summary
-              (peer_rules me) files out wire mid x (front mid (Ok x) second) late y third now files_new wire_new fault ran)
+              (peer_rules me) peer-firsts (peer-prints (peer_rules me)) files out wire mid x (front mid (Ok x) second) late y third now files_new wire_new fault ran)
 
           pub peer-behind-run : {T : Type 0} (summary : Summary)
               (ran : RanNode (Some names.recording) (Some names.played) names.found (peer_rules me) now mid files_new late wire_new
@@ -111,7 +118,7 @@ module _ (names : peer.PeerNames) (s : SessionData) (k : Secrets) (text head : L
           peer-behind-run summary ran out_new result same e shown =
               as-peer _ _ _
               (behind-run (written names.key text ++ begun) to (Some names.recording) (Some names.played) names.found peer_summary
-              (peer_rules me) files out wire mid x (front mid (Ok x) second) late y third now files_new wire_new summary ran out_new result
+              (peer_rules me) peer-firsts (peer-prints (peer_rules me)) files out wire mid x (front mid (Ok x) second) late y third now files_new wire_new summary ran out_new result
               same e shown)
 
 -- ---- a broadcaster's
@@ -120,6 +127,10 @@ module _ (names : caster.CasterNames) (s : SessionData) (k : Secrets) (stream te
     (spent : text ≡ spent_text s k) (place : to ≡ place_of names.begin_ms s k) (member : me ≡ member_by s k) where
   abbrev CasterFollows : {T : Type 0} → Outside → Outside → Result T Fault → Type 0
   CasterFollows old new result = RunFollows (caster.caster_actions names s k stream) (caster.rules_by s k stream) old new result
+
+  -- before its link is bound a broadcaster calls nothing of it
+  caster-firsts : AreAmong AnyName NoCall ⊥ (written names.key text)
+  caster-firsts = (tt, (tt, tt))
 
   as-caster : {T : Type 0} (old new : Outside) (result : Result T Fault) →
       RunFollows (run_actions (written names.key text) to None None names.found caster_summary (caster_rules me stream))
@@ -138,7 +149,7 @@ module _ (names : caster.CasterNames) (s : SessionData) (k : Secrets) (stream te
         CasterFollows {T = T} (outside files out wire) (outside mid out wire) (Err fault)
     caster-unspent mid fault first =
         as-caster _ _ _
-        (before-binding (written names.key text) to None None names.found caster_summary (caster_rules me stream) files out wire mid fault
+        (before-binding (written names.key text) to None None names.found caster_summary (caster_rules me stream) caster-firsts (caster-prints (caster_rules me stream)) files out wire mid fault
         first)
 
     module _ {S : Type 0} (mid : Disk) (x : S) (first : AtFiles (written names.key text) files mid (Ok x)) where
@@ -148,7 +159,7 @@ module _ (names : caster.CasterNames) (s : SessionData) (k : Secrets) (stream te
           CasterFollows {T = T} (outside files out wire) (outside mid out wire_new) (Err fault)
       caster-unbound wire_new fault second =
           as-caster _ _ _
-          (at-binding (written names.key text) to None None names.found caster_summary (caster_rules me stream) files out wire mid x first
+          (at-binding (written names.key text) to None None names.found caster_summary (caster_rules me stream) caster-firsts (caster-prints (caster_rules me stream)) files out wire mid x first
           wire_new fault second)
 
       module _ {U : Type 0} (late : Wire) (y : U) (second : AtLink (link (bind to) ∷ []) wire late (Ok y)) (now : List Input → Type 0)
@@ -158,7 +169,7 @@ module _ (names : caster.CasterNames) (s : SessionData) (k : Secrets) (stream te
             CasterFollows {T = T} (outside files out wire) (outside files_new out wire_new) (Err fault)
         caster-in-run fault ran =
             as-caster _ _ _
-            (in-run (written names.key text) to None None names.found caster_summary (caster_rules me stream) files out wire mid x first
+            (in-run (written names.key text) to None None names.found caster_summary (caster_rules me stream) caster-firsts (caster-prints (caster_rules me stream)) files out wire mid x first
             late y second now files_new wire_new fault ran)
 
         pub caster-behind-run : {T : Type 0} (summary : Summary)
@@ -168,5 +179,5 @@ module _ (names : caster.CasterNames) (s : SessionData) (k : Secrets) (stream te
             CasterFollows {T = T} (outside files out wire) (outside files_new out_new wire_new) result
         caster-behind-run summary ran out_new result same e shown =
             as-caster _ _ _
-            (behind-run (written names.key text) to None None names.found caster_summary (caster_rules me stream) files out wire mid x first
+            (behind-run (written names.key text) to None None names.found caster_summary (caster_rules me stream) caster-firsts (caster-prints (caster_rules me stream)) files out wire mid x first
             late y second now files_new wire_new summary ran out_new result same e shown)

@@ -1,5 +1,5 @@
 -- How commands end that run over a link.
-use Rattle.std.proofs.Common.{◌≡◌, ◌⊎◌, ℕ, List, [], Vec, Result, Ok, Err, IsTrue, false, if◌then◌else◌, refl, sym, ap, subst, inl, inr}
+use Rattle.std.proofs.Common.{◌≡◌, ◌⊎◌, ℕ, List, [], ◌∷◌, ◌∙◌, append-nil, Vec, Result, Ok, Err, IsTrue, false, if◌then◌else◌, refl, sym, ap, subst, inl, inr}
 use Rattle.std.proofs.Common.{arith}
 use Rattle.std.specs.declared.alloc.Global.{Global}
 use Rattle.bar_outside.specs.Disk.{Content, Disk, Reads}
@@ -11,12 +11,16 @@ use Rattle.bar_outside.specs.declared.fault.Fault.TheVariants.{File, Link, NoMem
 use Rattle.bar_outside.specs.Ends.{EndsWith}
 use Rattle.bar_outside.specs.Follows.{IsReliable}
 use Rattle.bar_outside.specs.Faults.{code_after, code_of_fault, fault_of_file, line_after, line_of_fault}
-use Rattle.bar_outside.specs.Plan.{Action, CanRun, Outside, Plan, accepting, doing, is_stop, line_at, no_memory, outside, reading}
+use Rattle.bar_outside.specs.Plan.{Action, CanRun, Outside, Plan, Ran, accepting, before, doing, is_stop, line_at, no_memory, outside, read_then, reading}
+use Rattle.bar_outside.specs.Plan.Action.{read}
 use Rattle.bar_outside.specs.Wire.{Arrival, Wire}
 use Rattle.bar_outside.proofs.Ending.{EndsWith-accepted, EndsWith-doing, EndsWith-memory, EndsWith-reading, EndsWith-refused}
 use Rattle.bar_outside.proofs.Ending.{EndsWith-unread, no_stop}
+use Rattle.bar_outside.proofs.Following.{later-files}
 use Rattle.bar_core.specs.Rules.{Rules}
-use Rattle.bar_live.specs.Running.{RunEndsWith, RunFollows, status_of}
+use Rattle.bar_node.proofs.Doing.{none-more}
+use Rattle.bar_live.specs.Running.{HasReached, RunEndsWith, RunFollows, status_of}
+use Rattle.bar_live.proofs.Reaching.{nothing-reached, reached-behind}
 use Rattle.bar_live.proofs.RunFollowing.{heard-nothing}
 
 -- a fault that isn't want of memory
@@ -25,12 +29,17 @@ other-fault fault memory P (inl e) other = absurd (other e)
 other-fault fault memory P (inr p) other = p
 
 -- the run wasn't begun
-unbegun : (plan : List Arrival → Content → Plan) (old new : Outside) (status : ℕ) (line : List ℕ) → new.wire ≡ old.wire →
-    (status ≡ 6 → ⊥) → EndsWith (plan []) old new status line → RunEndsWith plan old new status line
-unbegun plan old new status line same other h = record {
+unbegun : (plan : List Arrival → Content → Plan) (old mid : Disk) (out : Stream) (wire : Wire) (status : ℕ) (line : List ℕ) →
+    mid.content ≡ old.content → (status ≡ 6 → ⊥) → EndsWith (plan []) (outside old out wire) (outside mid out wire) status line →
+    RunEndsWith plan (outside old out wire) (outside mid out wire) status line
+unbegun plan old mid out wire status line same other h = record {
   given = [];
-  heard = heard-nothing old new (λ told. ap (λ (w : Wire). w.traffic.taken) same);
+  heard = heard-nothing (outside old out wire) (outside mid out wire) (λ told. refl);
   ends = h;
+  reached = λ told.
+      nothing-reached (plan [] old.content).actions _ _
+      (record { files = λ tells. same; out = λ tells. sym (append-nil out.bytes); wire = λ tells. refl });
+  asked = λ told front next rest e. absurd (none-more front next rest e);
   answers = λ reliable. other;
 }
 
@@ -66,14 +75,14 @@ module _ {A E : Type 0} (path : List ℕ) (meaning : List ℕ → Result A E) (o
   pub unread : (cause : FileFault) → Reads path old mid (Err cause) →
       EndsSo was (code_of_fault (fault_of_file cause)) (line_of_fault (fault_of_file cause))
   unread cause reads =
-      unbegun plan (outside old out wire) was _ _ refl (no-link-read cause)
+      unbegun plan old mid out wire _ _ reads.same (no-link-read cause)
       (EndsWith-unread path (λ text. accepting (meaning text) (others []) refused) old mid was cause reads)
 
   module _ (bytes : Vec ℕ Global) (reads : Reads path old mid (Ok bytes)) where
     -- memory was wanting
     pub unmeant : EndsSo was 70 no_memory
     unmeant =
-        unbegun plan (outside old out wire) was 70 no_memory refl (λ e. absurd (omega arith))
+        unbegun plan old mid out wire 70 no_memory reads.same (λ e. absurd (omega arith))
         (EndsWith-reading path (λ text. accepting (meaning text) (others []) refused) old mid was was bytes 70 no_memory reads
         (EndsWith-memory (accepting (meaning bytes.items) (others []) refused) was))
 
@@ -81,19 +90,38 @@ module _ {A E : Type 0} (path : List ℕ) (meaning : List ℕ → Result A E) (o
     pub refused-so : (fault : E) (status : ℕ) (line : List ℕ) → meaning bytes.items ≡ Err fault → is_stop status ≡ false →
         EndsWith (refused fault) was was status line → EndsSo was status line
     refused-so fault status line e go h =
-        unbegun plan (outside old out wire) was status line refl (no_stop 6 refl status go)
+        unbegun plan old mid out wire status line reads.same (no_stop 6 refl status go)
         (EndsWith-reading path (λ text. accepting (meaning text) (others []) refused) old mid was was bytes status line reads
         (EndsWith-refused (meaning bytes.items) fault (others []) refused was was status line e h))
+
+    -- what comes behind it where it is accepted
+    plan-is : (meant : A) → meaning bytes.items ≡ Ok meant → IsTrue old.told → (given : List Arrival) →
+        plan given old.content ≡ before (read path) (others given meant mid.content)
+    plan-is meant e told given =
+        ap (read_then path (λ text. accepting (meaning text) (others given) refused) old.content) (reads.found told)
+        ∙ ap (λ r. before (read path) (accepting r (others given) refused old.content)) e
+        ∙ ap (λ c. before (read path) (others given meant c)) (sym reads.same)
+
+    read-first : Ran (read path ∷ []) (outside old out wire) was
+    read-first = record { files = λ tells. reads.same; out = λ tells. sym (append-nil out.bytes); wire = λ tells. refl }
 
     -- it is accepted
     pub accepted-so : (meant : A) (new : Outside) (status : ℕ) (line : List ℕ) → meaning bytes.items ≡ Ok meant →
         RunEndsWith (λ given. others given meant) was new status line → EndsSo new status line
     accepted-so meant new status line e h = record {
       given = h.given;
-      heard = record { taken = h.heard.taken; told_end = h.heard.told_end };
+      heard = record { taken = h.heard.taken; told_end = h.heard.told_end; within = h.heard.within };
       ends =
           EndsWith-reading path (λ text. accepting (meaning text) (others h.given) refused) old mid was new bytes status line reads
           (EndsWith-accepted (meaning bytes.items) meant (others h.given) refused was new status line e h.ends);
+      reached = λ told.
+          subst (λ (p : Plan). HasReached p.actions h.given (outside old out wire) new) (sym (plan-is meant e told h.given))
+          (reached-behind (read path ∷ []) (others h.given meant mid.content).actions [] h.given (outside old out wire) was new
+          (later-files old mid was reads.call.told reads.call.reliable reads.call.cause.later) read-first refl
+          (h.reached (subst IsTrue (sym reads.call.told) told)));
+      asked = λ told front next rest is.
+          ap (λ (p : Plan). p.status) (plan-is meant e told front)
+          ∙ h.asked (subst IsTrue (sym reads.call.told) told) front next rest is;
       answers = λ reliable. h.answers (still-reliable path old mid out wire (Ok bytes) reads reliable);
     }
 
@@ -151,6 +179,8 @@ pub following : {T : Type 0} (actions : List Arrival → List Action) (r : Rules
 following actions r old new (Ok x) can h = record {
   given = h.given;
   heard = h.heard;
+  reached = λ told. h.reached;
+  asked = λ told front next rest e. ap (λ b. if b then 0 else 6) (h.asked front next rest e);
   ends =
       subst (λ b. EndsWith (doing (actions h.given) (if b then 0 else 6) []) old new 0 []) (sym h.ended)
       (EndsWith-doing (actions h.given) 0 [] old new (λ told. can h.given old.files.content) refl (Ok x) h.follows);
@@ -159,6 +189,8 @@ following actions r old new (Ok x) can h = record {
 following {T} actions r old new (Err fault) can h = record {
   given = h.given;
   heard = h.heard;
+  reached = λ told. h.reached;
+  asked = λ told front next rest e. ap (λ b. if b then 0 else 6) (h.asked front next rest e);
   ends =
       at-fault (actions h.given) 0 (status_of r h.given) [] old new fault (no-zero fault)
       (EndsWith-doing (actions h.given) 0 [] old new (λ told. can h.given old.files.content) refl (Err fault) h.follows);

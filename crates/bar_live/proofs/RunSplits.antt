@@ -1,5 +1,6 @@
 -- Commands that bind a link, run over it and print: what was done of their actions.
 use Rattle.std.proofs.Common.{◌≡◌, ◌⊎◌, ℕ, List, [], ◌∷◌, ◌++◌, Some, refl, sym, ap, ◌∙◌, subst, inl, inr, append-nil, IsTrue, true≢false}
+use Rattle.std.proofs.lemmas.Grind.{flat_map-append}
 use Rattle.bar_outside.specs.Disk.{Content}
 use Rattle.bar_outside.specs.Wire.{Bound, Traffic, bound_to}
 use Rattle.bar_outside.specs.Plan.{Action, Begun, IsPartOf, LinkCall, Outside, Ran, Touches, content_after, outside, shown, traffic_after}
@@ -7,9 +8,11 @@ use Rattle.bar_outside.specs.Plan.Action.{append, create, link, read, show}
 use Rattle.bar_outside.specs.Plan.LinkCall.{bind}
 use Rattle.bar_outside.proofs.ActionLists.{Begun-both, Begun-first, Begun-nothing, Begun-whole, content_after-append, shown-append, traffic_after-append}
 use Rattle.bar_outside.proofs.Untouched.{Touches-split, content-untouched}
-use Rattle.bar_node.proofs.Stopping.{silent_out}
+use Rattle.bar_node.specs.Effects.{received_by, received_in}
+use Rattle.bar_node.specs.Runs.{has_end}
+use Rattle.bar_node.proofs.Doing.{silent_out}
 use Rattle.bar_live.specs.Stands.{IsBegun, IsFrontPrinted}
-use Rattle.bar_node.proofs.ActionKinds.{AreAmong, IsUnbinding, NoCall, NoName, among-begun, among-bound, among-silent, among-touches, among-unlinked, among-unwritten, shown-front}
+use Rattle.bar_node.proofs.ActionKinds.{AreAmong, IsUnbinding, NoCall, NoName, among-begun, among-bound, among-ended, among-silent, among-touches, among-unlinked, among-unreceived, among-unwritten, shown-front}
 
 -- some actions before the link is bound, the binding, a run over the link, and what is printed at its end
 abbrev pub binding_plan : List Action → Bound → List Action → List Action → List Action
@@ -165,6 +168,21 @@ module _ {P Q : List ℕ → Type 0} {first run last : List Action} (kinds : Are
       pub bound-behind : IsTrue old.wire.told → new.wire.traffic.bound ≡ Some to
       bound-behind tells =
           ap (λ (t : Traffic). t.bound) (traffic-behind tells) ∙ among-bound Q ⊥ b.more (bound_to to old.wire.traffic) more-kinds
+
+      -- what was received was received by the run, and the link told its end exactly where it came
+
+      pub received-behind : received_in b.more ≡ received_in done
+      received-behind =
+          sym (ap received_in b.is
+          ∙ flat_map-append received_by first rest
+          ∙ ap (λ xs. xs ++ received_in rest) (among-unreceived P ⊥ first kinds.firsts)
+          ∙ flat_map-append received_by b.more b.prints
+          ∙ ap (λ xs. received_in b.more ++ xs) (among-unreceived NoName (Unit {0}) b.prints print-kinds)
+          ∙ append-nil (received_in b.more))
+
+      pub ended-behind : IsTrue old.wire.told → new.wire.traffic.ended ≡ has_end (received_in b.more)
+      ended-behind tells =
+          ap (λ (t : Traffic). t.ended) (traffic-behind tells) ∙ among-ended Q ⊥ b.more (bound_to to old.wire.traffic) more-kinds
 
       -- a file that the run doesn't write is as it was at the binding
       pub kept-behind : IsTrue old.files.told → (path : List ℕ) → (Q path → ⊥) →

@@ -13,7 +13,7 @@ use Rattle.bar_roster.specs.KeyFile.{Fits}
 use Rattle.bar_rules.specs.Broadcaster.Sending.{caster_step}
 use Rattle.bar_rules.specs.Members.{member_by}
 use Rattle.bar_rules.specs.Runs.{sends_from}
-use Rattle.bar_node.specs.Runs.{heard, is_ended, taken_of}
+use Rattle.bar_node.specs.Runs.{IsGiven, has_end, heard, is_ended, taken_of}
 use Rattle.bar_node.specs.Stops.{IsApart, StoppedSending}
 use Rattle.bar_live.specs.Accepting.{fresh_key_of, room_of, session_of}
 use Rattle.bar_live.specs.PeerPlan.{HasSession}
@@ -41,7 +41,10 @@ pub record CasterDone (names : CasterNames) (old new : Outside) : Type 0 where
   pub is_of : IsCasterOf names old.files.content session secrets stream
   pub bound : IsBound names session secrets old new
   pub given : List Arrival
+  pub is_given : IsGiven (rules_by session secrets stream) given
   pub taken : IsTrue old.wire.told → new.wire.traffic.taken ≡ old.wire.traffic.taken ++ heard given
+  -- the link told its end exactly where it gave it
+  pub told_end : IsTrue old.wire.told → new.wire.traffic.ended ≡ has_end given
   pub ended : IsTrue (is_ended (rules_by session secrets stream) given)
   pub sent : IsTrue old.wire.told → new.wire.traffic.sent
       ≡ old.wire.traffic.sent
@@ -60,8 +63,11 @@ pub record CasterStopped (names : CasterNames) (old new : Outside) : Type 0 wher
   pub is_of : IsCasterOf names old.files.content session secrets stream
   pub bound : IsBound names session secrets old new
   pub given : List Arrival
+  pub is_given : IsGiven (rules_by session secrets stream) given
   pub taken : IsTrue old.wire.told → new.wire.traffic.taken ≡ old.wire.traffic.taken ++ heard given
-  pub run : IsTrue old.wire.told → StoppedSending (rules_by session secrets stream) given old.wire new.wire
+  -- the link told its end exactly where it gave it
+  pub told_end : IsTrue old.wire.told → new.wire.traffic.ended ≡ has_end given
+  pub run : StoppedSending (rules_by session secrets stream) given old.wire new.wire
   -- a front of the summary may be printed, where the run was at its end
   pub printed :
       IsFrontPrinted (caster_summary (rules_by session secrets stream) (taken_of (rules_by session secrets stream) given)) old new

@@ -17,7 +17,7 @@ use Rattle.bar_core.specs.Rules.{Send}
 use Rattle.bar_core.specs.Runs.{contents_over, sends_over}
 use Rattle.bar_rules.specs.Members.{member_by}
 use Rattle.bar_rules.specs.Peer.Run.{played_by, sends_of}
-use Rattle.bar_node.specs.Runs.{heard, is_ended, taken_of}
+use Rattle.bar_node.specs.Runs.{IsGiven, has_end, heard, is_ended, taken_of}
 use Rattle.bar_node.specs.Stops.{AreApart, Cut, IsApart, IsFront, end_of}
 use Rattle.bar_live.specs.PeerPlan.{HasSession, PeerAccepted, PeerNames, before_binding, rules_by}
 use Rattle.bar_live.specs.Accepting.{fresh_key_of, session_of}
@@ -58,11 +58,15 @@ pub record PeerDone (names : PeerNames) (old new : Outside) : Type 0 where
   pub is_of : IsPeerOf names old.files.content session secrets
   pub bound : IsBound names session secrets old new
   pub given : List Arrival
+  pub is_given : IsGiven (rules_by session secrets) given
   pub taken : IsTrue old.wire.told → new.wire.traffic.taken ≡ old.wire.traffic.taken ++ heard given
+  -- the link told its end exactly where it gave it
+  pub told_end : IsTrue old.wire.told → new.wire.traffic.ended ≡ has_end given
   pub ended : IsTrue (is_ended (rules_by session secrets) given)
   pub run : HasRun names session secrets (taken_of (rules_by session secrets) given) old new
 
--- A run that was stopped: it sent, played and recorded all of the inputs begun but the last one, and a front of the last one's.
+-- A run that was stopped: it sent, played and recorded all of the inputs begun but the last one, and a front of the last one's. What it sent
+-- is told where the link tells, and what its files have where their names differ.
 pub record HasStopped (names : PeerNames) (s : SessionData) (k : Secrets) (given : List Arrival) (old new : Outside) : Type 0 where
   pub cut : Cut (taken_of (rules_by s k) given)
   pub sent : List Send
@@ -71,9 +75,9 @@ pub record HasStopped (names : PeerNames) (s : SessionData) (k : Secrets) (given
   pub sent_front : IsFront sent (sends_over (rules_by s k) cut.whole cut.last)
   pub bytes_front : IsFront bytes (concat (contents_over (rules_by s k) cut.whole cut.last))
   pub entries_front : IsFront entries (flat_map entry_bytes cut.last ++ end_of (rules_by s k) given)
-  pub sent_is : new.wire.traffic.sent ≡ old.wire.traffic.sent ++ (sends_over (rules_by s k) [] cut.whole ++ sent)
-  pub played_is : new.files.content names.played ≡ Some (concat (contents_over (rules_by s k) [] cut.whole) ++ bytes)
-  pub recorded_is :
+  pub sent_is : IsTrue old.wire.told → new.wire.traffic.sent ≡ old.wire.traffic.sent ++ (sends_over (rules_by s k) [] cut.whole ++ sent)
+  pub played_is : HasOwnNames names → new.files.content names.played ≡ Some (concat (contents_over (rules_by s k) [] cut.whole) ++ bytes)
+  pub recorded_is : HasOwnNames names →
       new.files.content names.recording ≡ Some (head_bytes s.shape.id k.party ++ (flat_map entry_bytes cut.whole ++ entries))
 
 -- A peer that was stopped behind the binding of its link.
@@ -83,8 +87,11 @@ pub record PeerStopped (names : PeerNames) (old new : Outside) : Type 0 where
   pub is_of : IsPeerOf names old.files.content session secrets
   pub bound : IsBound names session secrets old new
   pub given : List Arrival
+  pub is_given : IsGiven (rules_by session secrets) given
   pub taken : IsTrue old.wire.told → new.wire.traffic.taken ≡ old.wire.traffic.taken ++ heard given
-  pub run : HasOwnNames names → IsTrue old.wire.told → HasStopped names session secrets given old new
+  -- the link told its end exactly where it gave it
+  pub told_end : IsTrue old.wire.told → new.wire.traffic.ended ≡ has_end given
+  pub run : HasStopped names session secrets given old new
   -- a front of the summary may be printed, where the run was at its end
   pub printed : IsFrontPrinted (peer_summary (rules_by session secrets) (taken_of (rules_by session secrets) given)) old new
 

@@ -1,30 +1,48 @@
 -- How a command ends that runs over a link.
 use Rattle.std.specs.Prelude.{◌≡◌, ◌≢◌, ℕ, List, ◌∷◌, [], ◌++◌, IsTrue, OnOk, Result, true, if◌then◌else◌}
+use Rattle.std.specs.List.{AllByRecursion}
 use Rattle.bar_lms.specs.Params.{lms_type, ots_type}
 use Rattle.bar_outside.specs.Disk.{Content}
 use Rattle.bar_outside.specs.Ends.{Ends, EndsWith}
 use Rattle.bar_outside.specs.Follows.{Follows, IsReliable}
 use Rattle.bar_outside.specs.declared.fault.Fault.{Fault}
-use Rattle.bar_outside.specs.Plan.{Action, Outside, Plan}
+use Rattle.bar_outside.specs.Plan.{Action, Begun, Outside, Plan, Ran}
 use Rattle.bar_outside.specs.Plan.Action.{append, create, link}
 use Rattle.bar_outside.specs.Plan.LinkCall.{bind}
 use Rattle.bar_outside.specs.Wire.{Arrival, Bound, bound_by}
+use Rattle.bar_record.specs.Recording.{IsInRange}
 use Rattle.bar_seeds.specs.declared.secrets.Secrets.{Secrets}
 use Rattle.bar_roster.specs.KeyText.{key_data, key_text_of}
 use Rattle.bar_roster.specs.SessionText.{SessionData}
 use Rattle.bar_core.specs.Rules.{Rules}
-use Rattle.bar_node.specs.Runs.{has_end, heard, is_ended}
+use Rattle.bar_node.specs.Effects.{received_in}
+use Rattle.bar_node.specs.Runs.{AsksToTheEnd, has_end, heard, inputs_of, is_ended}
 
--- This is what the link gave: it tells it as taken, and tells its end where it gave it.
+-- This is what the link gave: it tells it as taken, and tells its end where it gave it. No datagram is larger than one can be.
 pub record HasHeard (given : List Arrival) (old new : Outside) : Type 0 where
   pub taken : IsTrue old.wire.told → new.wire.traffic.taken ≡ old.wire.traffic.taken ++ heard given
   pub told_end : IsTrue old.wire.told → has_end given ≡ true → new.wire.traffic.ended ≡ true
+  pub within : AllByRecursion IsInRange (inputs_of given)
+
+-- So much was done of some actions: a front of them, and maybe a part of the one behind it. What it received is exactly what the link gave.
+pub record HasReached (actions : List Action) (given : List Arrival) (old new : Outside) : Type 0 where
+  pub done : List Action
+  pub begun : Begun actions done
+  pub received : received_in done ≡ given
+  pub ran : Ran done old new
+
+-- The link is asked no further than up to the end of the run: over less than it gave, the plan has the status of a link that is asked again.
+abbrev pub AsksNoFurther : (List Arrival → Plan) → List Arrival → Type 0
+AsksNoFurther plan given =
+    (front : List Arrival) (next : Arrival) (rest : List Arrival) → given ≡ front ++ next ∷ rest → (plan front).status ≡ 6
 
 -- A command whose plan goes by what the link gives, and by what the files held, ended with this status.
 pub record RunEnds (plan : List Arrival → Content → Plan) (old new : Outside) (status : ℕ) : Type 0 where
   pub given : List Arrival
   pub heard : HasHeard given old new
   pub ends : Ends (plan given) old new status
+  pub reached : IsTrue old.files.told → HasReached (plan given old.files.content).actions given old new
+  pub asked : IsTrue old.files.told → AsksNoFurther (λ front. plan front old.files.content) given
   -- where nothing fails by itself, the link is never refused
   pub answers : IsReliable old → status ≢ 6
 
@@ -33,6 +51,8 @@ pub record RunEndsWith (plan : List Arrival → Content → Plan) (old new : Out
   pub given : List Arrival
   pub heard : HasHeard given old new
   pub ends : EndsWith (plan given) old new status line
+  pub reached : IsTrue old.files.told → HasReached (plan given old.files.content).actions given old new
+  pub asked : IsTrue old.files.told → AsksNoFurther (λ front. plan front old.files.content) given
   -- where nothing fails by itself, the link is never refused
   pub answers : IsReliable old → status ≢ 6
 
@@ -63,6 +83,8 @@ pub record RunFollows {T : Type 0} (actions : List Arrival → List Action) (r :
   pub given : List Arrival
   pub heard : HasHeard given old new
   pub follows : Follows (actions given) old new result
+  pub reached : HasReached (actions given) given old new
+  pub asked : AsksToTheEnd r given
   pub ended : OnOk result (IsTrue (is_ended r given))
 
 -- ---- words for laws on how such a command ends, where the files tell what they hold

@@ -14,6 +14,7 @@ ghost use Rattle.bar_live.specs.Stands.{IsUntouched};
 use bar_node::{a_part_of_a_peer_kept, a_run_finds, a_whole_peer_kept, a_whole_run_sent};
 use bar_outside::plans_go_in_order;
 use bar_peer::rules_give_the_run;
+use bar_record::paced_inputs_are_few;
 use bar_roster::laws::{accepted_secrets_are_held, accepted_sessions_are_in_range};
 
 /// 0 comes only where the files were accepted and the run came to its end; then all was sent, played, recorded, written and printed.
@@ -25,6 +26,7 @@ pub fn a_peer_is_done()
     a_run_finds();
     a_whole_peer_kept();
     a_whole_run_sent();
+    paced_inputs_are_few();
     plans_go_in_order();
     rules_give_the_run();
 }
@@ -36,6 +38,7 @@ pub fn a_peer_stands()
 {
     accepted_secrets_are_held();
     a_part_of_a_peer_kept();
+    paced_inputs_are_few();
     plans_go_in_order();
 }
 
