@@ -35,6 +35,18 @@ record IsTurnOf (me : Member) (n : ℕ) (log : Log) (inputs : List Input) (earli
 both-same : (a b : Turn) (xs ys : List Turn) → a ≡ b → xs ≡ ys → a ∷ xs ≡ b ∷ ys
 both-same a b xs ys first others = cc
 
+-- so it is behind one input and its turn more
+one-earlier : (me : Member) (n : ℕ) (log : Log) (x : Input) (xs : List Input) (t : Turn) (ts : List Turn) (this : Turn) →
+    turn_of me.session n (step me log x) ≡ t → IsTurnOf me (n + 1) (step me log x).state xs ts this → IsTurnOf me n log (x ∷ xs) (t ∷ ts) this
+one-earlier me n log x xs t ts this same p = record {
+  before = x ∷ p.before;
+  last = p.last;
+  after = p.after;
+  is = ap (λ inputs. x ∷ inputs) p.is;
+  earlier_are = both-same _ _ _ _ same p.earlier_are;
+  with_this = both-same _ _ _ _ same p.with_this;
+}
+
 input-of : (me : Member) (n : ℕ) (log : Log) (inputs : List Input) (earlier : List Turn) (this : Turn) (later : List Turn) →
     turns_from me n log inputs ≡ earlier ++ this ∷ later → IsTurnOf me n log inputs earlier this
 input-of me n log [] [] this later e = absurd cc
@@ -45,20 +57,12 @@ input-of me n log (x ∷ xs) [] this later e = record {
   after = xs;
   is = refl;
   earlier_are = refl;
-  with_this = let same : turn_of me.session n (step me log x) ≡ this = cc in ap (λ t. t ∷ []) same;
+  with_this = let same : turn_of me.session n (step me log x) ≡ this = cc in both-same _ _ [] [] same refl;
 }
 input-of me n log (x ∷ xs) (t ∷ ts) this later e =
     let same : turn_of me.session n (step me log x) ≡ t = cc in
     let others : turns_from me (n + 1) (step me log x).state xs ≡ ts ++ this ∷ later = cc in
-    let p = input-of me (n + 1) (step me log x).state xs ts this later others in
-    record {
-      before = x ∷ p.before;
-      last = p.last;
-      after = p.after;
-      is = ap (λ inputs. x ∷ inputs) p.is;
-      earlier_are = both-same _ _ _ _ same p.earlier_are;
-      with_this = both-same _ _ _ _ same p.with_this;
-    }
+    one-earlier me n log x xs t ts this same (input-of me (n + 1) (step me log x).state xs ts this later others)
 
 -- the turns of more inputs begin with those of fewer
 turns-behind : (me : Member) (n : ℕ) (log : Log) (inputs more : List Input) →
@@ -98,7 +102,8 @@ same-front (a ∷ xs) (b ∷ ys) x y e =
 
 -- ---- how far a replay spoke
 
-module _ (names : ReplayFiles) (old new : Outside) (status : ℕ) (keeps : OfEachPeer KeepsTheRules) (held : AreHeld) (ranged : AreInRange) where
+module _ (names : ReplayFiles) (old new : Outside) (status : ℕ) (keeps : OfEachPeer KeepsTheRules) (held : AreHeld)
+    (ranged : AreInRange) where
   -- up to one input
   spoke-up_to : status ≢ 0 → PlayedUpTo names status old new → ReplaySpoke names old new status
   spoke-up_to other up =

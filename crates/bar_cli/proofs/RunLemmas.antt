@@ -155,7 +155,8 @@ refused-fixed : {A E : Type 0} (r : Result A E) (others : A → Content → Plan
 refused-fixed (Ok meant) others line content h = absurd (true≢false (sym h))
 refused-fixed (Err fault) others line content h = record { same = λ other. refl; unread = tt }
 
-plan-fixed : (words : Option Line) (given : List Arrival) (content : Content) → reads_nothing words ≡ true → IsFixed (plan_of words given) content
+plan-fixed : (words : Option Line) (given : List Arrival) (content : Content) → reads_nothing words ≡ true →
+    IsFixed (plan_of words given) content
 plan-fixed None given content h = record { same = λ other. refl; unread = tt }
 plan-fixed (Some (peer names)) given content h = absurd (true≢false (sym h))
 plan-fixed (Some (broadcaster names)) given content h = absurd (true≢false (sym h))
@@ -189,8 +190,8 @@ run-said words old new status result text err err_new r prints none is code =
     as-first = says-same (plan old.files.content) (plan_of words [] old.files.content) result err err_new
         (plan-line words r.given old.files.content)
 
-    by_tests : (either alone : Bool) → (old.files.told || is_plain result) ≡ either → reads_nothing words ≡ alone → IsTrue (either || alone) →
-        Says (plan_of words [] old.files.content) result err err_new
+    by_tests : (either alone : Bool) → (old.files.told || is_plain result) ≡ either → reads_nothing words ≡ alone →
+        IsTrue (either || alone) → Says (plan_of words [] old.files.content) result err err_new
     by_tests true alone e f h = as-first (said plan old new status result text err err_new r.ends prints usage-is code e)
     by_tests false true e f h =
         as-first (said-fixed plan old new status result text err err_new r.ends prints usage-is code

@@ -20,8 +20,8 @@ use Rattle.bar_cli.specs.Found.{evidence_of}
 use Rattle.bar_cli.specs.ReplayPlan.{HasOwnNames, ReplayFiles, replay_plan}
 use Rattle.bar_cli.specs.Transcript.{transcript}
 
--- The replay reads the session as the peer read it, and the key file and the recording as the peer left them. The recording is not too large
--- to be read.
+-- The replay reads the session as the peer read it, and the key file and the recording as the peer left them. The recording is not too
+-- large to be read.
 pub record ReadsWhatAPeerLeft (peer : PeerNames) (names : ReplayFiles) (before after old : Outside) : Type 0 where
   pub session : old.files.content names.session ≡ before.files.content peer.session
   pub key : old.files.content names.key ≡ after.files.content peer.key
@@ -43,7 +43,8 @@ pub record ShowsWhatWasSent (peer : PeerNames) (names : ReplayFiles) (before aft
   pub table : new.files.content (table_name names.found) ≡ after.files.content (table_name peer.found)
   pub evidence : (party : ℕ) → 1 ≤ party → party ≤ session.shape.peers →
       IfSome (evidence_of (member_by session secrets) inputs party) (λ kept.
-      (after.files.content (evidence_name peer.found party) ≡ Some kept) × (new.files.content (evidence_name names.found party) ≡ Some kept))
+      (after.files.content (evidence_name peer.found party) ≡ Some kept)
+      × (new.files.content (evidence_name names.found party) ≡ Some kept))
 
 -- A replay of what a peer left that is done ends with 0, but for a fault or want of memory, and then it shows what was sent.
 abbrev pub IsReplayed : Type 0

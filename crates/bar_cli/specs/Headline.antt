@@ -44,8 +44,8 @@ pub record HasProof (me : Member) (log : Log) (party : ℕ) : Type 0 where
   pub shown : (wider : Table) → Extends (table log) wider → (fault : Fault) × (verdict me.session wider evidence ≡ Shown party fault)
 
 pub record KeepsTheRules (me : Member) (inputs : List Input) : Type 0 where
-  -- each datagram that it signed was allowed by the rule of its moment and bears the signature of its leaf, and each signed datagram that it
-  -- sent is one of these
+  -- each datagram that it signed was allowed by the rule of its moment and bears the signature of its leaf, and each signed datagram that
+  -- it sent is one of these
   pub signed : IsRuled me inputs
   -- in each exchange it opened nothing, or as much as it promised and as the partner's briefcase that it holds promises
   pub balance : (x : Exchange) → IsEven (totals_of me inputs x)

@@ -155,8 +155,8 @@ pub fn a_front_is_played()
     plans_go_in_order();
 }
 
-/// Whatever its status, a replay printed nothing; or its files were accepted, what it printed is a front of the transcript up to one place of
-/// its recording, and its peer keeps the rules at each moment of the recording.
+/// Whatever its status, a replay printed nothing; or its files were accepted, what it printed is a front of the transcript up to one place
+/// of its recording, and its peer keeps the rules at each moment of the recording.
 pub fn a_replay_keeps_the_rules()
     ensures { (names : ReplayFiles) → OfEachEnd (replay_plan names) (ReplayHeadline names) }
 {

@@ -121,8 +121,8 @@ accepted-key : (s : SessionData) (caster fresh : Bool) (d : KeyData) (k : Secret
 accepted-key s caster fresh d k w h = by_tests (is_of_session s caster d && fits s d.party d.secret) (d.spent && fresh) refl h
   where
     by_tests : (ours used : Bool) → (is_of_session s caster d && fits s d.party d.secret) ≡ ours →
-        ◌≡◌ {A = Result Secrets KeyFileFault} (cond (not ours) (Err NotInRoster) (cond used (Err Spent) (Ok (secrets_in s d.party d.secret)))) (Ok k)
-        → IsAccepted s caster d k
+        ◌≡◌ {A = Result Secrets KeyFileFault}
+        (cond (not ours) (Err NotInRoster) (cond used (Err Spent) (Ok (secrets_in s d.party d.secret)))) (Ok k) → IsAccepted s caster d k
     by_tests false used is e = cc
     by_tests true true is e = cc
     by_tests true false is e =
