@@ -95,9 +95,9 @@ module _ (peer : PeerNames) (names : ReplayFiles) (before after old : Outside) (
   abbrev inputs : List Input
   inputs = taken_of (rules_by done.session done.secrets) done.given
 
-  pub left-accepted : AreReadBack → AreShort → ReadsBack → StaysPaced → AllByRecursion IsInRange (inputs_of done.given) →
+  pub left-accepted : AreReadBack → AreShort → ReadsBack → StaysPaced →
       Accepted names old.files.content
-  left-accepted back short reads stays within =
+  left-accepted back short reads stays =
       let a : PeerAccepted peer before.files.content done.session done.secrets = done.is_of.accepted in
       let key : old.files.content names.key ≡ Some (text_of done.session done.secrets true) = left.key ∙ done.bound.spent own in
       let recording : old.files.content names.recording
@@ -118,7 +118,7 @@ module _ (peer : PeerNames) (names : ReplayFiles) (before after old : Outside) (
         };
         bytes = recording_bytes done.session.shape.id done.secrets.party inputs;
         read = readable-known old.files.content names.recording _ recording left.not_large;
-        is = whole-recording reads stays done.session done.secrets.party (inputs_of done.given) within;
+        is = whole-recording reads stays done.session done.secrets.party (inputs_of done.given) done.is_given.within;
       }
 
 -- ---- files are accepted in one way
@@ -174,10 +174,10 @@ both-some (Some x) P Q p q = (p, q)
 
 pub shows-sent : (peer : PeerNames) (names : ReplayFiles) (before after old new : Outside) (done : PeerDone peer before after) →
     live.HasOwnNames peer → ReadsWhatAPeerLeft peer names before after old → AreReadBack → AreShort → ReadsBack → StaysPaced →
-    AllByRecursion IsInRange (inputs_of done.given) → Replayed names old new → ShowsWhatWasSent peer names before after old new
+    Replayed names old new → ShowsWhatWasSent peer names before after old new
 unfolding left-accepted
-shows-sent peer names before after old new done own left back short reads stays within replayed =
-    let a = left-accepted peer names before after old done own left back short reads stays within in
+shows-sent peer names before after old new done own left back short reads stays replayed =
+    let a = left-accepted peer names before after old done own left back short reads stays in
     let r = as-accepted names old new a replayed in
     let me : Member = member_by done.session done.secrets in
     let taken : List Input = taken_of (rules_by done.session done.secrets) done.given in

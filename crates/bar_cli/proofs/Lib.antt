@@ -4,6 +4,7 @@ pub mod UpToLemmas
 pub mod EndLemmas
 pub mod StatusLemmas
 pub mod MemberLemmas
+pub mod Spoken
 pub mod Rows
 pub mod EvidenceLemmas
 pub mod JudgeRows

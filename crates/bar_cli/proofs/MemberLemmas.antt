@@ -22,7 +22,7 @@ use Rattle.bar_laws.specs.Framing.{IsNotFramed}
 use Rattle.bar_laws.specs.Leaves.{KeepsLeaves}
 use Rattle.bar_laws.specs.Obedience.{IsRuled}
 use Rattle.bar_laws.specs.Evidence.{BadKeysLeaveEvidence, KeptEvidenceIsShown, OpensBadly}
-use Rattle.bar_cli.specs.Headline.{AtEachMoment, HasProof, KeepsTheRules, OfItsRuns}
+use Rattle.bar_cli.specs.Headline.{AtEachMoment, HasProof, KeepsTheRules}
 use Rattle.bar_live.specs.Accepting.{fresh_key_of, session_of}
 use Rattle.bar_live.specs.PeerPlan.{PeerAccepted, PeerNames}
 use Rattle.bar_cli.specs.Replay.{secrets_of_key}
@@ -60,7 +60,7 @@ unfolding secrets_of_key
 is-member held ranged names content a =
     member-of held ranged false a.by_key.in_session.text a.by_key.bytes a.session a.secrets a.by_key.in_session.is a.by_key.is
 
-pub is-live_member : AreHeld → AreInRange → (names : PeerNames) (content : Content) (s : SessionData) (k : Secrets) →
+is-live_member : AreHeld → AreInRange → (names : PeerNames) (content : Content) (s : SessionData) (k : Secrets) →
     PeerAccepted names content s k → IsMember (member_by s k)
 unfolding fresh_key_of
 is-live_member held ranged names content s k a = member-of held ranged true a.in_session.text a.bytes s k a.in_session.is a.is
@@ -85,11 +85,11 @@ proves-bad_keys caught shown me inputs x key bad = from-kept (kept log (partner_
     from-kept (Some evidence) is some =
         record { evidence = evidence; held = is; shown = λ wider extends. shown me inputs (partner_in me x) evidence wider is extends }
 
--- all of it of each list of inputs that the peer of a fresh key may take
-pub of-its_runs : AreHeld → AreInRange → (P : Member → List Input → Type 0) → OfEachPeer P →
-    (names : PeerNames) (content : Content) → OfItsRuns names content P
-of-its_runs held ranged P always names content = λ s k accepted inputs.
-    always (member_by s k) (is-live_member held ranged names content s k accepted) inputs
+-- at each moment over the inputs that the peer of a fresh key takes
+pub at-each_moment : AreHeld → AreInRange → (P : Member → List Input → Type 0) → OfEachPeer P → (names : PeerNames) (content : Content)
+    (s : SessionData) (k : Secrets) → PeerAccepted names content s k → (inputs : List Input) → AtEachMoment P (member_by s k) inputs
+at-each_moment held ranged P always names content s k accepted inputs = λ earlier later front.
+    always (member_by s k) (is-live_member held ranged names content s k accepted) earlier
 
 pub keeps-rules : OfEachPeer IsRuled → OfEachPeer (λ me inputs. (x : Exchange) → IsEven (totals_of me inputs x)) →
     OfEachPeer (λ me inputs. AllByRecursion (GoesToPartner me) (sends_of me inputs)) → BadKeysLeaveEvidence → KeptEvidenceIsShown →

@@ -13,6 +13,10 @@ use Rattle.bar_live.specs.CasterPlan.{CasterNames, caster_key_plan, caster_plan,
 use Rattle.bar_live.specs.PeerPlan.{PeerNames, peer_key_plan, peer_plan, peer_run_plan}
 use Rattle.bar_live.specs.Refusals.{key_refused, session_refused, stream_refused}
 use Rattle.bar_live.specs.Running.{RunEnds, RunEndsWith}
+use Rattle.bar_outside.proofs.Following.{Ran-nothing}
+use Rattle.bar_outside.proofs.Unlinked.{IsUnlinked}
+use Rattle.bar_node.proofs.Doing.{none-more}
+use Rattle.bar_live.proofs.Reaching.{nothing-reached, reached-unlinked}
 use Rattle.bar_live.proofs.RunFollowing.{heard-nothing}
 use Rattle.bar_cli.specs.Line.{Line, peer, broadcaster, replay, keygen, judge, session_run, simulate, plan_of, reads_nothing, usage}
 use Rattle.bar_cli.specs.KeygenPlan.{secret_plan}
@@ -21,12 +25,14 @@ use Rattle.bar_cli.specs.KeygenPlan.{secret_plan}
 
 -- a command without a link took nothing from it
 pub over-no_link : (plan : Content → Plan) (files files_new : Disk) (out out_new : Stream) (wire : Wire) (status : ℕ) (line : List ℕ) →
-    (status ≡ 6 → ⊥) → EndsWith plan (outside files out wire) (outside files_new out_new wire) status line →
+    ((content : Content) → IsUnlinked (plan content).actions) → (status ≡ 6 → ⊥) → EndsWith plan (outside files out wire) (outside files_new out_new wire) status line →
     RunEndsWith (λ given. plan) (outside files out wire) (outside files_new out_new wire) status line
-over-no_link plan files files_new out out_new wire status line other ends = record {
+over-no_link plan files files_new out out_new wire status line unlinked other ends = record {
   given = [];
   heard = heard-nothing (outside files out wire) (outside files_new out_new wire) (λ told. refl);
   ends = ends;
+  reached = λ told. reached-unlinked (plan files.content).actions status _ _ (unlinked files.content) (ends.ends.part told);
+  asked = λ told front next rest e. absurd (none-more front next rest e);
   answers = λ reliable. other;
 }
 
@@ -36,6 +42,8 @@ no-memory plan old = record {
   given = [];
   heard = heard-nothing old old (λ told. refl);
   ends = EndsWith-memory (plan []) old;
+  reached = λ told. nothing-reached (plan [] old.files.content).actions old old (Ran-nothing old);
+  asked = λ told front next rest e. absurd (none-more front next rest e);
   answers = λ reliable e. absurd (omega arith);
 }
 
@@ -46,6 +54,8 @@ run-ends plan old new status result line code r = record {
   given = r.given;
   heard = r.heard;
   ends = Ends-or_memory (plan r.given) old new status result code r.ends.ends;
+  reached = r.reached;
+  asked = r.asked;
   answers = λ reliable e. elim code [ inl same ↦ r.answers reliable (sym same ∙ e) | inr seventy ↦ absurd (omega arith) ];
 }
 

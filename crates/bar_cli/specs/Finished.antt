@@ -1,6 +1,5 @@
 -- A peer that is done, and the replay of its recording.
 use Rattle.std.specs.Prelude.{◌≡◌, ◌≤◌, ℕ, List, ◌++◌, IfSome, IsSome, IsTrue, Some}
-use Rattle.std.specs.List.{AllByRecursion}
 use Rattle.bar_outside.specs.Disk.{readable}
 use Rattle.bar_outside.specs.Ends.{Ends, UnlessStopped}
 use Rattle.bar_outside.specs.Plan.{Outside}
@@ -8,10 +7,8 @@ use Rattle.bar_findings.specs.Findings.{evidence_name, table_name}
 use Rattle.bar_wire.specs.Inputs.{Input}
 use Rattle.bar_seeds.specs.declared.secrets.Secrets.{Secrets}
 use Rattle.bar_roster.specs.SessionText.{SessionData}
-use Rattle.bar_record.specs.Recording.{IsInRange}
 use Rattle.bar_rules.specs.Members.{member_by}
 use Rattle.bar_rules.specs.Peer.Run.{sends_of}
-use Rattle.bar_node.specs.Runs.{inputs_of}
 use Rattle.bar_live.specs.PeerPlan.{PeerAccepted, PeerNames}
 use Rattle.bar_live.specs.PeerStands as live
 use Rattle.bar_live.specs.PeerStands.{PeerDone}
@@ -49,7 +46,7 @@ pub record ShowsWhatWasSent (peer : PeerNames) (names : ReplayFiles) (before aft
 -- A replay of what a peer left that is done ends with 0, but for a fault or want of memory, and then it shows what was sent.
 abbrev pub IsReplayed : Type 0
 IsReplayed =
-    (peer : PeerNames) (names : ReplayFiles) (before after old new : Outside) (status : ℕ) (done : PeerDone peer before after) →
-    AllByRecursion IsInRange (inputs_of done.given) → live.HasOwnNames peer → ReadsWhatAPeerLeft peer names before after old →
+    (peer : PeerNames) (names : ReplayFiles) (before after old new : Outside) (status : ℕ) → PeerDone peer before after →
+    live.HasOwnNames peer → ReadsWhatAPeerLeft peer names before after old →
     Ends (replay_plan names) old new status → IsTrue old.files.told →
     UnlessStopped 0 status × (status ≡ 0 → ShowsWhatWasSent peer names before after old new)

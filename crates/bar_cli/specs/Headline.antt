@@ -1,10 +1,11 @@
--- The headline: what holds of the run that a replay shows, and of every run of a peer over a link, of the peer of the key, whatever its
--- inputs are.
+-- The headline: what holds of the run of a peer over a link, and of the run that a replay shows, of the peer of the key, whatever its inputs
+-- are.
 use Rattle.std.specs.Prelude.{◌≡◌, ◌≢◌, ◌⊎◌, ◌≤◌, ℕ, List, [], ◌∷◌, ◌++◌, Some, IsTrue, length, take}
 use Rattle.std.specs.List.{AllByRecursion}
 use Rattle.bar_outside.specs.Disk.{Content}
-use Rattle.bar_outside.specs.Ends.{NothingPrinted}
+use Rattle.bar_outside.specs.Ends.{NothingPrinted, SameTraffic}
 use Rattle.bar_outside.specs.Plan.{Outside}
+use Rattle.bar_outside.specs.Wire.{Arrival}
 use Rattle.bar_window.specs.declared.exchange.Exchange.{Exchange}
 use Rattle.bar_terms.specs.Table.{Table, Extends}
 use Rattle.bar_wire.specs.Datagram.{Datagram}
@@ -22,18 +23,18 @@ use Rattle.bar_laws.specs.Evidence.{KeepsGoodEvidence, OpensBadly}
 use Rattle.bar_laws.specs.Framing.{IsNotFramed}
 use Rattle.bar_laws.specs.Leaves.{KeepsLeaves}
 use Rattle.bar_laws.specs.Obedience.{IsRuled}
-use Rattle.bar_live.specs.PeerPlan.{PeerAccepted, PeerNames}
+use Rattle.bar_core.specs.Rules.{Send}
+use Rattle.bar_node.specs.Runs.{heard, taken_of}
+use Rattle.bar_node.specs.Stops.{IsFront}
+use Rattle.bar_live.specs.PeerPlan.{PeerNames, rules_by}
+use Rattle.bar_live.specs.PeerStands.{IsPeerOf}
+use Rattle.bar_live.specs.Stands.{packets}
 use Rattle.bar_cli.specs.ReplayPlan.{ReplayFiles, Accepted, peer_of, transcript_of}
 use Rattle.bar_cli.specs.Transcript.{transcript}
 
 -- at each moment over these inputs
 abbrev pub AtEachMoment : (Member → List Input → Type 0) → Member → List Input → Type 0
 AtEachMoment P me inputs = (earlier later : List Input) → inputs ≡ earlier ++ later → P me earlier
-
--- of each list of inputs that the peer of a fresh key may take, where its session and its key are accepted
-abbrev pub OfItsRuns : PeerNames → Content → (Member → List Input → Type 0) → Type 0
-OfItsRuns names content P =
-    (s : SessionData) (k : Secrets) → PeerAccepted names content s k → (inputs : List Input) → P (member_by s k) inputs
 
 -- ---- of a peer and the inputs that it took
 
@@ -60,6 +61,31 @@ pub record KeepsTheRules (me : Member) (inputs : List Input) : Type 0 where
   pub unframed : IsNotFramed me (log_after me [] inputs)
   -- no leaf of its key signed two messages, and each leaf is one of the key's
   pub leaves : KeepsLeaves me (log_after me [] inputs)
+
+-- ---- of a peer's run over a link
+
+-- A peer whose files were accepted and whose link was bound. There is one place in the inputs that its link gave, paced: what it sent is a
+-- front of what the rules send over the inputs up to there, and at most one input that is due wasn't begun. Each part of the headline holds
+-- at each moment. At status 0 the place is the end, and all was sent.
+pub record PeerSpoke (names : PeerNames) (old new : Outside) (status : ℕ) : Type 0 where
+  pub session : SessionData
+  pub secrets : Secrets
+  pub is_of : IsPeerOf names old.files.content session secrets
+  pub given : List Arrival
+  pub taken : IsTrue old.wire.told → new.wire.traffic.taken ≡ old.wire.traffic.taken ++ heard given
+  pub inputs : List Input
+  pub later : List Input
+  pub place : taken_of (rules_by session secrets) given ≡ inputs ++ later
+  pub sent : List Send
+  pub sends : IsFront sent (packets session (sends_of (member_by session secrets) inputs))
+  pub sent_is : IsTrue old.wire.told → new.wire.traffic.sent ≡ old.wire.traffic.sent ++ sent
+  pub most : length later ≤ 1
+  pub whole : status ≡ 0 → (later ≡ []) × (sent ≡ packets session (sends_of (member_by session secrets) inputs))
+  pub kept : AtEachMoment KeepsTheRules (member_by session secrets) (taken_of (rules_by session secrets) given)
+
+-- Nothing was done over the link, or the peer spoke so.
+abbrev pub PeerHeadline : PeerNames → Outside → Outside → ℕ → Type 0
+PeerHeadline names old new status = SameTraffic old new ⊎ PeerSpoke names old new status
 
 -- ---- of a replay
 

@@ -10,7 +10,7 @@ ghost use Rattle.bar_live.specs.CasterStands as caster;
 ghost use Rattle.bar_live.specs.PeerPlan.{PeerNames};
 ghost use Rattle.bar_live.specs.PeerStands as peer;
 ghost use Rattle.bar_live.specs.Running.{RunEnds, RunEndsWith};
-ghost use Rattle.bar_cli.specs.Headline.{KeepsTheRules, OfItsRuns, ReplayHeadline, SendsByTheRules};
+ghost use Rattle.bar_cli.specs.Headline.{PeerHeadline, ReplayHeadline, SendsByTheRules};
 ghost use Rattle.bar_cli.specs.Line.{line_of, plan_of, has_plan, is_status_of, may_print, reads_nothing, starts_children, uses_link};
 ghost use Rattle.bar_cli.specs.Line as line;
 ghost use Rattle.bar_cli.specs.Status.{code_of, said_at};
@@ -42,6 +42,7 @@ use bar_live::{
     only_its_files_are_changed_by_a_broadcaster, only_its_files_are_changed_by_a_peer, peer,
 };
 use bar_outside::{Files, Link, Sink, Spawner, plans_go_in_order};
+use bar_peer::rules_give_the_run;
 use bar_roster::laws::{accepted_secrets_are_held, accepted_sessions_are_in_range};
 use bar_words::WordsFault;
 use bar_world::laws::honest_peers_stay;
@@ -138,10 +139,13 @@ pub fn bar_run<F: Files, L: Link, K: Sink, S: Spawner>(
         IsTrue (F.disk files.old).told → (path : List ℕ) → (peer.IsPeerFile names path → ⊥) →
         (F.disk files.new).content path ≡ (F.disk files.old).content path }
 
-    // whatever inputs a peer takes: each datagram is signed by rule, its exchanges balance, its keys go to partners, bad keys leave
-    // evidence that is shown, nobody frames it, and no leaf signs twice
+    // whatever its status, a peer did nothing over the link, or what it sent is a front of what the rules send over the inputs that it took,
+    // all of it at 0; and at each moment over them each datagram is signed by rule, its exchanges balance, its keys go to partners, bad keys
+    // leave evidence, all evidence that it keeps is shown, nobody frames it, and no leaf signs twice
     ensures peer_headline { (names : PeerNames) → line_of (map string_bytes words.now) ≡ Some (line.peer names) →
-        OfItsRuns names (F.disk files.old).content KeepsTheRules }
+        IsTrue (F.disk files.old).told → PeerHeadline names
+        (outside (F.disk files.old) (K.stream out.old) (L.wire link.old))
+        (outside (F.disk files.new) (K.stream out.new) (L.wire link.new)) result }
 
     // a broadcaster that ends with 0 took what the link gave up to its end or to the last tick, has sent exactly what the rules have it
     // over these inputs, paced, and has written and printed what it found
@@ -222,6 +226,7 @@ pub fn bar_run<F: Files, L: Link, K: Sink, S: Spawner>(
     only_its_files_are_changed_by_a_broadcaster();
     only_its_files_are_changed_by_a_peer();
     plans_go_in_order();
+    rules_give_the_run();
     signed_by_rule();
     let status = run_words(alloc, words, files, link, out, spawn);
     report(alloc, &status, err)

@@ -3,7 +3,7 @@ use Rattle.std.proofs.Common.{◌≡◌, ◌⊎◌, ℕ, List, [], ◌∷◌, �
 use Rattle.std.proofs.lemmas.Grind.{flat_map-append}
 use Rattle.bar_outside.specs.Disk.{Content}
 use Rattle.bar_outside.specs.Wire.{Bound, Traffic, bound_to}
-use Rattle.bar_outside.specs.Plan.{Action, Begun, IsPartOf, LinkCall, Outside, Ran, Touches, content_after, outside, shown, traffic_after}
+use Rattle.bar_outside.specs.Plan.{Action, Begun, IsPartOf, LinkCall, Outside, Ran, Touches, content_after, created_after, outside, shown, traffic_after}
 use Rattle.bar_outside.specs.Plan.Action.{append, create, link, read, show}
 use Rattle.bar_outside.specs.Plan.LinkCall.{bind}
 use Rattle.bar_outside.proofs.ActionLists.{Begun-both, Begun-first, Begun-nothing, Begun-whole, content_after-append, shown-append, traffic_after-append}
@@ -93,6 +93,7 @@ outside-at first to old =
       told = old.files.told;
       reliable = old.files.reliable;
       content = content_after first old.files.content;
+      created_here = created_after first old.files.created_here;
       failed = old.files.failed;
       faults = old.files.faults;
     })

@@ -7,11 +7,12 @@ use Rattle.bar_cli.specs.Line.{Line, peer, broadcaster, replay, keygen, judge, s
 use Rattle.bar_cli.specs.ReplayPlan.{replay_plan}
 use Rattle.bar_cli.proofs.JudgeRows.{judged_so, outcome, same_files}
 use Rattle.bar_cli.proofs.KeygenRows as making
-use Rattle.bar_cli.proofs.MemberLemmas.{keeps-rules, of-its_runs}
+use Rattle.bar_cli.proofs.MemberLemmas.{keeps-rules}
 use Rattle.bar_cli.proofs.Rows as replaying
 use Rattle.bar_cli.proofs.RunLemmas.{ends-as, run-ends, run-said}
 use Rattle.bar_cli.proofs.SessionLemmas.{session-said}
 use Rattle.bar_cli.proofs.SimulateLemmas.{has-shown}
+use Rattle.bar_cli.proofs.Spoken.{peer-headline}
 use Rattle.bar_cli.proofs.StatusLemmas.{no-line, or-memory, said-at_two, unprinted-by}
 use Rattle.bar_cli.proofs.run.bar_run.Goals as goal
 
@@ -107,11 +108,13 @@ returns-clause-peer_files g c = λ names is told path other.
     c.only_its_files_are_changed_by_a_peer.ensures names path _ _ _ ends told other
 
 pub returns-clause-peer_headline : goal.returns-clause-peer_headline
-returns-clause-peer_headline g c = λ names is.
-    of-its_runs c.accepted_secrets_are_held.ensures c.accepted_sessions_are_in_range.ensures KeepsTheRules
+returns-clause-peer_headline g c = λ names is told.
+    let ends = ends-as _ (peer names) _ _ _ _ _ is c.report.ensures.code (c.run_words-status.ensures.ends (ap has_plan is)) in
+    peer-headline c.accepted_secrets_are_held.ensures c.accepted_sessions_are_in_range.ensures
     (keeps-rules c.signed_by_rule.ensures c.balanced.ensures.opened c.balanced.ensures.partners c.bad_keys_leave_evidence.ensures
     c.kept_evidence_is_shown.ensures c.no_framing.ensures c.leaf_discipline.ensures)
-    names (g.F.Files.disk c.args.files.now).content
+    c.rules_give_the_run.ensures.sends names _ _ c.report.result (λ zero. c.a_peer_is_done.ensures names _ _ (rw zero at ends) told)
+    (c.a_peer_stands.ensures names _ _ _ ends told)
 
 -- ---- `broadcaster`
 

@@ -115,7 +115,8 @@ returns-in-Broadcaster-clause-unlinked g c = rw c.in-Broadcaster.is (λ none. ab
 pub returns-in-Replay-clause-ends : goal.returns-in-Replay-clause-ends
 returns-in-Replay-clause-ends g c =
     rw (c.in-Replay.is, c.status_of.ensures.code, c.status_of.ensures.line)
-    (λ plan. over-no_link _ _ _ _ _ (g.L.Link.wire c.args.link.now) _ _ (never-six _ _ _ _ _ refl refl (c.replay.ensures.ends quiet))
+    (λ plan. over-no_link _ _ _ _ _ (g.L.Link.wire c.args.link.now) _ _ (replaying.unlinked-plan (names_view c.in-Replay.names))
+    (never-six _ _ _ _ _ refl refl (c.replay.ensures.ends quiet))
     (c.replay.ensures.ends (with_wire quiet (g.L.Link.wire c.args.link.now))))
 
 pub returns-in-Replay-clause-statuses : goal.returns-in-Replay-clause-statuses
@@ -138,7 +139,8 @@ returns-in-Replay-clause-unprinted g c = rw (c.in-Replay.is, c.status_of.ensures
 pub returns-in-Keygen-clause-ends : goal.returns-in-Keygen-clause-ends
 returns-in-Keygen-clause-ends g c =
     rw (c.in-Keygen.is, c.status_of-in-Keygen.ensures.code, c.status_of-in-Keygen.ensures.line)
-    (λ plan. over-no_link _ _ _ _ _ (g.L.Link.wire c.args.link.now) _ _ (never-six _ _ _ _ _ refl refl (c.keygen.ensures.ends quiet))
+    (λ plan. over-no_link _ _ _ _ _ (g.L.Link.wire c.args.link.now) _ _ (making.unlinked-plan (keygen_view c.in-Keygen.asked))
+    (never-six _ _ _ _ _ refl refl (c.keygen.ensures.ends quiet))
     (c.keygen.ensures.ends (with_wire quiet (g.L.Link.wire c.args.link.now))))
 
 pub returns-in-Keygen-clause-statuses : goal.returns-in-Keygen-clause-statuses
@@ -164,7 +166,8 @@ returns-in-Keygen-clause-unprinted g c = rw (c.in-Keygen.is, c.status_of-in-Keyg
 pub returns-in-Judge-clause-ends : goal.returns-in-Judge-clause-ends
 returns-in-Judge-clause-ends g c =
     rw (c.in-Judge.is, c.status_of-in-Judge.ensures.code, c.status_of-in-Judge.ensures.line)
-    (λ plan. over-no_link _ _ _ _ _ (g.L.Link.wire c.args.link.now) _ _ (never-six _ _ _ _ _ refl refl (c.judge.ensures.ends quiet))
+    (λ plan. over-no_link _ _ _ _ _ (g.L.Link.wire c.args.link.now) _ _ (judging.unlinked-plan (judge_view c.in-Judge.names))
+    (never-six _ _ _ _ _ refl refl (c.judge.ensures.ends quiet))
     (c.judge.ensures.ends (with_wire quiet (g.L.Link.wire c.args.link.now))))
 
 pub returns-in-Judge-clause-statuses : goal.returns-in-Judge-clause-statuses
@@ -235,7 +238,8 @@ returns-in-Session-clause-childless g c = rw c.in-Session.is (λ none. absurd (t
 pub returns-in-Simulate-clause-ends : goal.returns-in-Simulate-clause-ends
 returns-in-Simulate-clause-ends g c =
     rw (c.in-Simulate.is, c.status_of-in-Simulate.ensures.code, c.status_of-in-Simulate.ensures.line)
-    (λ plan. over-no_link _ _ _ _ _ (g.L.Link.wire c.args.link.now) _ _ (never-six _ _ _ _ _ refl refl (c.simulate_seed.ensures.ends quiet))
+    (λ plan. over-no_link _ _ _ _ _ (g.L.Link.wire c.args.link.now) _ _ (λ content. tt)
+    (never-six _ _ _ _ _ refl refl (c.simulate_seed.ensures.ends quiet))
     (c.simulate_seed.ensures.ends (with_files (with_wire quiet (g.L.Link.wire c.args.link.now)) (g.F.Files.disk c.args.files.now))))
 
 pub returns-in-Simulate-clause-statuses : goal.returns-in-Simulate-clause-statuses

@@ -68,7 +68,7 @@ returns-in-Err-Usage-clause-ends g c =
     let now = outside (g.F.Files.disk c.args.files.now) (g.K.Sink.stream c.args.out.now) (g.L.Link.wire c.args.link.now) in
     λ plan. subst (λ (line : Option Line). RunEndsWith (plan_of line) now now 2 usage)
     (sym (c.in-Err-Usage.ensures.usage (ap Err c.in-Err-Usage.field-0-is)))
-    (over-no_link _ _ _ _ _ (g.L.Link.wire c.args.link.now) _ _ (λ e. absurd (omega arith)) (EndsWith-ending 2 usage now refl))
+    (over-no_link _ _ _ _ _ (g.L.Link.wire c.args.link.now) _ _ (λ content. tt) (λ e. absurd (omega arith)) (EndsWith-ending 2 usage now refl))
 
 pub returns-in-Err-Usage-clause-statuses : goal.returns-in-Err-Usage-clause-statuses
 returns-in-Err-Usage-clause-statuses g c =

@@ -1,0 +1,87 @@
+-- What a peer sent over its link, by how it stands.
+use Rattle.std.proofs.Common.{◌≡◌, ◌∙◌, ◌==◌, ℕ, List, [], ◌++◌, refl, sym, subst, inl, inr, append-nil, append_assoc, arith, true≢false}
+use Rattle.std.proofs.lemmas.Bool.{cases_Bool, eqb-true}
+use Rattle.bar_outside.specs.Plan.{Outside}
+use Rattle.bar_seeds.specs.declared.secrets.Secrets.{Secrets}
+use Rattle.bar_roster.specs.SessionText.{SessionData}
+use Rattle.bar_wire.specs.Inputs.{Input}
+use Rattle.bar_core.specs.Rules.{Rules, Send}
+use Rattle.bar_core.specs.Runs.{sends_over}
+use Rattle.bar_core.proofs.OverLists.{sends_over-append}
+use Rattle.bar_rules.specs.Member.{Member}
+use Rattle.bar_rules.specs.Members.{member_by}
+use Rattle.bar_rules.specs.Peer.Run.{sends_of}
+use Rattle.bar_laws.specs.Always.{OfEachPeer}
+use Rattle.bar_peer.specs.Runs.{RulesSend}
+use Rattle.bar_node.specs.Runs.{taken_of}
+use Rattle.bar_node.specs.Stops.{IsFront}
+use Rattle.bar_node.proofs.Yields.{front-behind, front-same}
+use Rattle.bar_live.specs.PeerPlan.{PeerNames, rules_by}
+use Rattle.bar_live.specs.PeerStands.{PeerDone, PeerStands, PeerStopped}
+use Rattle.bar_live.specs.Stands.{packets}
+use Rattle.bar_cli.specs.Headline.{KeepsTheRules, PeerHeadline, PeerSpoke}
+use Rattle.bar_cli.proofs.EndLemmas.{differ}
+use Rattle.bar_cli.proofs.MemberLemmas.{AreHeld, AreInRange, at-each_moment}
+
+module _ (held : AreHeld) (ranged : AreInRange) (keeps : OfEachPeer KeepsTheRules) (sends : RulesSend) (names : PeerNames)
+    (old new : Outside) (status : ℕ) where
+  -- it was done
+  spoke-done : PeerDone names old new → PeerSpoke names old new status
+  spoke-done d =
+      let s : SessionData = d.session in
+      let k : Secrets = d.secrets in
+      let all : List Input = taken_of (rules_by s k) d.given in
+      record {
+        session = s;
+        secrets = k;
+        is_of = d.is_of;
+        given = d.given;
+        taken = d.taken;
+        inputs = all;
+        later = [];
+        place = sym (append-nil all);
+        sent = packets s (sends_of (member_by s k) all);
+        sends = front-same (packets s (sends_of (member_by s k) all));
+        sent_is = d.run.sent;
+        most = omega arith;
+        whole = λ zero. (refl, refl);
+        kept = at-each_moment held ranged KeepsTheRules keeps names old.files.content s k d.is_of.accepted all;
+      }
+
+  -- it was stopped behind the binding of its link
+  spoke-stopped : (status ≡ 0 → ⊥) → PeerStopped names old new → PeerSpoke names old new status
+  spoke-stopped other p =
+      let s : SessionData = p.session in
+      let k : Secrets = p.secrets in
+      let r : Rules = rules_by s k in
+      let me : Member = member_by s k in
+      let run = p.run in
+      let cut = run.cut in
+      record {
+        session = s;
+        secrets = k;
+        is_of = p.is_of;
+        given = p.given;
+        taken = p.taken;
+        inputs = cut.whole ++ cut.last;
+        later = cut.left;
+        place = cut.is ∙ sym (append_assoc cut.whole cut.last cut.left);
+        sent = sends_over r [] cut.whole ++ run.sent;
+        sends = subst (IsFront (sends_over r [] cut.whole ++ run.sent))
+            (sym (sends_over-append r [] cut.whole cut.last) ∙ sends me (cut.whole ++ cut.last))
+            (front-behind (sends_over r [] cut.whole) run.sent (sends_over r cut.whole cut.last) run.sent_front);
+        sent_is = run.sent_is;
+        most = cut.most;
+        whole = λ zero. absurd (other zero);
+        kept = at-each_moment held ranged KeepsTheRules keeps names old.files.content s k p.is_of.accepted (taken_of r p.given);
+      }
+
+  pub peer-headline : (status ≡ 0 → PeerDone names old new) → PeerStands names old new → PeerHeadline names old new status
+  peer-headline done stands =
+      elim (cases_Bool (status == 0)) [
+        | inl zero ↦ inr (spoke-done (done (eqb-true status 0 zero)))
+        | inr other ↦ elim stands [
+          | inl same ↦ inl same.wire
+          | inr two ↦ elim two [ inl begun ↦ inl begun.begun.wire | inr stopped ↦ inr (spoke-stopped (differ status 0 other) stopped) ]
+        ]
+      ]
