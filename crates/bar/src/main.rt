@@ -13,12 +13,12 @@ use bar_outside::{Files, Link, Sink, Spawner};
 use link::RealLink;
 use outside::{RealFiles, RealSink, Standard};
 use spawner::RealSpawner;
-use streams::hold_streams;
 use std::alloc::Global;
 use std::env::Env;
 use std::io::ErrorKind;
 use std::process::ExitCode;
 use std::{env, io};
+use streams::hold_streams;
 
 /// The exit status where a file fails.
 const FILE_FAILED: u8 = 3;
