@@ -1,11 +1,11 @@
 -- What a peer sent over its link, by how it stands.
-use Rattle.std.proofs.Common.{◌≡◌, ◌∙◌, ◌==◌, ℕ, List, [], ◌++◌, refl, sym, subst, inl, inr, append-nil, append_assoc, arith, true≢false}
+use Rattle.std.proofs.Common.{◌≡◌, ◌≤◌, ◌∙◌, ◌==◌, ℕ, List, [], ◌∷◌, ◌++◌, length, refl, sym, ap, subst, inl, inr, append-nil, append_assoc, arith}
 use Rattle.std.proofs.lemmas.Bool.{cases_Bool, eqb-true}
 use Rattle.bar_outside.specs.Plan.{Outside}
 use Rattle.bar_seeds.specs.declared.secrets.Secrets.{Secrets}
 use Rattle.bar_roster.specs.SessionText.{SessionData}
 use Rattle.bar_wire.specs.Inputs.{Input}
-use Rattle.bar_core.specs.Rules.{Rules, Send}
+use Rattle.bar_core.specs.Rules.{Rules}
 use Rattle.bar_core.specs.Runs.{sends_over}
 use Rattle.bar_core.proofs.OverLists.{sends_over-append}
 use Rattle.bar_rules.specs.Member.{Member}
@@ -15,6 +15,7 @@ use Rattle.bar_laws.specs.Always.{OfEachPeer}
 use Rattle.bar_peer.specs.Runs.{RulesSend}
 use Rattle.bar_node.specs.Runs.{taken_of}
 use Rattle.bar_node.specs.Stops.{IsFront}
+use Rattle.bar_node.proofs.Doing.{none-more}
 use Rattle.bar_node.proofs.Yields.{front-behind, front-same}
 use Rattle.bar_live.specs.PeerPlan.{PeerNames, rules_by}
 use Rattle.bar_live.specs.PeerStands.{PeerDone, PeerStands, PeerStopped}
@@ -22,6 +23,35 @@ use Rattle.bar_live.specs.Stands.{packets}
 use Rattle.bar_cli.specs.Headline.{KeepsTheRules, PeerHeadline, PeerSpoke}
 use Rattle.bar_cli.proofs.EndLemmas.{differ}
 use Rattle.bar_cli.proofs.MemberLemmas.{AreHeld, AreInRange, at-each_moment}
+
+-- ---- all of the inputs before the last one that was begun was sent
+
+same-front : (xs ys : List Input) (x y : Input) → xs ++ x ∷ [] ≡ ys ++ y ∷ [] → xs ≡ ys
+same-front [] [] x y e = refl
+same-front [] (b ∷ ys) x y e = let f : [] ≡ ys ++ y ∷ [] = cc in absurd (none-more ys y [] f)
+same-front (a ∷ xs) [] x y e = let f : [] ≡ xs ++ x ∷ [] = cc in absurd (none-more xs x [] f)
+same-front (a ∷ xs) (b ∷ ys) x y e =
+    let f : a ≡ b = cc in
+    let rest : xs ++ x ∷ [] ≡ ys ++ y ∷ [] = cc in
+    ap (λ v. v ∷ xs) f ∙ ap (λ vs. b ∷ vs) (same-front xs ys x y rest)
+
+-- whatever front of what the last inputs send was sent, of which there is one at most
+earlier-sent : (r : Rules) (whole last : List Input) (more : List Send) → length last ≤ 1 → (earlier : List Input) (x : Input) →
+    whole ++ last ≡ earlier ++ x ∷ [] → IsFront (sends_over r [] earlier) (sends_over r [] whole ++ more)
+earlier-sent r whole [] more few earlier x e =
+    let is : whole ≡ earlier ++ x ∷ [] = sym (append-nil whole) ∙ e in
+    record {
+      rest = sends_over r earlier (x ∷ []) ++ more;
+      is =
+          ap (λ xs. sends_over r [] xs ++ more) is
+          ∙ ap (λ sent. sent ++ more) (sends_over-append r [] earlier (x ∷ []))
+          ∙ append_assoc (sends_over r [] earlier) (sends_over r earlier (x ∷ [])) more;
+    }
+earlier-sent r whole (y ∷ []) more few earlier x e =
+    record { rest = more; is = ap (λ xs. sends_over r [] xs ++ more) (same-front whole earlier y x e) }
+earlier-sent r whole (y ∷ z ∷ others) more few earlier x e = absurd (omega arith)
+
+-- ---- by how it stands
 
 module _ (held : AreHeld) (ranged : AreInRange) (keeps : OfEachPeer KeepsTheRules) (sends : RulesSend) (names : PeerNames)
     (old new : Outside) (status : ℕ) where
@@ -42,6 +72,11 @@ module _ (held : AreHeld) (ranged : AreInRange) (keeps : OfEachPeer KeepsTheRule
         place = sym (append-nil all);
         sent = packets s (sends_of (member_by s k) all);
         sends = front-same (packets s (sends_of (member_by s k) all));
+        fewest = λ earlier x e.
+            subst (λ xs. IsFront xs (packets s (sends_of (member_by s k) all))) (sends (member_by s k) earlier)
+            (subst (IsFront (sends_over (rules_by s k) [] earlier))
+            (append-nil (sends_over (rules_by s k) [] all) ∙ sends (member_by s k) all)
+            (earlier-sent (rules_by s k) all [] [] (omega arith) earlier x (append-nil all ∙ e)));
         sent_is = d.run.sent;
         most = omega arith;
         whole = λ zero. (refl, refl);
@@ -70,6 +105,9 @@ module _ (held : AreHeld) (ranged : AreInRange) (keeps : OfEachPeer KeepsTheRule
         sends = subst (IsFront (sends_over r [] cut.whole ++ run.sent))
             (sym (sends_over-append r [] cut.whole cut.last) ∙ sends me (cut.whole ++ cut.last))
             (front-behind (sends_over r [] cut.whole) run.sent (sends_over r cut.whole cut.last) run.sent_front);
+        fewest = λ earlier x e.
+            subst (λ xs. IsFront xs (sends_over r [] cut.whole ++ run.sent)) (sends me earlier)
+            (earlier-sent r cut.whole cut.last run.sent cut.one earlier x e);
         sent_is = run.sent_is;
         most = cut.most;
         whole = λ zero. absurd (other zero);

@@ -65,8 +65,8 @@ pub record KeepsTheRules (me : Member) (inputs : List Input) : Type 0 where
 -- ---- of a peer's run over a link
 
 -- A peer whose files were accepted and whose link was bound. There is one place in the inputs that its link gave, paced: what it sent is a
--- front of what the rules send over the inputs up to there, and at most one input that is due wasn't begun. Each part of the headline holds
--- at each moment. At status 0 the place is the end, and all was sent.
+-- front of what the rules send over the inputs up to there, in which all of the inputs before the last one stands whole, and at most one
+-- input that is due wasn't begun. Each part of the headline holds at each moment. At status 0 the place is the end, and all was sent.
 pub record PeerSpoke (names : PeerNames) (old new : Outside) (status : ℕ) : Type 0 where
   pub session : SessionData
   pub secrets : Secrets
@@ -78,6 +78,8 @@ pub record PeerSpoke (names : PeerNames) (old new : Outside) (status : ℕ) : Ty
   pub place : taken_of (rules_by session secrets) given ≡ inputs ++ later
   pub sent : List Send
   pub sends : IsFront sent (packets session (sends_of (member_by session secrets) inputs))
+  pub fewest : (earlier : List Input) (last : Input) → inputs ≡ earlier ++ last ∷ [] →
+      IsFront (packets session (sends_of (member_by session secrets) earlier)) sent
   pub sent_is : IsTrue old.wire.told → new.wire.traffic.sent ≡ old.wire.traffic.sent ++ sent
   pub most : length later ≤ 1
   pub whole : status ≡ 0 → (later ≡ []) × (sent ≡ packets session (sends_of (member_by session secrets) inputs))
