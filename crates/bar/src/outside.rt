@@ -89,7 +89,14 @@ fn append_file<F: Write>(
 impl<R: rt::Files + AllocGlobal> Files for RealFiles<'_, R> {
     ghost use Rattle.std.specs.Prelude.{false, None};
 
-    ghost disk = { λ files. record { told = false; reliable = false; content = λ path. None; failed = None; faults = files.faults } };
+    ghost disk = { λ files. record {
+      told = false;
+      reliable = false;
+      content = λ path. None;
+      created_here = λ path. false;
+      failed = None;
+      faults = files.faults;
+    } };
 
     fn read(&mut self, path: &str) -> Result<Vec<u8>, FileFault> {
         match read_file(self.rt, path) {
