@@ -1,5 +1,5 @@
 //! The real link: a UDP socket on the loopback address. It counts its faults and tells nothing of what went over it.
-ghost use Rattle.std.specs.Prelude.{◌≡◌, ◌≤◌, length, IfOk};
+ghost use Rattle.std.specs.Prelude.{◌≡◌, ◌≢◌, ◌≤◌, length, IfOk};
 ghost use Rattle.bar_outside.specs.Wire.{largest_packet, len_of};
 
 use bar_outside::{LARGEST_PACKET, Link, LinkFault, Taken};
@@ -62,7 +62,8 @@ fn bind<R: Net>(rt: &R, me: u16, port: u16, begin_ms: u64, tick_ms: u32) -> io::
 /// Waits until the next tick is due or a datagram is there, which is written to the buffer. An overdue tick comes at once.
 fn wait<R: Clock>(rt: &R, bound: &mut Bound, buf: &mut [u8]) -> io::Result<Taken>
     requires { length buf.old ≡ largest_packet }
-    ensures { IfOk result (λ taken. len_of taken ≤ largest_packet) }
+    ensures within { IfOk result (λ taken. len_of taken ≤ largest_packet) }
+    ensures no_end { IfOk result (λ taken. taken ≢ Taken.End) }
 {
     for _ in 0..u64::MAX {
         let now = unix_ms(rt)?;
@@ -122,10 +123,10 @@ impl<'a, R> RealLink<'a, R> {
 }
 
 impl<R: Net + Clock> Link for RealLink<'_, R> {
-    ghost use Rattle.std.specs.Prelude.{false};
-    ghost use Rattle.bar_outside.specs.Wire.{no_traffic};
+    ghost use Rattle.bar_outside.specs.Wire.{Takes};
+    ghost use Rattle.bar.specs.Untold.{untold_wire};
 
-    ghost wire = { λ link. record { told = false; reliable = false; traffic = no_traffic; faults = link.faults } };
+    ghost wire = { λ link. untold_wire link.faults };
 
     fn bind(&mut self, me: u16, port: u16, begin_ms: u64, tick_ms: u32) -> Result<(), LinkFault> {
         match bind(self.rt, me, port, begin_ms, tick_ms) {
@@ -137,7 +138,12 @@ impl<R: Net + Clock> Link for RealLink<'_, R> {
         }
     }
 
-    fn next(&mut self, buf: &mut [u8]) -> Result<Taken, LinkFault> {
+    fn next(&mut self, buf: &mut [u8]) -> Result<Taken, LinkFault>
+        requires { largest_packet ≤ length buf.old }
+        ensures takes { Takes buf.new (untold_wire self.old.faults) (untold_wire self.new.faults) result }
+        // a socket has no end
+        ensures no_end { IfOk result (λ taken. taken ≢ Taken.End) }
+    {
         let taken = match &mut self.bound {
             Some(bound) => wait(self.rt, bound, &mut buf[..LARGEST_PACKET]),
             None => Err(io::Error::from(ErrorKind::NotConnected)),
