@@ -4,6 +4,7 @@
 mod link;
 mod outside;
 mod spawner;
+mod streams;
 #[cfg(test)]
 mod tests;
 
@@ -17,6 +18,10 @@ use std::env::Env;
 use std::io::ErrorKind;
 use std::process::ExitCode;
 use std::{env, io};
+use streams::hold_streams;
+
+/// The exit status where a file fails.
+const FILE_FAILED: u8 = 3;
 
 /// The exit status where memory is wanting.
 const NO_MEMORY: u8 = 70;
@@ -55,11 +60,16 @@ fn run_words<F: Files, L: Link, K: Sink, S: Spawner>(
 }
 
 fn main(rt: HostRuntime) -> ExitCode {
+    let held = hold_streams(&rt);
     let mut files = RealFiles::new(&rt);
     let mut link = RealLink::new(&rt);
     let mut spawn = RealSpawner::new(&rt);
     let mut out = RealSink::new(Standard::Out(rt.stdout()));
     let mut err = RealSink::new(Standard::Err(rt.stderr()));
+    if held.is_err() {
+        let _ = err.write(b"bar: file failed\n");
+        return ExitCode::from(FILE_FAILED);
+    }
     let words = words_of(&rt);
     let alloc = rt.alloc();
     ExitCode::from(run_words(
