@@ -8,35 +8,62 @@ const BYTES: [u8; 20] = [
     0x47, 0xff, 0xfe, 0xfd,
 ];
 
-#[test]
-fn reads_numbers_with_the_highest_byte_first(rt: HostRuntime) -> Result<(), Fail> {
-    let mut reader = Reader::new(&BYTES);
-    assert_eq!(rt; reader.u8()?, 0x01);
-    assert_eq!(rt; reader.u16()?, 0x0203);
-    assert_eq!(rt; reader.u32()?, 0x0405_0607);
-    assert_eq!(rt; reader.u64()?, 0x0809_0a0b_0c0d_0e0f);
-    assert_eq!(rt; reader.take(2)?, [0xba, 0x47].as_slice());
-    assert_eq!(rt; reader.rest(), 3);
-    assert_eq!(rt; reader.u32(), Err(Short));
-    assert_eq!(rt; reader.u16()?, 0xfffe);
-    assert_eq!(rt; reader.u16(), Err(Short));
-    assert_eq!(rt; reader.take(1)?, [0xfd].as_slice());
-    assert_eq!(rt; reader.u8(), Err(Short));
-    Ok(())
+/// The numbers that bytes begin with.
+fn numbers(bytes: &[u8]) -> Result<(u8, u16, u32, u64), Short> {
+    let mut reader = Reader::new(bytes);
+    Ok((reader.u8()?, reader.u16()?, reader.u32()?, reader.u64()?))
 }
 
 #[test]
-fn writes_one_after_another(rt: HostRuntime) -> Result<(), Fail> {
+fn reads_numbers_with_the_highest_byte_first(rt: HostRuntime) {
+    let expected = (0x01, 0x0203, 0x0405_0607, 0x0809_0a0b_0c0d_0e0f);
+    assert_eq!(rt; numbers(&BYTES), Ok(expected));
+}
+
+/// Whether so many bytes are too few for a number of one byte, of two and of four.
+fn are_short(bytes: &[u8]) -> [bool; 3] {
+    [
+        Reader::new(bytes).u8().is_err(),
+        Reader::new(bytes).u16().is_err(),
+        Reader::new(bytes).u32().is_err(),
+    ]
+}
+
+#[test]
+fn too_few_bytes_are_short(rt: HostRuntime) {
+    for (len, expected) in [
+        (0, [true, true, true]),
+        (1, [false, true, true]),
+        (3, [false, false, true]),
+        (4, [false, false, false]),
+    ] {
+        assert_eq!(rt; are_short(BYTES.get(..len).unwrap_or(b"")), expected);
+    }
+}
+
+#[test]
+fn takes_so_many_bytes(rt: HostRuntime) {
+    let mut reader = Reader::new(&BYTES);
+    assert_eq!(rt; reader.take(17).map(<[u8]>::len), Ok(17));
+    assert_eq!(rt; reader.rest(), 3);
+    assert_eq!(rt; reader.take(4), Err(Short));
+    assert_eq!(rt; reader.take(3), Ok([0xff, 0xfe, 0xfd].as_slice()));
+}
+
+/// What a writer of six bytes answers to each of these, and how many bytes it has then.
+fn written(out: &mut [u8; 6], part: &[u8]) -> (Result<(), Full>, usize) {
+    let mut writer = Writer::new(out);
+    let first = writer.put(b"bar");
+    let answer = first.and(writer.put(part));
+    (answer, writer.len())
+}
+
+#[test]
+fn writes_one_after_another(rt: HostRuntime) {
     let mut out = [0u8; 6];
-    let mut writer = Writer::new(&mut out);
-    writer.put(b"bar")?;
-    assert_eq!(rt; writer.len(), 3);
-    assert_eq!(rt; writer.put(b"four"), Err(Full));
-    writer.put(b"end")?;
-    assert_eq!(rt; writer.len(), 6);
-    assert_eq!(rt; writer.put(b"!"), Err(Full));
+    assert_eq!(rt; written(&mut out, b"four"), (Err(Full), 3));
+    assert_eq!(rt; written(&mut out, b"end"), (Ok(()), 6));
     assert_eq!(rt; out.as_slice(), b"barend".as_slice());
-    Ok(())
 }
 
 // From Python's hashlib, over the 45 bytes of tag, id and fields.

@@ -2,6 +2,7 @@
 
 use bar_roster::{KeyFile, KeyFileFault, Session, key_text};
 use std::alloc::Global;
+use std::process::Abort;
 use std::test::Fail;
 
 const TEXT_OF_200: &str = "version = 1
@@ -159,82 +160,97 @@ fn the_broadcasters_key_file_has_its_key(rt: HostRuntime) -> Result<(), Fail> {
     Ok(())
 }
 
+/// Checks which fault a fresh key file has.
+fn check_fault(
+    rt: &impl Abort,
+    alloc: Global,
+    bytes: &[u8],
+    session: &Session,
+    caster: bool,
+    wanted: KeyFileFault,
+) {
+    match KeyFile::read(alloc, bytes, session, caster, true) {
+        Ok(_) => assert!(rt; false),
+        Err(fault) => assert_eq!(rt; fault, wanted),
+    }
+}
+
 #[test]
 fn the_first_fault_is_told(rt: HostRuntime) -> Result<(), Fail> {
     let alloc = rt.alloc();
     let fresh = text(alloc, 2, SECRET, 1, false)?;
     let spent = text(alloc, 2, SECRET, 1, true)?;
-    for (name, bytes, key, anchor, caster, wanted) in [
+    for (bytes, key, anchor, caster, wanted) in [
+        // no document
         (
-            "no document",
             b"version = ".as_slice(),
             KEY,
             ANCHOR,
             false,
             KeyFileFault::NotToml,
         ),
+        // no values
         (
-            "no values",
             b"version = 1\n".as_slice(),
             KEY,
             ANCHOR,
             false,
             KeyFileFault::BadValue,
         ),
+        // another key
         (
-            "another key",
             fresh.as_slice(),
             OTHER_KEY,
             ANCHOR,
             false,
             KeyFileFault::NotInRoster,
         ),
+        // another anchor
         (
-            "another anchor",
             fresh.as_slice(),
             KEY,
             OTHER_ANCHOR,
             false,
             KeyFileFault::NotInRoster,
         ),
+        // another role
         (
-            "another role",
             fresh.as_slice(),
             KEY,
             ANCHOR,
             true,
             KeyFileFault::NotInRoster,
         ),
+        // spent, another key
         (
-            "spent, another key",
             spent.as_slice(),
             OTHER_KEY,
             ANCHOR,
             false,
             KeyFileFault::NotInRoster,
         ),
-        (
-            "spent",
-            spent.as_slice(),
-            KEY,
-            ANCHOR,
-            false,
-            KeyFileFault::Spent,
-        ),
+        // spent
+        (spent.as_slice(), KEY, ANCHOR, false, KeyFileFault::Spent),
     ] {
         let session = session(alloc, key, anchor)?;
-        match KeyFile::read(alloc, bytes, &session, caster, true) {
-            Ok(_) => assert!(rt; false, "{name}"),
-            Err(fault) => assert_eq!(rt; fault, wanted, "{name}"),
-        }
+        check_fault(&rt, alloc, bytes, &session, caster, wanted);
     }
+    Ok(())
+}
+
+#[test]
+fn another_party_and_other_rounds_are_not_in_the_roster(rt: HostRuntime) -> Result<(), Fail> {
+    let alloc = rt.alloc();
+    let session = session(alloc, KEY, ANCHOR)?;
     for (party, rounds) in [(1, 1), (3, 1), (2, 2)] {
         let bytes = text(alloc, party, SECRET, rounds, false)?;
-        let session = session(alloc, KEY, ANCHOR)?;
-        let read = KeyFile::read(alloc, &bytes, &session, false, true);
-        assert!(rt;
-            matches!(read, Err(KeyFileFault::NotInRoster)),
-            "{party} {rounds}"
+        check_fault(
+            &rt,
+            alloc,
+            &bytes,
+            &session,
+            false,
+            KeyFileFault::NotInRoster,
         );
     }
     Ok(())

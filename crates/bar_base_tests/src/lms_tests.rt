@@ -10,6 +10,7 @@ use bar_lms::{
 };
 use sha2::{Digest, Sha256};
 use std::marker::Brand;
+use std::process::Abort;
 use std::sync::ledger::{Blank, Ledger};
 use std::test::Fail;
 use vectors::{OF_WIDTH_4, OF_WIDTH_8};
@@ -33,6 +34,18 @@ fn accepts(key: &PublicKey, message: &[u8], sig: &[u8]) -> bool {
     is_counted::<Brand>(key, message, sig, Blank::new(1))
 }
 
+/// Checks that a signature is accepted under its key, and no longer where one bit of it is changed.
+fn check_signature(rt: &impl Abort, key: &PublicKey, message: &[u8], signature: &mut [u8]) {
+    assert!(rt; accepts(key, message, signature));
+    assert!(rt; !accepts(key, b"another message", signature));
+    for place in [3, 7, 8, 40, 1000, 1100, 1291] {
+        assert!(rt; place < signature.len());
+        signature[place] ^= 1;
+        assert!(rt; !accepts(key, message, signature), "{place}");
+        signature[place] ^= 1;
+    }
+}
+
 #[test]
 fn others_signatures_are_accepted(rt: HostRuntime) -> Result<(), Fail> {
     for vector in [OF_WIDTH_8, OF_WIDTH_4] {
@@ -40,17 +53,10 @@ fn others_signatures_are_accepted(rt: HostRuntime) -> Result<(), Fail> {
         let key = PublicKey::read(&hex::decode(alloc, vector.key)?)?;
         let message = hex::decode(alloc, vector.message)?;
         let mut signature = hex::decode(alloc, vector.signature)?;
-        assert_eq!(rt; key.params().lms(), vector.lms);
-        assert_eq!(rt; key.params().ots(), vector.ots);
-        assert_eq!(rt; key.params().sig_len(), signature.len());
-        assert!(rt; accepts(&key, &message, &signature));
-        assert!(rt; !accepts(&key, b"another message", &signature));
-        for place in [3, 7, 8, 40, 1000, 1100, 1291] {
-            assert!(rt; place < signature.len());
-            signature[place] ^= 1;
-            assert!(rt; !accepts(&key, &message, &signature), "{place}");
-            signature[place] ^= 1;
-        }
+        let params = key.params();
+        assert_eq!(rt; (params.lms(), params.ots()), (vector.lms, vector.ots));
+        assert_eq!(rt; params.sig_len(), signature.len());
+        check_signature(&rt, &key, &message, &mut signature);
     }
     Ok(())
 }

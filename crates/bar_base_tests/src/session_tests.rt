@@ -2,6 +2,7 @@ use bar_lms::{Height, Ots, Params};
 use bar_roster::{Key, Session, SessionFault};
 use bar_wire::Shape;
 use std::alloc::{AllocError, Global};
+use std::process::Abort;
 use std::test::Fail;
 
 const ID: [u8; 8] = [0x00, 0x11, 0x22, 0x33, 0x44, 0x55, 0x66, 0xab];
@@ -119,6 +120,23 @@ fn the_first_key_that_is_not_there_is_missing(rt: HostRuntime) -> Result<(), Fai
     Ok(())
 }
 
+/// Checks how the fault is shown of a text of which one place is changed.
+fn check_refused(
+    rt: &impl Abort,
+    alloc: Global,
+    text: &str,
+    old: &str,
+    new: &str,
+    shown: &str,
+) -> Result<(), AllocError> {
+    let changed = text.replacen(alloc, old, new, 1)?;
+    match fault_of(alloc, changed.as_str()) {
+        Some(fault) => assert_eq!(rt; format!(in alloc; "{fault}")?.as_str(), shown, "{new}"),
+        None => assert!(rt; false, "{new}"),
+    }
+    Ok(())
+}
+
 #[test]
 fn refused_texts_have_their_faults(rt: HostRuntime) -> Result<(), Fail> {
     let alloc = rt.alloc();
@@ -167,13 +185,14 @@ fn refused_texts_have_their_faults(rt: HostRuntime) -> Result<(), Fail> {
         ),
     ];
     for (old, new, shown) in rows {
-        let changed = text.as_str().replacen(alloc, old, new, 1)?;
-        let Some(fault) = fault_of(alloc, changed.as_str()) else {
-            assert!(rt; false, "{new}");
-            continue;
-        };
-        assert_eq!(rt; format!(in alloc; "{fault}")?.as_str(), shown, "{new}");
+        check_refused(&rt, alloc, text.as_str(), old, new, shown)?;
     }
+    Ok(())
+}
+
+#[test]
+fn refused_peers_and_bytes_have_their_faults(rt: HostRuntime) -> Result<(), Fail> {
+    let alloc = rt.alloc();
     let alone = with_parties(alloc, small_numbers(alloc)?.as_str(), 5, 0)?;
     let text = format!(in alloc; "{alone}peer = [1, 2]\n")?;
     assert_eq!(rt;

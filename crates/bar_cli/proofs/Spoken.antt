@@ -5,7 +5,7 @@ use Rattle.bar_outside.specs.Plan.{Outside}
 use Rattle.bar_seeds.specs.declared.secrets.Secrets.{Secrets}
 use Rattle.bar_roster.specs.SessionText.{SessionData}
 use Rattle.bar_wire.specs.Inputs.{Input}
-use Rattle.bar_core.specs.Rules.{Rules}
+use Rattle.bar_core.specs.Rules.{Rules, Send}
 use Rattle.bar_core.specs.Runs.{sends_over}
 use Rattle.bar_core.proofs.OverLists.{sends_over-append}
 use Rattle.bar_rules.specs.Member.{Member}

@@ -117,7 +117,7 @@ module _ {A E : Type 0} (path : List ℕ) (meaning : List ℕ → Result A E) (o
       reached = λ told.
           subst (λ (p : Plan). HasReached p.actions h.given (outside old out wire) new) (sym (plan-is meant e told h.given))
           (reached-behind (read path ∷ []) (others h.given meant mid.content).actions [] h.given (outside old out wire) was new
-          (later-files old mid was reads.call.told reads.call.reliable reads.call.cause.later) read-first refl
+          (later-files old mid was reads.call.told reads.call.reliable (λ told. reads.same_here) reads.call.cause.later) read-first refl
           (h.reached (subst IsTrue (sym reads.call.told) told)));
       asked = λ told front next rest is.
           ap (λ (p : Plan). p.status) (plan-is meant e told front)

@@ -11,6 +11,9 @@ use Rattle.bar_cli.specs.Line.{Line, peer, broadcaster, replay, keygen, judge, s
 use Rattle.bar_cli.specs.ReplayPlan.{ReplayFiles}
 use Rattle.bar_cli.specs.Status.{code_of_run}
 use Rattle.bar_cli.specs.Views.{names_view, keygen_view, judge_view, command_view}
+use Rattle.bar_cli.proofs.JudgeRows as judging
+use Rattle.bar_cli.proofs.KeygenRows as making
+use Rattle.bar_cli.proofs.Rows as replaying
 use Rattle.bar_cli.proofs.RunLemmas.{few-leaves, over-no_link}
 use Rattle.bar_cli.proofs.StatusLemmas.{never-linked, never-six, quiet, peer-statuses, broadcaster-statuses, replay-statuses, keygen-statuses, judge-statuses, never-filed, simulate-statuses}
 use Rattle.bar_cli.proofs.run.run_command.Goals as goal
