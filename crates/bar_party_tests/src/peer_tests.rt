@@ -10,13 +10,14 @@ use bar_peer::Peer;
 use bar_seal::LmsScheme;
 use bar_window::{Exchange, XKind};
 use bar_wire::Kind;
-use datagrams::{block_with, front, manifest, signed, tell_block, tell_blocks};
+use datagrams::{block_message, block_with, front, manifest, signed, tell_block, tell_blocks};
 use evidence::{Evidence, check_evidence, check_report, check_reports, evidence_of};
 use pair::{
     Pair, Row, check_totals, check_window, give_in_turn, pair_of, part, pass, tell_round, trade,
 };
 use peers::{
-    Sent, answers, check_count, check_played, peer_of, scheme_of, sent_at_tick, tell, ticks,
+    Sent, answers, check_count, check_played, peer_of, scheme_of, sent_at_tick, tell, tell_fronts,
+    ticks,
 };
 use sessions::{session, session_of_five, small_session};
 use std::alloc::{AllocError, Global};
@@ -210,13 +211,19 @@ const SMALL_TRADE: &[Row] = &[
     (1, 9, &[]),
 ];
 
-/// Gives both peers what they hold in round 6.
-fn tell_held(rt: &impl Abort, alloc: Global, pair: &mut Pair) -> Result<(), AllocError> {
-    for round in 3..6 {
+/// Gives both peers what they hold in a round: of the round before, of the one before that, and of the third one back, which comes first.
+fn tell_held(
+    rt: &impl Abort,
+    alloc: Global,
+    pair: &mut Pair,
+    rounds: [u8; 3],
+) -> Result<(), AllocError> {
+    for round in rounds {
         tell_round(rt, alloc, pair, round, 8)?;
     }
-    tell_blocks(rt, alloc, &mut pair.one, 1, &[(3, 2), (4, 7)])?;
-    let held = [(3, 0), (3, 2), (5, 1), (5, 3)];
+    let [first, second, third] = rounds;
+    tell_blocks(rt, alloc, &mut pair.one, 1, &[(first, 2), (second, 7)])?;
+    let held = [(first, 0), (first, 2), (third, 1), (third, 3)];
     tell_blocks(rt, alloc, &mut pair.two, 2, &held)
 }
 
@@ -259,7 +266,7 @@ fn check_traded(rt: &impl Abort, alloc: Global, pair: &mut Pair) -> Result<(), A
 fn check_trades(rt: &impl Abort, alloc: Global, pair: &mut Pair) -> Result<(), AllocError> {
     check_first_round(rt, alloc, pair)?;
     pass(rt, alloc, pair, 23)?;
-    tell_held(rt, alloc, pair)?;
+    tell_held(rt, alloc, pair, [3, 4, 5])?;
     check_traded(rt, alloc, pair)
 }
 
@@ -488,23 +495,8 @@ fn a_request_to_another_than_the_partner_is_reported(rt: HostRuntime) -> Result<
     check_stray(&rt, alloc, &mut peer)
 }
 
-/// Gives a peer all fronts of a datagram, none of which is read.
-fn tell_fronts(
-    rt: &impl Abort,
-    alloc: Global,
-    peer: &mut Peer<LmsScheme>,
-    datagram: &[u8],
-) -> Result<(), AllocError> {
-    for len in 0..datagram.len() {
-        tell(rt, alloc, peer, datagram.get(..len).unwrap_or(b""))?;
-    }
-    Ok(())
-}
-
 fn check_requests(rt: &impl Abort, alloc: Global, peer: &mut Peer<LmsScheme>) -> Result<(), Fail> {
     ticks(rt, alloc, peer, 1)?;
-    let first = request_of(rt, alloc, 1, 8, 5)?;
-    tell_fronts(rt, alloc, peer, &first)?;
     for (party, secret, count) in [(1, 8, 1), (2, 9, 1), (3, 14, 0)] {
         check_request(rt, alloc, peer, party, secret, count)?;
     }
@@ -538,7 +530,7 @@ const TRADE_TO_THE_KEY: &[Row] = &[
 /// A key that opens the partner's CASE to other blocks is evidence with the CASE.
 fn check_bad_key(rt: &impl Abort, alloc: Global, pair: &mut Pair) -> Result<(), Fail> {
     pass(rt, alloc, pair, 40)?;
-    tell_held(rt, alloc, pair)?;
+    tell_held(rt, alloc, pair, [3, 4, 5])?;
     let all = trade(rt, alloc, pair, 6, TRADE_TO_THE_KEY)?;
     let key = bad_key(rt, alloc)?;
     let case = part(&all, 4, 0, 2_596).unwrap_or(b"");
@@ -648,4 +640,80 @@ fn no_more_updates_are_traded_than_the_cap(rt: HostRuntime) -> Result<(), Fail> 
     let text = large_session(alloc)?;
     let mut pair = pair_of(alloc, &text)?;
     Ok(check_cap(&rt, alloc, &mut pair)?)
+}
+
+/// Gives both peers a datagram cut at each length below its own.
+fn tell_fronts_to_both(
+    rt: &impl Abort,
+    alloc: Global,
+    pair: &mut Pair,
+    datagram: &[u8],
+) -> Result<(), AllocError> {
+    tell_fronts(rt, alloc, &mut pair.one, datagram)?;
+    tell_fronts(rt, alloc, &mut pair.two, datagram)
+}
+
+/// Of a manifest, a block, a notice that names peer 2, and evidence, all cut.
+fn tell_cut_of_caster(rt: &impl Abort, alloc: Global, pair: &mut Pair) -> Result<(), AllocError> {
+    let manifest = manifest(rt, alloc, &pair.caster, 6, &[block_with(2, *b"hi")])?;
+    tell_fronts_to_both(rt, alloc, pair, &manifest)?;
+    let block = block_message(alloc, 2, (5, 0), &block_with(2, *b"5a"))?;
+    tell_fronts_to_both(rt, alloc, pair, &block)?;
+    let eviction = eviction_of(rt, alloc, &pair.caster, 2)?;
+    tell_fronts_to_both(rt, alloc, pair, &eviction)?;
+    let evidence = evidence_of(alloc, 2, 1, &[&manifest, &eviction])?;
+    tell_fronts_to_both(rt, alloc, pair, &evidence.report)
+}
+
+/// What is cut changes nothing: the trade goes on as without it, and each peer holds what it held.
+fn check_cut_trade(rt: &impl Abort, alloc: Global, pair: &mut Pair) -> Result<(), AllocError> {
+    pass(rt, alloc, pair, 40)?;
+    tell_held(rt, alloc, pair, [3, 4, 5])?;
+    tell_cut_of_caster(rt, alloc, pair)?;
+    pair.cuts = true;
+    check_trade(rt, alloc, pair)?;
+    assert_eq!(rt; pair.one.manifest(6), None);
+    assert_eq!(rt; pair.two.manifest(6), None);
+    Ok(())
+}
+
+/// So does a push.
+fn check_cut_push(rt: &impl Abort, alloc: Global, pair: &mut Pair) -> Result<(), AllocError> {
+    pass(rt, alloc, pair, 40)?;
+    pair.cuts = true;
+    check_first_push(rt, alloc, pair)
+}
+
+#[test]
+fn datagrams_that_are_cut_change_nothing(rt: HostRuntime) -> Result<(), Fail> {
+    let alloc = rt.alloc();
+    let mut pair = pair_of(alloc, session())?;
+    check_cut_trade(&rt, alloc, &mut pair)?;
+    let mut pair = pair_of(alloc, session())?;
+    Ok(check_cut_push(&rt, alloc, &mut pair)?)
+}
+
+/// The totals of the trade of round 5 stand to the last tick of round 9, a life later, and are zeros after the next one.
+fn check_totals_last(rt: &impl Abort, alloc: Global, pair: &mut Pair) -> Result<(), AllocError> {
+    pass(rt, alloc, pair, 32)?;
+    tell_held(rt, alloc, pair, [2, 3, 4])?;
+    trade(rt, alloc, pair, 5, SMALL_TRADE)?;
+    let x = Exchange {
+        round: 5,
+        kind: XKind::Balanced,
+        initiator: 2,
+        responder: 1,
+    };
+    for (count, items) in [(0, 1), (39, 1), (1, 0)] {
+        pass(rt, alloc, pair, count)?;
+        check_totals(rt, pair, x, items);
+    }
+    Ok(())
+}
+
+#[test]
+fn totals_stand_a_life_long(rt: HostRuntime) -> Result<(), Fail> {
+    let alloc = rt.alloc();
+    let mut pair = pair_of(alloc, session())?;
+    Ok(check_totals_last(&rt, alloc, &mut pair)?)
 }

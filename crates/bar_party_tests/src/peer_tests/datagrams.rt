@@ -87,6 +87,22 @@ pub fn manifest(
     signed(rt, alloc, caster, leaf, &message)
 }
 
+/// A BLOCK of the broadcaster.
+pub fn block_message(
+    alloc: Global,
+    to: u8,
+    update: (u8, u8),
+    block: &[u8; 1024],
+) -> Result<Vec<u8>, AllocError> {
+    let mut bytes = [
+        0xba, 0x47, 1, 2, 0x00, 0x11, 0x22, 0x33, 0x44, 0x55, 0x66, 0x77, 0, 0, 0, to, 0, 0, 0,
+        update.0, update.1,
+    ]
+    .to_vec(alloc)?;
+    bytes.extend_from_slice(block)?;
+    Ok(bytes)
+}
+
 /// Gives a peer a BLOCK of the broadcaster, which it answers by nothing.
 pub fn tell_block(
     rt: &impl Abort,
@@ -96,12 +112,7 @@ pub fn tell_block(
     update: (u8, u8),
     block: &[u8; 1024],
 ) -> Result<(), AllocError> {
-    let mut bytes = [
-        0xba, 0x47, 1, 2, 0x00, 0x11, 0x22, 0x33, 0x44, 0x55, 0x66, 0x77, 0, 0, 0, to, 0, 0, 0,
-        update.0, update.1,
-    ]
-    .to_vec(alloc)?;
-    bytes.extend_from_slice(block)?;
+    let bytes = block_message(alloc, to, update, block)?;
     tell(rt, alloc, peer, &bytes)
 }
 

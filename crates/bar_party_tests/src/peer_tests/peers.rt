@@ -161,6 +161,19 @@ pub fn tell(
     Ok(())
 }
 
+/// Gives a peer a datagram cut at each length below its own, which it answers by nothing.
+pub fn tell_fronts(
+    rt: &impl Abort,
+    alloc: Global,
+    peer: &mut Peer<LmsScheme>,
+    datagram: &[u8],
+) -> Result<(), AllocError> {
+    for len in 0..datagram.len() {
+        tell(rt, alloc, peer, datagram.get(..len).unwrap_or(b""))?;
+    }
+    Ok(())
+}
+
 /// Takes so many ticks, in which these contents are played.
 pub fn check_played(
     rt: &impl Abort,
