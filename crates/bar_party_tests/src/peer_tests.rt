@@ -142,13 +142,6 @@ fn check_first_stream(rt: &impl Abort, alloc: Global, pair: &mut Pair) -> Result
     Ok(())
 }
 
-#[test]
-fn a_block_is_held_once_its_manifest_is_there(rt: HostRuntime) -> Result<(), Fail> {
-    let alloc = rt.alloc();
-    let mut pair = pair_of(alloc, small_session())?;
-    Ok(check_first_stream(&rt, alloc, &mut pair)?)
-}
-
 /// Checks that no DIVULGE and no CASE is sent.
 fn check_no_case(rt: &impl Abort, sends: &[Sent]) {
     check_count(rt, sends, &[0xba, 0x47, 1, 5], 0);
@@ -168,6 +161,33 @@ fn check_same_histories(rt: &impl Abort, alloc: Global, pair: &mut Pair) -> Resu
     Ok(())
 }
 
+/// In fifteen ticks a request is sent fifteen times, and no other that begins like it.
+fn check_repeats(
+    rt: &impl Abort,
+    alloc: Global,
+    peer: &mut Peer<LmsScheme>,
+    front: &[u8],
+    request: &[u8],
+) -> Result<(), AllocError> {
+    let again = ticks(rt, alloc, peer, 15)?.sends;
+    check_count(rt, &again, front, 15);
+    check_count(rt, &again, request, 15);
+    check_no_case(rt, &again);
+    Ok(())
+}
+
+/// At the next tick nothing is sent that begins like this.
+fn check_late(
+    rt: &impl Abort,
+    alloc: Global,
+    peer: &mut Peer<LmsScheme>,
+    front: &[u8],
+) -> Result<(), AllocError> {
+    let late = ticks(rt, alloc, peer, 1)?.sends;
+    check_count(rt, &late, front, 0);
+    Ok(())
+}
+
 /// A request that is not answered is sent again at each further tick of two rounds, and nothing else of the exchange.
 fn check_no_answer(
     rt: &impl Abort,
@@ -176,13 +196,8 @@ fn check_no_answer(
     request: &[u8],
 ) -> Result<(), AllocError> {
     let front = request.get(..20).unwrap_or(b"");
-    let again = ticks(rt, alloc, peer, 15)?.sends;
-    check_count(rt, &again, front, 15);
-    check_count(rt, &again, request, 15);
-    check_no_case(rt, &again);
-    let late = ticks(rt, alloc, peer, 1)?.sends;
-    check_count(rt, &late, front, 0);
-    Ok(())
+    check_repeats(rt, alloc, peer, front, request)?;
+    check_late(rt, alloc, peer, front)
 }
 
 /// The exchanges of round 1, in which both peers hold the same: that of peer 2 is answered, and that of peer 1 is not.
@@ -268,13 +283,6 @@ fn check_trades(rt: &impl Abort, alloc: Global, pair: &mut Pair) -> Result<(), A
     pass(rt, alloc, pair, 23)?;
     tell_held(rt, alloc, pair, [3, 4, 5])?;
     check_traded(rt, alloc, pair)
-}
-
-#[test]
-fn one_update_is_traded_for_one(rt: HostRuntime) -> Result<(), Fail> {
-    let alloc = rt.alloc();
-    let mut pair = pair_of(alloc, session())?;
-    Ok(check_trades(&rt, alloc, &mut pair)?)
 }
 
 /// A push of a round that peer 1 begins, which holds both updates of the round before, and of three rounds before the first and not the
@@ -413,13 +421,6 @@ fn check_pushes(rt: &impl Abort, alloc: Global, pair: &mut Pair) -> Result<(), A
     check_next_push(rt, alloc, pair)
 }
 
-#[test]
-fn young_updates_are_pushed_for_old_ones_and_junk(rt: HostRuntime) -> Result<(), Fail> {
-    let alloc = rt.alloc();
-    let mut pair = pair_of(alloc, session())?;
-    Ok(check_pushes(&rt, alloc, &mut pair)?)
-}
-
 /// The REQUEST that a peer of five sends to its partner at the first tick.
 fn request_of(
     rt: &impl Abort,
@@ -444,7 +445,22 @@ fn stray_request(rt: &impl Abort, alloc: Global) -> Result<Vec<u8>, Fail> {
     Ok(signed(rt, alloc, &scheme, 0, &message)?)
 }
 
-/// Gives peer 5 the REQUEST of its partner, and counts the RESPONSEs, where nothing else is sent.
+/// Gives peer 5 a REQUEST, and counts the RESPONSEs, where nothing else is sent.
+fn check_responses(
+    rt: &impl Abort,
+    alloc: Global,
+    peer: &mut Peer<LmsScheme>,
+    party: u8,
+    request: &[u8],
+    count: usize,
+) -> Result<(), AllocError> {
+    let sends = answers(rt, alloc, peer, request)?;
+    check_count(rt, &sends, b"", count);
+    check_count(rt, &sends, &front(Kind::Response, 5, party, 1), count);
+    Ok(())
+}
+
+/// Gives peer 5 the REQUEST of a party.
 fn check_request(
     rt: &impl Abort,
     alloc: Global,
@@ -454,11 +470,7 @@ fn check_request(
     count: usize,
 ) -> Result<(), Fail> {
     let request = request_of(rt, alloc, party, secret, 5)?;
-    let sends = answers(rt, alloc, peer, &request)?;
-    check_count(rt, &sends, b"", count);
-    let response = front(Kind::Response, 5, party, 1);
-    check_count(rt, &sends, &response, count);
-    Ok(())
+    Ok(check_responses(rt, alloc, peer, party, &request, count)?)
 }
 
 /// Gives a peer a datagram of a party that shows a fault, of which it keeps evidence and reports it, once.
@@ -487,35 +499,24 @@ fn check_stray(rt: &impl Abort, alloc: Global, peer: &mut Peer<LmsScheme>) -> Re
     Ok(tell(rt, alloc, peer, &evidence.report)?)
 }
 
-#[test]
-fn a_request_to_another_than_the_partner_is_reported(rt: HostRuntime) -> Result<(), Fail> {
-    let alloc = rt.alloc();
-    let mut peer = peer_of(alloc, session_of_five(), 5, 11)?;
-    ticks(&rt, alloc, &mut peer, 1)?;
-    check_stray(&rt, alloc, &mut peer)
-}
-
 fn check_requests(rt: &impl Abort, alloc: Global, peer: &mut Peer<LmsScheme>) -> Result<(), Fail> {
-    ticks(rt, alloc, peer, 1)?;
     for (party, secret, count) in [(1, 8, 1), (2, 9, 1), (3, 14, 0)] {
         check_request(rt, alloc, peer, party, secret, count)?;
     }
     Ok(())
 }
 
-#[test]
-fn two_requests_of_a_round_are_answered(rt: HostRuntime) -> Result<(), Fail> {
-    let alloc = rt.alloc();
-    let mut peer = peer_of(alloc, session_of_five(), 5, 11)?;
-    check_requests(&rt, alloc, &mut peer)
-}
-
-/// A KEY of peer 1 for the balanced exchange of round 6 that peer 2 began, which opens its briefcase to other blocks.
-fn bad_key(rt: &impl Abort, alloc: Global) -> Result<Vec<u8>, Fail> {
-    let scheme = scheme_of(alloc, session(), 8)?;
+/// A KEY of peer 1 for the balanced exchange of round 6 that peer 2 began, which opens its briefcase to other blocks, without a signature.
+fn bad_key_message(alloc: Global) -> Result<Vec<u8>, AllocError> {
     let mut message = front(Kind::Key, 1, 2, 6).to_vec(alloc)?;
     message.extend_from_slice(&[0, 1])?;
     message.extend_from_slice(&[0; 32])?;
+    Ok(message)
+}
+
+fn bad_key(rt: &impl Abort, alloc: Global) -> Result<Vec<u8>, Fail> {
+    let message = bad_key_message(alloc)?;
+    let scheme = scheme_of(alloc, session(), 8)?;
     Ok(signed(rt, alloc, &scheme, 0, &message)?)
 }
 
@@ -542,13 +543,6 @@ fn check_bad_key(rt: &impl Abort, alloc: Global, pair: &mut Pair) -> Result<(), 
     Ok(check_shown(rt, alloc, &mut pair.two, &key, &evidence)?)
 }
 
-#[test]
-fn a_key_that_opens_badly_is_reported_with_its_briefcase(rt: HostRuntime) -> Result<(), Fail> {
-    let alloc = rt.alloc();
-    let mut pair = pair_of(alloc, session())?;
-    check_bad_key(&rt, alloc, &mut pair)
-}
-
 /// The EVICT of round 1 that names a party.
 fn eviction_of(
     rt: &impl Abort,
@@ -565,23 +559,36 @@ fn eviction_of(
     signed(rt, alloc, caster, 1, &message)
 }
 
-/// A peer asks its partner at each tick, until the partner is announced evicted.
-fn check_eviction(rt: &impl Abort, alloc: Global, pair: &mut Pair) -> Result<(), AllocError> {
+/// A peer asks its partner at each of eight ticks.
+fn check_asking(
+    rt: &impl Abort,
+    alloc: Global,
+    peer: &mut Peer<LmsScheme>,
+) -> Result<(), AllocError> {
+    let front = front(Kind::Request, 1, 2, 1);
     for _ in 0..8 {
-        check_sent_alone(rt, alloc, &mut pair.one, &front(Kind::Request, 1, 2, 1))?;
+        check_sent_alone(rt, alloc, peer, &front)?;
     }
-    let eviction = eviction_of(rt, alloc, &pair.caster, 2)?;
-    tell(rt, alloc, &mut pair.one, &eviction)?;
-    let sends = ticks(rt, alloc, &mut pair.one, 8)?.sends;
+    Ok(())
+}
+
+/// In eight ticks nothing is sent.
+fn check_silence(
+    rt: &impl Abort,
+    alloc: Global,
+    peer: &mut Peer<LmsScheme>,
+) -> Result<(), AllocError> {
+    let sends = ticks(rt, alloc, peer, 8)?.sends;
     check_count(rt, &sends, b"", 0);
     Ok(())
 }
 
-#[test]
-fn nothing_is_sent_to_an_evicted_party(rt: HostRuntime) -> Result<(), Fail> {
-    let alloc = rt.alloc();
-    let mut pair = pair_of(alloc, session())?;
-    Ok(check_eviction(&rt, alloc, &mut pair)?)
+/// A peer asks its partner at each tick, until the partner is announced evicted.
+fn check_eviction(rt: &impl Abort, alloc: Global, pair: &mut Pair) -> Result<(), AllocError> {
+    check_asking(rt, alloc, &mut pair.one)?;
+    let eviction = eviction_of(rt, alloc, &pair.caster, 2)?;
+    tell(rt, alloc, &mut pair.one, &eviction)?;
+    check_silence(rt, alloc, &mut pair.one)
 }
 
 /// The session of ten rounds, with larger numbers.
@@ -634,14 +641,6 @@ fn check_cap(rt: &impl Abort, alloc: Global, pair: &mut Pair) -> Result<(), Allo
     Ok(())
 }
 
-#[test]
-fn no_more_updates_are_traded_than_the_cap(rt: HostRuntime) -> Result<(), Fail> {
-    let alloc = rt.alloc();
-    let text = large_session(alloc)?;
-    let mut pair = pair_of(alloc, &text)?;
-    Ok(check_cap(&rt, alloc, &mut pair)?)
-}
-
 /// Gives both peers a datagram cut at each length below its own.
 fn tell_fronts_to_both(
     rt: &impl Abort,
@@ -653,23 +652,45 @@ fn tell_fronts_to_both(
     tell_fronts(rt, alloc, &mut pair.two, datagram)
 }
 
-/// Of a manifest, a block, a notice that names peer 2, and evidence, all cut.
-fn tell_cut_of_caster(rt: &impl Abort, alloc: Global, pair: &mut Pair) -> Result<(), AllocError> {
-    let manifest = manifest(rt, alloc, &pair.caster, 6, &[block_with(2, *b"hi")])?;
-    tell_fronts_to_both(rt, alloc, pair, &manifest)?;
-    let block = block_message(alloc, 2, (5, 0), &block_with(2, *b"5a"))?;
-    tell_fronts_to_both(rt, alloc, pair, &block)?;
-    let eviction = eviction_of(rt, alloc, &pair.caster, 2)?;
-    tell_fronts_to_both(rt, alloc, pair, &eviction)?;
-    let evidence = evidence_of(alloc, 2, 1, &[&manifest, &eviction])?;
-    tell_fronts_to_both(rt, alloc, pair, &evidence.report)
+/// The datagrams that a trade and a push don't have: a manifest, a block, a notice that names peer 2, and evidence.
+#[derive(Clone, Copy)]
+enum Other {
+    Manifest,
+    Block,
+    Evict,
+    Evidence,
+}
+
+fn datagram_of(
+    rt: &impl Abort,
+    alloc: Global,
+    caster: &LmsScheme,
+    other: Other,
+) -> Result<Vec<u8>, AllocError> {
+    match other {
+        Other::Manifest => manifest(rt, alloc, caster, 6, &[block_with(2, *b"hi")]),
+        Other::Block => block_message(alloc, 2, (5, 0), &block_with(2, *b"5a")),
+        Other::Evict => eviction_of(rt, alloc, caster, 2),
+        Other::Evidence => Ok(
+            evidence_of(alloc, 2, 1, &[b"one".as_slice(), b"two".as_slice()])?.report,
+        ),
+    }
+}
+
+/// Gives both peers each of these, cut.
+fn tell_others_cut(rt: &impl Abort, alloc: Global, pair: &mut Pair) -> Result<(), AllocError> {
+    for other in [Other::Manifest, Other::Block, Other::Evict, Other::Evidence] {
+        let datagram = datagram_of(rt, alloc, &pair.caster, other)?;
+        tell_fronts_to_both(rt, alloc, pair, &datagram)?;
+    }
+    Ok(())
 }
 
 /// What is cut changes nothing: the trade goes on as without it, and each peer holds what it held.
 fn check_cut_trade(rt: &impl Abort, alloc: Global, pair: &mut Pair) -> Result<(), AllocError> {
     pass(rt, alloc, pair, 40)?;
     tell_held(rt, alloc, pair, [3, 4, 5])?;
-    tell_cut_of_caster(rt, alloc, pair)?;
+    tell_others_cut(rt, alloc, pair)?;
     pair.cuts = true;
     check_trade(rt, alloc, pair)?;
     assert_eq!(rt; pair.one.manifest(6), None);
@@ -682,15 +703,6 @@ fn check_cut_push(rt: &impl Abort, alloc: Global, pair: &mut Pair) -> Result<(),
     pass(rt, alloc, pair, 40)?;
     pair.cuts = true;
     check_first_push(rt, alloc, pair)
-}
-
-#[test]
-fn datagrams_that_are_cut_change_nothing(rt: HostRuntime) -> Result<(), Fail> {
-    let alloc = rt.alloc();
-    let mut pair = pair_of(alloc, session())?;
-    check_cut_trade(&rt, alloc, &mut pair)?;
-    let mut pair = pair_of(alloc, session())?;
-    Ok(check_cut_push(&rt, alloc, &mut pair)?)
 }
 
 /// The totals of the trade of round 5 stand to the last tick of round 9, a life later, and are zeros after the next one.
@@ -711,9 +723,127 @@ fn check_totals_last(rt: &impl Abort, alloc: Global, pair: &mut Pair) -> Result<
     Ok(())
 }
 
+/// What is checked of a pair of peers.
+#[derive(Clone, Copy)]
+enum PairCheck {
+    FirstStream,
+    Trades,
+    Pushes,
+    BadKey,
+    Eviction,
+    Cap,
+    CutTrade,
+    CutPush,
+    TotalsLast,
+}
+
+fn check_pair(
+    rt: &impl Abort,
+    alloc: Global,
+    pair: &mut Pair,
+    check: PairCheck,
+) -> Result<(), Fail> {
+    match check {
+        PairCheck::FirstStream => check_first_stream(rt, alloc, pair)?,
+        PairCheck::Trades => check_trades(rt, alloc, pair)?,
+        PairCheck::Pushes => check_pushes(rt, alloc, pair)?,
+        PairCheck::BadKey => check_bad_key(rt, alloc, pair)?,
+        PairCheck::Eviction => check_eviction(rt, alloc, pair)?,
+        PairCheck::Cap => check_cap(rt, alloc, pair)?,
+        PairCheck::CutTrade => check_cut_trade(rt, alloc, pair)?,
+        PairCheck::CutPush => check_cut_push(rt, alloc, pair)?,
+        PairCheck::TotalsLast => check_totals_last(rt, alloc, pair)?,
+    }
+    Ok(())
+}
+
+/// Makes a pair of peers and checks this of it. It alone owns a pair, since the proof of a function is long where it lets one go.
+fn check_new_pair(
+    rt: &impl Abort,
+    alloc: Global,
+    session: &str,
+    check: PairCheck,
+) -> Result<(), Fail> {
+    let mut pair = pair_of(alloc, session)?;
+    check_pair(rt, alloc, &mut pair, check)
+}
+
+#[test]
+fn a_block_is_held_once_its_manifest_is_there(rt: HostRuntime) -> Result<(), Fail> {
+    check_new_pair(&rt, rt.alloc(), small_session(), PairCheck::FirstStream)
+}
+
+#[test]
+fn one_update_is_traded_for_one(rt: HostRuntime) -> Result<(), Fail> {
+    check_new_pair(&rt, rt.alloc(), session(), PairCheck::Trades)
+}
+
+#[test]
+fn young_updates_are_pushed_for_old_ones_and_junk(rt: HostRuntime) -> Result<(), Fail> {
+    check_new_pair(&rt, rt.alloc(), session(), PairCheck::Pushes)
+}
+
+#[test]
+fn a_key_that_opens_badly_is_reported_with_its_briefcase(rt: HostRuntime) -> Result<(), Fail> {
+    check_new_pair(&rt, rt.alloc(), session(), PairCheck::BadKey)
+}
+
+#[test]
+fn nothing_is_sent_to_an_evicted_party(rt: HostRuntime) -> Result<(), Fail> {
+    check_new_pair(&rt, rt.alloc(), session(), PairCheck::Eviction)
+}
+
+#[test]
+fn no_more_updates_are_traded_than_the_cap(rt: HostRuntime) -> Result<(), Fail> {
+    let text = large_session(rt.alloc())?;
+    check_new_pair(&rt, rt.alloc(), &text, PairCheck::Cap)
+}
+
+#[test]
+fn datagrams_that_are_cut_change_nothing(rt: HostRuntime) -> Result<(), Fail> {
+    for check in [PairCheck::CutTrade, PairCheck::CutPush] {
+        check_new_pair(&rt, rt.alloc(), session(), check)?;
+    }
+    Ok(())
+}
+
 #[test]
 fn totals_stand_a_life_long(rt: HostRuntime) -> Result<(), Fail> {
-    let alloc = rt.alloc();
-    let mut pair = pair_of(alloc, session())?;
-    Ok(check_totals_last(&rt, alloc, &mut pair)?)
+    check_new_pair(&rt, rt.alloc(), session(), PairCheck::TotalsLast)
+}
+
+/// What is checked of peer 5 of five, at its first tick.
+#[derive(Clone, Copy)]
+enum FifthCheck {
+    Stray,
+    Requests,
+}
+
+fn check_fifth(
+    rt: &impl Abort,
+    alloc: Global,
+    peer: &mut Peer<LmsScheme>,
+    check: FifthCheck,
+) -> Result<(), Fail> {
+    ticks(rt, alloc, peer, 1)?;
+    match check {
+        FifthCheck::Stray => check_stray(rt, alloc, peer),
+        FifthCheck::Requests => check_requests(rt, alloc, peer),
+    }
+}
+
+/// Makes that peer and checks this of it.
+fn check_new_fifth(rt: &impl Abort, alloc: Global, check: FifthCheck) -> Result<(), Fail> {
+    let mut peer = peer_of(alloc, session_of_five(), 5, 11)?;
+    check_fifth(rt, alloc, &mut peer, check)
+}
+
+#[test]
+fn a_request_to_another_than_the_partner_is_reported(rt: HostRuntime) -> Result<(), Fail> {
+    check_new_fifth(&rt, rt.alloc(), FifthCheck::Stray)
+}
+
+#[test]
+fn two_requests_of_a_round_are_answered(rt: HostRuntime) -> Result<(), Fail> {
+    check_new_fifth(&rt, rt.alloc(), FifthCheck::Requests)
 }
