@@ -1,11 +1,11 @@
 -- What the turns of a replay leave.
-use Rattle.std.proofs.Common.{◌≡◌, ◌≢◌, ℕ, List, [], ◌∷◌, ◌++◌, Some, refl, sym, ap, ◌∙◌, map, append-nil, append_assoc, IsSome, subst}
+use Rattle.std.proofs.Common.{◌≡◌, ◌≢◌, ℕ, List, [], ◌∷◌, ◌++◌, Some, refl, sym, ap, ◌∙◌, map, append-nil, append_assoc, IsTrue, subst}
 use Rattle.std.specs.List.{AllByRecursion, concat}
-use Rattle.bar_outside.specs.Disk.{Content, created}
-use Rattle.bar_outside.specs.Plan.{Action, CanRun, content_after, shown}
+use Rattle.bar_outside.specs.Disk.{Content, CreatedFiles, created, with_file}
+use Rattle.bar_outside.specs.Plan.{Action, CanRun, content_after, created_after, shown}
 use Rattle.bar_outside.specs.Plan.Action.{append, show}
-use Rattle.bar_outside.proofs.Contents.{put_at-same, put_at-other, put_at-there}
-use Rattle.bar_outside.proofs.ActionLists.{CanRun-append, content_after-append, shown-append}
+use Rattle.bar_outside.proofs.Contents.{put_at-same, put_at-other}
+use Rattle.bar_outside.proofs.ActionLists.{CanRun-append, content_after-append, shown-append, with_file-same}
 use Rattle.bar_outside.proofs.Appends.{appends-other, appends-same, can-appends, shown-appends}
 use Rattle.bar_outside.proofs.Unlinked.{IsUnlinked, unlinked-append, unlinked-appends, unlinked-shows}
 use Rattle.bar_cli.specs.Turns.{Turn, turn_actions, turns_actions, played_bytes, shown_bytes}
@@ -14,25 +14,25 @@ use Rattle.bar_findings.proofs.Holding.{AreWritten, all-written, can-write, show
 use Rattle.bar_findings.proofs.Names.{AreDistinct}
 use Rattle.bar_cli.specs.ReplayPlan.{ReplayFiles, playing_actions, replay_actions}
 
-can-shows : (lines : List (List ℕ)) (rest : List Action) (content : Content) → CanRun rest content → CanRun (map show lines ++ rest) content
-can-shows [] rest content h = h
-can-shows (x ∷ xs) rest content h = can-shows xs rest content h
+can-shows : (lines : List (List ℕ)) (rest : List Action) (here : CreatedFiles) → CanRun rest here → CanRun (map show lines ++ rest) here
+can-shows [] rest here h = h
+can-shows (x ∷ xs) rest here h = can-shows xs rest here h
 
-can-turns : (played : List ℕ) (turns : List Turn) (content : Content) → IsSome (content played) →
-    CanRun (turns_actions played turns) content
-can-turns played [] content there = tt
-can-turns played (t ∷ ts) content there =
-    subst (λ plan. CanRun plan content) (sym (append_assoc (map (append played) t.contents) (map show t.lines) (turns_actions played ts)))
-    (can-appends played t.contents (map show t.lines ++ turns_actions played ts) content there
-    (λ c held. can-shows t.lines (turns_actions played ts) c (can-turns played ts c held)))
+can-turns : (played : List ℕ) (turns : List Turn) (here : CreatedFiles) → IsTrue (here played) →
+    CanRun (turns_actions played turns) here
+can-turns played [] here made = tt
+can-turns played (t ∷ ts) here made =
+    subst (λ plan. CanRun plan here) (sym (append_assoc (map (append played) t.contents) (map show t.lines) (turns_actions played ts)))
+    (can-appends played t.contents (map show t.lines ++ turns_actions played ts) here made
+    (can-shows t.lines (turns_actions played ts) here (can-turns played ts here made)))
 
 -- a replay appends to files that it created
-pub can-replay : (names : ReplayFiles) (turns : List Turn) (findings : List Finding) (content : Content) →
-    CanRun (replay_actions names turns findings) content
-can-replay names turns findings content =
-    CanRun-append (playing_actions names.played turns) (findings_actions findings) content
-    (can-turns names.played turns (created content names.played) (put_at-there content names.played []))
-    (can-write findings (content_after (playing_actions names.played turns) content))
+pub can-replay : (names : ReplayFiles) (turns : List Turn) (findings : List Finding) (here : CreatedFiles) →
+    CanRun (replay_actions names turns findings) here
+can-replay names turns findings here =
+    CanRun-append (playing_actions names.played turns) (findings_actions findings) here
+    (can-turns names.played turns (with_file here names.played) (with_file-same here names.played))
+    (can-write findings (created_after (playing_actions names.played turns) here))
 
 -- and does nothing over the link
 

@@ -28,7 +28,7 @@ use Rattle.bar_cli.specs.KeygenPlan.{Keygen}
 -- an outside over which nothing failed
 abbrev pub quiet : Outside
 quiet = record {
-  files = record { told = false; reliable = false; content = λ path. None; failed = None; faults = 0 };
+  files = record { told = false; reliable = false; content = λ path. None; created_here = λ path. false; failed = None; faults = 0 };
   out = record { told = false; reliable = false; bytes = []; faults = 0 };
   wire = record { told = false; reliable = false; traffic = no_traffic; faults = 0 };
 }

@@ -1,17 +1,13 @@
--- Runs that can be done: what they add to is there.
-use Rattle.std.proofs.Common.{◌≡◌, ◌≢◌, ◌⊎◌, ℕ, ◌+◌, List, [], ◌∷◌, ◌++◌, length, Bool, true, false, if◌then◌else◌, Option, None, Some}
-use Rattle.std.proofs.Common.{IsSome, refl, sym, subst, ◌∙◌, inl, inr}
+-- Runs that can be done: what they add to is created before.
+use Rattle.std.proofs.Common.{◌≡◌, ◌⊎◌, ℕ, ◌+◌, List, [], ◌∷◌, ◌++◌, length, Bool, true, false, if◌then◌else◌, Option, None, Some}
+use Rattle.std.proofs.Common.{IsTrue, refl, subst, inl, inr}
 use Rattle.std.specs.List.{flat_map, range_with_len}
-use Rattle.std.specs.Str.{bytes_eq}
-use Rattle.std.proofs.lemmas.Bool.{false≢true}
-use Rattle.std.proofs.lemmas.Slice.Eq.{bytes_eq-Decides}
-use Rattle.bar_outside.specs.Disk.{Content, appended, created}
-use Rattle.bar_outside.specs.Plan.{Action, CanRun, content_after, content_by}
+use Rattle.bar_outside.specs.Disk.{CreatedFiles, with_file}
+use Rattle.bar_outside.specs.Plan.{Action, CanRun, created_after}
 use Rattle.bar_outside.specs.Plan.Action.{append, create, link, read, show}
 use Rattle.bar_outside.specs.Plan.LinkCall.{bind, receive}
 use Rattle.bar_outside.specs.Wire.{Arrival, Bound}
-use Rattle.bar_outside.proofs.ActionLists.{CanRun-append}
-use Rattle.bar_outside.proofs.Contents.{appended-other, appended-stays, put_at-other, put_at-there}
+use Rattle.bar_outside.proofs.ActionLists.{CanRun-append, created-stays, with_file-others, with_file-same}
 use Rattle.bar_seeds.specs.declared.secrets.Secrets.{Secrets}
 use Rattle.bar_roster.specs.SessionText.{SessionData}
 use Rattle.bar_wire.specs.Inputs.{Input}
@@ -27,39 +23,6 @@ use Rattle.bar_live.specs.PeerPlan as peer
 use Rattle.bar_live.specs.Running.{place_of, spending}
 use Rattle.bar_live.specs.Summaries.{at_end, caster_summary, evicted_word, evidence_word, peer_summary, shown_if, shown_parties}
 
--- ---- a file that is there stays there
-
-differs : (path q : List ℕ) → bytes_eq path q ≡ false → q ≢ path
-differs path q other e = false≢true (sym other ∙ (bytes_eq-Decides path q).1 (sym e))
-
-created-stays : (content : Content) (path q : List ℕ) → IsSome (content q) → IsSome (created content path q)
-created-stays content path q there = by_name (bytes_eq path q) refl
-  where
-    by_name : (b : Bool) → bytes_eq path q ≡ b → IsSome (created content path q)
-    by_name true same = subst (λ name. IsSome (created content path name)) ((bytes_eq-Decides path q).0 same) (put_at-there content path [])
-    by_name false other = subst IsSome (sym (put_at-other content path [] q (differs path q other))) there
-
-added-stays : (content : Content) (path bytes q : List ℕ) → IsSome (content q) → IsSome (appended content path bytes q)
-added-stays content path bytes q there = by_name (bytes_eq path q) refl
-  where
-    by_name : (b : Bool) → bytes_eq path q ≡ b → IsSome (appended content path bytes q)
-    by_name true same =
-        let e = (bytes_eq-Decides path q).0 same in
-        subst (λ name. IsSome (appended content path bytes name)) e
-        (appended-stays content path bytes (subst (λ name. IsSome (content name)) (sym e) there))
-    by_name false other = subst IsSome (sym (appended-other content path bytes q (differs path q other))) there
-
-stays : (a : Action) (content : Content) (q : List ℕ) → IsSome (content q) → IsSome (content_by a content q)
-stays (read path) content q there = there
-stays (create path) content q there = created-stays content path q there
-stays (append path bytes) content q there = added-stays content path bytes q there
-stays (show bytes) content q there = there
-stays (link call) content q there = there
-
-all-stay : (acts : List Action) (content : Content) (q : List ℕ) → IsSome (content q) → IsSome (content_after acts content q)
-all-stay [] content q there = there
-all-stay (a ∷ acts) content q there = all-stay acts (content_by a content) q (stays a content q there)
-
 -- ---- actions that add to some files alone
 
 abbrev AddTo : (List ℕ → Type 0) → List Action → Type 0
@@ -70,19 +33,16 @@ AddTo P (append path bytes ∷ others) = P path × AddTo P others
 AddTo P (show bytes ∷ others) = AddTo P others
 AddTo P (link call ∷ others) = AddTo P others
 
--- they can be done where these files are there
-can-add : (P : List ℕ → Type 0) (acts : List Action) (content : Content) → ((path : List ℕ) → P path → IsSome (content path)) →
-    AddTo P acts → CanRun acts content
-can-add P [] content there add = tt
-can-add P (read path ∷ others) content there add = can-add P others content there add
-can-add P (create path ∷ others) content there add =
-    can-add P others (created content path) (λ q h. created-stays content path q (there q h)) add
-can-add P (append path bytes ∷ others) content there add = (
-  there path add.0,
-  can-add P others (appended content path bytes) (λ q h. added-stays content path bytes q (there q h)) add.1,
-)
-can-add P (show bytes ∷ others) content there add = can-add P others content there add
-can-add P (link call ∷ others) content there add = can-add P others content there add
+-- they can be done where these files are created
+can-add : (P : List ℕ → Type 0) (acts : List Action) (here : CreatedFiles) → ((path : List ℕ) → P path → IsTrue (here path)) →
+    AddTo P acts → CanRun acts here
+can-add P [] here made add = tt
+can-add P (read path ∷ others) here made add = can-add P others here made add
+can-add P (create path ∷ others) here made add =
+    can-add P others (with_file here path) (λ q h. with_file-others here path q (made q h)) add
+can-add P (append path bytes ∷ others) here made add = (made path add.0, can-add P others here made add.1)
+can-add P (show bytes ∷ others) here made add = can-add P others here made add
+can-add P (link call ∷ others) here made add = can-add P others here made add
 
 add-append : (P : List ℕ → Type 0) (xs ys : List Action) → AddTo P xs → AddTo P ys → AddTo P (xs ++ ys)
 add-append P [] ys h k = k
@@ -132,38 +92,38 @@ module _ (recording played : Option (List ℕ)) (r : Rules) where
       (node_from (node_layout recording played) r (before ++ due) (run_if run (input_of a)) given) (add-turns before due)
       (add-run (before ++ due) (run_if run (input_of a)) given)
 
-  can-end : (b : Bool) (found : List ℕ) (taken : List Input) (content : Content) → ((path : List ℕ) → IsKept path → IsSome (content path)) →
-      CanRun (if b then closing recording found r taken else link (receive None) ∷ []) content
-  can-end false found taken content there = tt
-  can-end true found taken content there =
-      CanRun-append (kept recording (0 ∷ [])) (findings_actions (found_after found r taken)) content
-      (can-add IsKept (kept recording (0 ∷ [])) content there (add-kept recording (0 ∷ []) (λ path e. inl e)))
-      (can-write (found_after found r taken) (content_after (kept recording (0 ∷ [])) content))
+  can-end : (b : Bool) (found : List ℕ) (taken : List Input) (here : CreatedFiles) → ((path : List ℕ) → IsKept path → IsTrue (here path)) →
+      CanRun (if b then closing recording found r taken else link (receive None) ∷ []) here
+  can-end false found taken here made = tt
+  can-end true found taken here made =
+      CanRun-append (kept recording (0 ∷ [])) (findings_actions (found_after found r taken)) here
+      (can-add IsKept (kept recording (0 ∷ [])) here made (add-kept recording (0 ∷ []) (λ path e. inl e)))
+      (can-write (found_after found r taken) (created_after (kept recording (0 ∷ [])) here))
 
-  can-node : (found : List ℕ) (given : List Arrival) (content : Content) → ((path : List ℕ) → IsKept path → IsSome (content path)) →
-      CanRun (node_plan recording played found r given) content
-  can-node found given content there =
+  can-node : (found : List ℕ) (given : List Arrival) (here : CreatedFiles) → ((path : List ℕ) → IsKept path → IsTrue (here path)) →
+      CanRun (node_plan recording played found r given) here
+  can-node found given here made =
       let front = node_from (node_layout recording played) r [] 0 given in
-      CanRun-append front (if is_ended r given then closing recording found r (taken_of r given) else link (receive None) ∷ []) content
-      (can-add IsKept front content there (add-run [] 0 given))
-      (can-end (is_ended r given) found (taken_of r given) (content_after front content)
-      (λ path h. all-stay front content path (there path h)))
+      CanRun-append front (if is_ended r given then closing recording found r (taken_of r given) else link (receive None) ∷ []) here
+      (can-add IsKept front here made (add-run [] 0 given))
+      (can-end (is_ended r given) found (taken_of r given) (created_after front here)
+      (λ path h. created-stays front here path (made path h)))
 
   -- ---- and what comes before and behind it
 
-  can-show : (b : Bool) (lines : List Action) (content : Content) → ((P : List ℕ → Type 0) → AddTo P lines) →
-      CanRun (if b then lines else []) content
-  can-show false lines content h = tt
-  can-show true lines content h = can-add (λ path. ⊥) lines content (λ path none. absurd none) (h (λ path. ⊥))
+  can-show : (b : Bool) (lines : List Action) (here : CreatedFiles) → ((P : List ℕ → Type 0) → AddTo P lines) →
+      CanRun (if b then lines else []) here
+  can-show false lines here h = tt
+  can-show true lines here h = can-add (λ path. ⊥) lines here (λ path none. absurd none) (h (λ path. ⊥))
 
   can-run : (front : List Action) (bound : Bound) (found : List ℕ) (summary : Rules → List Input → List Action) (given : List Arrival)
-      (content : Content) → ((taken : List Input) (P : List ℕ → Type 0) → AddTo P (summary r taken)) → CanRun front content →
-      ((path : List ℕ) → IsKept path → IsSome (content_after front content path)) →
-      CanRun (front ++ (link (bind bound) ∷ (node_plan recording played found r given ++ at_end summary r given))) content
-  can-run front bound found summary given content shows can there =
-      CanRun-append front (link (bind bound) ∷ (node_plan recording played found r given ++ at_end summary r given)) content can
-      (CanRun-append (node_plan recording played found r given) (at_end summary r given) (content_after front content)
-      (can-node found given (content_after front content) there)
+      (here : CreatedFiles) → ((taken : List Input) (P : List ℕ → Type 0) → AddTo P (summary r taken)) → CanRun front here →
+      ((path : List ℕ) → IsKept path → IsTrue (created_after front here path)) →
+      CanRun (front ++ (link (bind bound) ∷ (node_plan recording played found r given ++ at_end summary r given))) here
+  can-run front bound found summary given here shows can made =
+      CanRun-append front (link (bind bound) ∷ (node_plan recording played found r given ++ at_end summary r given)) here can
+      (CanRun-append (node_plan recording played found r given) (at_end summary r given) (created_after front here)
+      (can-node found given (created_after front here) made)
       (can-show (is_ended r given) (summary r (taken_of r given)) _ (shows (taken_of r given))))
 
 -- ---- a peer's and a broadcaster's
@@ -177,34 +137,34 @@ add-parties P word evidence peers =
     by_evidence party None = tt
     by_evidence party (Some bytes) = tt
 
-pub can-peer : (names : peer.PeerNames) (s : SessionData) (k : Secrets) (given : List Arrival) (content : Content) →
-    CanRun (peer.peer_actions names s k given) content
-can-peer names s k given content =
+pub can-peer : (names : peer.PeerNames) (s : SessionData) (k : Secrets) (given : List Arrival) (here : CreatedFiles) →
+    CanRun (peer.peer_actions names s k given) here
+can-peer names s k given here =
     can-run (Some names.recording) (Some names.played) (peer.rules_by s k) (peer.before_binding names s k)
-    (place_of names.begin_ms s k) names.found peer_summary given content
+    (place_of names.begin_ms s k) names.found peer_summary given here
     (λ taken P. add-parties P evidence_word ((peer.rules_by s k).evidence taken) (peer.rules_by s k).peers)
-    (put_at-there content names.key [], (put_at-there _ names.recording [], tt)) by_path
+    (with_file-same here names.key, (with_file-same (with_file (with_file here names.key) names.played) names.recording, tt)) by_path
   where
     by_path : (path : List ℕ) → (Some names.recording ≡ Some path) ⊎ (Some names.played ≡ Some path) →
-        IsSome (content_after (peer.before_binding names s k) content path)
+        IsTrue (created_after (peer.before_binding names s k) here path)
     by_path path (inl e) =
         let same : names.recording ≡ path = cc in
-        subst (λ q. IsSome (content_after (peer.before_binding names s k) content q)) same
-        (all-stay (append names.recording (head_bytes s.shape.id k.party) ∷ []) _ names.recording (put_at-there _ names.recording []))
+        subst (λ q. IsTrue (created_after (peer.before_binding names s k) here q)) same
+        (with_file-same (with_file (with_file here names.key) names.played) names.recording)
     by_path path (inr e) =
         let same : names.played ≡ path = cc in
-        subst (λ q. IsSome (content_after (peer.before_binding names s k) content q)) same
-        (all-stay (create names.recording ∷ append names.recording (head_bytes s.shape.id k.party) ∷ []) _ names.played
-        (put_at-there _ names.played []))
+        subst (λ q. IsTrue (created_after (peer.before_binding names s k) here q)) same
+        (with_file-others (with_file (with_file here names.key) names.played) names.recording names.played
+        (with_file-same (with_file here names.key) names.played))
 
-pub can-caster : (names : caster.CasterNames) (s : SessionData) (k : Secrets) (stream : List ℕ) (given : List Arrival) (content : Content) →
-    CanRun (caster.caster_actions names s k stream given) content
-can-caster names s k stream given content =
+pub can-caster : (names : caster.CasterNames) (s : SessionData) (k : Secrets) (stream : List ℕ) (given : List Arrival) (here : CreatedFiles) →
+    CanRun (caster.caster_actions names s k stream given) here
+can-caster names s k stream given here =
     can-run None None (caster.rules_by s k stream) (spending names.key s k) (place_of names.begin_ms s k) names.found
-    caster_summary given content
+    caster_summary given here
     (λ taken P. add-parties P evicted_word ((caster.rules_by s k stream).evidence taken) (caster.rules_by s k stream).peers)
-    (put_at-there content names.key [], tt) by_path
+    (with_file-same here names.key, tt) by_path
   where
-    by_path : (path : List ℕ) → (None ≡ Some path) ⊎ (None ≡ Some path) → IsSome (content_after (spending names.key s k) content path)
+    by_path : (path : List ℕ) → (None ≡ Some path) ⊎ (None ≡ Some path) → IsTrue (created_after (spending names.key s k) here path)
     by_path path (inl e) = absurd cc
     by_path path (inr e) = absurd cc

@@ -2,7 +2,7 @@
 use Rattle.std.proofs.Common.{◌≡◌, ◌⊎◌, ℕ, List, [], Vec, Result, Ok, Err, IsTrue, false, if◌then◌else◌, refl, sym, ap, subst, inl, inr}
 use Rattle.std.proofs.Common.{arith}
 use Rattle.std.specs.declared.alloc.Global.{Global}
-use Rattle.bar_outside.specs.Disk.{Content, Disk, Reads}
+use Rattle.bar_outside.specs.Disk.{Content, CreatedFiles, Disk, Reads}
 use Rattle.bar_outside.specs.Stream.{Stream}
 use Rattle.bar_outside.specs.declared.files.FileFault.{FileFault}
 use Rattle.bar_outside.specs.declared.files.FileFault.TheVariants as file
@@ -111,11 +111,13 @@ at-fault actions first final line old new fault other h = record {
     link_rose = h.ends.link_rose;
     output_rose = h.ends.output_rose;
     carried = λ told go. absurd (no-end fault go);
-    at_once = λ none go. absurd (no-end fault go);
     part = h.ends.part;
+    fixed = λ is go. absurd (no-end fault go);
+    fixed_part = λ is. h.ends.fixed_part (record { same = λ other. refl; unread = is.unread });
     complete = λ reliable. elim (h.ends.complete reliable) [ inl e ↦ absurd (other e) | inr e ↦ inr e ];
   };
   line_is = λ either. same-line fault;
+  fixed_line = λ is. same-line fault;
 }
   where
     no-end : (stop : Fault) → is_stop (code_of_fault stop) ≡ false → ⊥
@@ -144,14 +146,14 @@ no-link-fault NoMemory e six = absurd (omega arith)
 
 -- so a command ends that follows them
 pub following : {T : Type 0} (actions : List Arrival → List Action) (r : Rules) (old new : Outside) (result : Result T Fault) →
-    ((given : List Arrival) (content : Content) → CanRun (actions given) content) → RunFollows actions r old new result →
+    ((given : List Arrival) (here : CreatedFiles) → CanRun (actions given) here) → RunFollows actions r old new result →
     RunEndsWith (λ given. doing (actions given) (status_of r given) []) old new (code_after 0 result) (line_after [] result)
 following actions r old new (Ok x) can h = record {
   given = h.given;
   heard = h.heard;
   ends =
       subst (λ b. EndsWith (doing (actions h.given) (if b then 0 else 6) []) old new 0 []) (sym h.ended)
-      (EndsWith-doing (actions h.given) 0 [] old new (λ told. can h.given old.files.content) refl (Ok x) h.follows);
+      (EndsWith-doing (actions h.given) 0 [] old new (λ told. can h.given old.files.created_here) refl (Ok x) h.follows);
   answers = λ reliable e. absurd (omega arith);
 }
 following {T} actions r old new (Err fault) can h = record {
@@ -159,6 +161,6 @@ following {T} actions r old new (Err fault) can h = record {
   heard = h.heard;
   ends =
       at-fault (actions h.given) 0 (status_of r h.given) [] old new fault (no-zero fault)
-      (EndsWith-doing (actions h.given) 0 [] old new (λ told. can h.given old.files.content) refl (Err fault) h.follows);
-  answers = λ reliable. no-link-fault {T = T} fault (h.follows.complete reliable (can h.given old.files.content));
+      (EndsWith-doing (actions h.given) 0 [] old new (λ told. can h.given old.files.created_here) refl (Err fault) h.follows);
+  answers = λ reliable. no-link-fault {T = T} fault (h.follows.complete reliable (can h.given old.files.created_here));
 }

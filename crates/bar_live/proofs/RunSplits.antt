@@ -2,7 +2,7 @@
 use Rattle.std.proofs.Common.{◌≡◌, ◌⊎◌, ℕ, List, [], ◌∷◌, ◌++◌, Some, refl, sym, ap, ◌∙◌, subst, inl, inr, append-nil, IsTrue, true≢false}
 use Rattle.bar_outside.specs.Disk.{Content}
 use Rattle.bar_outside.specs.Wire.{Bound, Traffic, bound_to}
-use Rattle.bar_outside.specs.Plan.{Action, Begun, IsPartOf, LinkCall, Outside, Ran, Touches, content_after, outside, shown, traffic_after}
+use Rattle.bar_outside.specs.Plan.{Action, Begun, IsPartOf, LinkCall, Outside, Ran, Touches, content_after, created_after, outside, shown, traffic_after}
 use Rattle.bar_outside.specs.Plan.Action.{append, create, link, read, show}
 use Rattle.bar_outside.specs.Plan.LinkCall.{bind}
 use Rattle.bar_outside.proofs.ActionLists.{Begun-both, Begun-first, Begun-nothing, Begun-whole, content_after-append, shown-append, traffic_after-append}
@@ -90,6 +90,7 @@ outside-at first to old =
       told = old.files.told;
       reliable = old.files.reliable;
       content = content_after first old.files.content;
+      created_here = created_after first old.files.created_here;
       failed = old.files.failed;
       faults = old.files.faults;
     })

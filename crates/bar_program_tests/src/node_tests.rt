@@ -5,7 +5,7 @@ ghost use Rattle.bar_bytes.specs.Rooms.{kept_in};
 use bar_bytes::Rooms;
 use bar_core::Core;
 use bar_node::{Paths, replay, run_caster, run_peer};
-use bar_outside::{Fault, MemFiles, MemLink, MemSink, MemTaken};
+use bar_outside::{Fault, Files, MemFiles, MemLink, MemSink, MemTaken};
 use bar_record::{head, read};
 use bar_wire::{Input, Shape};
 use std::alloc::{AllocError, Global};
@@ -151,11 +151,12 @@ fn three_ticks(rt: &HostRuntime, fail: &[u64]) -> Result<MemLink, Fail> {
     Ok(MemLink::make(alloc, list, fail.to_vec(alloc)?))
 }
 
-/// The files of a peer's run before it.
+/// The files of a peer's run before it: those that it adds to are created.
 fn prepared(rt: &HostRuntime) -> Result<MemFiles, Fail> {
     let mut files = MemFiles::make(rt.alloc(), Vec::new(rt.alloc()));
-    files.put("p", b"")?;
-    files.put("r", &head(&ID, 1))?;
+    files.create("p").is_ok();
+    files.create("r").is_ok();
+    files.append("r", &head(&ID, 1)).is_ok();
     Ok(files)
 }
 
@@ -215,7 +216,7 @@ fn a_replay_prints_what_a_peer_sent(rt: HostRuntime) -> Result<(), Fail> {
     run_peer(alloc, &mut fresh(alloc)?, &mut link, &mut files, &PATHS).is_ok();
     let items = read(held(&files, "r"), &ID, 1, 100)?;
     let mut others = MemFiles::make(alloc, Vec::new(alloc));
-    others.put("q", b"")?;
+    others.create("q").is_ok();
     let mut out = MemSink::make(alloc, Vec::new(alloc));
     let ended = replay(
         alloc,

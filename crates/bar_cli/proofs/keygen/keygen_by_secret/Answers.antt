@@ -23,7 +23,7 @@ returns-in_err-write_key-clause-ends g c = λ w.
     (with_out w (g.K.Sink.stream c.args.out.now))
     _ c.in_ok-bytes.bytes _ _ c.in_ok-bytes.ensures (EndsWith-accepted _ _ _ _ _ _ _ _ accepted
     (EndsWith-doing (keygen_actions (keygen_view c.args.asked.now) c.in-Some.secret) 0 [] _ _
-    (λ told. can-keygen (keygen_view c.args.asked.now) c.in-Some.secret _) refl
+    (λ told. can-keygen (keygen_view c.args.asked.now) c.in-Some.secret (g.F.Files.disk c.read_file.new.files).created_here) refl
     (Err c.in_err-write_key.field-0.0)
     (as-asked (keygen_view c.args.asked.now) c.in-Some.secret _ _ _ _ _ c.in_ok-made.ensures.text c.in_ok-made.ensures.lines
     (c.in_err-write_key.ensures.follows w)))))
@@ -35,7 +35,7 @@ returns-clause-ends g c = λ w.
     (with_out w (g.K.Sink.stream c.args.out.now))
     _ c.in_ok-bytes.bytes _ _ c.in_ok-bytes.ensures (EndsWith-accepted _ _ _ _ _ _ _ _ accepted
     (EndsWith-doing (keygen_actions (keygen_view c.args.asked.now) c.in-Some.secret) 0 [] _ _
-    (λ told. can-keygen (keygen_view c.args.asked.now) c.in-Some.secret _) refl
+    (λ told. can-keygen (keygen_view c.args.asked.now) c.in-Some.secret (g.F.Files.disk c.read_file.new.files).created_here) refl
     (Ok tt)
     (as-asked (keygen_view c.args.asked.now) c.in-Some.secret _ _ _ _ _ c.in_ok-made.ensures.text c.in_ok-made.ensures.lines
     (c.in_ok-write_key.ensures.follows w))))
