@@ -1,5 +1,5 @@
 //! Replays, and a peer, over files, links and sinks in memory. The keys and the signatures are by a Python program written from RFC 8554.
-use crate::outcome::{Left, outside, run};
+use crate::outcome::{Left, outside_of, run};
 use crate::texts::{
     other_signature, peer_key, session, signature, small_caster_key, small_key, small_session,
     small_signature, small_spent_key,
@@ -159,7 +159,7 @@ fn replay(
     fail_err: &[u64],
 ) -> Result<Left, AllocError> {
     let files = files_of(alloc, session, key, recording, fail_files)?;
-    run(alloc, LINE, outside(alloc, files, fail_out, fail_err)?)
+    run(alloc, LINE, outside_of(alloc, files, fail_out, fail_err)?)
 }
 
 // How many lines bytes have that begin like this, from a blank on.
@@ -613,7 +613,7 @@ fn files_that_are_not_there(rt: HostRuntime) -> Result<(), Fail> {
         let mut files = MemFiles::make(alloc, Vec::new(alloc));
         files.put(name, small_session().as_bytes())?;
         files.put(other, small_key().as_bytes())?;
-        let left = run(alloc, LINE, outside(alloc, files, &[], &[])?)?;
+        let left = run(alloc, LINE, outside_of(alloc, files, &[], &[])?)?;
         assert_eq!(rt; left.status, 3);
         assert_eq!(rt; left.outside.err.bytes(), FAILED.as_bytes());
     }
@@ -626,7 +626,7 @@ fn files_that_are_not_there(rt: HostRuntime) -> Result<(), Fail> {
 fn a_peer_whose_link_ends_at_once(rt: HostRuntime) -> Result<(), Fail> {
     let alloc = rt.alloc();
     let files = files_of(alloc, small_session(), small_spent_key(), b"", &[])?;
-    let spent = run(alloc, PEER_LINE, outside(alloc, files, &[], &[])?)?;
+    let spent = run(alloc, PEER_LINE, outside_of(alloc, files, &[], &[])?)?;
     assert_eq!(rt; spent.status, 5);
     assert_eq!(rt;
         spent.outside.err.bytes(),
@@ -634,14 +634,18 @@ fn a_peer_whose_link_ends_at_once(rt: HostRuntime) -> Result<(), Fail> {
     );
     assert_eq!(rt; spent.outside.link.place().is_some(), false);
     let files = files_of(alloc, session(), peer_key(), b"", &[])?;
-    let peer = run(alloc, PEER_LINE, outside(alloc, files, &[], &[])?)?;
+    let peer = run(alloc, PEER_LINE, outside_of(alloc, files, &[], &[])?)?;
     assert_eq!(rt; peer.status, 0);
     assert_eq!(rt;
         peer.outside.out.bytes(),
         b"ticks 0 sent 0 played 0\n".as_slice()
     );
     assert_eq!(rt; peer.outside.link.place().is_some(), true);
-    let replayed = run(alloc, LINE, outside(alloc, peer.outside.files, &[], &[])?)?;
+    let replayed = run(
+        alloc,
+        LINE,
+        outside_of(alloc, peer.outside.files, &[], &[])?,
+    )?;
     assert_eq!(rt; replayed.status, 0);
     assert_eq!(rt; replayed.outside.out.bytes(), b"".as_slice());
     for name in ["p", "f.table"] {

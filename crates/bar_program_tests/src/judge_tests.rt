@@ -1,5 +1,5 @@
 //! Verdicts over files and sinks in memory. The public keys and anchors are by a program that shares nothing with this one.
-use crate::outcome::{Left, outside, run};
+use crate::outcome::{Left, outside_of, run};
 use crate::texts::{small_session, three_rounds};
 use bar_lms::SecretKey;
 use bar_outside::MemFiles;
@@ -116,7 +116,7 @@ fn judge(
     files.put("t", table)?;
     files.put("e", evidence)?;
     let line = "judge --table t --evidence e --session s";
-    run(alloc, line, outside(alloc, files, fail_out, &[])?)
+    run(alloc, line, outside_of(alloc, files, fail_out, &[])?)
 }
 
 /// Checks how a judge ended: its status, what it printed, and what standard error has.

@@ -1,5 +1,5 @@
 //! Keys over files and sinks in memory, and words that are no line. The expected texts are by programs that share nothing with this one.
-use crate::outcome::{Left, outside, run};
+use crate::outcome::{Left, outside_of, run};
 use bar_outside::MemFiles;
 use std::alloc::{AllocError, Global};
 use std::test::Fail;
@@ -14,7 +14,7 @@ fn run_keygen(
 ) -> Result<Left, AllocError> {
     let mut files = MemFiles::make(alloc, fail_files.to_vec(alloc)?);
     files.put("s", secret)?;
-    run(alloc, line, outside(alloc, files, fail_out, &[])?)
+    run(alloc, line, outside_of(alloc, files, fail_out, &[])?)
 }
 
 const SECRET: &str = "a6eef21778369036712f70881cfd21d4e8c5ae7aaa6a1fa5bc3743cfe033355b";

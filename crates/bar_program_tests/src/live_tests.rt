@@ -2,7 +2,7 @@
 ghost use Rattle.std.specs.Prelude.{◌≡◌, true};
 ghost use Rattle.bar_outside.specs.MemTaken.{are_small};
 
-use crate::outcome::{Left, outside, run};
+use crate::outcome::{Left, outside_of, run};
 use crate::texts::{caster_key, peer_key, session, spent_caster_key, spent_peer_key};
 use bar_outside::{MemFiles, MemLink, MemTaken};
 use std::alloc::{AllocError, Global};
@@ -58,7 +58,7 @@ fn link_of(alloc: Global, ticks: u32, datagrams: u32, fail: &[u64]) -> Result<Me
 
 /// A run of a line with these files over this link.
 fn run_over(alloc: Global, line: &str, files: MemFiles, link: MemLink) -> Result<Left, AllocError> {
-    let mut outside = outside(alloc, files, &[], &[])?;
+    let mut outside = outside_of(alloc, files, &[], &[])?;
     outside.link = link;
     run(alloc, line, outside)
 }

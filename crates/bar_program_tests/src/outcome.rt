@@ -21,7 +21,7 @@ pub struct Left {
 }
 
 /// These files, a link that ends at once, no statuses of children, and outputs of which these writes fail.
-pub fn outside(
+pub fn outside_of(
     alloc: Global,
     files: MemFiles,
     fail_out: &[u64],

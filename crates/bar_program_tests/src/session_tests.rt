@@ -1,5 +1,5 @@
 //! Sessions over files, sinks and a spawner in memory.
-use crate::outcome::{Left, outside, run};
+use crate::outcome::{Left, outside_of, run};
 use crate::texts::session;
 use bar_outside::{MemFiles, MemSpawner};
 use std::alloc::{AllocError, Global};
@@ -15,7 +15,7 @@ fn run_session(
 ) -> Result<Left, AllocError> {
     let mut files = MemFiles::make(alloc, Vec::new(alloc));
     files.put("ses", session.as_bytes())?;
-    let mut outside = outside(alloc, files, fail_out, &[])?;
+    let mut outside = outside_of(alloc, files, fail_out, &[])?;
     outside.spawn = MemSpawner::make(alloc, statuses.to_vec(alloc)?, fail_spawn.to_vec(alloc)?);
     let line = "session --session ses --keys k --stream st --begin 5 --results r --program bar";
     run(alloc, line, outside)
