@@ -641,11 +641,8 @@ fn a_peer_whose_link_ends_at_once(rt: HostRuntime) -> Result<(), Fail> {
         b"ticks 0 sent 0 played 0\n".as_slice()
     );
     assert_eq!(rt; peer.outside.link.place().is_some(), true);
-    let replayed = run(
-        alloc,
-        LINE,
-        outside_of(alloc, peer.outside.files, &[], &[])?,
-    )?;
+    let left = peer.outside;
+    let replayed = run(alloc, LINE, outside_of(alloc, left.files, &[], &[])?)?;
     assert_eq!(rt; replayed.status, 0);
     assert_eq!(rt; replayed.outside.out.bytes(), b"".as_slice());
     for name in ["p", "f.table"] {

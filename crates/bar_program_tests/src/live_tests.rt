@@ -103,7 +103,8 @@ fn a_peer_alone_asks_in_vain(rt: HostRuntime) -> Result<(), Fail> {
     check_file(&rt, &left, "k", spent_peer_key().as_bytes());
     check_bound(&rt, &left, Some((2, 20_000, 5_000, 20)));
     let link = link_of(alloc, 120, 0, &[])?;
-    let again = run_over(alloc, PEER, left.outside.files, link)?;
+    let before = left.outside;
+    let again = run_over(alloc, PEER, before.files, link)?;
     check_end(&rt, &again, 5, "", "bar: key refused: Spent\n");
     check_bound(&rt, &again, None);
     Ok(())
