@@ -18,6 +18,7 @@ use Rattle.bar_cli.specs.Turns.{Turn, shown_bytes, turn_of, turns_from}
 use Rattle.bar_cli.proofs.EndLemmas.{differ}
 use Rattle.bar_cli.proofs.MemberLemmas.{AreHeld, AreInRange, of-each_moment}
 use Rattle.bar_cli.proofs.Rows.{Outcome, replayed, stopped-replay}
+use Rattle.bar_cli.proofs.Spoken.{same-front}
 use Rattle.bar_cli.proofs.TurnLemmas.{shown-turns_from}
 use Rattle.bar_cli.proofs.UpToLemmas.{front-of}
 
@@ -84,21 +85,6 @@ shorter me inputs earlier more is =
     let front = ap length (shown-turns_from me 1 [] earlier) in
     let whole = ap length all ∙ length-append (shown_bytes (turns_from me 1 [] earlier)) (shown_bytes p.0) in
     omega arith
-
--- two lists with a last one have one front
-nothing-behind : (xs : List Input) (x : Input) → [] ≡ xs ++ x ∷ [] → ⊥
-nothing-behind [] x e = cc
-nothing-behind (y ∷ ys) x e = cc
-
-same-front : (xs ys : List Input) (x y : Input) → xs ++ x ∷ [] ≡ ys ++ y ∷ [] → xs ≡ ys
-same-front [] [] x y e = refl
-same-front [] (b ∷ ys) x y e = let none : [] ≡ ys ++ y ∷ [] = cc in absurd (nothing-behind ys y none)
-same-front (a ∷ xs) [] x y e = let none : xs ++ x ∷ [] ≡ [] = cc in absurd (nothing-behind xs x (sym none))
-same-front (a ∷ xs) (b ∷ ys) x y e =
-    let first : a ≡ b = cc in
-    let others : xs ++ x ∷ [] ≡ ys ++ y ∷ [] = cc in
-    let front = same-front xs ys x y others in
-    cc
 
 -- ---- how far a replay spoke
 

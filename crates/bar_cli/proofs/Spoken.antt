@@ -26,7 +26,8 @@ use Rattle.bar_cli.proofs.MemberLemmas.{AreHeld, AreInRange, at-each_moment}
 
 -- ---- all of the inputs before the last one that was begun was sent
 
-same-front : (xs ys : List Input) (x y : Input) → xs ++ x ∷ [] ≡ ys ++ y ∷ [] → xs ≡ ys
+-- two lists with a last one have one front
+pub same-front : (xs ys : List Input) (x y : Input) → xs ++ x ∷ [] ≡ ys ++ y ∷ [] → xs ≡ ys
 same-front [] [] x y e = refl
 same-front [] (b ∷ ys) x y e = let f : [] ≡ ys ++ y ∷ [] = cc in absurd (none-more ys y [] f)
 same-front (a ∷ xs) [] x y e = let f : [] ≡ xs ++ x ∷ [] = cc in absurd (none-more xs x [] f)

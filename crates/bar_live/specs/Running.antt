@@ -1,7 +1,6 @@
 -- How a command ends that runs over a link.
 use Rattle.std.specs.Prelude.{◌≡◌, ◌≢◌, ℕ, List, ◌∷◌, [], ◌++◌, IsTrue, OnOk, Result, true, if◌then◌else◌}
 use Rattle.std.specs.List.{AllByRecursion}
-use Rattle.bar_lms.specs.Params.{lms_type, ots_type}
 use Rattle.bar_outside.specs.Disk.{Content}
 use Rattle.bar_outside.specs.Ends.{Ends, EndsWith}
 use Rattle.bar_outside.specs.Follows.{Follows, IsReliable}
@@ -12,7 +11,7 @@ use Rattle.bar_outside.specs.Plan.LinkCall.{bind}
 use Rattle.bar_outside.specs.Wire.{Arrival, Bound, bound_by}
 use Rattle.bar_record.specs.Recording.{IsInRange}
 use Rattle.bar_seeds.specs.declared.secrets.Secrets.{Secrets}
-use Rattle.bar_roster.specs.KeyText.{key_data, key_text_of}
+use Rattle.bar_roster.specs.KeyAnew.{text_of}
 use Rattle.bar_roster.specs.SessionText.{SessionData}
 use Rattle.bar_core.specs.Rules.{Rules}
 use Rattle.bar_node.specs.Effects.{received_in}
@@ -60,8 +59,7 @@ pub record RunEndsWith (plan : List Arrival → Content → Plan) (old new : Out
 
 -- the text of a key that is spent
 abbrev pub spent_text : SessionData → Secrets → List ℕ
-spent_text s k =
-    key_text_of (key_data k.party s.shape.id s.shape.rounds (lms_type s.params.height) (ots_type s.params.ots) k.secret true)
+spent_text s k = text_of s k true
 
 -- the key file is written anew, as spent
 abbrev pub spending : List ℕ → SessionData → Secrets → List Action

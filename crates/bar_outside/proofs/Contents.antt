@@ -1,5 +1,5 @@
 -- What files in memory hold after a change of their map.
-use Rattle.std.proofs.Common.{◌≡◌, ℕ, List, ◌++◌, ◌||◌, ◌≢◌, [], append-nil, Bool, true, false, Option, None, Some, IsSome, refl, sym, ◌∙◌, ap, cond, take, String, Result, Ok, Err, IfOk}
+use Rattle.std.proofs.Common.{◌≡◌, ℕ, List, ◌++◌, ◌||◌, ◌≢◌, [], append-nil, Bool, true, false, Option, None, Some, refl, sym, ◌∙◌, ap, cond, take, String, Result, Ok, Err, IfOk}
 use Rattle.std.specs.Option.{option_map, option_map_or}
 use Rattle.std.specs.Map.{update}
 use Rattle.std.specs.Str.{bytes_eq}
@@ -126,23 +126,6 @@ appended-same content path bytes held h = at-name content path _ ∙ ap (option_
 pub appended-other : (content : Content) (path bytes q : List ℕ) → q ≢ path → appended content path bytes q ≡ content q
 unfolding appended
 appended-other content path bytes q differs = at-other content path _ q differs
-
-map-some : (o : Option (List ℕ)) (f : List ℕ → List ℕ) → IsSome o → IsSome (option_map f o)
-map-some (Some x) f h = refl
-map-some None f h = h
-
-pub put_at-there : (content : Content) (path bytes : List ℕ) → IsSome (put_at content path bytes path)
-put_at-there content path bytes = let e = put_at-same content path bytes in rw e refl
-
--- a file that is there stays there
-pub appended-stays : (content : Content) (path bytes : List ℕ) → IsSome (content path) → IsSome (appended content path bytes path)
-unfolding appended
-appended-stays content path bytes h = let e = at-name content path (option_map (λ xs. xs ++ bytes) (content path)) in rw e (map-some (content path) (λ xs. xs ++ bytes) h)
-
--- nothing is added where there is no file
-pub appended-absent : (content : Content) (path bytes : List ℕ) → content path ≡ None → appended content path bytes ≡ content
-unfolding appended
-appended-absent content path bytes h = rw h (update-same content path None h)
 
 -- where nothing is added, all is as it was
 pub appended-nothing : (content : Content) (path : List ℕ) → appended content path [] ≡ content
