@@ -179,6 +179,11 @@ class WrongKeys(unittest.TestCase):
         diary.trade(BALANCED, 9, key_tick=10, keys=[WRONG_KEY])
         self.check(diary, {FIRST}, None, 10, evidence=self.evidence)
 
+    def test_a_wrong_key_adds_nothing_where_there_is_evidence_of_something_else(self):
+        diary = diary_with(FIRST)
+        diary.trade(BALANCED, 9, key_tick=10, keys=[WRONG_KEY])
+        self.check(diary, {FIRST}, None, 10, evidence={str(PARTNER): made.evidence(BALANCED.answer())})
+
     def test_a_right_key_after_a_wrong_one_is_not_admitted(self):
         diary = diary_with(FIRST)
         diary.trade(BALANCED, 9, key_tick=10, keys=[WRONG_KEY, BALANCED.key(False)])
