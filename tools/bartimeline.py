@@ -1,140 +1,13 @@
 """Draws a session as one page that needs nothing else: an inline drawing with rounds across and a row for each peer, and a table.
 
-All that it shows is taken from the peers' recordings and what their replays print, play and find.
+All that it shows is taken from the peers' recordings and what their replays print, play and find, as barexchanges tells it.
 """
-import collections
 import dataclasses
-import hashlib
 import html
 
-from barsession import BLOCK, CASE, CONTENT, EVIDENCE, KEY, QUERY, REPLY, REQUEST, RESPONSE, SLOTS, head_of
-
-# ---- what a peer did in its exchanges
-
-# no datagram that is signed and of an exchange is shorter
-LEAST_PLACED = 24
-
-
-@dataclasses.dataclass
-class Side:
-    """One peer's side of an exchange: how many updates and junk items each gives, and the ticks at which keys were given."""
-
-    round: int
-    push: bool
-    asks: bool
-    partner: int
-    answered: bool = False
-    gives: tuple = None
-    gets: tuple = None
-    paid: int = None
-    was_paid: int = None
-
-
-def place_of(datagram, session, me):
-    """The datagram's kind, and its exchange as this peer sees it (round, whether it's a push, whether this peer asks, partner), or None."""
-    head = head_of(datagram, session)
-    if not head or head[0] not in (REQUEST, RESPONSE, QUERY, REPLY, CASE, KEY) or len(datagram) < LEAST_PLACED:
-        return None
-    kind, sender, receiver = head
-    push = datagram[20] == 1 if kind in (CASE, KEY) else kind in (QUERY, REPLY)
-    sender_asks = datagram[21] == 0 if kind in (CASE, KEY) else kind in (REQUEST, QUERY)
-    asks = sender_asks == (sender == me)
-    return kind, (int.from_bytes(datagram[16:20], "big"), push, asks, receiver if sender == me else sender)
-
-
-def sides_of(session, me, log):
-    """This peer's sides of exchanges, in the order in which it entered them."""
-    sides = {}
-    for tick, datagram in log.sent:
-        kind, place = place_of(datagram, session, me) or (None, None)
-        if kind in (REQUEST, RESPONSE, QUERY, REPLY):
-            sides.setdefault(place, Side(*place))
-        elif kind == CASE:
-            sides[place].gives = datagram[22], datagram[23]
-        elif kind == KEY and sides[place].paid is None:
-            sides[place].paid = tick
-    hear_answers(session, me, log, sides)
-    return list(sides.values())
-
-
-def hear_answers(session, me, log, sides):
-    """Notes what came from the partners."""
-    for tick, datagram in log.taken:
-        kind, place = place_of(datagram, session, me) or (None, None)
-        if place not in sides:
-            continue
-        side = sides[place]
-        side.answered |= kind in (RESPONSE, REPLY)
-        if kind == CASE:
-            side.gets = datagram[22], datagram[23]
-        elif kind == KEY and side.was_paid is None:
-            side.was_paid = tick
-
-
-# ---- what a peer played
-
-
-def digests_of(logs):
-    """The digests of the updates, by round and index, from the tables that the peers found."""
-    digests = {}
-    for log in logs.values():
-        table, at = log.findings.get("table", b""), 0
-        while at < len(table):
-            manifest = table[at + 2 : at + 2 + int.from_bytes(table[at : at + 2], "big")]
-            number = int.from_bytes(manifest[16:20], "big")
-            digests |= {(number, index): manifest[21 + 32 * index : 53 + 32 * index] for index in range(manifest[20])}
-            at += 2 + len(manifest)
-    return digests
-
-
-def blocks_of(session, log, digests):
-    """The blocks that came to a peer from the broadcaster, by round and index."""
-    heads = [(head_of(datagram, session), datagram) for _, datagram in log.taken]
-    blocks = [((int.from_bytes(it[16:20], "big"), it[20]), it[21:]) for head, it in heads if head and head[0] == BLOCK and len(it) == 1045]
-    return {update: block for update, block in blocks if hashlib.sha256(block).digest() == digests.get(update)}
-
-
-def known_blocks(session, logs, digests):
-    """The blocks that came to any peer, by round and index."""
-    return {update: block for log in logs.values() for update, block in blocks_of(session, log, digests).items()}
-
-
-def content_of(block):
-    return block[2 : 2 + int.from_bytes(block[:2], "big")]
-
-
-def played_updates(played, digests, blocks):
-    """The updates whose contents were played, one behind the other."""
-    updates, at = set(), 0
-    for update, digest in sorted(digests.items()):
-        full = CONTENT.to_bytes(2, "big") + played[at : at + CONTENT]
-        content = full[2:] if hashlib.sha256(full).digest() == digest else content_of(blocks.get(update, b""))
-        if content and played.startswith(content, at):
-            updates.add(update)
-            at += len(content)
-    return updates
-
-
-@dataclasses.dataclass
-class Row:
-    """What is drawn of a peer: its exchanges by round, the updates that it played, and those that came straight from the broadcaster."""
-
-    party: int
-    log: object
-    sides: dict
-    played: set
-    straight: set
-    accusations: dict
-
-
-def row_of(session, party, log, digests, blocks):
-    sides = collections.defaultdict(list)
-    for side in sides_of(session, party, log):
-        sides[side.round].append(side)
-    sent = [((tick + SLOTS - 1) // SLOTS, head_of(datagram, session)) for tick, datagram in log.sent]
-    accusations = collections.Counter(number for number, head in sent if head and head[0] == EVIDENCE)
-    straight = set(blocks_of(session, log, digests))
-    return Row(party, log, sides, played_updates(log.played, digests, blocks), straight, accusations)
+from bardatagrams import Case, Exchange, Promise, Update
+from barexchanges import Account, Side
+from barsession import CASE, CONTENT, SLOTS
 
 
 # ---- elements
@@ -170,28 +43,23 @@ def counted(count, word):
     return f"{count} {word}{'' if count == 1 else 's'}"
 
 
-def items(counts):
-    """So many updates and junk items, in words."""
-    updates, junk = counts
-    words = [counted(updates, "update") if updates else "", counted(junk, "junk item") if junk else ""]
+def items(promise):
+    """How many updates and junk items are promised, in words."""
+    words = [counted(len(promise.updates), "update") if promise.updates else "", counted(promise.junk, "junk item") if promise.junk else ""]
     return " and ".join(word for word in words if word)
 
 
 def told_of(side):
     """What one side of an exchange came to, in words."""
-    way = {(0, 1): "asks", (0, 0): "is asked by", (1, 1): "offers to", (1, 0): "is offered by"}[side.push, side.asks]
-    told = [f"{way} peer {side.partner}"]
-    if not side.gives:
-        told.append("nothing to trade" if side.answered or not side.asks else "no answer")
-    if side.gives:
-        told.append(f"promises {items(side.gives)}")
+    number, push, _, _ = side.exchange
+    way = {(0, 1): "asks", (0, 0): "is asked by", (1, 1): "offers to", (1, 0): "is offered by"}[push, side.asks]
+    end = "nothing came of it" if not side.asks else "nothing to trade" if side.answered else "no answer"
+    told = [f"{way} peer {side.partner}", f"promises {items(side.gives)}" if side.gives else end]
     if side.gets:
         told.append(f"is promised {items(side.gets)}")
-    if side.paid is not None:
-        told.append(f"gave its key at tick {side.paid}")
-    if side.was_paid is not None:
-        told.append(f"was given the key at tick {side.was_paid}")
-    return f"round {side.round}: " + ", ".join(told)
+    keys = (side.paid, "gave its key"), (side.was_paid, "was given the key"), (side.was_cheated, "was given a wrong key")
+    told += [f"{said} at tick {tick}" for tick, said in keys if tick is not None]
+    return f"round {number}: " + ", ".join(told)
 
 
 def token(x, y, side):
@@ -203,7 +71,7 @@ def token(x, y, side):
         inside.append(arrow(middle, y, True))
     if side.was_paid is not None:
         inside.append(arrow(middle, y + 21.5, False))
-    classes = ["push" if side.push else "balanced", "asks" if side.asks else "asked", "traded" if side.gives else "idle"]
+    classes = ["push" if side.exchange.push else "balanced", "asks" if side.asks else "asked", "traded" if side.gives else "idle"]
     return tag("g", *inside, class_=" ".join(classes))
 
 
@@ -220,10 +88,10 @@ STRIP = 55
 
 @dataclasses.dataclass
 class Chart:
-    """What all drawings of a session share: the session, the digests of its updates, the stream's length, and the rounds of one drawing."""
+    """What all drawings of a session share: the session, its updates, the stream's length, and the rounds of one drawing."""
 
     session: object
-    digests: dict
+    released: set
     length: int
     rounds: range
 
@@ -242,11 +110,11 @@ class Chart:
 
     def updates(self, number):
         """The updates of a round."""
-        return [(number, index) for index in range(self.session.per_round) if (number, index) in self.digests]
+        return [Update(number, index) for index in range(self.session.per_round) if (number, index) in self.released]
 
-    def part(self, row):
+    def part(self, account):
         """Which part of the stream a peer played."""
-        return f"{len(row.log.played) / self.length:.1%}" if self.length else "–"
+        return f"{len(account.log.played) / self.length:.1%}" if self.length else "–"
 
 
 def marks(x, y, classes):
@@ -255,20 +123,20 @@ def marks(x, y, classes):
     return [box(x + 2 + at * step, y, max(step - 1, 0.8), 9, class_, told, 1) for at, (class_, told) in enumerate(classes)]
 
 
-def mark_of(row, update):
+def mark_of(account, update):
     """The class and words of an update that a peer has played or not."""
-    name = f"update {update[1] + 1} of round {update[0]}"
-    if update not in row.played:
-        return "missed", f"{name}: not played"
-    if update in row.straight:
-        return "straight", f"{name}: played, straight from the broadcaster"
-    return "traded", f"{name}: played, had by trades alone"
+    name, arrival = f"update {update.index + 1} of round {update.round}", account.held.get(update)
+    if update not in account.played:
+        return "missed", f"{name}: {'has nothing to play' if arrival else 'not played'}"
+    if update in account.straight:
+        return "straight", f"{name}: played, came from the broadcaster at tick {arrival.tick}"
+    return "traded", f"{name}: played, came by a trade with peer {arrival.sender} at tick {arrival.tick}"
 
 
-def tokens(row, number, x, y):
+def tokens(account, number, x, y):
     """The signs of the exchanges of a round: a line for the balanced ones, and one for the pushes."""
     for push in (False, True):
-        sides = [side for side in row.sides.get(number, []) if side.push == push]
+        sides = [side for side in account.sides_by_round.get(number, []) if side.exchange.push == push]
         own, others = [side for side in sides if side.asks], [side for side in sides if not side.asks]
         places = [*zip(SEATS, own[:1]), *zip(SEATS[1:], others)]
         yield from (token(x + place, y + 6 + 29 * push, side) for place, side in places)
@@ -280,55 +148,55 @@ def alarm(number, x, y):
     return tag("g", told, tag("circle", cx=f"{x:.1f}", cy=y, r=6), text(x, y + 3.5, "!", "partner"), class_="alarm")
 
 
-def cell(chart, row, number, x, y):
+def cell(chart, account, number, x, y):
     """One peer's round."""
-    parts = list(tokens(row, number, x, y))
-    if row.log.ticks > SLOTS * (number - 1):
-        parts += marks(x, y + 69, [mark_of(row, update) for update in chart.updates(number - chart.session.life)])
-    if row.accusations[number]:
+    parts = list(tokens(account, number, x, y))
+    if account.log.ticks > SLOTS * (number - 1):
+        parts += marks(x, y + 69, [mark_of(account, update) for update in chart.updates(number - chart.session.life)])
+    if number in account.accusing_rounds:
         parts.append(alarm(number, x + STRIP + 3, y + 60))
     return parts
 
 
-def stopped(chart, row, y):
+def stopped(chart, account, y):
     """A veil over the rounds that a peer didn't run through."""
-    start = max(LABELS, LABELS + chart.column * (row.log.ticks / SLOTS - chart.rounds[0] + 1))
+    start = max(LABELS, LABELS + chart.column * (account.log.ticks / SLOTS - chart.rounds[0] + 1))
     if start > chart.right - 0.1:
         return []
-    told = f"stopped after tick {row.log.ticks}"
+    told = f"stopped after tick {account.log.ticks}"
     veil = box(start, y + 1, chart.right - start, LANE - 1, "gone", told)
     return [veil, text((start + chart.right) / 2, y + 47, told, "label middle")] if chart.right - start > 110 else [veil]
 
 
-def lane(chart, row, y):
+def lane(chart, account, y):
     """One peer's row."""
     lines = ((22, "asks", "label blue"), (51, "offers", "label amber"), (77, "plays", "label"))
     labels = [text(LABELS - 10, y + at, said, class_) for at, said, class_ in lines]
-    totals = [text(WIDTH - 4, y + 40, chart.part(row), "total"), text(WIDTH - 4, y + 56, "played", "label")]
-    cells = [part for number, x in chart.columns() for part in cell(chart, row, number, x, y)]
-    return [*stopped(chart, row, y), line(0, y, WIDTH, y), text(10, y + 48, str(row.party), "name"), *labels, *cells, *totals]
+    totals = [text(WIDTH - 4, y + 40, chart.part(account), "total"), text(WIDTH - 4, y + 56, "played", "label")]
+    cells = [part for number, x in chart.columns() for part in cell(chart, account, number, x, y)]
+    return [*stopped(chart, account, y), line(0, y, WIDTH, y), text(10, y + 48, str(account.party), "name"), *labels, *cells, *totals]
 
 
-def caster_lane(chart, rows, y):
-    """The broadcaster's row: to how many peers each update came straight from it."""
+def caster_lane(chart, accounts, y):
+    """The broadcaster's row: how many peers took each update from it."""
     parts = [line(0, y, WIDTH, y), text(10, y + 21, "broadcaster", "label left")]
     for number, x in chart.columns():
-        heard = [sum(update in row.straight for row in rows) for update in chart.updates(number)]
-        told = [("straight" if it else "missed", f"update {at} of round {number}: came to {it} peers") for at, it in enumerate(heard, 1)]
-        parts += marks(x, y + 13, told)
+        heard = [sum(update in account.straight for account in accounts) for update in chart.updates(number)]
+        told = [(it, f"update {at} of round {number}: {counted(it, 'peer')} took it from here") for at, it in enumerate(heard, 1)]
+        parts += marks(x, y + 13, [("straight" if it else "missed", said) for it, said in told])
     return parts
 
 
-def panel(chart, rows):
+def panel(chart, accounts):
     """A drawing of so many rounds as stand beside each other."""
-    height = HEAD + CASTER + LANE * len(rows)
+    height = HEAD + CASTER + LANE * len(accounts)
     edges = [LABELS + chart.column * at for at in range(len(chart.rounds) + 1)]
     last = chart.session.rounds
     numbers = [text(x + 2 + STRIP / 2, 17, str(it), "round" if it <= last else "round late") for it, x in chart.columns()]
     parts = [*(line(x, HEAD, x, height, "faint") for x in edges), text(10, 17, "round", "label left"), *numbers]
-    parts += caster_lane(chart, rows, HEAD)
-    for at, row in enumerate(rows):
-        parts += lane(chart, row, HEAD + CASTER + LANE * at)
+    parts += caster_lane(chart, accounts, HEAD)
+    for at, account in enumerate(accounts):
+        parts += lane(chart, account, HEAD + CASTER + LANE * at)
     parts.append(line(0, height - 0.5, WIDTH, height - 0.5))
     told = f"what each peer did in rounds {chart.rounds[0]} to {chart.rounds[-1]}"
     return tag("svg", *parts, viewBox=f"0 0 {WIDTH} {height}", role="img", aria_label=told)
@@ -384,11 +252,11 @@ READING = (
 Blue are the balanced exchanges, one update for one; amber are the pushes, in which fresh updates are offered for old ones or for junk. A
 full sign, the first on its line, is the exchange that the peer started; behind it stand those in which it answered.""",
     """Both partners first send what they promise in sealed briefcases, and then the keys to these: giving the key is paying. The arrow
-above a sign says that this peer paid, and the arrow below it that it was paid. A pale sign came to nothing: one of the two lacked nothing
-that the other had, the offer was not wanted, or no answer came.""",
-    """The marks at the foot of a row are the updates that are played in this round; an update is played {life} rounds after its own. The
-broadcaster sends each update to {fanout}, whose marks are grey; the others have it by trades. Point at a sign or a mark to read what it
-says.""",
+above a sign says that this peer paid, and the arrow below it that it was paid, by a key that opens what was promised. A pale sign came to
+nothing: one of the two lacked nothing that the other had, the offer was not wanted, or no answer came.""",
+    """The marks at the foot of a row are the updates that are played in this round; an update is played {life} rounds after its own. A mark
+is grey where the update came from the broadcaster, which sends each to {fanout}, and green where it came by a trade; of both ways the first
+counts. Point at a sign or a mark to read what it says.""",
 )
 
 
@@ -396,9 +264,11 @@ def icon(width, *parts):
     return tag("svg", *parts, width=width, height=26, viewBox=f"0 0 {width} 26")
 
 
-def example(push, asks, **more):
+def example(push, asks, traded=True, **more):
     """A sign for the legend."""
-    return icon(TOKEN, token(0, 0, Side(1, push, asks, 3, **{"gives": (1, 0), **more})))
+    exchange = Exchange(1, push, *((1, 3) if asks else (3, 1)))
+    case = Case(CASE, exchange, asks, None, Promise((Update(1, 0),), 0), b"") if traded else None
+    return icon(TOKEN, token(0, 0, Side(exchange, asks, own_case=case, **more)))
 
 
 def example_mark(class_):
@@ -412,31 +282,31 @@ def legend():
         (example(False, False), "is asked by peer 3"),
         (example(True, True), "offers updates to peer 3"),
         (example(True, False), "is offered some by peer 3"),
-        (example(False, True, gives=None), "came to nothing"),
+        (example(False, True, traded=False), "came to nothing"),
     ]
     rest = [
         (example(False, True, paid=1), "paid: gave its key"),
         (example(False, True, was_paid=1), "was paid: was given the key"),
-        (example_mark("straight"), "played, straight from the broadcaster"),
-        (example_mark("traded"), "played, had by trades alone"),
+        (example_mark("straight"), "played, came from the broadcaster"),
+        (example_mark("traded"), "played, came by a trade"),
         (example_mark("missed"), "not played"),
     ]
     lines = [tag("div", *(tag("span", drawn, said) for drawn, said in entries)) for entries in (exchanges, rest)]
     return tag("div", *lines, class_="legend")
 
 
-def figures(chart, rows):
+def figures(chart, accounts):
     """The session in a few numbers."""
-    sides = [side for row in rows for by_round in row.sides.values() for side in by_round]
+    sides = [side for account in accounts for side in account.sides.values()]
     started = [side for side in sides if side.asks]
     done = [side for side in started if side.paid is not None and side.was_paid is not None]
-    played, traded = sum(len(row.played) for row in rows), sum(len(row.played - row.straight) for row in rows)
-    ended = [row for row in rows if row.log.ticks >= SLOTS * chart.session.ends] or rows
-    parts = [len(row.log.played) / chart.length if chart.length else 0 for row in ended]
-    whose = "on average" if len(ended) == len(rows) else "on average by those that ran to the end"
+    played, traded = sum(len(account.played) for account in accounts), sum(len(account.played - account.straight) for account in accounts)
+    ended = [account for account in accounts if account.log.ticks >= SLOTS * chart.session.ends] or accounts
+    parts = [len(account.log.played) / chart.length if chart.length else 0 for account in ended]
+    whose = "on average" if len(ended) == len(accounts) else "on average by those that ran to the end"
     told = [
         (f"{sum(parts) / len(parts):.1%}", f"of the stream was played, {whose}; at least {min(parts):.1%}"),
-        (f"{traded / max(played, 1):.1%}", "of what was played was had by trades alone"),
+        (f"{traded / max(played, 1):.1%}", "of the updates that were played came by trades"),
         (f"{len(done)} of {len(started)}", "exchanges ended with both keys given"),
         (str(sum(side.paid is not None for side in sides)), "keys were given"),
     ]
@@ -444,27 +314,37 @@ def figures(chart, rows):
     return tag("div", *shown, class_="figures")
 
 
-def totals(chart, row):
-    """A peer's line of the table."""
-    sides = [side for by_round in row.sides.values() for side in by_round]
-    cells = [row.party, len(row.log.played), chart.part(row), len(row.played & row.straight), len(row.played - row.straight)]
-    cells += [sum(side.asks for side in sides), sum(not side.asks for side in sides)]
-    cells += [sum(side.paid is not None for side in sides), sum(side.was_paid is not None for side in sides)]
-    for datagrams in (row.log.sent, row.log.taken):
-        cells += [len(datagrams), sum(len(datagram) for _, datagram in datagrams)]
-    return tag("tr", *(tag("td", f"{it:,}" if isinstance(it, int) else it) for it in cells))
+def totals(chart, account):
+    """A peer's line of the table, by the names of its columns."""
+    sides, log = account.sides.values(), account.log
+    return {
+        "peer": account.party,
+        "bytes played": len(log.played),
+        "part of the stream": chart.part(account),
+        "blocks taken from the broadcaster": len(account.straight),
+        "updates played that came from the broadcaster": len(account.played & account.straight),
+        "updates played that came by trades": len(account.played - account.straight),
+        "exchanges started": sum(side.asks for side in sides),
+        "exchanges answered": sum(not side.asks for side in sides),
+        "keys given": sum(side.paid is not None for side in sides),
+        "keys got that open well": sum(side.was_paid is not None for side in sides),
+        "datagrams sent": len(log.sent),
+        "bytes sent": sum(len(datagram) for _, datagram in log.sent),
+        "datagrams taken": len(log.taken),
+        "bytes taken": sum(len(datagram) for _, datagram in log.taken),
+    }
 
 
-def table(chart, rows):
+def table(chart, accounts):
     """Each peer's totals."""
-    names = ["peer", "bytes played", "part", "updates from the broadcaster", "updates by trades", "exchanges started", "exchanges answered"]
-    names += ["keys given", "keys got", "datagrams sent", "bytes sent", "datagrams taken", "bytes taken"]
-    return tag("table", tag("tr", *(tag("th", name) for name in names)), *(totals(chart, row) for row in rows))
+    lines = [totals(chart, account) for account in accounts]
+    told = [[f"{it:,}" if isinstance(it, int) else it for it in line.values()] for line in lines]
+    return tag("table", tag("tr", *(tag("th", name) for name in lines[0])), *(tag("tr", *(tag("td", it) for it in line)) for line in told))
 
 
-def notes(rows):
+def notes(accounts):
     """A line on the evidence that is kept."""
-    kept = [(accused, row.party) for row in rows for accused in row.log.findings if accused != "table"]
+    kept = [(int(accused), account.party) for account in accounts for accused in account.log.findings if accused != "table"]
     said = [f"peer {accused} by peer {party}" for accused, party in sorted(kept)]
     told = f"Evidence is kept against {', '.join(said)}. A red mark stands where it was sent to the broadcaster."
     return [tag("p", told)] if said else []
@@ -480,15 +360,15 @@ def subtitle(session):
 
 def page(session, logs):
     """The page of a session, by the logs of its peers."""
-    digests = digests_of(logs)
-    blocks = known_blocks(session, logs, digests)
-    rows = [row_of(session, party, log, digests, blocks) for party, log in sorted(logs.items())]
-    length = sum(len(content_of(blocks[update])) if update in blocks else CONTENT for update in digests)
+    accounts = [Account(session, party, log) for party, log in sorted(logs.items())]
+    released = set().union(*(account.digests for account in accounts))
+    contents = {update: arrival.content for account in accounts for update, arrival in account.held.items()}
+    length = sum(contents.get(update, CONTENT) for update in released)
     firsts = range(1, session.ends + 1, MOST_COLUMNS)
-    charts = [Chart(session, digests, length, range(first, min(first + MOST_COLUMNS, session.ends + 1))) for first in firsts]
+    charts = [Chart(session, released, length, range(first, min(first + MOST_COLUMNS, session.ends + 1))) for first in firsts]
     parts = [tag("h1", "A session, as its peers recorded it"), tag("p", subtitle(session), class_="soft")]
-    parts += [figures(charts[0], rows), legend(), *(tag("figure", panel(chart, rows)) for chart in charts), *notes(rows)]
+    parts += [figures(charts[0], accounts), legend(), *(tag("figure", panel(chart, accounts)) for chart in charts), *notes(accounts)]
     reading = [tag("p", said.format(life=session.life, fanout=counted(session.fanout, "peer"))) for said in READING]
-    parts += [tag("h2", "How to read it"), tag("div", *reading, class_="reading"), tag("h2", "Each peer"), table(charts[0], rows)]
+    parts += [tag("h2", "How to read it"), tag("div", *reading, class_="reading"), tag("h2", "Each peer"), table(charts[0], accounts)]
     head = f'<meta charset="utf-8"><meta name="viewport" content="width=device-width"><title>Session {html.escape(session.id)}</title>'
     return f'<!doctype html>\n<html lang="en"><head>{head}<style>{STYLE}</style></head>\n<body>{tag("main", *parts)}</body></html>\n'

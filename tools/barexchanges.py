@@ -1,0 +1,188 @@
+"""What a peer did and held, told by its own exchanges: by its recording and its transcript, with what its replay found.
+
+A peer holds an update from the BLOCK on that came under an admitted manifest, or from the KEY on that opens the partner's CASE well, where
+the update was alive at that tick. Signatures aren't checked here. The peer checked them, and what it sent and found tells what it admitted:
+  MANIFEST   it stands in the table that the peer found
+  CASE       its terms are those of the peer's own CASE, and in the tick in which it came the peer asked for its key first
+  KEY        it came in the last tick in which the peer asked for it, and where it opens badly, the peer has evidence against its sender
+So a forged datagram is taken for a real one only where it came in the tick of the real one and before it, or in the recording's last tick:
+a CASE of the same terms, a KEY that opens well or whose sender the peer has evidence against, an EVICT of a KEY's sender. Whatever came, an
+update that counts as held has the digest that the table says.
+"""
+import collections
+import dataclasses
+import functools
+import hashlib
+
+from barbriefcases import opened
+from bardatagrams import Block, Case, Evict, Exchange, Key, Manifest, Message, Reader, number_at
+from barsession import CASE, CONTENT, EVIDENCE, KEY, KEYREQ, REPLY, RESPONSE, SLOTS, head_of
+
+
+def round_of(tick):
+    return (tick + SLOTS - 1) // SLOTS
+
+
+def content_size(block):
+    """How many bytes are played of a block: none where its length is too large."""
+    size = number_at(block, 0, 2)
+    return size if size <= CONTENT else 0
+
+
+def manifests_of(log):
+    """The manifests that a peer found, as datagrams."""
+    table, at = log.findings.get("table", b""), 0
+    while at < len(table):
+        start, at = at + 2, at + 2 + number_at(table, at, 2)
+        yield table[start:at]
+
+
+@dataclasses.dataclass(frozen=True)
+class Arrival:
+    """How an update came to a peer: the tick, the sender (0 is the broadcaster), and how many bytes of it are to be played."""
+
+    tick: int
+    sender: int
+    content: int
+
+
+@dataclasses.dataclass
+class Side:
+    """A peer's side of an exchange: its own CASE and the partner's that it admitted, and the ticks of what was done about the keys."""
+
+    exchange: Exchange
+    asks: bool
+    answered: bool = False
+    own_case: Case | None = None
+    case: Case | None = None
+    # when it asked for the partner's key, gave its own, was given one that opens well, and one that opens badly
+    asked: list = dataclasses.field(default_factory=list)
+    paid: int | None = None
+    was_paid: int | None = None
+    was_cheated: int | None = None
+
+    @property
+    def partner(self):
+        return self.exchange.responder if self.asks else self.exchange.initiator
+
+    @property
+    def gives(self):
+        """What this side promises, where its CASE is said."""
+        return self.own_case and self.own_case.promise
+
+    @property
+    def gets(self):
+        """What the partner promises, where its CASE is admitted."""
+        return self.case and self.case.promise
+
+    def say(self, tick, message):
+        """Notes what this peer sent."""
+        if message.kind == CASE:
+            self.own_case = message
+        elif message.kind == KEYREQ:
+            self.asked.append(tick)
+        elif message.kind == KEY and self.paid is None:
+            self.paid = tick
+
+    def hear_case(self, tick, case):
+        """Notes the partner's CASE, where it was admitted."""
+        if self.case is None and self.asked[:1] == [tick] and self.own_case and case.terms == self.own_case.terms:
+            self.case = case
+
+    def awaits_key(self, tick):
+        """Whether a KEY that comes in this tick may be the one that was admitted."""
+        return self.case is not None and self.asked[-1] == tick and self.was_paid is None and self.was_cheated is None
+
+
+class Account:
+    """What a peer did and held."""
+
+    def __init__(self, session, party, log):
+        self.session, self.party, self.log = session, party, log
+        self.reader = Reader(session)
+        self.manifests = set(manifests_of(log))
+        # the digests of updates, when an eviction was announced last, the sides of exchanges as they were entered, and how updates came
+        self.digests, self.evicted, self.sides, self.held = {}, {}, {}, {}
+        self.read_sent()
+        self.read_taken()
+
+    def read_sent(self):
+        """Notes what the peer sent."""
+        for tick, datagram in self.log.sent:
+            message = self.reader.read(datagram)
+            if message:
+                self.sides.setdefault(message.exchange, Side(message.exchange, message.by_initiator)).say(tick, message)
+
+    def read_taken(self):
+        """Notes what the peer took and admitted."""
+        for tick, datagram in self.log.taken:
+            match self.reader.read(datagram):
+                case Manifest() as manifest if datagram in self.manifests and self.is_timely(manifest.round, tick):
+                    self.digests |= manifest.digests
+                case Evict() as notice:
+                    self.evicted |= dict.fromkeys(notice.parties, tick)
+                case Block(receiver=self.party) as sent:
+                    self.hear_block(tick, sent)
+                case Message(receiver=self.party) as message if message.exchange in self.sides:
+                    self.hear(tick, message, self.sides[message.exchange])
+
+    def is_alive(self, number, tick):
+        """Whether the updates of a round are alive at a tick. In the first tick in which they aren't, they are played."""
+        return round_of(tick) < number + self.session.life
+
+    def is_timely(self, number, tick):
+        """Whether a manifest of a round may be admitted at a tick."""
+        return number <= round_of(tick) + 1 and self.is_alive(number, tick)
+
+    def hear_block(self, tick, sent):
+        """Notes a BLOCK that has the digest that the table says."""
+        if hashlib.sha256(sent.block).digest() == self.digests.get(sent.update):
+            self.hold(tick, 0, sent.update, sent.block)
+
+    def hear(self, tick, message, side):
+        """Notes a datagram of the partner."""
+        if isinstance(message, Case):
+            side.hear_case(tick, message)
+        elif isinstance(message, Key) and side.awaits_key(tick) and self.evicted.get(side.partner) != tick:
+            self.hear_key(tick, message, side)
+        elif message.kind in (RESPONSE, REPLY):
+            side.answered = True
+
+    def hear_key(self, tick, key, side):
+        """Notes a KEY that may be the one that was admitted: the updates that it opens, or that the partner cheated."""
+        blocks = opened(self.session, side.case, key.key, self.digests)
+        if blocks is None:
+            side.was_cheated = tick if str(side.partner) in self.log.findings else None
+            return
+        side.was_paid = tick
+        for update, block in blocks.items():
+            self.hold(tick, side.partner, update, block)
+
+    def hold(self, tick, sender, update, block):
+        """Notes that an update came, where it's alive. What comes first counts."""
+        if self.is_alive(update.round, tick):
+            self.held.setdefault(update, Arrival(tick, sender, content_size(block)))
+
+    @functools.cached_property
+    def played(self):
+        """The updates that were played."""
+        return {update for update, it in self.held.items() if it.content and not self.is_alive(update.round, self.log.ticks)}
+
+    @functools.cached_property
+    def straight(self):
+        """The updates that came from the broadcaster."""
+        return {update for update, it in self.held.items() if it.sender == 0}
+
+    @functools.cached_property
+    def sides_by_round(self):
+        """The sides of exchanges, by round."""
+        by_round = collections.defaultdict(list)
+        for side in self.sides.values():
+            by_round[side.exchange.round].append(side)
+        return by_round
+
+    @functools.cached_property
+    def accusing_rounds(self):
+        """The rounds in which evidence was sent to the broadcaster."""
+        heads = [(tick, head_of(datagram, self.session)) for tick, datagram in self.log.sent]
+        return {round_of(tick) for tick, head in heads if head and head[0] == EVIDENCE}

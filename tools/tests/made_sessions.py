@@ -1,0 +1,192 @@
+"""Sessions made by hand for the tests: datagrams with signatures of zeros, and what peers record and send."""
+import dataclasses
+import hashlib
+import struct
+
+from barbriefcases import exclusive_or, junk_of, keystream
+from bardatagrams import Exchange, Update
+from barsession import BLOCK, CASE, EVICT, KEY, KEYREQ, MANIFEST, QUERY, REPLY, REQUEST, RESPONSE
+from barsession import SLOTS, Session, entries_of, log_of
+
+SESSION = Session(id="00112233445566aa", rounds=6, life=3, cap=2, per_round=4, fanout=1, port=21000, tick_ms=20, lms=5, ots=4, peers=3)
+# a signature of these types
+SIGNATURE = bytes(1292)
+EVERYONE = 0xFFFF
+
+
+def first_tick(number):
+    return SLOTS * (number - 1) + 1
+
+
+def block_with(content):
+    """The block of an update with this content."""
+    return len(content).to_bytes(2, "big") + content.ljust(1022, b"\0")
+
+
+# blocks that all differ, and blocks that are all the same
+PLAIN = {Update(number, index): block_with(bytes([number, index])) for number in range(1, 7) for index in range(4)}
+ZEROS = dict.fromkeys(PLAIN, block_with(bytes(1022)))
+
+
+# ---- datagrams
+
+
+def datagram(kind, sender, receiver, body):
+    return b"\xba\x47\x01" + bytes([kind]) + bytes.fromhex(SESSION.id) + struct.pack(">HH", sender, receiver) + body
+
+
+def manifest(number, blocks=PLAIN):
+    digests = [hashlib.sha256(block).digest() for update, block in sorted(blocks.items()) if update.round == number]
+    return datagram(MANIFEST, 0, EVERYONE, struct.pack(">IB", number, len(digests)) + b"".join(digests) + SIGNATURE)
+
+
+def block(receiver, update, blocks=PLAIN):
+    return datagram(BLOCK, 0, receiver, struct.pack(">IB", *update) + blocks[update])
+
+
+def evict(number, *parties):
+    return datagram(EVICT, 0, EVERYONE, struct.pack(f">IB{len(parties)}H", number, len(parties), *parties) + SIGNATURE)
+
+
+def window(number, updates):
+    """A window of a round, as it's written."""
+    words = [0] * SESSION.life
+    for update in updates:
+        words[update.round - max(1, number - SESSION.life + 1)] |= 1 << update.index
+    return struct.pack(f">{SESSION.life}Q", *words)
+
+
+def table(*manifests):
+    return b"".join(struct.pack(">H", len(it)) + it for it in manifests)
+
+
+def evidence(*datagrams):
+    return bytes([len(datagrams)]) + b"".join(struct.pack(">H", len(it)) + it for it in datagrams)
+
+
+@dataclasses.dataclass
+class Trade:
+    """An exchange: its terms as they are written, and what the responder and the initiator promise: updates, and a number of junk items."""
+
+    exchange: Exchange
+    terms: bytes
+    promises: tuple
+    blocks: dict
+
+    @classmethod
+    def balanced(cls, exchange, histories, promises, blocks=PLAIN):
+        """A balanced exchange, by the histories of the initiator and of the responder."""
+        terms = bytes(range(32)) + b"".join(window(exchange.round, history) for history in histories)
+        return cls(exchange, terms, [(updates, 0) for updates in promises], blocks)
+
+    @classmethod
+    def push(cls, exchange, windows, junk, blocks=PLAIN):
+        """A push, by its young, aged, wanted and given updates and its junk."""
+        terms = b"".join(window(exchange.round, updates) for updates in windows) + bytes([junk])
+        return cls(exchange, terms, [(windows[3], junk), (windows[2], 0)], blocks)
+
+    def datagram(self, kind, by_initiator, body):
+        sides = self.exchange.initiator, self.exchange.responder
+        return datagram(kind, *(sides if by_initiator else reversed(sides)), struct.pack(">I", self.exchange.round) + body)
+
+    def of_case(self, kind, by_initiator, body):
+        return self.datagram(kind, by_initiator, bytes([self.exchange.push, not by_initiator]) + body)
+
+    def request(self):
+        """The initiator's first message."""
+        if self.exchange.push:
+            return self.datagram(QUERY, True, bytes(32 + 16 * SESSION.life) + SIGNATURE)
+        return self.datagram(REQUEST, True, bytes(64) + SIGNATURE)
+
+    def answer(self):
+        """The responder's first message."""
+        if self.exchange.push:
+            return self.datagram(REPLY, False, bytes(16 * SESSION.life + 1) + SIGNATURE)
+        return self.datagram(RESPONSE, False, bytes(8 * SESSION.life) + SIGNATURE)
+
+    def briefcase_key(self, by_initiator):
+        return hashlib.sha256(b"%d %r" % (by_initiator, self.exchange.spelled())).digest()
+
+    def case(self, by_initiator, terms=None):
+        updates, junk = self.promises[by_initiator]
+        plain = b"".join(self.blocks[update] for update in updates) + junk_of(SESSION, self.exchange, junk)
+        sealed = exclusive_or(plain, keystream(self.briefcase_key(by_initiator), len(plain)))
+        return self.of_case(CASE, by_initiator, bytes([len(updates), junk]) + (terms or self.terms) + sealed + SIGNATURE)
+
+    def key_request(self, by_initiator):
+        return self.of_case(KEYREQ, by_initiator, b"")
+
+    def key(self, by_initiator, key=None):
+        return self.of_case(KEY, by_initiator, (key or self.briefcase_key(by_initiator)) + SIGNATURE)
+
+
+# ---- logs
+
+
+def taken(it):
+    """The entry of a datagram in a recording."""
+    return b"\x02" + struct.pack(">H", len(it)) + it
+
+
+class Diary:
+    """What a peer takes and sends, in the order in which it does."""
+
+    def __init__(self, party):
+        self.party, self.tick = party, 0
+        self.entries, self.lines, self.manifests = [], [], []
+
+    def until(self, tick):
+        """Ticks up to this tick."""
+        self.entries += [b"\x01"] * (tick - self.tick)
+        self.tick = tick
+
+    def take(self, *datagrams):
+        self.entries += map(taken, datagrams)
+
+    def take_manifest(self, *numbers, blocks=PLAIN):
+        """Takes the manifests of these rounds, which are admitted."""
+        self.manifests += [manifest(number, blocks) for number in numbers]
+        self.take(*self.manifests[-len(numbers) :])
+
+    def send(self, *datagrams):
+        self.lines += [f"{len(self.entries)} {int.from_bytes(it[14:16], 'big')} {it.hex()}" for it in datagrams]
+
+    def trade(self, trade, tick, key_tick=None, case=None, keys=None):
+        """An exchange from this tick on, in which the partner's key is asked for up to the tick in which it comes, or as long as it may be.
+
+        Where another CASE or other datagrams are given, they come in place of the partner's CASE and KEY.
+        """
+        asks = trade.exchange.initiator == self.party
+        self.until(tick)
+        self.meet(trade, asks)
+        self.take(case or trade.case(not asks))
+        self.send(trade.key_request(asks))
+        self.ask(trade, key_tick or SLOTS * (trade.exchange.round + SESSION.life))
+        if key_tick:
+            self.take(*(keys or [trade.key(not asks)]))
+
+    def meet(self, trade, asks):
+        """An exchange up to the peer's own CASE."""
+        if asks:
+            self.send(trade.request())
+            self.take(trade.answer())
+            self.send(trade.case(True))
+        else:
+            self.take(trade.request())
+            self.send(trade.answer(), trade.case(False))
+
+    def ask(self, trade, tick):
+        """Asks for the key at each tick up to this one."""
+        for at in range(self.tick + 1, tick + 1):
+            self.until(at)
+            self.send(trade.key_request(trade.exchange.initiator == self.party))
+
+    def recording(self):
+        return b"BARL\x01" + bytes.fromhex(SESSION.id) + struct.pack(">H", self.party) + b"".join(self.entries) + b"\0"
+
+    def log(self, played=b"", cut=None, evidence=None):
+        """The log of the recording, or of so many of its bytes, with evidence by the party against which it's kept."""
+        recording = self.recording()[:cut]
+        inputs = len(entries_of(recording)[0])
+        printed = [line for line in self.lines if int(line.split()[0]) <= inputs]
+        return log_of(recording, "\n".join(printed), played, {"table": table(*self.manifests), **(evidence or {})})

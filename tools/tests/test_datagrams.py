@@ -1,0 +1,95 @@
+import pathlib
+import sys
+import unittest
+
+sys.path.insert(0, str(pathlib.Path(__file__).resolve().parent.parent))
+
+import made_sessions as made
+from barbriefcases import keystream, opened
+from bardatagrams import BalancedTerms, Exchange, Promise, PushTerms, Reader, Update
+from barsession import KEY, KEYREQ, QUERY, REPLY, REQUEST, RESPONSE
+from made_sessions import PLAIN, SESSION, Trade
+
+BALANCED = Trade.balanced(Exchange(4, False, 2, 3), [[Update(2, 0), Update(3, 1)], [Update(4, 3)]], [[Update(4, 3)], [Update(2, 0)]])
+PUSH_WINDOWS = [[Update(4, 0), Update(4, 1)], [Update(2, 2), Update(3, 3)], [Update(4, 1)], []]
+PUSH = Trade.push(Exchange(4, True, 2, 3), PUSH_WINDOWS, 1)
+DATAGRAMS = [made.manifest(1), made.evict(2, 1, 3), made.block(3, Update(5, 1))]
+DATAGRAMS += [message() for trade in (BALANCED, PUSH) for message in (trade.request, trade.answer)]
+DATAGRAMS += [part(side) for trade in (BALANCED, PUSH) for part in (trade.case, trade.key_request, trade.key) for side in (False, True)]
+
+
+def changed(datagram, **bytes_at):
+    """The datagram with other bytes at some places, as `at_20`."""
+    other = bytearray(datagram)
+    for place, byte in bytes_at.items():
+        other[int(place.removeprefix("at_"))] = byte
+    return bytes(other)
+
+
+class Reading(unittest.TestCase):
+    def setUp(self):
+        self.reader = Reader(SESSION)
+
+    def test_datagrams_of_the_broadcaster(self):
+        manifest = self.reader.read(made.manifest(3))
+        self.assertEqual((manifest.round, list(manifest.digests)), (3, [Update(3, index) for index in range(4)]))
+        self.assertEqual(self.reader.read(made.evict(2, 1, 3)).parties, (1, 3))
+        block = self.reader.read(made.block(3, Update(5, 1)))
+        self.assertEqual((block.receiver, block.update, block.block), (3, Update(5, 1), PLAIN[Update(5, 1)]))
+
+    def test_messages_of_exchanges(self):
+        kinds = {True: (REQUEST, RESPONSE), False: (QUERY, REPLY)}
+        for trade in (BALANCED, PUSH):
+            told = [self.reader.read(it) for it in (trade.request(), trade.answer(), trade.key_request(True), trade.key(False))]
+            self.assertEqual([it.exchange for it in told], [trade.exchange] * 4)
+            self.assertEqual([it.kind for it in told], [*kinds[trade is BALANCED], KEYREQ, KEY])
+            self.assertEqual([(it.by_initiator, it.receiver) for it in told], [(True, 3), (False, 2), (True, 3), (False, 2)])
+            self.assertEqual(told[3].key, trade.briefcase_key(False))
+
+    def test_terms_and_promises(self):
+        cases = [self.reader.read(trade.case(side)) for trade in (BALANCED, PUSH) for side in (True, False)]
+        histories = frozenset({Update(2, 0), Update(3, 1)}), frozenset({Update(4, 3)})
+        terms = [BalancedTerms(bytes(range(32)), *histories), PushTerms(*map(frozenset, PUSH_WINDOWS), 1)]
+        self.assertEqual([case.terms for case in cases], [terms[0], terms[0], terms[1], terms[1]])
+        promised = [Promise((Update(2, 0),), 0), Promise((Update(4, 3),), 0), Promise((Update(4, 1),), 0), Promise((), 1)]
+        self.assertEqual([case.promise for case in cases], promised)
+        self.assertEqual([len(case.cipher) for case in cases], [1024, 1024, 1024, 1280])
+
+    def test_a_datagram_of_another_length_is_not_read(self):
+        for datagram in DATAGRAMS:
+            self.assertIsNotNone(self.reader.read(datagram))
+            read = [cut for cut in range(len(datagram)) if self.reader.read(datagram[:cut])]
+            self.assertEqual((read, self.reader.read(datagram + b"\0")), ([], None))
+
+    def test_a_datagram_with_a_number_out_of_range_is_not_read(self):
+        case, key = BALANCED.case(True), PUSH.key(False)
+        for datagram in DATAGRAMS:
+            heads = [changed(datagram, at_0=0), changed(datagram, at_2=2), changed(datagram, at_3=13), changed(datagram, at_5=0)]
+            rounds = [changed(datagram, at_19=0), changed(datagram, at_19=SESSION.rounds + 1)]
+            self.assertEqual([self.reader.read(it) for it in heads + rounds], [None] * 6)
+        numbers = [changed(key, at_20=2), changed(key, at_21=2), changed(case, at_22=0)[:-1024]]
+        parties = [changed(key, at_13=0), changed(key, at_15=4), changed(key, at_13=2), changed(made.manifest(1), at_13=1)]
+        parties += [changed(made.evict(2, 1), at_15=1), changed(made.block(3, Update(5, 1)), at_13=1)]
+        self.assertEqual([self.reader.read(it) for it in numbers + parties], [None] * 9)
+
+
+class Briefcases(unittest.TestCase):
+    def test_the_keystream_is_that_of_chacha20(self):
+        # the first two blocks under a key of zeros
+        known = "76b8e0ada0f13d90405d6ae55386bd28bdd219b8a08ded1aa836efcc8b770dc7"
+        known += "da41597c5157488d7724e03fb8d84a376a43b8f41518a11cc387b669b2ee6586"
+        known += "9f07e7be5551387a98ba977c732d080dcb0f29a048e3656912c6533e32ee7aed"
+        known += "29b721769ce64e43d57133b074d839d531ed1f28510afb45ace10a1f4b794d6f"
+        for size in (0, 1, 63, 64, 65, 128):
+            self.assertEqual(keystream(bytes(32), size), bytes.fromhex(known)[:size])
+
+    def test_a_key_opens_its_own_case(self):
+        reader = Reader(SESSION)
+        digests = {update: digest for number in range(1, 7) for update, digest in reader.read(made.manifest(number)).digests.items()}
+        for trade in (BALANCED, PUSH):
+            for side in (False, True):
+                case, promised = reader.read(trade.case(side)), trade.promises[side][0]
+                blocks = {update: PLAIN[update] for update in promised}
+                self.assertEqual(opened(SESSION, case, trade.briefcase_key(side), digests), blocks)
+                self.assertIsNone(opened(SESSION, case, trade.briefcase_key(not side), digests))
+                self.assertEqual(opened(SESSION, case, trade.briefcase_key(side), {}), None if promised else {})

@@ -1,0 +1,187 @@
+import dataclasses
+import pathlib
+import sys
+import unittest
+import xml.etree.ElementTree
+
+sys.path.insert(0, str(pathlib.Path(__file__).resolve().parent.parent))
+
+import bartimeline
+import made_sessions as made
+from bardatagrams import Exchange, Update
+from barsession import EVIDENCE, SLOTS
+from made_sessions import PLAIN, SESSION, ZEROS, Diary, Trade, first_tick
+
+ME, PARTNER = 1, 2
+FIRST, SECOND, THIRD, FOURTH = (Update(1, index) for index in range(4))
+# an exchange in which peer 1 gives the first update of round 1 and gets the second
+EXCHANGE = Exchange(2, False, ME, PARTNER), [[FIRST, FOURTH], [SECOND]], [[SECOND], [FIRST]]
+TRADE, ZERO_TRADE = Trade.balanced(*EXCHANGE), Trade.balanced(*EXCHANGE, blocks=ZEROS)
+LAST_TICK = SLOTS * SESSION.ends
+
+
+class Page:
+    """What a page shows of a session with one peer or more."""
+
+    def __init__(self, logs, session=SESSION):
+        page = bartimeline.page(session, logs)
+        self.body = xml.etree.ElementTree.fromstring(page[page.index("<body>") : page.index("</html>")])
+        drawn = [*self.body.iter("figure")]
+        self.titles = [(it.get("class"), it.findtext("title")) for part in drawn for it in part.iter() if it.find("title") is not None]
+        self.marks = [it for it in self.titles if it[1].startswith("update") and "took" not in it[1]]
+        names, *lines = [[cell.text for cell in row] for row in self.body.iter("tr")]
+        self.table = [dict(zip(names, line)) for line in lines]
+        self.figures = [" ".join(it.itertext()) for it in self.body.findall(".//div[@class='figures']/div")]
+
+    def words(self, class_):
+        """The words of the marks or signs of this class."""
+        return [told for its, told in self.titles if its == class_]
+
+
+def diary_of(party, *updates, blocks=PLAIN):
+    """The diary of a peer that takes the manifests of rounds 1 and 2 in tick 1, and these updates in tick 2."""
+    diary = Diary(party)
+    diary.until(1)
+    diary.take_manifest(1, 2, blocks=blocks)
+    diary.until(2)
+    diary.take(*(made.block(party, update, blocks) for update in updates))
+    return diary
+
+
+def page_of(diary, until=LAST_TICK, **log):
+    diary.until(until)
+    return Page({ME: diary.log(**log)})
+
+
+class Marks(unittest.TestCase):
+    def test_where_all_blocks_are_the_same_those_that_are_held_are_marked(self):
+        diary = diary_of(ME, FIRST, FOURTH, blocks=ZEROS)
+        diary.trade(ZERO_TRADE, 9, key_tick=10)
+        page = page_of(diary, played=bytes(3 * 1022))
+        marks = ["played, came from the broadcaster at tick 2", "played, came by a trade with peer 2 at tick 10", "not played"]
+        told = [("straight", marks[0]), ("traded", marks[1]), ("missed", marks[2]), ("straight", marks[0])]
+        self.assertEqual(page.marks[:4], [(class_, f"update {at} of round 1: {said}") for at, (class_, said) in enumerate(told, 1)])
+        self.assertEqual(page.marks[4:], [("missed", f"update {at} of round 2: not played") for at in range(1, 5)])
+
+    def test_what_came_both_ways_counts_by_what_came_first(self):
+        names = ["blocks taken from the broadcaster", "updates played that came from the broadcaster", "updates played that came by trades"]
+        ways = [TRADE.key(False), made.block(ME, SECOND)]
+        for keys, class_, counts in ((ways, "traded", ["2", "2", "1"]), (ways[::-1], "straight", ["3", "3", "0"])):
+            diary = diary_of(ME, FIRST, FOURTH)
+            diary.trade(TRADE, 9, key_tick=9, keys=keys)
+            page = page_of(diary, played=bytes(6))
+            self.assertEqual([its for its, told in page.marks if told.startswith("update 2 of round 1")], [class_])
+            self.assertEqual([page.table[0][name] for name in names], counts)
+
+    def test_a_block_without_content_is_marked_as_such(self):
+        blocks = PLAIN | {FIRST: made.block_with(b"")}
+        page = page_of(diary_of(ME, FIRST, SECOND, blocks=blocks), played=bytes(2))
+        self.assertEqual(page.marks[0], ("missed", "update 1 of round 1: has nothing to play"))
+        self.assertEqual(page.marks[1], ("straight", "update 2 of round 1: played, came from the broadcaster at tick 2"))
+        self.assertEqual(page.table[0]["blocks taken from the broadcaster"], "2")
+
+    def test_a_peer_that_stopped_has_marks_up_to_its_last_round(self):
+        diary = diary_of(ME, FIRST)
+        diary.take(made.block(ME, Update(2, 0)))
+        page = page_of(diary, until=first_tick(4) + 2, played=bytes(2), cut=-1)
+        self.assertEqual(page.words("straight")[-1], "update 1 of round 1: played, came from the broadcaster at tick 2")
+        self.assertEqual(len(page.marks), 4)
+        self.assertEqual(page.words("gone"), [f"stopped after tick {first_tick(4) + 2}"])
+
+
+class Signs(unittest.TestCase):
+    def test_an_exchange_with_both_keys(self):
+        diary = diary_of(ME, FIRST, FOURTH)
+        diary.trade(TRADE, 9, key_tick=11)
+        diary.send(TRADE.key(True))
+        page = page_of(diary)
+        told = "asks peer 2, promises 1 update, is promised 1 update, gave its key at tick 11, was given the key at tick 11"
+        self.assertEqual(page.words("balanced asks traded"), [f"round 2: {told}"])
+        self.assertIn("1 of 1 exchanges ended with both keys given", page.figures)
+
+    def test_an_exchange_whose_key_does_not_come(self):
+        diary = diary_of(ME, FIRST, FOURTH)
+        diary.trade(TRADE, 9)
+        page = page_of(diary, played=bytes(4))
+        self.assertEqual(page.words("balanced asks traded"), ["round 2: asks peer 2, promises 1 update, is promised 1 update"])
+        self.assertEqual(page.marks[1], ("missed", "update 2 of round 1: not played"))
+        self.assertEqual(page.table[0]["keys got that open well"], "0")
+        self.assertIn("0 of 1 exchanges ended with both keys given", page.figures)
+
+    def test_a_wrong_key_is_told_and_pays_nothing(self):
+        wrong = TRADE.key(False, bytes(32))
+        diary = diary_of(ME, FIRST, FOURTH)
+        diary.trade(TRADE, 9, key_tick=10, keys=[wrong])
+        diary.send(made.datagram(EVIDENCE, ME, 0, made.evidence(TRADE.case(False), wrong)))
+        page = page_of(diary, evidence={str(PARTNER): made.evidence(TRADE.case(False), wrong)})
+        told = "asks peer 2, promises 1 update, is promised 1 update, was given a wrong key at tick 10"
+        self.assertEqual(page.words("balanced asks traded"), [f"round 2: {told}"])
+        self.assertEqual(page.marks[1], ("missed", "update 2 of round 1: not played"))
+        self.assertEqual(page.table[0]["keys got that open well"], "0")
+        self.assertEqual(page.words("alarm"), ["round 2: sends evidence to the broadcaster"])
+        self.assertIn("Evidence is kept against peer 2 by peer 1.", "".join(page.body.itertext()))
+
+    def test_exchanges_that_came_to_nothing(self):
+        push = Trade.push(Exchange(2, True, ME, 3), [[], [], [], []], 0)
+        asked = Trade.balanced(Exchange(2, False, 3, ME), [[], []], [[], []])
+        diary = diary_of(ME, FIRST)
+        diary.until(9)
+        diary.send(TRADE.request(), push.request())
+        diary.take(TRADE.answer(), asked.request())
+        diary.send(asked.answer())
+        page = page_of(diary)
+        self.assertEqual(page.words("balanced asks idle"), ["round 2: asks peer 2, nothing to trade"])
+        self.assertEqual(page.words("push asks idle"), ["round 2: offers to peer 3, no answer"])
+        self.assertEqual(page.words("balanced asked idle"), ["round 2: is asked by peer 3, nothing came of it"])
+
+    def test_a_push_with_junk(self):
+        push = Trade.push(Exchange(3, True, PARTNER, ME), [[Update(3, 0)], [], [Update(3, 0)], []], 1)
+        diary = diary_of(ME)
+        diary.until(first_tick(3))
+        diary.take_manifest(3)
+        diary.trade(push, 18, key_tick=18)
+        page = page_of(diary, played=bytes(2))
+        told = "is offered by peer 2, promises 1 junk item, is promised 1 update, was given the key at tick 18"
+        self.assertEqual(page.words("push asked traded"), [f"round 3: {told}"])
+        self.assertEqual(page.words("traded"), ["update 1 of round 3: played, came by a trade with peer 2 at tick 18"])
+
+
+class Sessions(unittest.TestCase):
+    def test_two_peers(self):
+        mine, other = diary_of(ME, FIRST, FOURTH), diary_of(PARTNER, SECOND, THIRD, FOURTH)
+        trade = Trade.balanced(Exchange(2, False, ME, PARTNER), [[FIRST, FOURTH], [SECOND, THIRD, FOURTH]], [[SECOND], [FIRST]])
+        for diary in (mine, other):
+            diary.trade(trade, 9, key_tick=9)
+            diary.send(trade.key(diary is mine))
+            diary.until(LAST_TICK)
+        page = Page({PARTNER: other.log(played=bytes(8)), ME: mine.log(played=bytes(6))})
+        took = [told for _, told in page.titles if "took" in told]
+        counts = ["1 peer", "1 peer", "1 peer", "2 peers", "0 peers", "0 peers", "0 peers", "0 peers"]
+        self.assertEqual([told.split(": ")[1] for told in took], [f"{count} took it from here" for count in counts])
+        self.assertEqual([line["peer"] for line in page.table], ["1", "2"])
+        self.assertEqual([line["updates played that came from the broadcaster"] for line in page.table], ["2", "3"])
+        self.assertEqual([line["updates played that came by trades"] for line in page.table], ["1", "1"])
+        self.assertEqual([line["exchanges started"] + line["exchanges answered"] for line in page.table], ["10", "01"])
+        self.assertEqual([line["keys given"] + line["keys got that open well"] for line in page.table], ["11", "11"])
+        self.assertIn("28.6% of the updates that were played came by trades", page.figures)
+        # four updates of two bytes, and four that nobody held, which count as full
+        self.assertEqual([line["part of the stream"] for line in page.table], [f"{part / (8 + 4 * 1022):.1%}" for part in (6, 8)])
+
+    def test_nothing_came(self):
+        diary = Diary(ME)
+        page = page_of(diary)
+        self.assertEqual((page.marks, page.table[0]["part of the stream"], page.table[0]["bytes played"]), ([], "–", "0"))
+        self.assertIn("0 of 0 exchanges ended with both keys given", page.figures)
+
+    def test_evidence_stands_in_the_order_of_parties(self):
+        diary = diary_of(ME)
+        page = Page({ME: diary.log(evidence={"10": b"", "2": b""})}, dataclasses.replace(SESSION, peers=12))
+        self.assertIn("against peer 2 by peer 1, peer 10 by peer 1.", "".join(page.body.itertext()))
+
+    def test_the_table_counts_datagrams(self):
+        diary = diary_of(ME, FIRST)
+        diary.send(TRADE.request())
+        (line,) = page_of(diary).table
+        sent, taken = len(TRADE.request()), 2 * len(made.manifest(1)) + len(made.block(ME, FIRST))
+        self.assertEqual([line["datagrams sent"], line["bytes sent"]], ["1", f"{sent:,}"])
+        self.assertEqual([line["datagrams taken"], line["bytes taken"]], ["3", f"{taken:,}"])
