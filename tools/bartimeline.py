@@ -206,9 +206,26 @@ def panel(chart, accounts):
 
 FONT = 'Inter, system-ui, -apple-system, "Segoe UI", "Helvetica Neue", Arial, sans-serif'
 
-STYLE = """
+# what a drawing needs, on the page and by itself
+DRAWING_STYLE = """
 :root { color-scheme: light; --ink: #1d2733; --soft: #64717f; --rule: #d8dee5; --faint: #edf0f3; --grey: #8593a1;
   --blue: #2b67a8; --amber: #b96d12; --green: #23845f; --alarm: #b23434 }
+svg { background: #fff } svg text { font: 11px FONT; fill: var(--ink) }
+svg .rule { stroke: var(--rule) } svg .faint { stroke: var(--faint) }
+svg .label { fill: var(--soft); text-anchor: end } svg .left { text-anchor: start } svg .middle { text-anchor: middle }
+svg .blue { fill: var(--blue) } svg .amber { fill: var(--amber) }
+svg .round { text-anchor: middle; font-weight: 600 } svg .late { fill: var(--soft); font-weight: 400 }
+svg .name { font-size: 19px; font-weight: 620 } svg .total { font-size: 15px; font-weight: 620; text-anchor: end }
+svg .partner { text-anchor: middle; font-size: 10.5px; font-weight: 620 }
+.balanced { --own: var(--blue) } .push { --own: var(--amber) } .alarm { fill: var(--alarm) } .key { fill: var(--ink) }
+.sign { stroke: var(--own); stroke-width: 1.2 } .asks .sign { fill: var(--own) } .asked .sign { fill: #fff }
+svg .asks .partner, svg .alarm .partner { fill: #fff } svg .asked .partner { fill: var(--own) }
+.idle { opacity: .32 }
+rect.straight { fill: var(--grey) } rect.traded { fill: var(--green) } rect.missed { fill: #fff; stroke: var(--rule) }
+rect.gone { fill: #f2f4f6; opacity: .85 }
+""".replace("FONT", FONT)
+
+PAGE_STYLE = """
 * { box-sizing: border-box }
 body { margin: 0; background: #fff; color: var(--ink); font: 15px/1.5 FONT; font-variant-numeric: tabular-nums }
 main { max-width: 1200px; margin: 0 auto; padding: 32px 20px 48px }
@@ -228,19 +245,6 @@ p { margin: 0 0 8px }
 figure { margin: 0 0 18px; overflow-x: auto }
 svg { display: block }
 figure svg { width: 100%; min-width: 1080px }
-svg text { font: 11px FONT; fill: var(--ink) }
-svg .rule { stroke: var(--rule) } svg .faint { stroke: var(--faint) }
-svg .label { fill: var(--soft); text-anchor: end } svg .left { text-anchor: start } svg .middle { text-anchor: middle }
-svg .blue { fill: var(--blue) } svg .amber { fill: var(--amber) }
-svg .round { text-anchor: middle; font-weight: 600 } svg .late { fill: var(--soft); font-weight: 400 }
-svg .name { font-size: 19px; font-weight: 620 } svg .total { font-size: 15px; font-weight: 620; text-anchor: end }
-svg .partner { text-anchor: middle; font-size: 10.5px; font-weight: 620 }
-.balanced { --own: var(--blue) } .push { --own: var(--amber) } .alarm { fill: var(--alarm) } .key { fill: var(--ink) }
-.sign { stroke: var(--own); stroke-width: 1.2 } .asks .sign { fill: var(--own) } .asked .sign { fill: #fff }
-svg .asks .partner, svg .alarm .partner { fill: #fff } svg .asked .partner { fill: var(--own) }
-.idle { opacity: .32 }
-rect.straight { fill: var(--grey) } rect.traded { fill: var(--green) } rect.missed { fill: #fff; stroke: var(--rule) }
-rect.gone { fill: #f2f4f6; opacity: .85 }
 table { border-collapse: collapse; font-size: 14px; width: 100% }
 th, td { text-align: right; padding: 5px 10px; border-bottom: 1px solid var(--faint) }
 th { font-weight: 500; color: var(--soft); border-color: var(--rule); vertical-align: bottom }
@@ -358,17 +362,33 @@ def subtitle(session):
     return html.escape(" · ".join([*told, f"id {session.id}"]))
 
 
-def page(session, logs):
-    """The page of a session, by the logs of its peers."""
-    accounts = [Account(session, party, log) for party, log in sorted(logs.items())]
+def charts_of(session, accounts):
+    """The drawings of a session, each of as many rounds as stand beside each other."""
     released = set().union(*(account.digests for account in accounts))
     contents = {update: arrival.content for account in accounts for update, arrival in account.held.items()}
     length = sum(contents.get(update, CONTENT) for update in released)
     firsts = range(1, session.ends + 1, MOST_COLUMNS)
-    charts = [Chart(session, released, length, range(first, min(first + MOST_COLUMNS, session.ends + 1))) for first in firsts]
+    return [Chart(session, released, length, range(first, min(first + MOST_COLUMNS, session.ends + 1))) for first in firsts]
+
+
+def accounts_of(session, logs):
+    return [Account(session, party, log) for party, log in sorted(logs.items())]
+
+
+def picture(session, logs):
+    """The drawing of a session's first rounds by itself, as an SVG file."""
+    accounts = accounts_of(session, logs)
+    drawn = panel(charts_of(session, accounts)[0], accounts)
+    return drawn.replace("<svg", '<svg xmlns="http://www.w3.org/2000/svg"', 1).replace(">", f">{tag('style', DRAWING_STYLE)}", 1) + "\n"
+
+
+def page(session, logs):
+    """The page of a session, by the logs of its peers."""
+    accounts = accounts_of(session, logs)
+    charts = charts_of(session, accounts)
     parts = [tag("h1", "A session, as its peers recorded it"), tag("p", subtitle(session), class_="soft")]
     parts += [figures(charts[0], accounts), legend(), *(tag("figure", panel(chart, accounts)) for chart in charts), *notes(accounts)]
     reading = [tag("p", said.format(life=session.life, fanout=counted(session.fanout, "peer"))) for said in READING]
     parts += [tag("h2", "How to read it"), tag("div", *reading, class_="reading"), tag("h2", "Each peer"), table(charts[0], accounts)]
     head = f'<meta charset="utf-8"><meta name="viewport" content="width=device-width"><title>Session {html.escape(session.id)}</title>'
-    return f'<!doctype html>\n<html lang="en"><head>{head}<style>{STYLE}</style></head>\n<body>{tag("main", *parts)}</body></html>\n'
+    return f'<!doctype html>\n<html lang="en"><head>{head}<style>{DRAWING_STYLE}{PAGE_STYLE}</style></head>\n<body>{tag("main", *parts)}</body></html>\n'
