@@ -185,3 +185,14 @@ class Sessions(unittest.TestCase):
         sent, taken = len(TRADE.request()), 2 * len(made.manifest(1)) + len(made.block(ME, FIRST))
         self.assertEqual([line["datagrams sent"], line["bytes sent"]], ["1", f"{sent:,}"])
         self.assertEqual([line["datagrams taken"], line["bytes taken"]], ["3", f"{taken:,}"])
+
+
+class Picture(unittest.TestCase):
+    def test_it_is_the_drawing_of_the_page_by_itself(self):
+        diary = diary_of(ME, FIRST)
+        diary.until(LAST_TICK)
+        logs = {ME: diary.log(played=bytes(1022))}
+        drawn = xml.etree.ElementTree.fromstring(bartimeline.picture(SESSION, logs))
+        self.assertEqual(drawn.tag, "{http://www.w3.org/2000/svg}svg")
+        titles = [it.text for it in drawn.iter("{http://www.w3.org/2000/svg}title")]
+        self.assertEqual(titles, [told for _, told in Page(logs).titles])
