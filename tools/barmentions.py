@@ -48,7 +48,7 @@ class Subject:
 
     @classmethod
     def of(cls, passage, document, sources, placeholders):
-        linked = {document.crate, *passage.names_of(rf"\(crates/({CRATE})/README\.md\)")} & sources.crates.keys()
+        linked = {document.crate, *passage.names_of(r"\(crates/(\w+)/README\.md\)")} & sources.crates.keys()
         crates = frozenset(linked | (sources.crates.keys() & passage.names_of(CRATE)) if linked else ())
         below = frozenset().union(*(sources.crates[crate] for crate in crates))
         return cls(crates, below, tuple(passage.names_of(r"\btools/[\w-]+")), placeholders)

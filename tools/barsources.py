@@ -114,7 +114,7 @@ class Sources:
             if words[0] == "std" or words[0] in self.ported or words[0] == "Rattle" and words[1] not in self.crates:
                 self.library.update(words)
             if " as " in used and "{" not in used:
-                self.aliases[words[-1]].update(words[:-2])
+                self.aliases[words[-1]].add([word for word in words[:-2] if word != "TheVariants"][-1])
         self.library.update(KEPT.findall(text), *(re.findall(r"\w+", names) for names in DERIVES.findall(text)))
 
     def prints(self, text):

@@ -248,6 +248,12 @@ class Names(Repository):
     def test_a_name_in_another_crate(self):
         self.assert_found(self.added("README.md", "It is `double` of `bar_large`."), "`double` of `bar_large`")
 
+    def test_another_name_for_a_module(self):
+        uses = "use Rattle.bar_small.specs.Doubling as doubling\n" + FILES["crates/bar_large/specs/Evens.antt"]
+        for name, found in [("doubling.Doubled", 0), ("doubling.Even", 1)]:
+            changes = {"crates/bar_large/specs/Evens.antt": uses, "README.md": f"{README}\nIt has `{name}`.\n"}
+            self.assertEqual(len(self.check(changes)[1]), found, name)
+
     def test_a_word_of_a_calculation(self):
         self.assert_found(self.changed("crates/bar_small/README.md", "2 * left", "2 * middle"), "`2 * middle`")
 
