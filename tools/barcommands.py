@@ -103,13 +103,13 @@ class Commands:
 
     def fault_of_command(self, words, folder):
         """What is wrong with a command in a folder, if anything: the program, a run of it by the toolchain, a script, or any other."""
+        lacking = [word for word in words if folder and self.is_lacking(word, folder)]
+        if lacking:
+            return f"there is no file `{lacking[0]}`"
         if is_program(words[0]):
             return self.fault_of_program(words[1:])
         if words[0] == "rt" and "--" in words:
             return self.fault_of_program(words[words.index("--") + 1 :])
-        lacking = [word for word in words if folder and self.is_lacking(word, folder)]
-        if lacking:
-            return f"there is no file `{lacking[0]}`"
         return self.fault_of_script(words) if words[0].startswith("tools/") and options_in(words) else None
 
     def is_lacking(self, word, folder):

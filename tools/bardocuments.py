@@ -63,14 +63,17 @@ class Passage:
     def mentions(self):
         """What it names between backticks."""
         for row in ROW.finditer(self.text):
-            word = WORD_BEFORE.search(self.text, 0, row.start())
-            owners = self.owners_before(word.start(), row.end(), word[1] or "")
-            spans = list(re.finditer(SPAN, row[0]))
-            for count, span in enumerate(spans, 1):
-                # of a row that itself tells where something stands, its last name alone goes on
-                all_go_on = word[1] not in ("of", "in")
-                whose = owners or (self.owner_behind(row.end()) if all_go_on or count == len(spans) else ())
-                yield Mention(" ".join(span[0][1:-1].splitlines()), self.line_at(row.start() + span.start()), whose, word[1] or "")
+            yield from self.mentions_of(row)
+
+    def mentions_of(self, row):
+        """The names of a row, with what stands beside it. Of a row that itself tells an owner, its last name alone goes on."""
+        word = WORD_BEFORE.search(self.text, 0, row.start())
+        before = self.owners_before(word.start(), row.end(), word[1] or "")
+        spans = list(re.finditer(SPAN, row[0]))
+        for count, span in enumerate(spans, 1):
+            goes_on = word[1] not in ("of", "in") or count == len(spans)
+            owners = before or (self.owner_behind(row.end()) if goes_on else ())
+            yield Mention(" ".join(span[0][1:-1].splitlines()), self.line_at(row.start() + span.start()), owners, word[1] or "")
 
     def owners_before(self, start, end, word):
         """To what a row belongs by what stands before it: `owner`: `a`, `b`; `owner`'s `a`; `owner`, clause `a`."""

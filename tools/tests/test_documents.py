@@ -305,6 +305,9 @@ class Commands(Repository):
     def test_a_file_in_a_block(self):
         self.assert_found(self.changed("README.md", "cd crates/bar &&", "cmp docs/FORMATS.md docs/MORE.md &&"), "no file `docs/MORE.md`")
 
+    def test_a_file_of_the_program_in_a_block(self):
+        self.assert_found(self.changed("README.md", "-- count --from 2", "-- count --from src/two"), "no file `src/two`")
+
     def test_a_file_below_the_folder_of_a_block(self):
         self.assertEqual(self.changed("README.md", "cd crates/bar &&", "cd crates/bar && cat ../../docs/FORMATS.md &&"), [])
 
