@@ -81,11 +81,11 @@ class Commands:
         return self.fault_of_command(words, self.sources.root)
 
     def fault_of_option(self, option, scripts):
-        """An option that stands alone is one of the scripts that its passage names, or of a command of the program."""
+        """An option that stands alone is one of the scripts that its passage names, else of any script; or of a command of the program."""
         of_program = {f"--{name}" for names in self.sources.commands.values() for name in names}
-        if option in of_program or any(option in (self.options_of(script) or ()) for script in scripts):
+        if option in of_program or any(option in (self.options_of(script) or ()) for script in scripts or self.sources.scripts()):
             return None
-        return f"there is no option `{option}` of {' or '.join([*scripts, 'the program'])}"
+        return f"there is no option `{option}` of {' or '.join(scripts) or 'any script'} or of the program"
 
     def fault_of_program(self, words, is_whole=True):
         """What is wrong with a line of the program. A whole one has each option of its command once."""

@@ -5,6 +5,7 @@ of these crates or in one below them; what any other passage names, in any crate
 or without its ending.
 """
 import dataclasses
+import fnmatch
 import re
 
 from barcommands import SYSTEM
@@ -147,8 +148,8 @@ class Lookup:
             return subject.allows(crates)
         if not FILE.fullmatch(text):
             return text.startswith(("/", "$"))
-        pattern = re.sub(r"\b[A-Z]+(?=/)", "*", text)
-        is_pattern = "*" in pattern.partition("/")[2] and any(self.sources.root.glob(pattern))
+        pattern = re.sub(r"(?<=/)[A-Z]+(?=/)", "*", text)
+        is_pattern = "*" in pattern and any(fnmatch.fnmatch(path, pattern) for path in self.sources.paths)
         return is_pattern or self.sources.is_ignored(self.sources.root / text) or self.is_made(text)
 
     def is_made(self, text):

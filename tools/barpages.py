@@ -1,5 +1,4 @@
 """What README.md and docs/FORMATS.md have to have, and the words that no document has."""
-import os
 import re
 
 from bardocuments import Fault
@@ -9,11 +8,6 @@ CRATE_COLUMNS = 140
 WORDS = re.compile(r"\b(?:yet|TODO|today)\b", re.IGNORECASE)
 # a row of the table of statuses: the status, and its line
 STATUS = re.compile(r"\| (\d+) \| (?:`([^`]+)` )?\|")
-
-
-def scripts_of(root):
-    paths = (path for path in (root / "tools").iterdir() if path.is_file() and not path.suffix)
-    return sorted(f"tools/{path.name}" for path in paths if os.access(path, os.X_OK))
 
 
 def faults_of_crate(crate, readme, root):
@@ -36,7 +30,7 @@ def faults_of_readme(readme, sources):
         yield Fault(readme.name, count, f"it has {count} lines, more than {README_LINES}")
     for crate in sources.crates:
         yield from faults_of_crate(crate, readme, sources.root)
-    wanted = [*scripts_of(sources.root), *(f"docs/{path.name}" for path in sorted(sources.root.glob("docs/*.md")))]
+    wanted = [*sources.scripts(), *(f"docs/{path.name}" for path in sorted(sources.root.glob("docs/*.md")))]
     lacking = [name for name in wanted if not re.search(rf"(?<![\w/]){re.escape(name)}(?![\w-])", readme.text)]
     yield from (Fault(readme.name, count, f"it doesn't name {name}") for name in lacking)
 

@@ -43,6 +43,7 @@ class Sources:
         self.read_files()
         self.texts.discard("")
         self.patterns = [*patterns_of(self.texts), *patterns_of(self.script_texts)]
+        self.fronts = {front for text in self.script_texts if re.search(r"[A-Za-z]{2}", front := text.partition("{")[0])}
 
     def lines_of(self, name):
         path = self.root / name
@@ -94,7 +95,7 @@ class Sources:
 
     def read_script(self, text, ending):
         if ending == ".py" or "python" in text.partition("\n")[0]:
-            self.script_texts.update(each for each in script_texts_of(text) if re.search(r"\w\W+\w", each))
+            self.script_texts.update(each for each in script_texts_of(text) if re.search(r"\W", each))
 
     def read_source(self, text, ending, crate, owners):
         for each in definitions_of(text, ending, crate, owners):
@@ -117,12 +118,18 @@ class Sources:
                 self.aliases[words[-1]].add([word for word in words[:-2] if word != "TheVariants"][-1])
         self.library.update(KEPT.findall(text), *(re.findall(r"\w+", names) for names in DERIVES.findall(text)))
 
+    def scripts(self):
+        """The scripts of tools/."""
+        paths = (path for path in (self.root / "tools").iterdir() if path.is_file() and not path.suffix)
+        return sorted(f"tools/{path.name}" for path in paths if os.access(path, os.X_OK))
+
     def prints(self, text):
         """Whether a text has this line: as it stands, with parts filled in, in two parts, or with a number or what stands for one."""
         cuts = [place for place, letter in enumerate(text) if letter == " "]
         return (
             text in self.texts
             or text in self.script_texts
+            or text in self.fronts
             or any(pattern.fullmatch(text) for pattern in self.patterns)
             or any(text[:place] in self.texts and text[place:] in self.texts for place in cuts)
             or any(text[: place + 1] in self.texts and re.fullmatch(r"[A-Z]+|\d+", text[place + 1 :]) for place in cuts)

@@ -261,10 +261,14 @@ class Names(Repository):
         self.assert_found(self.changed("docs/FORMATS.md", "`N counted`", "`counted N`"), "`counted N`")
 
     def test_what_scripts_make_and_print(self):
-        line = "It makes `FOLDER/page.html` and prints `party P is drawn`; `git log` has no `/tmp/page`."
+        line = "It makes `FOLDER/page.html` and prints `party P is drawn`, from `party ` on; `git log` has no `/tmp/page`."
         self.assertEqual(self.added("README.md", line), [])
         self.assert_found(self.added("README.md", line.replace("page.html", "page.svg")), "`FOLDER/page.svg`")
         self.assert_found(self.added("README.md", line.replace("is drawn", "was drawn")), "`party P was drawn`")
+
+    def test_files_by_a_pattern(self):
+        self.assertEqual(self.added("README.md", "Such are `docs/*.md`, `specs/E*.antt` and `crates/NAME/README.md`."), [])
+        self.assert_found(self.added("README.md", "Such are `docs/*.txt`."), "`docs/*.txt`")
 
     def test_a_link_to_nothing(self):
         self.assert_found(self.added("README.md", "See [more](docs/MORE.md)."), "the link goes to `docs/MORE.md`")
@@ -293,7 +297,9 @@ class Commands(Repository):
         self.assert_found(self.added("README.md", "`tools/greet --quiet` greets."), "`tools/greet` has no option `--quiet`")
 
     def test_an_option_alone(self):
-        self.assert_found(self.changed("README.md", "`--loud`", "`--low`"), "no option `--low` of tools/greet or the program")
+        self.assert_found(self.changed("README.md", "`--loud`", "`--low`"), "no option `--low` of tools/greet or of the program")
+        self.assertEqual(self.added("docs/FORMATS.md", "Some have `--loud`."), [])
+        self.assert_found(self.added("docs/FORMATS.md", "Some have `--low`."), "no option `--low` of any script or of the program")
 
     def test_a_script_without_help(self):
         faults = self.check({"tools/greet": "#!/bin/sh\nexit 3\n", "README.md": README.replace("```sh run\n", "```sh\n")})[1]
