@@ -18,6 +18,13 @@ KEPT = re.compile(r"^impl\b.*?(\w+)(?:<[^{]*>)? for ", re.MULTILINE)
 OPTIONS = re.compile(r"const (\w+)_OPTIONS: [^=]+= \[([^\]]*)\];")
 
 
+def is_telling(text):
+    """Whether a script's text is a line or a file's name: more than a word, not mostly filled in, and no path that is filled in."""
+    words = re.findall(r"[A-Za-z]{2,}", re.sub(r"\{[^{}]*\}", " ", text))
+    is_filled_path = "/" in text and "{" in text and " " not in text
+    return re.search(r"\W", text) is not None and not is_filled_path and (len(words) > 1 or text[0].isalpha())
+
+
 class Sources:
     """The index of a repository."""
 
@@ -95,7 +102,7 @@ class Sources:
 
     def read_script(self, text, ending):
         if ending == ".py" or "python" in text.partition("\n")[0]:
-            self.script_texts.update(each for each in script_texts_of(text) if re.search(r"\W", each))
+            self.script_texts.update(each for each in script_texts_of(text) if is_telling(each))
 
     def read_source(self, text, ending, crate, owners):
         for each in definitions_of(text, ending, crate, owners):

@@ -135,13 +135,19 @@ if [ "$1" = --loud ]; then echo HELLO; else echo hello; fi
 echo "room $room"
 """
 
+DRAWING = """def draw(folder, party):
+    folder.joinpath("page.html").touch()
+    folder.joinpath(f"docs/{party}.md").touch()
+    print(f"party {party} is drawn")
+"""
+
 FILES = {
     "README.md": README,
     "docs/FORMATS.md": FORMATS,
     "crates.txt": "# ground\nbar_small: sha2\n\n# program\nbar_large: bar_small\nbar: bar_large\n",
     ".gitignore": "crates/*/out/\n",
     "tools/greet": GREET,
-    "tools/drawing.py": 'def draw(folder, party):\n    (folder / "page.html").touch()\n    print(f"party {party} is drawn")\n',
+    "tools/drawing.py": DRAWING,
     "crates/bar_small/README.md": SMALL,
     "crates/bar_small/src/pairs.rt": PAIRS,
     "crates/bar_small/specs/Doubling.antt": "-- Doubles.\nabbrev pub Doubled : ℕ → ℕ → Type 0\nDoubled n m = m ≡ 2 * n\n",
