@@ -1,0 +1,76 @@
+"""What README.md and docs/FORMATS.md have to have, and the words that no document has."""
+import re
+
+from bardocuments import Fault
+
+README_LINES = 120
+CRATE_COLUMNS = 140
+WORDS = re.compile(r"\b(?:yet|TODO|today)\b", re.IGNORECASE)
+# a row of the table of statuses: the status, and its line
+STATUS = re.compile(r"\| (\d+) \| (?:`([^`]+)` )?\|")
+
+
+def faults_of_crate(crate, readme, root):
+    """A crate has one short line in README.md, with a link to its own document."""
+    own = f"crates/{crate}/README.md"
+    lines = [(number, line) for number, line in enumerate(readme.text.splitlines(), 1) if f"]({own})" in line]
+    first = lines[0][0] if lines else 1
+    if not (root / own).exists():
+        yield Fault(readme.name, first, f"there is no {own}")
+    if len(lines) != 1:
+        yield Fault(readme.name, first, f"{len(lines)} lines have a link to {own}, instead of one")
+    long = [(number, len(line)) for number, line in lines if len(line) > CRATE_COLUMNS]
+    yield from (Fault(readme.name, number, f"the line has {columns} columns, more than {CRATE_COLUMNS}") for number, columns in long)
+
+
+def faults_of_readme(readme, sources):
+    """README.md is short; each crate has its line there, and each script and document is named."""
+    count = readme.text.count("\n")
+    if count > README_LINES:
+        yield Fault(readme.name, count, f"it has {count} lines, more than {README_LINES}")
+    for crate in sources.crates:
+        yield from faults_of_crate(crate, readme, sources.root)
+    wanted = [*sources.scripts(), *(f"docs/{path.name}" for path in sorted(sources.root.glob("docs/*.md")))]
+    lacking = [name for name in wanted if not re.search(rf"(?<![\w/]){re.escape(name)}(?![\w-])", readme.text)]
+    yield from (Fault(readme.name, count, f"it doesn't name {name}") for name in lacking)
+
+
+def statuses_of(sources):
+    """The exit statuses by the program's own definitions, with the beginnings of their lines on standard error."""
+    texts = {name: each.text for name in ("code_of", "said_at") for each in sources.definitions.get(name, ()) if "Status" in each.owners}
+    said = dict(re.findall(r"^said_at \(?(\w+).* = (?:\w+\.)?(\w+)", texts.get("said_at", ""), re.MULTILINE))
+    for variant, status in re.findall(r"^code_of \(?(\w+).* = (\d+)$", texts.get("code_of", ""), re.MULTILINE):
+        lines = "".join(each.text for each in sources.definitions.get(said.get(variant), ()))
+        yield status, next(iter(re.findall(r'"(bar: [^"\\]*)', lines)), "")
+
+
+def is_of_status(row, status, said):
+    """Whether a row is of a status, with a line that begins so, or with none."""
+    line = row[2] or ""
+    return row[1] == status and line.startswith(said) and bool(line) == bool(said)
+
+
+def faults_of_statuses(formats, sources):
+    """docs/FORMATS.md has a row for each exit status and its line, and no others."""
+    statuses = sorted(set(statuses_of(sources)))
+    rows = [(row, passage.line) for passage in formats.passages if (row := STATUS.match(passage.text))]
+    lacking = [status for status in statuses if not any(is_of_status(row, *status) for row, _ in rows)]
+    yield from (Fault(formats.name, 1, f"it has no row of status {status} with the line `{said}`") for status, said in lacking)
+    wrong = [(row, line) for row, line in rows if not any(is_of_status(row, *status) for status in statuses)]
+    yield from (Fault(formats.name, line, f"the program has no status {row[1]} with the line `{row[2] or ''}`") for row, line in wrong)
+
+
+def faults_of_formats(formats, sources):
+    """docs/FORMATS.md has each command of the program, and its statuses."""
+    spans = [mention.text for _, mention in formats.mentions()]
+    lacking = [command for command in sources.commands if not any(span.startswith(f"bar {command} ") for span in spans)]
+    yield from (Fault(formats.name, 1, f"it has no line of the command `{command}`") for command in lacking)
+    yield from faults_of_statuses(formats, sources)
+
+
+def faults_of_words(document, allowed):
+    """No document has a word that tells of its own time, outside of the sentences that are allowed."""
+    sentences = re.compile("|".join(map(re.escape, allowed)) or "(?!)")
+    for passage in document.passages:
+        rest = sentences.sub(lambda cut: re.sub(r"[^\n]", " ", cut[0]), passage.text)
+        yield from (Fault(document.name, passage.line_at(word.start()), f"`{word[0]}` goes stale") for word in WORDS.finditer(rest))
