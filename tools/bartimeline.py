@@ -7,7 +7,7 @@ import dataclasses
 import hashlib
 import html
 
-from barsession import BLOCK, CASE, CONTENT, EVIDENCE, KEY, QUERY, REPLY, REQUEST, RESPONSE, SLOTS, head_of
+from barformats import BLOCK, CASE, CONTENT, EVIDENCE, KEY, QUERY, REPLY, REQUEST, RESPONSE, SLOTS, head_of
 
 # ---- what a peer did in its exchanges
 
