@@ -243,7 +243,7 @@ class KeyFile:
         wanted = {"id": session.id, "party": party, "rounds": session.rounds, "lms": session.lms, "ots": session.ots}
         others = [name for name, value in wanted.items() if getattr(self, name) != value]
         if others:
-            yield f"it isn't the session's key of party {party}, which has another {listed(others)}"
+            yield f"it has another {listed(others)} than party {party} of the session"
 
 
 # ---- recordings

@@ -118,7 +118,7 @@ class Ran:
     @property
     def told(self):
         """The status in words, with what the program said."""
-        said = self.said.decode(errors="replace").strip()
+        said = " ".join(self.said.decode(errors="replace").split())
         return f"status {self.status}: {told_of_status(self.status)}{f' ({said})' if said else ''}"
 
 

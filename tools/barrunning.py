@@ -47,8 +47,8 @@ def faults_of_keys(folder, session):
         except OSError as error:
             yield f"{folder.key(party)} can't be read: {error.strerror}"
     if spent:
-        whose = "all keys are" if len(spent) == len(session.parties) else f"the keys of the parties {listed(spent)} are"
-        yield f"{whose} spent, since a session was run in {folder.path}: a key serves one session, so {ANEW}"
+        keys = "all keys" if len(spent) == len(session.parties) else listed(f"key.{party}" for party in sorted(spent))
+        yield f"spent, since the session was run: {keys} in {folder.path}; a key serves one session, so {ANEW}"
 
 
 def faults_of_results(folder, session):
@@ -128,12 +128,18 @@ def compare(folder, session, program, parties):
 
 
 def compare_and_draw(folder, session, program):
-    """Replays each peer that left a recording and draws the session. Returns what differs, and what is said of the page."""
+    """Replays each peer that left a recording and draws the session. Returns what differs or fails, and what is said of the page."""
     parties = [party for party in session.parties[:-1] if folder.recording(party).exists()]
-    logs, differ = compare(folder, session, program, parties) if parties else ({}, [])
+    try:
+        logs, differ = compare(folder, session, program, parties) if parties else ({}, [])
+    except OSError as error:
+        return [f"the recordings can't be replayed: {told_of(error)}"], "there is no page"
     if not logs:
         return differ, "there is no page, since nobody left a recording that is replayed"
-    folder.page.write_text(bartimeline.page(session, logs))
+    try:
+        folder.page.write_text(bartimeline.page(session, logs))
+    except OSError as error:
+        return [*differ, f"{folder.page} can't be written: {error.strerror}"], "the page isn't whole"
     return differ, f"page {folder.page}"
 
 
@@ -155,10 +161,7 @@ def run_session(folder, session, program, kill=None):
     with watched(watch):
         statuses, status = run_parties(folder, program, begin)
     causes = [*causes_of(folder, session, statuses, status, kill)]
-    try:
-        differ, page = compare_and_draw(folder, session, program)
-    except OSError as error:
-        differ, page = [told_of(error)], "there is no page"
+    differ, page = compare_and_draw(folder, session, program)
     for line in lost_lines(watch.drops):
         say(line)
     if causes or differ:

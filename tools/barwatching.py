@@ -29,16 +29,15 @@ class Clock:
         self.session, self.begin, self.told, self.told_at = session, begin / 1000, None, -math.inf
 
     def line(self, now):
-        """The line that is due, or None."""
-        ahead = self.begin - now
-        number = math.floor(-ahead * 1000 / (SLOTS * self.session.tick_ms)) + 1
-        if ahead > 0:
-            line, pause = f"the session begins in {math.ceil(ahead)} s", WAIT
+        """The line that is due, or None. The first line on the rounds comes at once."""
+        number = math.floor((now - self.begin) * 1000 / (SLOTS * self.session.tick_ms)) + 1
+        if now < self.begin:
+            line, pause = f"the session begins in {math.ceil(self.begin - now)} s", WAIT
         else:
-            line, pause = f"round {number} of {self.session.ends}", LINE if self.told else 0
-        if number > self.session.ends or number == self.told or now < self.told_at + pause:
+            line, pause = f"round {number} of {self.session.ends}", LINE if self.told_at >= self.begin else 0
+        if number > self.session.ends or line == self.told or now < self.told_at + pause:
             return None
-        self.told, self.told_at = max(number, 0), now
+        self.told, self.told_at = line, now
         return line
 
 

@@ -4,6 +4,7 @@ import io
 import json
 import pathlib
 import signal
+import socket
 import subprocess
 import sys
 import tempfile
@@ -16,6 +17,7 @@ sys.path.insert(0, str(TOOLS))
 
 import barmaking  # noqa: E402  (the path of the tools is set above)
 import barscript  # noqa: E402
+from barsession import LOOPBACK  # noqa: E402
 
 ID = "0011223344556677"
 NUMBERS = {"peers": 2, "rounds": 1, "life": 2, "cap": 4, "per_round": 2, "fanout": 1, "tick_ms": 20, "lms": 5, "ots": 3}
@@ -96,6 +98,13 @@ def datagram(kind, sender, receiver, body=b"", session_id=ID):
     """The bytes of a datagram."""
     head = b"\xba\x47\x01" + bytes([kind]) + bytes.fromhex(session_id)
     return head + sender.to_bytes(2, "big") + receiver.to_bytes(2, "big") + body
+
+
+def bound(port):
+    """A socket that takes a port."""
+    taken = socket.socket(socket.AF_INET, socket.SOCK_DGRAM)
+    taken.bind((LOOPBACK, port))
+    return taken
 
 
 def lines_of(call):

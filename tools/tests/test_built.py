@@ -3,8 +3,7 @@ import re
 import tempfile
 import unittest
 
-from support import ROOT, RoomCase, lines_of
-from test_running import bound
+from support import ROOT, RoomCase, bound, lines_of
 
 import barformats
 import barprogram
@@ -34,7 +33,7 @@ class Sessions(RoomCase):
         status, last, out = self.run_session(folder, session)
         self.assertEqual((status, last), (0, f"OK: all parties ended with status 0, all replays agree, page {folder.page}"))
         self.assertEqual(sorted(line[:16] for line in out[:3]), ["party 0 status 0", "party 1 status 0", "party 2 status 0"])
-        self.assertIn("all keys are spent", self.reasons_of(lambda: barrunning.accept(folder))[0])
+        self.assertIn("spent, since the session was run: all keys", self.reasons_of(lambda: barrunning.accept(folder))[0])
 
     def test_a_peer_is_killed(self):
         folder, session = self.make_session(PROGRAM, life=4)

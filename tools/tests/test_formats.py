@@ -96,7 +96,7 @@ class Texts(unittest.TestCase):
     def test_key_file_of_another_session_or_party(self):
         session, key = Session.of_text(SESSION), KeyFile.of_text(KEY)
         self.assertEqual([*key.faults(session, 1)], [])
-        self.assertEqual([*key.faults(session, 2)], ["it isn't the session's key of party 2, which has another party"])
+        self.assertEqual([*key.faults(session, 2)], ["it has another party than party 2 of the session"])
 
     def test_faults_of_a_key_file(self):
         self.assertEqual(self.fault_of(KeyFile.of_text, KEY.replace(b"party = 1", b"party = 201")).split(":")[0], "party is 201")

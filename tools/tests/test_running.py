@@ -3,12 +3,11 @@ import errno
 import pathlib
 import shutil
 import signal
-import socket
 import tempfile
 import unittest
 from unittest import mock
 
-from support import NUMBERS, RoomCase, datagram, fake_program, lines_of
+from support import NUMBERS, RoomCase, bound, datagram, fake_program, lines_of
 
 import barcauses
 import barmaking
@@ -17,13 +16,6 @@ import barscript
 import barsession
 from barformats import KEYREQ, room_of
 from barprogram import Status
-
-
-def bound(port):
-    """A socket that takes a port."""
-    taken = socket.socket(socket.AF_INET, socket.SOCK_DGRAM)
-    taken.bind((barsession.LOOPBACK, port))
-    return taken
 
 
 class SessionCase(RoomCase):
@@ -74,10 +66,10 @@ class Refusals(SessionCase):
 
     def test_keys_that_are_spent(self):
         self.change_key(2, "spent = false", "spent = true")
-        self.assertIn("the keys of the parties 2 are spent", self.refused()[0])
+        self.assertIn(f"spent, since the session was run: key.2 in {self.folder.path}; a key serves one session", self.refused()[0])
         for party in (0, 1):
             self.change_key(party, "spent = false", "spent = true")
-        self.assertIn("all keys are spent, since a session was run", self.refused()[0])
+        self.assertIn("spent, since the session was run: all keys in ", self.refused()[0])
 
     def test_keys_that_are_others(self):
         self.change_key(0, "lms = 5", "lms = 6")
@@ -85,9 +77,9 @@ class Refusals(SessionCase):
         self.change_key(2, "spent = false", "spent")
         reasons = self.refused()
         self.assertEqual(len(reasons), 3)
-        self.assertIn("key.1 is no key of this session: it isn't the session's key of party 1, which has another party; make", reasons[0])
+        self.assertIn("key.1 is no key of this session: it has another party than party 1 of the session; make", reasons[0])
         self.assertIn("key.2 is no key of this session: it is no TOML", reasons[1])
-        self.assertIn("key.0 is no key of this session: it isn't the session's key of party 0, which has another lms; make", reasons[2])
+        self.assertIn("key.0 is no key of this session: it has another lms than party 0 of the session; make", reasons[2])
 
     def test_a_stream_larger_than_its_room(self):
         self.folder.stream.write_bytes(bytes(self.session.room + 1))
@@ -203,7 +195,7 @@ class Outcomes(SessionCase):
         self.assertTrue(self.folder.page.read_text().startswith("<!doctype html>"))
         self.assertEqual(err[-1], "replays: 2 of 2")
         self.assertRegex(err[0], "^the session begins in [0-9]+ s$")
-        self.assertIn("all keys are spent", self.reasons_of(lambda: barrunning.accept(self.folder))[0])
+        self.assertIn("spent, since the session was run: all keys", self.reasons_of(lambda: barrunning.accept(self.folder))[0])
 
     def test_a_party_that_fails(self):
         with bound(self.session.port + 2):
@@ -250,7 +242,7 @@ class Outcomes(SessionCase):
     def test_a_page_that_cannot_be_written(self):
         self.folder.page.mkdir()
         outcome, _, _ = self.run_session()
-        self.assertEqual((outcome.status, *outcome.lines), (1, f"FAILED: Is a directory: {self.folder.page}"))
+        self.assertEqual((outcome.status, *outcome.lines), (1, f"FAILED: {self.folder.page} can't be written: Is a directory"))
 
 
 class Ends(unittest.TestCase):

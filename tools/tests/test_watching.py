@@ -42,6 +42,12 @@ class Clocks(unittest.TestCase):
         lines = [slow.line(second) for second in range(24)]
         self.assertEqual([line for line in lines if line], ["round 1 of 17", "round 2 of 17", "round 3 of 17"])
 
+    def test_the_wait_before_long_rounds(self):
+        slow = barwatching.Clock(Session(ID, 10, 6, 1, 1, 1, 26_144, 60_000, 6, 3, 2), 100_000)
+        lines = [slow.line(second) for second in range(75, 110, 5)]
+        self.assertEqual(lines[::2], ["the session begins in 25 s", "the session begins in 15 s", "the session begins in 5 s", None])
+        self.assertEqual(lines[1::2], [None, None, "round 1 of 17"])
+
     def test_nothing_behind_the_end(self):
         self.assertEqual(self.lines(106.5, 106.9, 108), ["round 17 of 17"])
 
