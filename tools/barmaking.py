@@ -9,6 +9,7 @@ import shutil
 
 from barformats import NUMBERS, Session, faults_of_length, faults_of_numbers
 from barprogram import spread
+from barscript import held
 from barsession import Folder, free_port, make_key
 
 # the numbers of a session for which none are given
@@ -77,19 +78,26 @@ def faults_of_seed(seed):
 def new_folder(path):
     """Makes a folder, for its owner alone, and those above it that aren't there. Nothing of them is left where the block fails."""
     above = [parent for parent in path.absolute().parents if not parent.exists()]
-    mask = os.umask(0o077)
+    mask, made = os.umask(0o077), False
     try:
-        path.mkdir(parents=True)
-        try:
-            yield Folder(path)
-        except BaseException:
-            shutil.rmtree(path)
-            with contextlib.suppress(OSError):
-                for parent in above:
-                    parent.rmdir()
-            raise
+        with held():
+            path.mkdir(parents=True)
+            made = True
+        yield Folder(path)
+    except BaseException:
+        if made:
+            remove(path, above)
+        raise
     finally:
         os.umask(mask)
+
+
+def remove(folder, above):
+    """Removes a folder with all that is in it, and those above it in which nothing else is left."""
+    with contextlib.suppress(OSError):
+        shutil.rmtree(folder)
+        for parent in above:
+            parent.rmdir()
 
 
 def derived(seed, what):
@@ -124,7 +132,7 @@ def make(wanted, program):
         return folder, Session.read(folder.session)
 
 
-def told_of(folder, session):
+def summary_of(folder, session):
     """What was made, in words."""
     length = folder.stream.stat().st_size
     return f"session {session.id}: {session.peers} peers, {session.seconds:.1f} s, a stream of {length} bytes in a room of {session.room}"
