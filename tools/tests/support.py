@@ -15,9 +15,10 @@ TOOLS = pathlib.Path(__file__).resolve().parent.parent
 ROOT = TOOLS.parent
 sys.path.insert(0, str(TOOLS))
 
-import barmaking  # noqa: E402  (the path of the tools is set above)
-import barscript  # noqa: E402
-from barsession import LOOPBACK  # noqa: E402
+# these are found by the path above
+import barmaking
+import barscript
+from barsession import LOOPBACK
 
 ID = "0011223344556677"
 NUMBERS = {"peers": 2, "rounds": 1, "life": 2, "cap": 4, "per_round": 2, "fanout": 1, "tick_ms": 20, "lms": 5, "ots": 3}
