@@ -3,6 +3,7 @@ import contextlib
 import io
 import json
 import pathlib
+import shlex
 import signal
 import socket
 import subprocess
@@ -23,74 +24,13 @@ from barsession import LOOPBACK
 ID = "0011223344556677"
 NUMBERS = {"peers": 2, "rounds": 1, "life": 2, "cap": 4, "per_round": 2, "fanout": 1, "tick_ms": 20, "lms": 5, "ots": 3}
 
-# a program with the words of `bar`, which does what the file beside it tells for each command
-FAKE = '''#!{python} -IS
-import json, pathlib, sys
-ways = json.loads(pathlib.Path(__file__ + ".json").read_text())
-command, rest = sys.argv[1], sys.argv[2:]
-options = dict(zip((word[2:] for word in rest[::2]), rest[1::2]))
-
-def keygen():
-    if "keygen_seconds" in ways:
-        __import__("time").sleep(ways["keygen_seconds"])
-    numbers = "".join(f"{{name}} = {{options[name]}}\\n" for name in ("party", "rounds", "lms", "ots"))
-    secret = pathlib.Path(options["secret"]).read_bytes().hex()
-    text = f'version = 1\\nid = "{{options["id"]}}"\\n{{numbers}}secret = "{{secret}}"\\nspent = false\\n'
-    pathlib.Path(options["key"]).write_text(text)
-    print(f'key = "{{int(options["lms"]):08x}}{{int(options["ots"]):08x}}{{secret}}{{secret[:32]}}"')
-    if options["party"] != "0":
-        print(f'anchor = "{{secret}}"')
-
-def session():
-    import subprocess, tomllib
-    text = tomllib.loads(pathlib.Path(options["session"]).read_text())
-    if ways.get("hang"):
-        child = subprocess.Popen(["sleep", "60"])
-        pathlib.Path(ways["hang"]).write_text(str(child.pid))
-        child.wait()
-    for party in [*range(1, len(text["peer"]) + 1), 0]:
-        run_party(party, bytes.fromhex(text["id"]))
-    return 9 if any(ways.get("statuses", {{}}).values()) else 0
-
-def run_party(party, session_id):
-    status = ways.get("statuses", {{}}).get(str(party), 0)
-    key = pathlib.Path(f"{{options['keys']}}.{{party}}")
-    if status == 0:
-        key.write_text(key.read_text().replace("spent = false", "spent = true"))
-    if status == 0 and party:
-        results = options["results"]
-        datagrams = [bytes.fromhex(datagram) for datagram in ways.get("taken", {{}}).get(str(party), [])]
-        entries = b"".join(b"\\x02" + len(it).to_bytes(2, "big") + it for it in datagrams)
-        head = b"BARL\\x01" + session_id + party.to_bytes(2, "big")
-        pathlib.Path(f"{{results}}.{{party}}.recording").write_bytes(head + b"\\x01" + entries + b"\\x00")
-        pathlib.Path(f"{{results}}.{{party}}.played").write_bytes(b"played")
-        pathlib.Path(f"{{results}}.{{party}}.table").write_bytes(b"")
-    print(f"party {{party}} status {{status}}", flush=True)
-
-def replay():
-    party = pathlib.Path(options["recording"]).read_bytes()[14]
-    pathlib.Path(options["played"]).write_bytes(ways.get("replayed", "played").encode())
-    pathlib.Path(options["found"] + ".table").write_bytes(b"")
-    for datagram in ways.get("sent", {{}}).get(str(party), []):
-        print(1, int(datagram[28:32], 16), datagram)
-
-def other():
-    print(ways["printed"], end="")
-
-status = ways.get("status", {{}}).get(command)
-if status:
-    if command != "session":
-        print("bar: it fails", file=sys.stderr)
-    sys.exit(status)
-sys.exit({{"keygen": keygen, "session": session, "replay": replay}}.get(command, other)() or 0)
-'''
-
 
 def fake_program(room, **ways):
-    """A program that stands for `bar` and does what these ways tell."""
-    path = room / "bar"
-    path.write_text(FAKE.format(python=sys.executable))
-    path.with_name("bar.json").write_text(json.dumps(ways))
+    """A program in this folder that stands for `bar`, and does what these ways tell."""
+    path, told = room / "bar", room / "bar.json"
+    told.write_text(json.dumps(ways))
+    words = shlex.join([sys.executable, "-IS", str(TOOLS / "tests/fake_bar.py"), str(told)])
+    path.write_text(f'#!/bin/sh\nexec {words} "$@"\n')
     path.chmod(0o755)
     return path
 

@@ -101,7 +101,7 @@ class Makings(RoomCase):
         self.assertEqual((err[0], err[-1]), ("keys: 1 of 3", "keys: 3 of 3"))
 
     def test_a_failing_program_leaves_nothing(self):
-        program, mask = fake_program(self.room, status={"keygen": 70}), os.umask(0o022)
+        program, mask = fake_program(self.room, status={"keygen": 70}, said="bar: it fails\n"), os.umask(0o022)
         os.umask(mask)
         with self.assertRaises(barscript.Failure) as failure:
             wanted = barmaking.Wanted(self.room / "a/b/session", self.stream, NUMBERS)

@@ -87,7 +87,7 @@ class Logs(RoomCase):
     def test_a_replay_that_is_refused(self):
         folder, _ = self.make_session(fake_program(self.room))
         folder.recording(2).write_bytes(self.recording)
-        program = fake_program(self.room, status={"replay": 8})
+        program = fake_program(self.room, status={"replay": 8}, said="bar: it fails\n")
         answer, _, progress = lines_of(lambda: barreplays.replays_of(folder, program, [2]))
         self.assertEqual(answer, ({}, {2: "its replay is refused: status 8: an input is refused (bar: it fails)"}))
         self.assertEqual(progress, ["replays: 1 of 1"])

@@ -94,7 +94,7 @@ class Checks(RoomCase):
 
     def test_closed_streams(self):
         status, out, _ = run_script("check-streams", "--bar", fake_program(self.room, status={"replay": 70}))
-        self.assertEqual((status, out[-1]), (1, "FAILED: 11 values of 10 runs differ"))
+        self.assertEqual((status, out[-1]), (1, "FAILED: 10 values of 10 runs differ"))
         self.assertTrue(all(line.startswith("replay: ") for line in out[:-1]), out)
 
     def test_longer_recordings(self):
