@@ -59,6 +59,11 @@ class Refusals(RoomCase):
         (self.room / "world-a/recording").rename(self.room / "world-a/1.recording")
         self.assertIn("world-a/K.1, ", self.refused("check-nodes", self.room))
 
+    def test_expected_lines_that_are_none(self):
+        (self.room / "evidence").mkdir()
+        (self.room / "evidence/expected.txt").write_text("e.1\t0\tparty 3 fault F1\ne.2 0 party 3 fault F1\n")
+        self.assertIn("REFUSED: line 2 of ", self.refused("check-vectors", self.room))
+
     def test_numbers_of_benchmarks(self):
         status, _, err = run_script("benchmark-session", "--peers", 1, 3, "--rounds", 9999)
         self.assertEqual(status, 2)
