@@ -6,7 +6,7 @@ import dataclasses
 import struct
 import typing
 
-from barsession import BLOCK, CASE, EVICT, KEY, KEYREQ, MANIFEST, QUERY, REPLY, REQUEST, RESPONSE, head_of
+from barformats import BLOCK, CASE, EVICT, KEY, KEYREQ, MANIFEST, QUERY, REPLY, REQUEST, RESPONSE, head_of
 
 # how many bytes the block of an update has, a junk item, a digest, and a nonce or a key
 BLOCK_SIZE, JUNK_SIZE, DIGEST_SIZE, SECRET_SIZE = 1024, 1280, 32, 32

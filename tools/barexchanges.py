@@ -16,7 +16,7 @@ import hashlib
 
 from barbriefcases import opened
 from bardatagrams import Block, Case, Evict, Exchange, Key, Manifest, Message, Reader, number_at
-from barsession import CASE, CONTENT, EVIDENCE, KEY, KEYREQ, REPLY, RESPONSE, SLOTS, head_of
+from barformats import CASE, CONTENT, EVIDENCE, KEY, KEYREQ, REPLY, RESPONSE, SLOTS, head_of, manifests_of
 
 
 def round_of(tick):
@@ -27,14 +27,6 @@ def content_size(block):
     """How many bytes are played of a block: none where its length is too large."""
     size = number_at(block, 0, 2)
     return size if size <= CONTENT else 0
-
-
-def manifests_of(log):
-    """The manifests that a peer found, as datagrams."""
-    table, at = log.findings.get("table", b""), 0
-    while at < len(table):
-        start, at = at + 2, at + 2 + number_at(table, at, 2)
-        yield table[start:at]
 
 
 @dataclasses.dataclass(frozen=True)
@@ -100,7 +92,7 @@ class Account:
     def __init__(self, session, party, log):
         self.session, self.party, self.log = session, party, log
         self.reader = Reader(session)
-        self.manifests = set(manifests_of(log))
+        self.manifests = {manifest for _, manifest in manifests_of(log.findings.get("table", b""))}
         # the digests of updates, when an eviction was announced last, the sides of exchanges as they were entered, and how updates came
         self.digests, self.evicted, self.sides, self.held = {}, {}, {}, {}
         self.read_sent()

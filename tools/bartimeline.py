@@ -7,7 +7,7 @@ import html
 
 from bardatagrams import Case, Exchange, Promise, Update
 from barexchanges import Account, Side
-from barsession import CASE, CONTENT, SLOTS
+from barformats import CASE, CONTENT, SLOTS
 
 
 # ---- elements

@@ -5,8 +5,8 @@ import struct
 
 from barbriefcases import exclusive_or, junk_of, keystream
 from bardatagrams import Exchange, Update
-from barsession import BLOCK, CASE, EVICT, KEY, KEYREQ, MANIFEST, QUERY, REPLY, REQUEST, RESPONSE
-from barsession import SLOTS, Session, entries_of, log_of
+from barformats import BLOCK, CASE, EVICT, KEY, KEYREQ, MANIFEST, QUERY, REPLY, REQUEST, RESPONSE, SLOTS, Session, entries_of
+from barreplays import log_of
 
 SESSION = Session(id="00112233445566aa", rounds=6, life=3, cap=2, per_round=4, fanout=1, port=21000, tick_ms=20, lms=5, ots=4, peers=3)
 # a signature of these types

@@ -9,7 +9,7 @@ sys.path.insert(0, str(pathlib.Path(__file__).resolve().parent.parent))
 import bartimeline
 import made_sessions as made
 from bardatagrams import Exchange, Update
-from barsession import EVIDENCE, SLOTS
+from barformats import EVIDENCE, SLOTS
 from made_sessions import PLAIN, SESSION, ZEROS, Diary, Trade, first_tick
 
 ME, PARTNER = 1, 2

@@ -1,0 +1,79 @@
+"""Why parties of a session failed, by their exit statuses and by what can be seen of their files and ports."""
+import errno
+import os
+import signal
+import tempfile
+
+from barformats import Malformed, faults_of_length
+from barprogram import Status, told_of_status
+from barscript import listed
+from barsession import is_free, key_of
+
+
+def cause_of_files(folder, _session, party):
+    """Which file of a party can't be read or written, or why the folder takes nothing, if one of these is so."""
+    made = [folder.table(party), *([folder.played(party), folder.recording(party)] if party else [])]
+    read = [folder.session, folder.key(party), *([] if party else [folder.stream])]
+    tries = [*((path, "rb", "read") for path in read), *((path, "r+b", "written") for path in made if os.path.lexists(path))]
+    for path, mode, done in [*tries, (folder.key(party), "r+b", "written")]:
+        try:
+            path.open(mode).close()
+        except OSError as error:
+            return f"{path} can't be {done}: {error.strerror}"
+    return cause_of_room(folder)
+
+
+def cause_of_room(folder):
+    """Why nothing can be written in a folder, if that is so."""
+    try:
+        with tempfile.TemporaryFile(dir=folder.path) as file:
+            file.write(bytes(1 << 16))
+    except OSError as error:
+        full = error.errno in (errno.ENOSPC, errno.EDQUOT)
+        return "the disk is full" if full else f"nothing can be written in {folder.path}: {error.strerror}"
+    return None
+
+
+def cause_of_key(folder, session, party):
+    """Whether the key was spent before, or isn't this session's."""
+    try:
+        return "its key was spent before" if key_of(folder, session, party).spent else "its key isn't this session's"
+    except (Malformed, OSError) as fault:
+        return f"its key is refused: {fault}"
+
+
+def cause_of_link(_folder, session, party):
+    """That the party's port is taken, if it is."""
+    return None if is_free(session.port + party) else f"port {session.port + party} is taken"
+
+
+def cause_of_input(folder, session, party):
+    """That the broadcaster's stream is too large, if it is."""
+    if party:
+        return None
+    return next(faults_of_length(folder.stream.stat().st_size, session.rounds, session.per_round, session.lms), None)
+
+
+CAUSES = {Status.FILE: cause_of_files, Status.KEY: cause_of_key, Status.LINK: cause_of_link, Status.INPUT: cause_of_input}
+
+
+def cause_of(folder, session, party, status):
+    """Why a party ended with this status, as far as it can be seen."""
+    seen = CAUSES[status](folder, session, party) if status in CAUSES else None
+    return seen or told_of_status(status)
+
+
+def causes_of(folder, session, statuses, status_of_all, kill):
+    """Why a session failed, by the statuses that parties and the command have. `kill` is the peer that was to be killed, or None."""
+    for party, status in statuses.items():
+        if party == kill and status != 128 + signal.SIGKILL:
+            yield f"party {party} was to be killed, and ended before"
+        if party and status == Status.DONE and not folder.recording(party).exists():
+            yield f"party {party} left no recording"
+        if status != Status.DONE and (party, status) != (kill, 128 + signal.SIGKILL):
+            yield f"party {party} status {status}: {cause_of(folder, session, party, status)}"
+    silent = [party for party in session.parties if party not in statuses]
+    if silent:
+        yield f"there is no status of {listed(f'party {party}' for party in silent) if statuses else 'any party'}"
+    if status_of_all not in (Status.DONE, Status.CHILD):
+        yield f"the command `session` status {status_of_all}: {told_of_status(status_of_all)}"

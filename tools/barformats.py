@@ -1,0 +1,314 @@
+"""Reads the files and datagrams that docs/FORMATS.md defines. What isn't what its name says is refused with the reason (`Malformed`)."""
+import dataclasses
+import itertools
+import re
+import reprlib
+import tomllib
+
+from barscript import Failure, counted, listed
+
+# how many bytes of content an update has at most, and how many ticks a round
+CONTENT = 1022
+SLOTS = 8
+
+# how many leaves a round takes of a key, and how many a key of each LMS type has
+LEAVES_A_ROUND = 18
+LEAVES = {5: 32, 6: 1024, 7: 32_768}
+
+# the kinds of datagrams, and those that are signed
+MANIFEST, BLOCK, REQUEST, RESPONSE, DIVULGE, QUERY, REPLY, CASE, KEYREQ, KEY, EVIDENCE, EVICT = range(1, 13)
+SIGNED = {MANIFEST, REQUEST, RESPONSE, QUERY, REPLY, CASE, KEY, EVICT}
+
+# how long the heads of a recording and of a datagram are, and what every datagram begins with
+RECORDING_HEAD = 15
+DATAGRAM_HEAD = 16
+MAGIC = b"\xba\x47\x01"
+
+
+class Malformed(Failure):
+    """What was read isn't what its name says."""
+
+
+# ---- numbers
+
+
+@dataclasses.dataclass(frozen=True)
+class Number:
+    """The range of a number of a session or a key, and what it tells."""
+
+    least: int
+    most: int
+    told: str
+
+    def has(self, value):
+        return type(value) is int and self.least <= value <= self.most
+
+
+NUMBERS = {
+    "peers": Number(2, 200, "how many peers there are"),
+    "rounds": Number(1, 1820, "for how many rounds the stream is sent"),
+    "life": Number(2, 16, "how many rounds an update lives"),
+    "cap": Number(1, 16, "how many items an exchange trades at most"),
+    "per_round": Number(1, 64, "how many updates a round has at most"),
+    "fanout": Number(1, 200, "how many peers the broadcaster sends an update to, at most all"),
+    "port": Number(1024, 65_335, "the broadcaster's port, before those of the peers"),
+    "tick_ms": Number(1, 60_000, f"how many milliseconds a tick has; a round has {SLOTS} ticks"),
+    "lms": Number(5, 7, "the LMS type"),
+    "ots": Number(1, 4, "the LM-OTS type"),
+    "party": Number(0, 200, "the party"),
+}
+
+
+def faults_of_number(name, numbers, shown):
+    """What refuses one of these numbers, which is shown by another name."""
+    number, value, why = NUMBERS[name], numbers.get(name), ""
+    if name == "fanout" and NUMBERS["peers"].has(numbers.get("peers")):
+        number, why = dataclasses.replace(number, most=numbers["peers"]), ", the number of peers"
+    if value is None:
+        yield f"{shown} is missing"
+    elif not number.has(value):
+        yield f"{shown} is {reprlib.repr(value)}: it has to be a whole number of {number.least:,} to {number.most:,}{why}"
+
+
+def type_for(rounds):
+    """The LMS type with the smallest tree that has enough leaves for so many rounds."""
+    return min(lms for lms, leaves in LEAVES.items() if leaves >= LEAVES_A_ROUND * rounds)
+
+
+def faults_of_leaves(rounds, lms):
+    """What refuses so many rounds with keys of this LMS type."""
+    need, have = LEAVES_A_ROUND * rounds, LEAVES[lms]
+    if need > have:
+        told = f"{counted(rounds, 'round')} need {need:,} leaves, and a key of LMS type {lms} has {have:,}"
+        yield f"{told}: take LMS type {type_for(rounds)}, or at most {counted(have // LEAVES_A_ROUND, 'round')}"
+
+
+def faults_of_numbers(numbers, names, shown=str):
+    """What refuses the numbers of these names, among which are `rounds` and `lms`. `shown` gives the name that a fault has for a number."""
+    faults = {name: [*faults_of_number(name, numbers, shown(name))] for name in names}
+    yield from itertools.chain(*faults.values())
+    if not faults["rounds"] and not faults["lms"]:
+        yield from faults_of_leaves(numbers["rounds"], numbers["lms"])
+
+
+def room_of(rounds, per_round):
+    """How many bytes a stream may have."""
+    return rounds * per_round * CONTENT
+
+
+def larger_rooms(length, rounds, per_round, lms):
+    """Which numbers have room for a stream of this length: more rounds, more updates a round, or both, in words."""
+    pieces, most_rounds, most_updates = -(-length // CONTENT), NUMBERS["rounds"].most, NUMBERS["per_round"].most
+    ways = [(-(-pieces // per_round), per_round), (rounds, -(-pieces // rounds)), (-(-pieces // most_updates), most_updates)]
+    fitting = [way for way in ways if way[0] <= most_rounds and way[1] <= most_updates]
+    told = [f"{counted(rounds, 'round')} of {counted(updates, 'update')}" for rounds, updates in fitting[:2]]
+    types = [f" with LMS type {type_for(way[0])}" if type_for(way[0]) > lms else "" for way in fitting]
+    if not told:
+        return f"take a stream of at most {room_of(most_rounds, most_updates):,} bytes, the room of the longest session"
+    return f"take {' or '.join(map(''.join, zip(told, types)))}"
+
+
+def faults_of_length(length, rounds, per_round, lms):
+    """What refuses a stream of this length in a session of these numbers."""
+    room = room_of(rounds, per_round)
+    if length > room:
+        told = f"{counted(rounds, 'round')} of {counted(per_round, 'update')} have room for {room:,}"
+        yield f"the stream has {length:,} bytes, and {told}: {larger_rooms(length, rounds, per_round, lms)}"
+
+
+# ---- texts
+
+
+def document_of(text):
+    """The dictionary of a TOML document of version 1."""
+    try:
+        document = tomllib.loads(text.decode())
+    except (ValueError, RecursionError) as error:
+        raise Malformed(f"it is no TOML: {error}") from None
+    version = document.get("version")
+    if type(version) is not int or version != 1:
+        raise Malformed(f"its version is {reprlib.repr(version)}: it has to be 1" if "version" in document else "its version is missing")
+    return document
+
+
+def faults_of_digits(name, value, count):
+    """What refuses a value that should be a text of so many hex digits."""
+    if value is None:
+        yield f"{name} is missing"
+    elif not isinstance(value, str) or not re.fullmatch(f"[0-9a-fA-F]{{{count}}}", value):
+        yield f"{name} isn't a text of {count} hex digits"
+
+
+def faults_of_public_keys(document, peers):
+    """What refuses the public keys of a session's text, whose types are in their ranges."""
+    types, owners = f"{document['lms']:08x}{document['ots']:08x}", {}
+    for name, value in [("key", document.get("key")), *((f"peer {number} key", peer.get("key")) for number, peer in enumerate(peers, 1))]:
+        faults = [*faults_of_digits(name, value, 112)]
+        if not faults and not value.startswith(types):
+            faults.append(f"{name} isn't of the types lms and ots")
+        if not faults and owners.setdefault(value.lower(), name) != name:
+            faults.append(f"{name} is {owners[value.lower()]} too")
+        yield from faults
+
+
+def faults_of_anchors(peers):
+    """What refuses the anchors of a session's text."""
+    for number, peer in enumerate(peers, 1):
+        yield from faults_of_digits(f"peer {number} anchor", peer.get("anchor"), 64)
+
+
+@dataclasses.dataclass(frozen=True)
+class Session:
+    """The id and the numbers of a session's text."""
+
+    id: str
+    rounds: int
+    life: int
+    cap: int
+    per_round: int
+    fanout: int
+    port: int
+    tick_ms: int
+    lms: int
+    ots: int
+    peers: int
+
+    @classmethod
+    def of_text(cls, text):
+        """Reads a session's text. Where its numbers are refused, its keys and anchors aren't looked at."""
+        document = document_of(text)
+        peers = document.get("peer")
+        if not isinstance(peers, list) or not all(isinstance(peer, dict) for peer in peers):
+            raise Malformed("it has no tables [[peer]]")
+        numbers = document | {"peers": len(peers)}
+        names = [field.name for field in dataclasses.fields(cls) if field.name != "id"]
+        faults = [*faults_of_digits("id", document.get("id"), 16), *faults_of_numbers(numbers, names)]
+        faults = faults or [*faults_of_public_keys(document, peers), *faults_of_anchors(peers)]
+        if faults:
+            raise Malformed("; ".join(faults))
+        return cls(document["id"].lower(), **{name: numbers[name] for name in names})
+
+    @classmethod
+    def read(cls, path):
+        """Reads the file of a session's text."""
+        return cls.of_text(path.read_bytes())
+
+    @property
+    def parties(self):
+        """The numbers of all parties: the peers, and then the broadcaster."""
+        return [*range(1, self.peers + 1), 0]
+
+    @property
+    def ends(self):
+        """The last round that a party runs through."""
+        return self.rounds + self.life + 1
+
+    @property
+    def seconds(self):
+        """How long a session runs, from its first tick to its last."""
+        return SLOTS * self.ends * self.tick_ms / 1000
+
+    @property
+    def room(self):
+        """How many bytes a stream may have."""
+        return room_of(self.rounds, self.per_round)
+
+
+@dataclasses.dataclass(frozen=True)
+class KeyFile:
+    """What a key file says, without its secret."""
+
+    id: str
+    party: int
+    rounds: int
+    lms: int
+    ots: int
+    spent: bool
+
+    @classmethod
+    def of_text(cls, text):
+        """Reads a key file."""
+        document = document_of(text)
+        names = ["party", "rounds", "lms", "ots"]
+        faults = [*faults_of_digits("id", document.get("id"), 16), *faults_of_numbers(document, names)]
+        faults += faults_of_digits("secret", document.get("secret"), 64)
+        if type(document.get("spent")) is not bool:
+            faults.append("spent is neither true nor false")
+        if faults:
+            raise Malformed("; ".join(faults))
+        return cls(document["id"].lower(), *(document[name] for name in names), document["spent"])
+
+    def faults(self, session, party):
+        """What tells that this isn't the session's key of the party. Whether the public key is the session's isn't looked at."""
+        wanted = {"id": session.id, "party": party, "rounds": session.rounds, "lms": session.lms, "ots": session.ots}
+        others = [name for name, value in wanted.items() if getattr(self, name) != value]
+        if others:
+            yield f"it has another {listed(others)} than party {party} of the session"
+
+
+# ---- recordings
+
+
+def entries_of(recording):
+    """The inputs of a recording, each a datagram or None for a tick, and whether the recording has its end."""
+    entries, at = [], RECORDING_HEAD
+    while recording[at : at + 1] in (b"\x01", b"\x02"):
+        if recording[at] == 1:
+            entries.append(None)
+            at += 1
+            continue
+        end = at + 3 + int.from_bytes(recording[at + 1 : at + 3], "big")
+        if len(recording) < max(end, at + 3):
+            break
+        entries.append(recording[at + 3 : end])
+        at = end
+    return entries, recording[at:] == b"\x00"
+
+
+def recording_of(head, entries):
+    """The recording with this head and these inputs, with its end."""
+    parts = (b"\x01" if entry is None else b"\x02" + len(entry).to_bytes(2, "big") + entry for entry in entries)
+    return b"".join([head, *parts, b"\x00"])
+
+
+def whole_recording(recording):
+    """A recording up to its last whole entry, with an end."""
+    return recording_of(recording[:RECORDING_HEAD], entries_of(recording)[0])
+
+
+# ---- transcripts, tables, findings, datagrams
+
+
+def transcript_of(printed):
+    """Of each line of a transcript the number of its input, counted from 1, the receiver and the datagram."""
+    for place, line in enumerate(printed.splitlines(), 1):
+        try:
+            number, receiver, digits = line.split(" ")
+            told = int(number), int(receiver), bytes.fromhex(digits)
+        except ValueError:
+            raise Malformed(f"line {place} of the transcript is none: {reprlib.repr(line)}") from None
+        yield told
+
+
+def manifests_of(table):
+    """Of each entry of a table file its place and its MANIFEST."""
+    at = 0
+    while at < len(table):
+        end = at + 2 + int.from_bytes(table[at : at + 2], "big")
+        if end > len(table):
+            raise Malformed(f"the table is cut in its entry at {at}")
+        yield at, table[at + 2 : end]
+        at = end
+
+
+def finding_of(name):
+    """The party whose finding has this name, and what it is: `table`, or the number of the accused. None where it is no finding's name."""
+    told = re.fullmatch(r"party\.(\d+)\.(table|\d+)", name)
+    return (int(told[1]), told[2]) if told else None
+
+
+def head_of(datagram, session):
+    """The kind, sender and receiver of a datagram of the session, or None."""
+    if len(datagram) < DATAGRAM_HEAD or not datagram.startswith(MAGIC) or datagram[4:12].hex() != session.id:
+        return None
+    return datagram[3], int.from_bytes(datagram[12:14], "big"), int.from_bytes(datagram[14:16], "big")

@@ -1,0 +1,138 @@
+"""Makes a session in a new folder: a key file for each party, the session's text, and a copy of the stream. What can't be is refused."""
+import contextlib
+import dataclasses
+import hashlib
+import os
+import pathlib
+import secrets
+import shutil
+
+from barformats import NUMBERS, Session, faults_of_length, faults_of_numbers
+from barprogram import spread
+from barscript import held
+from barsession import Folder, free_port, make_key
+
+# the numbers of a session for which none are given
+DEFAULTS = {"peers": 5, "rounds": 10, "life": 6, "cap": 8, "per_round": 8, "fanout": 3, "tick_ms": 50, "lms": 6, "ots": 3}
+
+
+def option_of(name):
+    """The option of a script that gives a number of the session."""
+    return f"--{name.replace('_', '-')}"
+
+
+@dataclasses.dataclass(frozen=True)
+class Wanted:
+    """The session that is wanted: its folder, its stream and its numbers. A number that wasn't read is the text that stands for it.
+
+    The port may be left out, and free ones are found then. The seed, from which all secrets are derived, is text of hex digits, or None.
+    """
+
+    folder: pathlib.Path
+    stream: pathlib.Path
+    numbers: dict
+    seed: str | None = None
+
+    def faults(self):
+        """What refuses it."""
+        names = [*DEFAULTS, *(["port"] if "port" in self.numbers else [])]
+        yield from faults_of_folder(self.folder)
+        yield from faults_of_numbers(self.numbers, names, option_of)
+        yield from faults_of_stream(self.stream, self.numbers)
+        yield from faults_of_seed(self.seed)
+
+
+def faults_of_folder(path):
+    """What refuses to make this folder."""
+    above = next((parent for parent in path.absolute().parents if parent.exists()), path)
+    if os.path.lexists(path):
+        yield f"{path} is there already: name a folder that isn't"
+    elif not above.is_dir():
+        yield f"{above} is no folder: name one below a folder"
+    elif not os.access(above, os.W_OK | os.X_OK):
+        yield f"nothing can be made in {above}: name a folder below another"
+
+
+def faults_of_stream(path, numbers):
+    """What refuses the file of a stream in a session of these numbers, as far as they are numbers."""
+    if not path.is_file():
+        yield f"the stream {path} is {'no file' if path.exists() else 'missing'}: name a file"
+    elif not os.access(path, os.R_OK):
+        yield f"the stream {path} can't be read: name a file that can"
+    elif all(NUMBERS[name].has(numbers.get(name)) for name in ("rounds", "per_round", "lms")):
+        yield from faults_of_length(path.stat().st_size, numbers["rounds"], numbers["per_round"], numbers["lms"])
+
+
+def faults_of_seed(seed):
+    """What refuses the text of a seed."""
+    try:
+        bytes.fromhex(seed or "")
+    except ValueError:
+        yield f"--seed {seed} is no hex: give an even number of hex digits"
+
+
+# ---- making
+
+
+@contextlib.contextmanager
+def new_folder(path):
+    """Makes a folder, for its owner alone, and those above it that aren't there. Nothing of them is left where the block fails."""
+    above = [parent for parent in path.absolute().parents if not parent.exists()]
+    mask, made = os.umask(0o077), False
+    try:
+        with held():
+            path.mkdir(parents=True)
+            made = True
+        yield Folder(path)
+    except BaseException:
+        if made:
+            remove(path, above)
+        raise
+    finally:
+        os.umask(mask)
+
+
+def remove(folder, above):
+    """Removes a folder with all that is in it, and those above it in which nothing else is left."""
+    with contextlib.suppress(OSError):
+        shutil.rmtree(folder)
+        for parent in above:
+            parent.rmdir()
+
+
+def derived(seed, what):
+    return hashlib.sha256(f"bar {what} ".encode() + seed).digest()
+
+
+def make_keys(folder, program, session_id, numbers, seed):
+    """Makes all key files, as many at once as there are processors, and returns what a session's text says of each party."""
+    types = [numbers[name] for name in ("rounds", "lms", "ots")]
+
+    def make_one(party):
+        return make_key(folder, program, party, session_id, *types, derived(seed, f"secret {party}"))
+
+    return spread(make_one, range(numbers["peers"] + 1), "keys")
+
+
+def text_of(session_id, numbers, keys):
+    """The session's text."""
+    lines = [f"{name} = {number}" for name, number in numbers.items() if name != "peers"]
+    return "\n".join(["version = 1", f'id = "{session_id}"', *lines, "\n[[peer]]\n".join(keys)])
+
+
+def make(wanted, program):
+    """Makes a session that nothing refuses, and returns its folder and its numbers."""
+    seed = secrets.token_bytes(32) if wanted.seed is None else bytes.fromhex(wanted.seed)
+    session_id = derived(seed, "session")[:8].hex()
+    numbers = wanted.numbers if "port" in wanted.numbers else wanted.numbers | {"port": free_port(wanted.numbers["peers"] + 1)}
+    with new_folder(wanted.folder) as folder:
+        keys = make_keys(folder, program, session_id, numbers, seed)
+        folder.session.write_text(text_of(session_id, numbers, keys))
+        shutil.copyfile(wanted.stream, folder.stream)
+        return folder, Session.read(folder.session)
+
+
+def summary_of(folder, session):
+    """What was made, in words."""
+    length = folder.stream.stat().st_size
+    return f"session {session.id}: {session.peers} peers, {session.seconds:.1f} s, a stream of {length} bytes in a room of {session.room}"

@@ -1,0 +1,218 @@
+"""The program `bar`: its words, its exit statuses, how it is built and run. Nothing else in the tools runs it, and nothing else calls `rt`.
+
+A process is started in a group of its own, and the group is killed where the script is stopped or fails: so no party of a session stays.
+"""
+import concurrent.futures
+import contextlib
+import dataclasses
+import enum
+import os
+import pathlib
+import signal
+import subprocess
+import sys
+import threading
+
+from barscript import Count, Refusal, held, progress
+
+ROOT = pathlib.Path(__file__).resolve().parent.parent
+CRATE = ROOT / "crates/bar"
+PROGRAM = CRATE / "out/bar"
+
+# the options of each command, in their order
+COMMANDS = {
+    "replay": ("session", "key", "recording", "played", "found"),
+    "peer": ("session", "key", "begin", "played", "recording", "found"),
+    "broadcaster": ("session", "key", "begin", "stream", "found"),
+    "judge": ("session", "table", "evidence"),
+    "session": ("session", "keys", "stream", "begin", "results", "program"),
+    "simulate": ("seed",),
+    "keygen": ("party", "id", "rounds", "lms", "ots", "secret", "key"),
+}
+
+
+class Status(enum.IntEnum):
+    """An exit status of the program, and what it says of it."""
+
+    DONE = 0, "all was done"
+    NO_FAULT = 1, "no fault is shown"
+    WORDS = 2, "the program doesn't know these words: is it built from these sources?"
+    FILE = 3, "a file can't be read or written"
+    SESSION = 4, "the session's text is refused"
+    KEY = 5, "the key is refused"
+    LINK = 6, "the link failed"
+    OUTPUT = 7, "a line can't be printed"
+    INPUT = 8, "an input is refused"
+    CHILD = 9, "a party failed"
+    MEMORY = 70, "there is no memory left"
+
+    def __new__(cls, number, told):
+        status = int.__new__(cls, number)
+        status._value_ = number
+        status.told = told
+        return status
+
+
+def told_of_status(status):
+    """What a status says, in words. One above 128 tells the signal that ended the process."""
+    with contextlib.suppress(ValueError):
+        return Status(status).told
+    with contextlib.suppress(ValueError):
+        return f"{signal.Signals(status - 128).name} ended it"
+    return "the program has no such status"
+
+
+# ---- processes
+
+_groups = set()
+
+
+def kill_group(leader):
+    """Kills a process that was started here, and all that it started."""
+    with contextlib.suppress(ProcessLookupError):
+        os.killpg(leader, signal.SIGKILL)
+
+
+def kill_groups():
+    """Kills all processes that were started here and still run."""
+    for leader in tuple(_groups):
+        kill_group(leader)
+
+
+@contextlib.contextmanager
+def running(words, **options):
+    """A process of these words. What of its group still runs behind the block is killed."""
+    process = None
+    try:
+        with held():
+            process = subprocess.Popen(words, process_group=0, **{"stdin": subprocess.DEVNULL} | options)
+            _groups.add(process.pid)
+        yield process
+    finally:
+        if process:
+            end_process(process)
+
+
+def end_process(process):
+    """Kills what still runs of a process and its group, and waits for it."""
+    kill_group(process.pid)
+    for stream in filter(None, (process.stdout, process.stderr)):
+        stream.close()
+    process.wait()
+    _groups.discard(process.pid)
+
+
+def status_of(process):
+    """The exit status of a process that has ended, as a shell tells it: of one that a signal ended it is 128 and the signal's number."""
+    return process.returncode if process.returncode >= 0 else 128 - process.returncode
+
+
+@dataclasses.dataclass(frozen=True)
+class Ran:
+    """How a command ended, and what it printed on standard output and standard error."""
+
+    status: int
+    printed: bytes
+    said: bytes
+
+    @property
+    def told(self):
+        """The status in words, with what the program said."""
+        said = " ".join(self.said.decode(errors="replace").split())
+        return f"status {self.status}: {told_of_status(self.status)}{f' ({said})' if said else ''}"
+
+
+def words_of(command, **values):
+    """The words of a command, with each of its options."""
+    return [command, *(word for name in COMMANDS[command] for word in (f"--{name}", str(values[name])))]
+
+
+def run_words(program, words, stdout=subprocess.PIPE):
+    """Runs the program to its end. What it prints may go elsewhere than to the answer."""
+    with running([program, *words], stdout=stdout, stderr=subprocess.PIPE) as process:
+        printed, said = process.communicate()
+        return Ran(status_of(process), printed or b"", said)
+
+
+def run(program, command, **values):
+    """Runs a command to its end."""
+    return run_words(program, words_of(command, **values))
+
+
+def spread(call, items, told=None, at_once=None):
+    """Calls for each item, as many at once as there are processors or as is said, and returns the answers in the items' order.
+
+    Under the name `told` lines tell how many are done. Where a call fails or the script is stopped, no other call begins, and all that
+    runs is killed.
+    """
+    count = Count(told, len(items))
+    with concurrent.futures.ThreadPoolExecutor(at_once or os.cpu_count()) as pool:
+        try:
+            futures = [pool.submit(call, item) for item in items]
+            for done, future in enumerate(concurrent.futures.as_completed(futures), 1):
+                future.result()
+                if told:
+                    count.tell(done)
+            return [future.result() for future in futures]
+        except BaseException:
+            end_calls(pool)
+            raise
+
+
+def end_calls(pool):
+    """Begins no other call, and kills what runs until each call that began has ended."""
+    ending = threading.Thread(target=pool.shutdown, kwargs={"cancel_futures": True})
+    ending.start()
+    while ending.is_alive():
+        kill_groups()
+        ending.join(0.02)
+
+
+# ---- building
+
+
+class BuildFailed(Refusal):
+    """The program isn't built; `rt` ended with this status."""
+
+    def __init__(self, reason, rt_status):
+        super().__init__(reason)
+        self.rt_status = rt_status
+
+
+def rt_run(folder, *words):
+    """Has `rt` prove, build and run the program of a crate, and returns its exit status. All that it prints goes to standard error."""
+    try:
+        with running(["rt", "run", *words], cwd=folder, stdout=sys.stderr) as process:
+            process.wait()
+            return status_of(process)
+    except FileNotFoundError:
+        raise BuildFailed("there is no `rt`: put the toolchain's folder on the PATH, or name a built program by --bar", 127) from None
+
+
+def crates_below(lines, crate):
+    """What a crate stands on, by the lines of crates.txt."""
+    return next(line.partition(":")[2].split() for line in lines.splitlines() if line.startswith(f"{crate}:"))
+
+
+def build():
+    """Builds the program where it stands in this repository. It judges an example then, which ends with status 0."""
+    progress("there is no program: `rt run` proves and builds it, which takes a while")
+    files = {name: ROOT / "examples/bad-opening" / place for name, place in (("session", "session.toml"), ("table", "table"))}
+    status = rt_run(CRATE, "--", *words_of("judge", **files, evidence=ROOT / "examples/bad-opening/evidence"))
+    if status or not PROGRAM.exists():
+        raise BuildFailed(f"`rt run` in {CRATE} ends with status {status}: what it says stands above", status)
+
+
+def take_program(parser):
+    """Adds the option that names the program."""
+    told = "the program (default: that of this repository, which is built where it isn't there)"
+    parser.add_argument("--bar", type=pathlib.Path, default=PROGRAM, metavar="PATH", help=told)
+
+
+def program_of(words):
+    """The whole path of the program. That of this repository is built where it isn't there."""
+    if words.bar == PROGRAM and not PROGRAM.exists():
+        build()
+    if not (words.bar.is_file() and os.access(words.bar, os.X_OK)):
+        raise Refusal(f"there is no program at {words.bar}: `rt run` in {CRATE} builds one")
+    return words.bar.resolve()

@@ -1,0 +1,171 @@
+"""Runs a session in its folder, replays what was recorded and draws it, and says what failed and why. What can't be run is refused."""
+import re
+import subprocess
+
+import bartimeline
+from barcauses import causes_of
+from barformats import Malformed, Session, faults_of_length
+from barprogram import running, status_of
+from barreplays import between_peers, differences, replays_of
+from barscript import Refusal, counted, failed, listed, refuse, say, told_of, well
+from barsession import begin_of, is_free, key_of, party_words, session_words
+from barwatching import Watch, watched
+
+ANEW = "make a new session by tools/make-session"
+
+
+# ---- what is refused
+
+
+def session_of(folder):
+    """The session of a folder; a folder without a session's text is refused."""
+    try:
+        return Session.read(folder.session)
+    except Malformed as fault:
+        raise Refusal(f"{folder.session} is no session's text: {fault}; {ANEW}") from None
+    except OSError as error:
+        raise Refusal(f"{folder.session} can't be read: {error.strerror}; {ANEW}") from None
+
+
+def faults_of_files(folder, session):
+    """The files that are missing."""
+    files = [*map(folder.key, session.parties), folder.stream]
+    missing = [file.name for file in files if not file.is_file()]
+    if missing:
+        yield f"{folder.path} has no {listed(missing)}: {ANEW}"
+
+
+def faults_of_keys(folder, session):
+    """What refuses the key files that are there. Spent ones are told together."""
+    spent = []
+    for party in session.parties:
+        try:
+            if key_of(folder, session, party).spent:
+                spent.append(party)
+        except Malformed as fault:
+            yield f"{folder.key(party)} is no key of this session: {fault}; {ANEW}"
+        except OSError as error:
+            yield f"{folder.key(party)} can't be read: {error.strerror}"
+    if spent:
+        keys = "all keys" if len(spent) == len(session.parties) else listed(f"key.{party}" for party in sorted(spent))
+        yield f"spent, since the session was run: {keys} in {folder.path}; a key serves one session, so {ANEW}"
+
+
+def faults_of_results(folder, session):
+    """What was left by another run, and would be written over."""
+    left = [file.name for party in session.parties for file in (folder.recording(party), folder.played(party)) if file.exists()]
+    if left:
+        yield f"{folder.path} has {listed(left)} of another run: move these away, or {ANEW}"
+
+
+def faults_of_ports(session):
+    """The ports that are taken."""
+    taken = [(party, session.port + party) for party in sorted(session.parties) if not is_free(session.port + party)]
+    if taken:
+        told = listed(f"{port} of party {party}" for party, port in taken)
+        yield f"these ports are taken: {told}; end the program that has them, or {ANEW}, which looks for free ones without --port"
+
+
+def faults_of(folder, session, kill):
+    """What refuses to run the session of a folder, and to kill this peer in it, if one is named."""
+    missing = [*faults_of_files(folder, session)]
+    yield from missing
+    if not missing:
+        keys = [*faults_of_keys(folder, session)]
+        yield from keys or faults_of_results(folder, session)
+        numbers = session.rounds, session.per_round, session.lms
+        yield from (f"{fault}; {ANEW}" for fault in faults_of_length(folder.stream.stat().st_size, *numbers))
+    if kill is not None and not 1 <= kill <= session.peers:
+        yield f"--kill {kill} names no peer: take one of 1 to {session.peers}"
+    yield from faults_of_ports(session)
+
+
+def accept(folder, kill=None):
+    """The session of a folder, which is refused by all that is wrong with it."""
+    session = session_of(folder)
+    refuse(faults_of(folder, session, kill))
+    return session
+
+
+# ---- the run
+
+
+def line_of(folder, party, status):
+    """The line of a party that has ended: of a peer that played also how much."""
+    played = folder.played(party)
+    if party == 0 or not played.exists():
+        return f"party {party} status {status}"
+    size, length = played.stat().st_size, folder.stream.stat().st_size
+    part = f"{size / length:.1%}" if length else "all"
+    return f"party {party} status {status} played {size} of {length} bytes, {part}"
+
+
+def run_parties(folder, program, begin):
+    """Runs all parties, each a process of its own, and prints a line for each as it ends: their statuses, and that of the command."""
+    statuses = {}
+    with running(session_words(folder, program, begin), stdout=subprocess.PIPE, text=True) as process:
+        for line in process.stdout:
+            told = re.fullmatch(r"party (\d+) status (\d+)", line.rstrip("\n"))
+            if told:
+                party, status = map(int, told.groups())
+                statuses[party] = status
+            say(line_of(folder, party, status) if told else line.rstrip("\n"))
+        process.wait()
+        return statuses, status_of(process)
+
+
+# ---- the replays
+
+
+def compare(folder, session, program, parties):
+    """Replays these peers and prints how many agree with the run. Returns their logs, and what differs."""
+    logs, refused = replays_of(folder, program, parties)
+    differ = [*refused.items(), *differences(folder, session, logs)]
+    sent, taken = between_peers(session, logs)
+    agree = len(parties) - len({party for party, _ in differ})
+    say(f"{'all' if not differ else f'{agree} of'} {len(parties)} replays agree; peers sent each other {sent} datagrams and took {taken}")
+    return logs, [f"party {party}: {told}" for party, told in differ]
+
+
+def compare_and_draw(folder, session, program):
+    """Replays each peer that left a recording and draws the session. Returns what differs or fails, and what is said of the page."""
+    parties = [party for party in session.parties[:-1] if folder.recording(party).exists()]
+    try:
+        logs, differ = compare(folder, session, program, parties) if parties else ({}, [])
+    except OSError as error:
+        return [f"the recordings can't be replayed: {told_of(error)}"], "there is no page"
+    if not logs:
+        return differ, "there is no page, since nobody left a recording that is replayed"
+    try:
+        folder.page.write_text(bartimeline.page(session, logs))
+    except OSError as error:
+        return [*differ, f"{folder.page} can't be written: {error.strerror}"], "the page isn't whole"
+    return differ, f"page {folder.page}"
+
+
+def lost_lines(drops):
+    """A line for each party whose receive buffer ran over."""
+    for party, count in sorted(drops.items()):
+        if count:
+            lost = f"{counted(count, 'datagram')} {'was' if count == 1 else 'were'} lost"
+            yield f"party {party}: its receive buffer ran over, {lost}; a longer tick (--tick-ms) helps"
+
+
+# ---- all together
+
+
+def run_session(folder, session, program, kill=None):
+    """Runs an accepted session, compares its replays and draws it, and returns the script's outcome."""
+    begin = begin_of(session, program)
+    watch = Watch(session, begin, party_words(folder, program, kill, begin) if kill else None)
+    with watched(watch):
+        statuses, status = run_parties(folder, program, begin)
+    causes = [*causes_of(folder, session, statuses, status, kill)]
+    differ, page = compare_and_draw(folder, session, program)
+    for line in lost_lines(watch.drops):
+        say(line)
+    if causes or differ:
+        say(page)
+        return failed(*causes, *differ)
+    ended = f"party {kill} was killed, the others ended" if kill else "all parties ended"
+    return well(f"{ended} with status 0, all replays agree, {page}")

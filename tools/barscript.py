@@ -1,0 +1,207 @@
+"""What the mains of all scripts share: their words, the lines that tell how far they are, their outcome and their exit status.
+
+A script's last line is its outcome: `OK: ` and what was done, with status 0; `FAILED: ` and the causes, with status 1; or, on standard
+error, `REFUSED: ` and the reason with its remedy, with status 2, where nothing could be run. Progress goes to standard error. Neither a
+failure nor Ctrl-C ends with a traceback.
+"""
+import argparse
+import contextlib
+import dataclasses
+import os
+import signal
+import sys
+import threading
+import time
+import traceback
+
+SIGNALS = (signal.SIGINT, signal.SIGTERM, signal.SIGHUP)
+FAILED, REFUSED = 1, 2
+
+
+class Refusal(Exception):
+    """Nothing could be run, for these reasons, each of which is told with its remedy."""
+
+    def __init__(self, *reasons, status=REFUSED):
+        super().__init__(*reasons)
+        self.status = status
+
+
+class Failure(Exception):
+    """What a script was to do failed by this cause."""
+
+
+class Stopped(BaseException):
+    """A signal asked the script to stop. What handles failures lets it pass."""
+
+
+# ---- lines
+
+
+def say(line):
+    """A line of what the script tells, on standard output."""
+    print(line, flush=True)
+
+
+def progress(line):
+    """A line that tells how far the script is, on standard error."""
+    if sys.stderr is not None:
+        with contextlib.suppress(OSError):
+            print(line, file=sys.stderr, flush=True)
+
+
+class Count:
+    """Tells how many of a number of things are done: at most a line a second, and always the last one."""
+
+    def __init__(self, told, total):
+        self.told, self.total, self.next = told, total, 0
+
+    def tell(self, done):
+        now = time.monotonic()
+        if done == self.total or now >= self.next:
+            progress(f"{self.told}: {done} of {self.total}")
+            self.next = now + 1
+
+
+def counted(count, word):
+    """So many of them, in words."""
+    return f"{count:,} {word}{'' if count == 1 else 's'}"
+
+
+def listed(words):
+    """Words one behind the other, with `and` before the last."""
+    *firsts, last = map(str, words)
+    return f"{', '.join(firsts)} and {last}" if firsts else last
+
+
+def refuse(faults):
+    """Refuses to go on where there are faults."""
+    reasons = [*faults]
+    if reasons:
+        raise Refusal(*reasons)
+
+
+def require(paths, remedy):
+    """Refuses to go on where some of these files and folders are missing."""
+    missing = [str(path) for path in paths if not path.exists()]
+    if missing:
+        raise Refusal(f"{listed(missing)} {'is' if len(missing) == 1 else 'are'} missing: {remedy}")
+
+
+# ---- outcomes
+
+
+@dataclasses.dataclass(frozen=True)
+class Outcome:
+    """How a script ended: its exit status and its last lines, of which the last is the outcome. A refusal goes to standard error."""
+
+    status: int
+    lines: tuple
+    is_refusal: bool = False
+
+
+def well(done):
+    """The outcome of a script that did this."""
+    return Outcome(0, (f"OK: {done}",))
+
+
+def failed(*causes):
+    """The outcome of a script that failed by these causes."""
+    return Outcome(FAILED, (f"FAILED: {'; '.join(causes)}",))
+
+
+def refused(refusal):
+    """The outcome of a script that could run nothing."""
+    if len(refusal.args) == 1:
+        return Outcome(refusal.status, (f"REFUSED: {refusal}",), True)
+    return Outcome(refusal.status, (*refusal.args, f"REFUSED: nothing was done, for the {len(refusal.args)} reasons above"), True)
+
+
+def told_of(error):
+    """What a failure says, in one line: of the system's its reason and its file, of any other also the place that it comes from."""
+    if isinstance(error, OSError):
+        return f"{error.strerror or error}{f': {error.filename}' if error.filename else ''}"
+    place = traceback.extract_tb(error.__traceback__)[-1]
+    return f"{type(error).__name__} in {os.path.basename(place.filename)}, line {place.lineno}: {error}"
+
+
+def outcome_of(main, words):
+    """Calls a main, and returns its outcome, whatever comes."""
+    try:
+        heed_signals()
+        return main(words)
+    except Refusal as refusal:
+        return refused(refusal)
+    except Failure as failure:
+        return failed(str(failure))
+    except Stopped as stopped:
+        return failed(f"stopped by {stopped}")
+    except Exception as error:
+        return failed(told_of(error))
+
+
+# ---- signals
+
+
+_holds, _pending = [], []
+
+
+def stop(number, _frame):
+    """Ends what the script does, or what it does behind a `held` block. What comes while it ends what it started is ignored."""
+    ignore_signals()
+    _pending.append(signal.Signals(number).name)
+    if not _holds:
+        raise Stopped(_pending.pop())
+
+
+@contextlib.contextmanager
+def held():
+    """Lets a signal that comes in the block stop the script only behind it. Signals come to the main thread alone."""
+    if threading.current_thread() is not threading.main_thread():
+        yield
+        return
+    _holds.append(True)
+    try:
+        yield
+    finally:
+        _holds.pop()
+    if _pending:
+        raise Stopped(_pending.pop())
+
+
+def ignore_signals():
+    for number in SIGNALS:
+        signal.signal(number, signal.SIG_IGN)
+
+
+def heed_signals():
+    """Has the script stopped by each signal that it wasn't started to ignore."""
+    for number in SIGNALS:
+        if signal.getsignal(number) != signal.SIG_IGN:
+            signal.signal(number, stop)
+
+
+# ---- a script
+
+
+def tell(outcome):
+    """Prints the last lines of an outcome, and returns its exit status. Where nobody reads them, the script has failed."""
+    to = sys.stderr if outcome.is_refusal else sys.stdout
+    try:
+        print("\n".join(outcome.lines), file=to, flush=True)
+        return outcome.status
+    except OSError:
+        # what is left in the buffer goes nowhere when the script ends
+        os.dup2(os.open(os.devnull, os.O_WRONLY), to.fileno())
+        return outcome.status or FAILED
+
+
+def run(main, doc, take_words):
+    """Runs a script's main with the words that the script takes, and ends the script with its status."""
+    parser = argparse.ArgumentParser(description=doc, formatter_class=argparse.RawDescriptionHelpFormatter)
+    take_words(parser)
+    words = parser.parse_args()
+    if sys.stdout is not None:
+        sys.stdout.reconfigure(errors="backslashreplace")
+    outcome = outcome_of(main, words)
+    ignore_signals()
+    sys.exit(tell(outcome))

@@ -1,0 +1,191 @@
+"""The parsers of the tools, on the examples and on what is made up or cut."""
+import itertools
+import unittest
+
+from support import ID, ROOT, datagram
+
+import barformats
+from barformats import KeyFile, Malformed, Session
+
+EXAMPLE = ROOT / "examples/one-block"
+SESSION = (EXAMPLE / "session.toml").read_bytes()
+KEY = (EXAMPLE / "key.toml").read_bytes()
+RECORDING = (EXAMPLE / "recording").read_bytes()
+
+
+class Texts(unittest.TestCase):
+    def fault_of(self, reader, text):
+        with self.assertRaises(Malformed) as fault:
+            reader(text)
+        return str(fault.exception)
+
+    def test_session_of_the_example(self):
+        session = Session.of_text(SESSION)
+        self.assertEqual((session.id, session.rounds, session.life, session.peers), ("cf560a3b8df7f16f", 10, 4, 2))
+        self.assertEqual((session.parties, session.ends, session.seconds, session.room), ([1, 2, 0], 15, 2.4, 10 * 8 * 1022))
+
+    def test_digits_of_both_cases(self):
+        self.assertEqual(Session.of_text(SESSION.replace(b"cf560a3b8df7f16f", b"CF560A3B8DF7F16F")).id, "cf560a3b8df7f16f")
+
+    def test_each_number_out_of_its_range(self):
+        names = ["rounds", "life", "cap", "per_round", "fanout", "port", "tick_ms", "lms", "ots"]
+        bounds = {name: (barformats.NUMBERS[name].least, barformats.NUMBERS[name].most) for name in names}
+        for name, value in ((name, value) for name in names for value in (bounds[name][0] - 1, bounds[name][1] + 1, "true", "1.0", '"1"')):
+            with self.subTest(name=name, value=value):
+                fault = self.fault_of(Session.of_text, self.changed(name, f"{name} = {value}\n"))
+                self.assertTrue(fault.startswith(f"{name} is "), fault)
+
+    def changed(self, name, line):
+        """The example's text with another line for a number."""
+        return SESSION.replace(f"{name} = {barformats.document_of(SESSION)[name]}\n".encode(), line.encode())
+
+    def test_each_number_missing(self):
+        for name in ("rounds", "life", "cap", "per_round", "fanout", "port", "tick_ms", "lms", "ots"):
+            self.assertEqual(self.fault_of(Session.of_text, self.changed(name, "")), f"{name} is missing")
+
+    def test_bounds_of_ranges_are_taken(self):
+        names = ["life", "cap", "per_round", "port", "tick_ms"]
+        bounds = {name: (barformats.NUMBERS[name].least, barformats.NUMBERS[name].most) for name in names}
+        for name, value in ((name, value) for name in names for value in bounds[name]):
+            self.assertEqual(getattr(Session.of_text(self.changed(name, f"{name} = {value}\n")), name), value)
+
+    def test_fanout_above_the_number_of_peers(self):
+        fault = self.fault_of(Session.of_text, SESSION.replace(b"fanout = 2", b"fanout = 3"))
+        self.assertEqual(fault, "fanout is 3: it has to be a whole number of 1 to 2, the number of peers")
+
+    def test_too_few_leaves(self):
+        fault = self.fault_of(Session.of_text, SESSION.replace(b"rounds = 10", b"rounds = 57"))
+        wanted = "57 rounds need 1,026 leaves, and a key of LMS type 6 has 1,024: take LMS type 7, or at most 56 rounds"
+        self.assertEqual(fault, wanted)
+        self.assertEqual(Session.of_text(SESSION.replace(b"rounds = 10", b"rounds = 56")).rounds, 56)
+
+    def test_all_faults_are_told(self):
+        text = SESSION.replace(b"cap = 4", b"cap = 0").replace(b"life = 4", b"life = 1").replace(b'id = "cf', b'id = "xy')
+        self.assertEqual(len(self.fault_of(Session.of_text, text).split("; ")), 3)
+
+    def test_keys_of_a_session(self):
+        fault = self.fault_of(Session.of_text, SESSION.replace(b'anchor = "26', b'anchor = "2'))
+        self.assertEqual(fault, "peer 1 anchor isn't a text of 64 hex digits")
+        fault = self.fault_of(Session.of_text, SESSION.replace(b'\nkey = "', b'\nkey = "z', 1))
+        self.assertEqual(fault, "key isn't a text of 112 hex digits")
+
+    def test_keys_of_other_types_or_parties(self):
+        fault = self.fault_of(Session.of_text, SESSION.replace(b"lms = 6", b"lms = 7"))
+        self.assertEqual(fault, "; ".join(f"{name} isn't of the types lms and ots" for name in ("key", "peer 1 key", "peer 2 key")))
+        head, first, second = SESSION.split(b"\n[[peer]]\n")
+        fault = self.fault_of(Session.of_text, b"\n[[peer]]\n".join([head, second, second]))
+        self.assertEqual(fault, "peer 2 key is peer 1 key too")
+
+    def test_what_is_no_text(self):
+        texts = [b"\xff", b"version = ", b"x = [" * 2000, b"version = 2", b"version = true", b"", b"version = 1\npeer = 1"]
+        for text, reader in itertools.product(texts, (Session.of_text, KeyFile.of_text)):
+            with self.subTest(text=text[:20], reader=reader.__qualname__):
+                self.fault_of(reader, text)
+
+    def test_session_cut_at_every_byte(self):
+        whole = Session.of_text(SESSION)
+        for end in range(len(SESSION) - 2):
+            with self.assertRaises(Malformed):
+                Session.of_text(SESSION[:end])
+        self.assertEqual(Session.of_text(SESSION.rstrip()), whole)
+
+    def test_key_file_of_the_example(self):
+        self.assertEqual(KeyFile.of_text(KEY), KeyFile("cf560a3b8df7f16f", 1, 10, 6, 4, False))
+        self.assertTrue(KeyFile.of_text(KEY.replace(b"spent = false", b"spent = true")).spent)
+
+    def test_key_file_of_another_session_or_party(self):
+        session, key = Session.of_text(SESSION), KeyFile.of_text(KEY)
+        self.assertEqual([*key.faults(session, 1)], [])
+        self.assertEqual([*key.faults(session, 2)], ["it has another party than party 2 of the session"])
+
+    def test_faults_of_a_key_file(self):
+        self.assertEqual(self.fault_of(KeyFile.of_text, KEY.replace(b"party = 1", b"party = 201")).split(":")[0], "party is 201")
+        self.assertEqual(self.fault_of(KeyFile.of_text, KEY.replace(b"false", b"0")), "spent is neither true nor false")
+        self.assertEqual(self.fault_of(KeyFile.of_text, KEY.replace(b'"6dff', b'"6df')), "secret isn't a text of 64 hex digits")
+
+
+class Rooms(unittest.TestCase):
+    def fault_of(self, *numbers):
+        return next(barformats.faults_of_length(*numbers), None)
+
+    def test_stream_that_fills_its_room(self):
+        self.assertIsNone(self.fault_of(10 * 8 * 1022, 10, 8, 6))
+
+    def test_stream_of_a_byte_more(self):
+        fault = self.fault_of(10 * 8 * 1022 + 1, 10, 8, 6)
+        told = "the stream has 81,761 bytes, and 10 rounds of 8 updates have room for 81,760: "
+        self.assertEqual(fault, told + "take 11 rounds of 8 updates or 10 rounds of 9 updates")
+
+    def test_more_rounds_with_a_higher_type(self):
+        self.assertTrue(self.fault_of(57 * 1022, 1, 1, 5).endswith("take 57 rounds of 1 update with LMS type 7 or 1 round of 57 updates"))
+
+    def test_only_both_together(self):
+        self.assertTrue(self.fault_of(3000 * 1022, 1, 1, 7).endswith("take 47 rounds of 64 updates"))
+
+    def test_larger_than_every_room(self):
+        self.assertTrue(self.fault_of(1820 * 64 * 1022 + 1, 1, 1, 7).endswith("at most 119,042,560 bytes, the room of the longest session"))
+
+
+class Recordings(unittest.TestCase):
+    def test_recording_of_the_example(self):
+        entries, whole = barformats.entries_of(RECORDING)
+        self.assertTrue(whole)
+        self.assertEqual((entries.count(None), len(entries)), (120, 122))
+        self.assertEqual(barformats.recording_of(RECORDING[:15], entries), RECORDING)
+        self.assertEqual(barformats.whole_recording(RECORDING), RECORDING)
+
+    def test_recording_cut_at_every_byte(self):
+        entries, _ = barformats.entries_of(RECORDING)
+        for end in range(len(RECORDING)):
+            front, whole = barformats.entries_of(RECORDING[:end])
+            self.assertFalse(whole)
+            self.assertEqual(front, entries[: len(front)])
+            if end >= 15:
+                self.assertEqual(barformats.entries_of(barformats.whole_recording(RECORDING[:end])), (front, True))
+
+    def test_what_stands_behind_the_end(self):
+        self.assertFalse(barformats.entries_of(RECORDING + b"\x00")[1])
+        self.assertFalse(barformats.entries_of(RECORDING[:-1] + b"\x03")[1])
+
+    def test_an_empty_datagram(self):
+        self.assertEqual(barformats.entries_of(bytes(15) + b"\x02\x00\x00\x01\x00"), ([b"", None], True))
+
+
+class Others(unittest.TestCase):
+    def test_transcript(self):
+        self.assertEqual([*barformats.transcript_of("1 2 ba47\n12 0 00\n")], [(1, 2, b"\xba\x47"), (12, 0, b"\x00")])
+        for printed in ("1 2\n", "1 2 3\n", "x 2 ba\n", "1 2 ba 3\n", "\n"):
+            with self.subTest(printed=printed), self.assertRaises(Malformed):
+                [*barformats.transcript_of("1 2 ba\n" + printed)]
+
+    def test_table(self):
+        table = (ROOT / "examples/bad-opening/table").read_bytes()
+        manifests = [*barformats.manifests_of(table)]
+        self.assertEqual([int.from_bytes(manifest[16:20], "big") for _, manifest in manifests], [1, 2, 4, 6])
+        self.assertEqual(b"".join(len(it).to_bytes(2, "big") + it for _, it in manifests), table)
+        self.assertEqual([table[place + 2 : place + 5] for place, _ in manifests], [b"\xba\x47\x01"] * len(manifests))
+
+    def test_table_cut_at_every_byte(self):
+        table = b"\x00\x01a\x00\x02bc"
+        for end in (1, 2, 4, 5, 6):
+            with self.assertRaises(Malformed):
+                [*barformats.manifests_of(table[:end])]
+        self.assertEqual([*barformats.manifests_of(table[:3])], [(0, b"a")])
+
+    def test_names_of_findings(self):
+        found = {"party.1.table": (1, "table"), "party.0.12": (0, "12"), "party.12.3": (12, "3")}
+        others = ["party.1.played", "party.1.4.bak", "party.1", "party.x.4", "party.1.table2", "aparty.1.4", "party.1.4\n"]
+        self.assertEqual({name: barformats.finding_of(name) for name in [*found, *others]}, found | dict.fromkeys(others))
+
+    def test_heads_of_datagrams(self):
+        session = Session(ID, 2, 2, 1, 1, 1, 20_000, 20, 5, 3, 2)
+        whole = datagram(8, 1, 65_535)
+        self.assertEqual(barformats.head_of(whole, session), (8, 1, 65_535))
+        self.assertEqual({barformats.head_of(whole[:end], session) for end in range(16)}, {None})
+        for at in range(12):
+            changed = whole[:at] + bytes([whole[at] ^ 1]) + whole[at + 1 :]
+            self.assertEqual(barformats.head_of(changed, session), (9, 1, 65_535) if at == 3 else None)
+
+
+if __name__ == "__main__":
+    unittest.main()

@@ -1,0 +1,140 @@
+"""The program's words and statuses, and the processes that are started and killed."""
+import os
+import signal
+import sys
+import time
+import unittest
+from unittest import mock
+
+from support import RoomCase, fake_program, has_ended, is_running, lines_of, wait_for
+
+import barprogram
+import barscript
+from barprogram import Status
+
+
+class Words(unittest.TestCase):
+    def test_options_stand_in_their_order(self):
+        words = barprogram.words_of("peer", found="f", played="p", recording="r", begin=5, key="k", session="s", stream="t")
+        self.assertEqual(" ".join(words), "peer --session s --key k --begin 5 --played p --recording r --found f")
+
+    def test_an_option_that_is_missing(self):
+        with self.assertRaises(KeyError):
+            barprogram.words_of("simulate")
+
+
+class Statuses(unittest.TestCase):
+    def test_statuses_of_the_program(self):
+        self.assertEqual([int(status) for status in Status], [*range(10), 70])
+        self.assertEqual(barprogram.told_of_status(70), "there is no memory left")
+
+    def test_signals(self):
+        self.assertEqual(barprogram.told_of_status(137), "SIGKILL ended it")
+        self.assertEqual(barprogram.told_of_status(134), "SIGABRT ended it")
+
+    def test_other_statuses(self):
+        for status in (10, 71, 127, 128, 255):
+            self.assertEqual(barprogram.told_of_status(status), "the program has no such status")
+
+    def test_how_a_command_ended(self):
+        words = ["-c", "import os, sys; print('out'); print('err', file=sys.stderr); sys.stdout.flush(); os.kill(os.getpid(), 15)"]
+        ran = barprogram.run_words(sys.executable, words)
+        self.assertEqual((ran.status, ran.printed, ran.said), (128 + signal.SIGTERM, b"out\n", b"err\n"))
+        self.assertEqual(ran.told, "status 143: SIGTERM ended it (err)")
+
+
+class Processes(RoomCase):
+    def parent(self, file):
+        """The words of a process that starts another one, and writes its number to a file."""
+        return ["sh", "-c", f"sleep 60 & echo $! > {file}.new; mv {file}.new {file}; wait"]
+
+    def number_in(self, file):
+        """The number that is written to a file."""
+        self.assertTrue(wait_for(file.exists))
+        return int(file.read_text())
+
+    def test_a_process_takes_its_children_with_it(self):
+        file = self.room / "child"
+        with self.assertRaises(barscript.Stopped), barprogram.running(self.parent(file)) as process:
+            child = self.number_in(file)
+            self.assertTrue(is_running(child))
+            raise barscript.Stopped("SIGINT")
+        self.assertEqual((has_ended(child), process.returncode), (True, -signal.SIGKILL))
+
+    def test_a_call_that_fails_ends_the_others(self):
+        files = [self.room / name for name in ("first", "second")]
+
+        def call(file):
+            if file is None:
+                for started in files:
+                    self.number_in(started)
+                raise barscript.Failure("it fails")
+            with barprogram.running(self.parent(file)) as process:
+                return process.wait()
+
+        with self.assertRaises(barscript.Failure):
+            barprogram.spread(call, [*files, None, None, None, None], at_once=3)
+        self.assertEqual([has_ended(self.number_in(file)) for file in files], [True, True])
+
+    def test_answers_stand_in_the_order_of_the_items(self):
+        def call(number):
+            time.sleep((5 - number) / 100)
+            return number * number
+
+        answers, _, progress = lines_of(lambda: barprogram.spread(call, range(5), "squares", at_once=5))
+        self.assertEqual(answers, [0, 1, 4, 9, 16])
+        self.assertEqual((progress[0], progress[-1]), ("squares: 1 of 5", "squares: 5 of 5"))
+
+    def test_no_items(self):
+        self.assertEqual(barprogram.spread(str, [], "nothing"), [])
+
+
+class Buildings(RoomCase):
+    def rt(self, script):
+        """An `rt` that is a shell script, alone on the PATH with what the system has."""
+        path = self.room / "rt"
+        path.write_text(f"#!/bin/sh\n{script}\n")
+        path.chmod(0o755)
+        return mock.patch.dict(os.environ, PATH=f"{self.room}:/usr/bin:/bin")
+
+    def program_of(self, path):
+        """Calls for the program, where that of the repository is one of a made-up folder."""
+        with mock.patch.multiple(barprogram, PROGRAM=self.room / "out/bar", CRATE=self.room):
+            return barprogram.program_of(mock.Mock(bar=path))
+
+    def test_a_program_that_is_there(self):
+        program = fake_program(self.room)
+        self.assertEqual(self.program_of(program), program.resolve())
+
+    def test_what_is_no_program(self):
+        for path in (self.room / "none", self.room, self.stream):
+            reasons = self.reasons_of(lambda path=path: self.program_of(path))
+            self.assertEqual(reasons, (f"there is no program at {path}: `rt run` in {self.room} builds one",))
+
+    def test_a_program_is_built_where_it_is_not_there(self):
+        script = 'echo "$@" > words; mkdir out; echo > out/bar; chmod 755 out/bar'
+        with self.rt(script), mock.patch.object(sys, "stderr", open(os.devnull, "w")) as quiet, quiet:
+            self.assertEqual(self.program_of(self.room / "out/bar"), (self.room / "out/bar").resolve())
+        self.assertTrue((self.room / "words").read_text().startswith("run -- judge --session "))
+
+    def test_a_build_that_fails(self):
+        with self.rt("exit 3"), mock.patch.object(sys, "stderr", open(os.devnull, "w")) as quiet, quiet:
+            with self.assertRaises(barprogram.BuildFailed) as failed:
+                self.program_of(self.room / "out/bar")
+        self.assertEqual((failed.exception.rt_status, failed.exception.status), (3, 2))
+        self.assertIn("ends with status 3", str(failed.exception))
+
+    def test_no_toolchain(self):
+        with mock.patch.dict(os.environ, PATH="/nowhere"), mock.patch.object(sys, "stderr", open(os.devnull, "w")) as quiet, quiet:
+            with self.assertRaises(barprogram.BuildFailed) as failed:
+                self.program_of(self.room / "out/bar")
+        self.assertIn("there is no `rt`", str(failed.exception))
+
+    def test_what_a_crate_stands_on(self):
+        lines = "# ground\nbar_bytes:\nbar_lms: bar_bytes bar_lanes sha2\nbar: bar_lms\n"
+        self.assertEqual(barprogram.crates_below(lines, "bar_lms"), ["bar_bytes", "bar_lanes", "sha2"])
+        self.assertEqual(barprogram.crates_below(lines, "bar_bytes"), [])
+
+
+if __name__ == "__main__":
+    unittest.main()

@@ -1,0 +1,309 @@
+"""Sessions that are run by a program that stands for `bar`: what is refused, the causes of failures, and outcomes."""
+import errno
+import pathlib
+import shutil
+import signal
+import tempfile
+import unittest
+from unittest import mock
+
+from support import NUMBERS, RoomCase, bound, datagram, fake_program, lines_of
+
+import barcauses
+import barmaking
+import barrunning
+import barscript
+import barsession
+from barformats import KEYREQ, room_of
+from barprogram import Status
+
+
+class SessionCase(RoomCase):
+    """A test with a copy of a session that was made once."""
+
+    @classmethod
+    def setUpClass(cls):
+        room = tempfile.TemporaryDirectory()
+        cls.addClassCleanup(room.cleanup)
+        cls.made = pathlib.Path(room.name)
+        (cls.made / "stream").write_bytes(b"stream" * 100)
+        wanted = barmaking.Wanted(cls.made / "session", cls.made / "stream", NUMBERS)
+        lines_of(lambda: barmaking.make(wanted, fake_program(cls.made)))
+
+    def setUp(self):
+        super().setUp()
+        shutil.copytree(self.made / "session", self.room / "session")
+        self.folder = barsession.Folder(self.room / "session")
+        self.session = barrunning.session_of(self.folder)
+
+    def change_key(self, party, old, new):
+        path = self.folder.key(party)
+        path.write_text(path.read_text().replace(old, new))
+
+
+class Refusals(SessionCase):
+    def refused(self, kill=None, folder=None):
+        return self.reasons_of(lambda: barrunning.accept(folder or self.folder, kill))
+
+    def test_a_session_that_can_be_run(self):
+        self.assertEqual(barrunning.accept(self.folder, 2), self.session)
+
+    def test_a_folder_that_is_none(self):
+        (reason,) = self.refused(folder=barsession.Folder(self.room / "none"))
+        self.assertIn("none/session.toml can't be read: No such file or directory; make a new session", reason)
+        (reason,) = self.refused(folder=barsession.Folder(self.stream))
+        self.assertIn("stream/session.toml can't be read: Not a directory; make a new session", reason)
+
+    def test_a_text_that_is_none(self):
+        self.folder.session.write_text("version = 1")
+        self.assertIn("is no session's text: it has no tables [[peer]]; make a new session", self.refused()[0])
+
+    def test_files_that_are_missing(self):
+        self.folder.key(2).unlink()
+        self.folder.stream.unlink()
+        self.assertEqual(len(self.refused()), 1)
+        self.assertIn("has no key.2 and stream: make a new session", self.refused()[0])
+
+    def test_keys_that_are_spent(self):
+        self.change_key(2, "spent = false", "spent = true")
+        self.assertIn(f"spent, since the session was run: key.2 in {self.folder.path}; a key serves one session", self.refused()[0])
+        for party in (0, 1):
+            self.change_key(party, "spent = false", "spent = true")
+        self.assertIn("spent, since the session was run: all keys in ", self.refused()[0])
+
+    def test_keys_that_are_others(self):
+        self.change_key(0, "lms = 5", "lms = 6")
+        self.change_key(1, "party = 1", "party = 2")
+        self.change_key(2, "spent = false", "spent")
+        reasons = self.refused()
+        self.assertEqual(len(reasons), 3)
+        self.assertIn("key.1 is no key of this session: it has another party than party 1 of the session; make", reasons[0])
+        self.assertIn("key.2 is no key of this session: it is no TOML", reasons[1])
+        self.assertIn("key.0 is no key of this session: it has another lms than party 0 of the session; make", reasons[2])
+
+    def test_a_stream_larger_than_its_room(self):
+        self.folder.stream.write_bytes(bytes(self.session.room + 1))
+        self.assertIn("the stream has 2,045 bytes, and 1 round of 2 updates have room for 2,044: take 2 rounds", self.refused()[0])
+        self.folder.stream.write_bytes(bytes(self.session.room))
+        self.assertEqual(barrunning.accept(self.folder), self.session)
+
+    def test_results_of_another_run(self):
+        self.folder.recording(1).write_bytes(b"of value")
+        self.assertIn("has party.1.recording of another run: move these away", self.refused()[0])
+
+    def test_a_peer_that_is_none(self):
+        for kill in (-1, 0, 3):
+            self.assertEqual(self.refused(kill), (f"--kill {kill} names no peer: take one of 1 to 2",))
+
+    def test_ports_that_are_taken(self):
+        with bound(self.session.port), bound(self.session.port + 2):
+            (reason,) = self.refused()
+        told = f"these ports are taken: {self.session.port} of party 0 and {self.session.port + 2} of party 2; end the program"
+        self.assertTrue(reason.startswith(told), reason)
+
+    def test_all_faults_are_told(self):
+        self.folder.stream.write_bytes(bytes(room_of(2, 2)))
+        self.change_key(1, "spent = false", "spent = true")
+        with bound(self.session.port + 1):
+            self.assertEqual(len(self.refused(9)), 4)
+
+
+class Causes(SessionCase):
+    def cause(self, party, status):
+        return barcauses.cause_of(self.folder, self.session, party, status)
+
+    def test_a_file_that_is_in_the_way(self):
+        self.folder.played(2).mkdir()
+        self.assertEqual(self.cause(2, Status.FILE), f"{self.folder.played(2)} can't be written: Is a directory")
+        self.assertEqual(self.cause(1, Status.FILE), "a file can't be read or written")
+        self.folder.table(0).mkdir()
+        self.assertEqual(self.cause(0, Status.FILE), f"{self.folder.table(0)} can't be written: Is a directory")
+
+    def test_a_file_that_is_missing(self):
+        self.folder.stream.unlink()
+        self.assertEqual(self.cause(0, Status.FILE), f"{self.folder.stream} can't be read: No such file or directory")
+        self.assertEqual(self.cause(1, Status.FILE), "a file can't be read or written")
+
+    def test_a_disk_that_is_full(self):
+        for number, told in ((errno.ENOSPC, "the disk is full"), (errno.EROFS, f"nothing can be written in {self.folder.path}: Read-only")):
+            file = mock.MagicMock()
+            file.__enter__.return_value.write.side_effect = OSError(number, "Read-only")
+            with mock.patch("tempfile.TemporaryFile", return_value=file):
+                self.assertEqual(self.cause(1, Status.FILE), told)
+
+    def test_keys(self):
+        self.assertEqual(self.cause(1, Status.KEY), "its key isn't this session's")
+        self.change_key(1, "spent = false", "spent = true")
+        self.assertEqual(self.cause(1, Status.KEY), "its key was spent before")
+        self.folder.key(1).write_text("")
+        self.assertEqual(self.cause(1, Status.KEY), "its key is refused: its version is missing")
+
+    def test_ports(self):
+        self.assertEqual(self.cause(1, Status.LINK), "the link failed")
+        with bound(self.session.port + 1):
+            self.assertEqual(self.cause(1, Status.LINK), f"port {self.session.port + 1} is taken")
+
+    def test_streams(self):
+        self.folder.stream.write_bytes(bytes(5000))
+        self.assertTrue(self.cause(0, Status.INPUT).startswith("the stream has 5,000 bytes, and 1 round of 2 updates have room for 2,044"))
+        self.assertEqual(self.cause(1, Status.INPUT), "an input is refused")
+
+    def test_memory_and_signals(self):
+        self.assertEqual(self.cause(1, Status.MEMORY), "there is no memory left")
+        self.assertEqual(self.cause(1, 139), "SIGSEGV ended it")
+
+    def causes(self, statuses, status, kill=None):
+        return [*barcauses.causes_of(self.folder, self.session, statuses, status, kill)]
+
+    def test_all_is_well(self):
+        self.folder.recording(1).touch()
+        self.folder.recording(2).touch()
+        self.assertEqual(self.causes({1: 0, 2: 0, 0: 0}, 0), [])
+        self.assertEqual(self.causes({1: 0, 2: 137, 0: 0}, 9, 2), [])
+
+    def test_a_party_that_nobody_was_to_kill(self):
+        self.folder.recording(1).touch()
+        told = ["party 1 was to be killed, and ended before", "party 2 status 137: SIGKILL ended it"]
+        self.assertEqual(self.causes({1: 0, 2: 137, 0: 0}, 9, 1), told)
+
+    def test_a_party_that_ended_before_it_was_killed(self):
+        self.folder.recording(1).touch()
+        told = ["party 2 was to be killed, and ended before", "party 2 status 70: there is no memory left"]
+        self.assertEqual(self.causes({1: 0, 2: 70, 0: 0}, 9, 2), told)
+
+    def test_parties_without_a_status_or_a_recording(self):
+        self.folder.recording(1).touch()
+        self.assertEqual(self.causes({1: 0}, 9), ["there is no status of party 2 and party 0"])
+        self.assertEqual(self.causes({1: 0, 2: 0, 0: 0}, 0), ["party 2 left no recording"])
+        told = ["there is no status of any party", "the command `session` status 4: the session's text is refused"]
+        self.assertEqual(self.causes({}, 4), told)
+
+
+class Outcomes(SessionCase):
+    def run_session(self, kill=None, **ways):
+        """Runs the session: the outcome, and the lines of standard output and standard error."""
+        program = fake_program(self.room, **ways)
+        return lines_of(lambda: barrunning.run_session(self.folder, self.session, program, kill))
+
+    def test_a_session_that_goes_well(self):
+        sent = datagram(KEYREQ, 1, 2, b"\x00\x00\x00\x01\x00\x00", self.session.id).hex()
+        outcome, out, err = self.run_session(sent={"1": [sent]}, taken={"2": [sent, sent]})
+        parties = ["party 1 status 0 played 6 of 600 bytes, 1.0%", "party 2 status 0 played 6 of 600 bytes, 1.0%", "party 0 status 0"]
+        self.assertEqual(out, [*parties, "all 2 replays agree; peers sent each other 1 datagrams and took 2"])
+        told = f"OK: all parties ended with status 0, all replays agree, page {self.folder.page}"
+        self.assertEqual((outcome.status, *outcome.lines), (0, told))
+        self.assertTrue(self.folder.page.read_text().startswith("<!doctype html>"))
+        self.assertEqual(err[-1], "replays: 2 of 2")
+        self.assertRegex(err[0], "^the session begins in [0-9]+ s$")
+        self.assertIn("spent, since the session was run: all keys", self.reasons_of(lambda: barrunning.accept(self.folder))[0])
+
+    def test_a_party_that_fails(self):
+        with bound(self.session.port + 2):
+            outcome, out, _ = self.run_session(statuses={"2": 6})
+        self.assertEqual((outcome.status, *outcome.lines), (1, f"FAILED: party 2 status 6: port {self.session.port + 2} is taken"))
+        self.assertEqual(out[1], "party 2 status 6")
+        self.assertEqual(out[3:], ["all 1 replays agree; peers sent each other 0 datagrams and took 0", f"page {self.folder.page}"])
+
+    def test_a_peer_that_is_killed(self):
+        outcome, out, _ = self.run_session(kill=2, statuses={"2": 137})
+        self.assertEqual(out[1], "party 2 status 137")
+        told = f"OK: party 2 was killed, the others ended with status 0, all replays agree, page {self.folder.page}"
+        self.assertEqual((outcome.status, *outcome.lines), (0, told))
+
+    def test_nobody_is_killed(self):
+        outcome, _, _ = self.run_session(kill=2)
+        self.assertEqual(outcome.lines, ("FAILED: party 2 was to be killed, and ended before",))
+
+    def test_replays_that_differ(self):
+        outcome, out, _ = self.run_session(replayed="plaid", statuses={"2": 70})
+        causes = "party 2 status 70: there is no memory left; party 1: the replay plays 5 bytes, the peer played 6, and they differ"
+        self.assertEqual((outcome.status, *outcome.lines), (1, f"FAILED: {causes}"))
+        self.assertEqual(out[-2], "0 of 1 replays agree; peers sent each other 0 datagrams and took 0")
+
+    def test_datagrams_that_were_not_sent(self):
+        strange = datagram(KEYREQ, 1, 2, b"\x00\x00\x00\x01\x00\x00", self.session.id).hex()
+        outcome, _, _ = self.run_session(taken={"2": [strange]})
+        self.assertEqual(outcome.lines, ("FAILED: party 2: took 1 datagram that party 1 didn't send",))
+
+    def test_nobody_leaves_a_recording(self):
+        outcome, out, _ = self.run_session(status={"session": 4})
+        told = "there is no status of any party; the command `session` status 4: the session's text is refused"
+        self.assertEqual((outcome.status, *outcome.lines), (1, f"FAILED: {told}"))
+        self.assertEqual(out, ["there is no page, since nobody left a recording that is replayed"])
+
+    def test_what_was_lost_is_told_before_the_last_line(self):
+        with mock.patch("barrunning.Watch") as watch:
+            watch.return_value.drops = {2: 31}
+            watch.return_value.looks = lambda ended: ended.wait()
+            outcome, out, _ = self.run_session()
+        self.assertEqual(out[-1], "party 2: its receive buffer ran over, 31 datagrams were lost; a longer tick (--tick-ms) helps")
+        self.assertEqual(outcome.status, 0)
+
+    def test_a_page_that_cannot_be_written(self):
+        self.folder.page.mkdir()
+        outcome, _, _ = self.run_session()
+        self.assertEqual((outcome.status, *outcome.lines), (1, f"FAILED: {self.folder.page} can't be written: Is a directory"))
+
+
+class Ends(unittest.TestCase):
+    """How a main ends, by its outcome or by what it raises."""
+
+    def tearDown(self):
+        for number in barscript.SIGNALS:
+            signal.signal(number, self.before[number])
+
+    def setUp(self):
+        self.before = {number: signal.getsignal(number) for number in barscript.SIGNALS}
+
+    def end(self, main):
+        """The exit status, and the lines of standard output and standard error."""
+        outcome = barscript.outcome_of(main, None)
+        return lines_of(lambda: barscript.tell(outcome))
+
+    def raises(self, error):
+        def main(_):
+            raise error
+
+        return self.end(main)
+
+    def test_outcomes(self):
+        self.assertEqual(self.end(lambda _: barscript.well("it is done")), (0, ["OK: it is done"], []))
+        self.assertEqual(self.end(lambda _: barscript.failed("one", "other")), (1, ["FAILED: one; other"], []))
+
+    def test_refusals(self):
+        self.assertEqual(self.raises(barscript.Refusal("why: do this")), (2, [], ["REFUSED: why: do this"]))
+        lines = ["one", "other", "REFUSED: nothing was done, for the 2 reasons above"]
+        self.assertEqual(self.raises(barscript.Refusal("one", "other")), (2, [], lines))
+        self.assertEqual(self.raises(barscript.Refusal("why", status=101)), (101, [], ["REFUSED: why"]))
+
+    def test_failures(self):
+        self.assertEqual(self.raises(barscript.Failure("why")), (1, ["FAILED: why"], []))
+        self.assertEqual(self.raises(OSError(errno.ENOSPC, "No space", "file")), (1, ["FAILED: No space: file"], []))
+        self.assertEqual(self.raises(barscript.Stopped("SIGINT")), (1, ["FAILED: stopped by SIGINT"], []))
+        status, out, _ = self.raises(KeyError("what"))
+        self.assertEqual(status, 1)
+        self.assertRegex("\n".join(out), r"^FAILED: KeyError in test_running.py, line [0-9]+: 'what'$")
+
+    def test_a_signal_stops_the_main_once(self):
+        def main(_):
+            try:
+                signal.raise_signal(signal.SIGTERM)
+            finally:
+                signal.raise_signal(signal.SIGINT)
+
+        self.assertEqual(self.end(main), (1, ["FAILED: stopped by SIGTERM"], []))
+
+    def test_words_in_a_row(self):
+        self.assertEqual([barscript.listed(words) for words in ([1], [1, 2], [1, 2, 3])], ["1", "1 and 2", "1, 2 and 3"])
+        self.assertEqual([barscript.counted(count, "peer") for count in (0, 1, 2000)], ["0 peers", "1 peer", "2,000 peers"])
+
+    def test_files_that_are_required(self):
+        here = pathlib.Path(__file__)
+        barscript.require([here], "look")
+        with self.assertRaises(barscript.Refusal) as refused:
+            barscript.require([here, here / "a", here / "b"], "look")
+        self.assertEqual(str(refused.exception), f"{here}/a and {here}/b are missing: look")
+
+
+if __name__ == "__main__":
+    unittest.main()

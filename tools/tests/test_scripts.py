@@ -1,0 +1,189 @@
+"""The scripts as processes: what they say of themselves, what they refuse, and how they end where they are stopped."""
+import os
+import re
+import shutil
+import signal
+import unittest
+
+from support import ROOT, TOOLS, RoomCase, datagram, fake_program, has_ended, run_script, start_script, wait_for
+
+from barformats import MANIFEST, recording_of
+
+SCRIPTS = sorted(path.name for path in TOOLS.iterdir() if path.is_file() and not path.suffix)
+
+
+class Helps(unittest.TestCase):
+    def test_each_script_says_what_it_does(self):
+        self.assertGreaterEqual(len(SCRIPTS), 9)
+        for script in SCRIPTS:
+            with self.subTest(script=script):
+                status, out, err = run_script(script, "--help")
+                self.assertEqual((status, err), (0, []))
+                doc = (TOOLS / script).read_text().split('"""')[1]
+                self.assertIn(doc.strip(), "\n".join(out))
+
+    def test_words_that_are_none(self):
+        for script in SCRIPTS:
+            with self.subTest(script=script):
+                status, out, err = run_script(script, "--no-such-word")
+                self.assertEqual((status, out, err[0][:6]), (2, [], "usage:"))
+
+    def test_each_script_is_a_program(self):
+        for script in SCRIPTS:
+            self.assertTrue(os.access(TOOLS / script, os.X_OK), script)
+
+
+class Refusals(RoomCase):
+    def refused(self, *words):
+        """The last line of a refusal."""
+        status, out, err = run_script(*words)
+        self.assertEqual((status, out), (2, []), err)
+        self.assertTrue(err[-1].startswith("REFUSED: "), err)
+        return err[-1]
+
+    def test_folders_and_files_that_are_missing(self):
+        none = self.room / "none"
+        self.assertEqual(self.refused("check-vectors", none), f"REFUSED: {none} is missing: name a folder of expected values")
+        self.assertEqual(self.refused("check-vectors", self.room), f"REFUSED: {self.room} has no expected values: name a folder that has")
+        self.assertEqual(self.refused("check-nodes", none), f"REFUSED: {none} is missing: name a folder of expected values")
+        self.assertIn("has no recordings of parties", self.refused("check-nodes", self.room))
+        self.assertIn("session.toml, ", self.refused("measure-replay", self.room))
+        self.assertIn("session.toml can't be read", self.refused("run-session", self.room))
+        self.assertIn("name a commit of this repository", self.refused("benchmark-keys", "no-such-commit"))
+
+    def test_a_folder_of_expected_values_that_is_not_whole(self):
+        shutil.copytree(ROOT / "examples/expected/keygen", self.room / "keygen")
+        (self.room / "keygen/lms5_ots1_party2/secret").unlink()
+        self.assertIn("lms5_ots1_party2/secret is missing", self.refused("check-vectors", self.room))
+        shutil.copytree(ROOT / "examples/one-block", self.room / "world-a")
+        (self.room / "world-a/recording").rename(self.room / "world-a/1.recording")
+        self.assertIn("world-a/K.1, ", self.refused("check-nodes", self.room))
+
+    def test_expected_lines_that_are_none(self):
+        (self.room / "evidence").mkdir()
+        (self.room / "evidence/expected.txt").write_text("e.1\t0\tparty 3 fault F1\ne.2 0 party 3 fault F1\n")
+        self.assertIn("REFUSED: line 2 of ", self.refused("check-vectors", self.room))
+
+    def test_numbers_of_benchmarks(self):
+        status, _, err = run_script("benchmark-session", "--peers", 1, 3, "--rounds", 9999)
+        self.assertEqual(status, 2)
+        self.assertEqual([line.split(" is ")[0] for line in err[:2]], ["--peers", "--rounds"])
+        self.assertEqual(run_script("benchmark-keys", "HEAD", "--lms", 8)[0], 2)
+
+    def test_programs_that_are_missing(self):
+        for script, *words in (("check-streams",), ("check-vectors",), ("benchmark-session",), ("demo",)):
+            with self.subTest(script=script):
+                self.assertIn("there is no program at", self.refused(script, *words, "--bar", self.room / "none"))
+
+
+class Checks(RoomCase):
+    """What the scripts that compare say, by a program that stands for `bar`."""
+
+    def expected(self, printed):
+        """A folder of expected values: a simulation, and evidence."""
+        folder = self.room / "expected"
+        (folder / "evidence").mkdir(parents=True)
+        (folder / "simulate.txt").write_text(f"seed 1\n{printed}")
+        return folder
+
+    def test_values_that_are_the_same(self):
+        program = fake_program(self.room, printed="as it should be\n")
+        status, out, err = run_script("check-vectors", self.expected("as it should be\n"), "--bar", program)
+        self.assertEqual((status, out, err), (0, ["OK: 3 values compared, none differs"], ["checks: 1 of 1"]))
+
+    def test_values_that_differ(self):
+        program = fake_program(self.room, printed="as it is\n")
+        status, out, _ = run_script("check-vectors", self.expected("as it should be\n"), "--bar", program)
+        told = "simulate 1 printed: line 1: b'as it is' for b'as it should be'"
+        self.assertEqual((status, out), (1, [told, "FAILED: 1 of 3 values differ"]))
+
+    def test_closed_streams(self):
+        status, out, _ = run_script("check-streams", "--bar", fake_program(self.room, status={"replay": 70}))
+        self.assertEqual((status, out[-1]), (1, "FAILED: 10 values of 10 runs differ"))
+        self.assertTrue(all(line.startswith("replay: ") for line in out[:-1]), out)
+
+    def test_longer_recordings(self):
+        world = self.room / "world"
+        shutil.copytree(ROOT / "examples/one-block", world)
+        (world / "key.toml").rename(world / "K.1")
+        (world / "recording").rename(world / "1.recording")
+        status, out, _ = run_script("measure-replay", world, 500, "--bar", fake_program(self.room))
+        self.assertEqual(status, 0)
+        counts = [re.match(r"(\w+): (\d+) datagrams, ", line) for line in out[1:-1]]
+        wanted = [("repeated", "0"), ("repeated", "480"), ("forged", "0"), ("forged", "480"), ("verified", "0"), ("verified", "4")]
+        self.assertEqual([(told[1], told[2]) for told in counts], wanted)
+        self.assertEqual(out[-1], "OK: replays of up to 500 datagrams were measured")
+
+    def test_manifests_that_are_still_to_come(self):
+        world = self.room / "world"
+        shutil.copytree(ROOT / "examples/one-block", world)
+        (world / "key.toml").rename(world / "K.1")
+        session_id = "cf560a3b8df7f16f"
+        manifests = [datagram(MANIFEST, 0, 65_535, bytes([number]) * 8, session_id) for number in range(3)]
+        entries = [b"junk", None, manifests[0], None, manifests[0], manifests[1], None, None, manifests[2]]
+        (world / "1.recording").write_bytes(recording_of(b"BARL\x01" + bytes.fromhex(session_id) + b"\x00\x01", entries))
+        _, out, _ = run_script("measure-replay", world, 50, "--bar", fake_program(self.room))
+        counts = [line.split(",")[0] for line in out[2:-1:2]]
+        self.assertEqual(counts, [f"{kind}: 40 datagrams" for kind in ("repeated", "forged", "verified")])
+
+
+class Signals(RoomCase):
+    def stopped(self, process, number=signal.SIGINT):
+        """Sends a signal to the process of a script alone, and returns its status and its lines."""
+        process.send_signal(number)
+        out, err = process.communicate(timeout=30)
+        self.assertNotIn("Traceback", out + err)
+        return process.returncode, out.splitlines(), err.splitlines()
+
+    def test_parties_do_not_stay_behind(self):
+        folder, _ = self.make_session(fake_program(self.room))
+        file = self.room / "child"
+        for number in (signal.SIGINT, signal.SIGTERM, signal.SIGHUP):
+            with self.subTest(signal=number.name):
+                program = fake_program(self.room, hang=str(file))
+                with start_script("run-session", folder.path, "--bar", program) as process:
+                    self.assertTrue(wait_for(lambda: file.exists() and file.read_text()))
+                    status, out, _ = self.stopped(process, number)
+                self.assertEqual((status, out), (1, [f"FAILED: stopped by {number.name}"]))
+                self.assertTrue(has_ended(int(file.read_text())))
+                file.unlink()
+
+    def test_nothing_of_a_session_is_left(self):
+        program, folder = fake_program(self.room, keygen_seconds=60), self.room / "a/b"
+        words = ["--peers", 2, "--fanout", 1, "--stream", self.stream, "--bar", program]
+        with start_script("make-session", folder, *words) as process:
+            self.assertTrue(wait_for(lambda: [*folder.glob("secret.*")]))
+            status, out, _ = self.stopped(process)
+        self.assertEqual((status, out), (1, ["FAILED: stopped by SIGINT"]))
+        self.assertEqual(sorted(path.name for path in self.room.iterdir()), ["bar", "bar.json", "stream"])
+
+    def test_lines_that_nobody_reads(self):
+        out, into = os.pipe()
+        os.close(out)
+        program = fake_program(self.room, printed="as it is\n")
+        (self.room / "simulate.txt").write_text("seed 1\nas it is\n")
+        with start_script("check-vectors", self.room, "--bar", program, stdout=into) as process:
+            os.close(into)
+            _, err = process.communicate(timeout=30)
+        self.assertEqual((process.returncode, err.splitlines()), (1, ["checks: 1 of 1"]))
+
+
+class Builds(RoomCase):
+    def test_the_demo_hands_on_the_status_of_a_build(self):
+        tools = self.room / "repository/tools"
+        shutil.copytree(TOOLS, tools, ignore=shutil.ignore_patterns("tests", "__pycache__"))
+        (self.room / "repository/crates/bar").mkdir(parents=True)
+        rt = self.room / "rt"
+        rt.write_text("#!/bin/sh\necho proving crates\nexit 101\n")
+        rt.chmod(0o755)
+        path = f"{self.room}:{os.environ['PATH']}"
+        status, out, err = run_script(tools / "demo", env=os.environ | {"PATH": path})
+        self.assertEqual((status, out), (101, []))
+        self.assertEqual((err[0][:20], err[1]), ("there is no program:", "proving crates"))
+        self.assertRegex(err[2], "^REFUSED: `rt run` in .*/crates/bar ends with status 101")
+        status, _, _ = run_script(tools / "check-streams", env=os.environ | {"PATH": path})
+        self.assertEqual(status, 2)
+
+
+if __name__ == "__main__":
+    unittest.main()
