@@ -127,7 +127,18 @@ def compare(folder, session, program, parties):
     return logs, [f"party {party}: {told}" for party, told in differ]
 
 
-def compare_and_draw(folder, session, program):
+def draw(folder, session, logs, picture):
+    """Draws a session as its page, and where a picture is named, in this file too. Returns what fails, and what is said of the page."""
+    drawn = {folder.page: bartimeline.page} | ({picture: bartimeline.picture} if picture else {})
+    for path, draw_in in drawn.items():
+        try:
+            path.write_text(draw_in(session, logs))
+        except OSError as error:
+            return [f"{path} can't be written: {error.strerror}"], f"{path.name} isn't whole"
+    return [], f"page {folder.page}"
+
+
+def compare_and_draw(folder, session, program, picture):
     """Replays each peer that left a recording and draws the session. Returns what differs or fails, and what is said of the page."""
     parties = [party for party in session.parties[:-1] if folder.recording(party).exists()]
     try:
@@ -136,11 +147,8 @@ def compare_and_draw(folder, session, program):
         return [f"the recordings can't be replayed: {told_of(error)}"], "there is no page"
     if not logs:
         return differ, "there is no page, since nobody left a recording that is replayed"
-    try:
-        folder.page.write_text(bartimeline.page(session, logs))
-    except OSError as error:
-        return [*differ, f"{folder.page} can't be written: {error.strerror}"], "the page isn't whole"
-    return differ, f"page {folder.page}"
+    unwritten, page = draw(folder, session, logs, picture)
+    return [*differ, *unwritten], page
 
 
 def lost_lines(drops):
@@ -154,14 +162,14 @@ def lost_lines(drops):
 # ---- all together
 
 
-def run_session(folder, session, program, kill=None):
+def run_session(folder, session, program, kill=None, picture=None):
     """Runs an accepted session, compares its replays and draws it, and returns the script's outcome."""
     begin = begin_of(session, program)
     watch = Watch(session, begin, party_words(folder, program, kill, begin) if kill else None)
     with watched(watch):
         statuses, status = run_parties(folder, program, begin)
     causes = [*causes_of(folder, session, statuses, status, kill)]
-    differ, page = compare_and_draw(folder, session, program)
+    differ, page = compare_and_draw(folder, session, program, picture)
     for line in lost_lines(watch.drops):
         say(line)
     if causes or differ:
