@@ -1,6 +1,5 @@
 """Why parties of a session failed, by their exit statuses and by what can be seen of their files and ports."""
 import errno
-import os
 import signal
 import tempfile
 
@@ -12,10 +11,9 @@ from barsession import is_free, key_of
 
 def cause_of_files(folder, _session, party):
     """Which file of a party can't be read or written, or why the folder takes nothing, if one of these is so."""
-    made = [folder.table(party), *([folder.played(party), folder.recording(party)] if party else [])]
     read = [folder.session, folder.key(party), *([] if party else [folder.stream])]
-    tries = [*((path, "rb", "read") for path in read), *((path, "r+b", "written") for path in made if os.path.lexists(path))]
-    for path, mode, done in [*tries, (folder.key(party), "r+b", "written")]:
+    written = [folder.key(party), *sorted(folder.path.glob(f"{folder.results.name}.{party}.*"))]
+    for path, mode, done in [*((path, "rb", "read") for path in read), *((path, "r+b", "written") for path in written)]:
         try:
             path.open(mode).close()
         except OSError as error:

@@ -41,6 +41,7 @@ class Number:
     told: str
 
     def has(self, value):
+        """Whether a value is a number in this range."""
         return type(value) is int and self.least <= value <= self.most
 
 
@@ -50,7 +51,7 @@ NUMBERS = {
     "life": Number(2, 16, "how many rounds an update lives"),
     "cap": Number(1, 16, "how many items an exchange trades at most"),
     "per_round": Number(1, 64, "how many updates a round has at most"),
-    "fanout": Number(1, 200, "how many peers the broadcaster sends an update to, at most all"),
+    "fanout": Number(1, 200, "how many peers the broadcaster sends an update to, at most all of them"),
     "port": Number(1024, 65_335, "the broadcaster's port, before those of the peers"),
     "tick_ms": Number(1, 60_000, f"how many milliseconds a tick has; a round has {SLOTS} ticks"),
     "lms": Number(5, 7, "the LMS type"),
@@ -96,16 +97,20 @@ def room_of(rounds, per_round):
     return rounds * per_round * CONTENT
 
 
+def told_of_room(rounds, per_round, lms):
+    """So many rounds of so many updates, in words, with the LMS type where the given one has too few leaves for them."""
+    told = f"{counted(rounds, 'round')} of {counted(per_round, 'update')}"
+    return f"{told} with LMS type {type_for(rounds)}" if type_for(rounds) > lms else told
+
+
 def larger_rooms(length, rounds, per_round, lms):
-    """Which numbers have room for a stream of this length: more rounds, more updates a round, or both, in words."""
+    """Which numbers have room for a stream of this length, in words: more rounds, more updates a round, or both."""
     pieces, most_rounds, most_updates = -(-length // CONTENT), NUMBERS["rounds"].most, NUMBERS["per_round"].most
     ways = [(-(-pieces // per_round), per_round), (rounds, -(-pieces // rounds)), (-(-pieces // most_updates), most_updates)]
-    fitting = [way for way in ways if way[0] <= most_rounds and way[1] <= most_updates]
-    told = [f"{counted(rounds, 'round')} of {counted(updates, 'update')}" for rounds, updates in fitting[:2]]
-    types = [f" with LMS type {type_for(way[0])}" if type_for(way[0]) > lms else "" for way in fitting]
-    if not told:
-        return f"take a stream of at most {room_of(most_rounds, most_updates):,} bytes, the room of the longest session"
-    return f"take {' or '.join(map(''.join, zip(told, types)))}"
+    told = [told_of_room(*way, lms) for way in ways if way[0] <= most_rounds and way[1] <= most_updates]
+    if told:
+        return f"take {' or '.join(told[:2])}"
+    return f"take a stream of at most {room_of(most_rounds, most_updates):,} bytes, the room of the longest session"
 
 
 def faults_of_length(length, rounds, per_round, lms):

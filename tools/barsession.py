@@ -45,9 +45,6 @@ class Folder:
     def recording(self, party):
         return self.path / f"party.{party}.recording"
 
-    def table(self, party):
-        return self.path / f"party.{party}.table"
-
     def findings(self):
         """What each party found: the bytes of its files, by what they are called behind its number."""
         found = collections.defaultdict(dict)

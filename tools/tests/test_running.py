@@ -116,8 +116,9 @@ class Causes(SessionCase):
         self.folder.played(2).mkdir()
         self.assertEqual(self.cause(2, Status.FILE), f"{self.folder.played(2)} can't be written: Is a directory")
         self.assertEqual(self.cause(1, Status.FILE), "a file can't be read or written")
-        self.folder.table(0).mkdir()
-        self.assertEqual(self.cause(0, Status.FILE), f"{self.folder.table(0)} can't be written: Is a directory")
+        table = self.folder.path / "party.0.table"
+        table.mkdir()
+        self.assertEqual(self.cause(0, Status.FILE), f"{table} can't be written: Is a directory")
 
     def test_a_file_that_is_missing(self):
         self.folder.stream.unlink()
