@@ -197,8 +197,8 @@ def crates_below(lines, crate):
 def build():
     """Builds the program where it stands in this repository. It judges an example then, which ends with status 0."""
     progress("there is no program: `rt run` proves and builds it, which takes a while")
-    files = {name: ROOT / "examples/bad-opening" / place for name, place in (("session", "session.toml"), ("table", "table"))}
-    status = rt_run(CRATE, "--", *words_of("judge", **files, evidence=ROOT / "examples/bad-opening/evidence"))
+    files = {"session": "session.toml", "table": "table", "evidence": "bad-opening"}
+    status = rt_run(CRATE, "--", *words_of("judge", **{name: ROOT / "examples/evidence" / file for name, file in files.items()}))
     if status or not PROGRAM.exists():
         raise BuildFailed(f"`rt run` in {CRATE} ends with status {status}: what it says stands above", status)
 

@@ -11,7 +11,7 @@ import barrunning
 import barscript
 from barprogram import PROGRAM, Status
 
-EXAMPLE = ROOT / "examples/bad-opening"
+EXAMPLE = ROOT / "examples/evidence"
 
 
 def setUpModule():
@@ -56,7 +56,7 @@ class Ranges(unittest.TestCase):
         with tempfile.NamedTemporaryFile() as session:
             session.write(text)
             session.flush()
-            ran = barprogram.run(PROGRAM, "judge", session=session.name, table=EXAMPLE / "table", evidence=EXAMPLE / "evidence")
+            ran = barprogram.run(PROGRAM, "judge", session=session.name, table=EXAMPLE / "table", evidence=EXAMPLE / "bad-opening")
         return ran.status
 
     def is_session(self, text):

@@ -7,7 +7,7 @@ from support import ID, ROOT, datagram
 import barformats
 from barformats import KeyFile, Malformed, Session
 
-EXAMPLE = ROOT / "examples/one-block"
+EXAMPLE = ROOT / "examples/first-path/one-block"
 SESSION = (EXAMPLE / "session.toml").read_bytes()
 KEY = (EXAMPLE / "key.toml").read_bytes()
 RECORDING = (EXAMPLE / "recording").read_bytes()
@@ -159,7 +159,7 @@ class Others(unittest.TestCase):
                 [*barformats.transcript_of("1 2 ba\n" + printed)]
 
     def test_table(self):
-        table = (ROOT / "examples/bad-opening/table").read_bytes()
+        table = (ROOT / "examples/evidence/table").read_bytes()
         manifests = [*barformats.manifests_of(table)]
         self.assertEqual([int.from_bytes(manifest[16:20], "big") for _, manifest in manifests], [1, 2, 4, 6])
         self.assertEqual(b"".join(len(it).to_bytes(2, "big") + it for _, it in manifests), table)

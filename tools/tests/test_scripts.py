@@ -52,10 +52,10 @@ class Refusals(RoomCase):
         self.assertIn("name a commit of this repository", self.refused("benchmark-keys", "no-such-commit"))
 
     def test_a_folder_of_expected_values_that_is_not_whole(self):
-        shutil.copytree(ROOT / "examples/expected/keygen", self.room / "keygen")
+        shutil.copytree(ROOT / "examples/keygen", self.room / "keygen")
         (self.room / "keygen/lms5_ots1_party2/secret").unlink()
         self.assertIn("lms5_ots1_party2/secret is missing", self.refused("check-vectors", self.room))
-        shutil.copytree(ROOT / "examples/one-block", self.room / "world-a")
+        shutil.copytree(ROOT / "examples/first-path/one-block", self.room / "world-a")
         (self.room / "world-a/recording").rename(self.room / "world-a/1.recording")
         self.assertIn("world-a/K.1, ", self.refused("check-nodes", self.room))
 
@@ -104,7 +104,7 @@ class Checks(RoomCase):
 
     def test_longer_recordings(self):
         world = self.room / "world"
-        shutil.copytree(ROOT / "examples/one-block", world)
+        shutil.copytree(ROOT / "examples/first-path/one-block", world)
         (world / "key.toml").rename(world / "K.1")
         (world / "recording").rename(world / "1.recording")
         status, out, _ = run_script("measure-replay", world, 500, "--bar", fake_program(self.room))
@@ -116,7 +116,7 @@ class Checks(RoomCase):
 
     def test_manifests_that_are_still_to_come(self):
         world = self.room / "world"
-        shutil.copytree(ROOT / "examples/one-block", world)
+        shutil.copytree(ROOT / "examples/first-path/one-block", world)
         (world / "key.toml").rename(world / "K.1")
         session_id = "cf560a3b8df7f16f"
         manifests = [datagram(MANIFEST, 0, 65_535, bytes([number]) * 8, session_id) for number in range(3)]
