@@ -148,7 +148,9 @@ def spread(call, items, told=None, at_once=None):
     count = Count(told, len(items))
     with concurrent.futures.ThreadPoolExecutor(at_once or os.cpu_count()) as pool:
         try:
-            futures = [pool.submit(call, item) for item in items]
+            # a thread that was begun and isn't the pool's yet would be waited for by nobody
+            with held():
+                futures = [pool.submit(call, item) for item in items]
             for done, future in enumerate(concurrent.futures.as_completed(futures), 1):
                 future.result()
                 if told:

@@ -11,7 +11,7 @@ import threading
 import time
 
 from barformats import SLOTS
-from barscript import progress
+from barscript import held, progress
 from barsession import LOOPBACK
 
 # how many seconds lie between two looks, between two lines on the rounds at least, and between two lines on the wait for the start
@@ -97,8 +97,9 @@ def watched(watch):
     """Looks on, in a thread, while the block is carried out."""
     ended = threading.Event()
     with concurrent.futures.ThreadPoolExecutor(1) as pool:
-        looking = pool.submit(watch.looks, ended)
         try:
+            with held():
+                looking = pool.submit(watch.looks, ended)
             yield
         finally:
             ended.set()
