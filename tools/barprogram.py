@@ -1,6 +1,7 @@
 """The program `bar`: its words, its exit statuses, how it is built and run. Nothing else in the tools runs it, and nothing else calls `rt`.
 
 A process is started in a group of its own, and the group is killed where the script is stopped or fails: so no party of a session stays.
+The main thread waits by short waits alone. A signal that comes just before a wait, or to another thread, is seen behind it.
 """
 import concurrent.futures
 import contextlib
@@ -8,6 +9,8 @@ import dataclasses
 import enum
 import os
 import pathlib
+import queue
+import select
 import signal
 import subprocess
 import sys
@@ -18,6 +21,9 @@ from barscript import Count, Refusal, held, progress
 ROOT = pathlib.Path(__file__).resolve().parent.parent
 CRATE = ROOT / "crates/bar"
 PROGRAM = CRATE / "out/bar"
+
+# how many seconds one wait of the main thread lasts at most
+WAIT = 0.2
 
 # the options of each command, in their order
 COMMANDS = {
@@ -102,6 +108,32 @@ def end_process(process):
     _groups.discard(process.pid)
 
 
+def await_end(process):
+    """Waits for the end of a process, and returns what it printed where that goes to pipes: on standard output, and on standard error."""
+    while True:
+        with contextlib.suppress(subprocess.TimeoutExpired):
+            return process.communicate(timeout=WAIT)
+
+
+def lines_of(process):
+    """The lines that a process prints to a pipe of bytes, as they come, up to its end."""
+    rest, data = b"", None
+    while data != b"":
+        if select.select([process.stdout], [], [], WAIT)[0]:
+            data = os.read(process.stdout.fileno(), 1 << 16)
+            *lines, rest = (rest + data).split(b"\n")
+            yield from (line.decode(errors="replace") for line in lines)
+    if rest:
+        yield rest.decode(errors="replace")
+
+
+def await_next(results):
+    """Waits for the next item of a queue."""
+    while True:
+        with contextlib.suppress(queue.Empty):
+            return results.get(timeout=WAIT)
+
+
 def status_of(process):
     """The exit status of a process that has ended, as a shell tells it: of one that a signal ended it is 128 and the signal's number."""
     return process.returncode if process.returncode >= 0 else 128 - process.returncode
@@ -130,7 +162,7 @@ def words_of(command, **values):
 def run_words(program, words, stdout=subprocess.PIPE):
     """Runs the program to its end. What it prints may go elsewhere than to the answer."""
     with running([program, *words], stdout=stdout, stderr=subprocess.PIPE) as process:
-        printed, said = process.communicate()
+        printed, said = await_end(process)
         return Ran(status_of(process), printed or b"", said)
 
 
@@ -145,20 +177,27 @@ def spread(call, items, told=None, at_once=None):
     Under the name `told` lines tell how many are done. Where a call fails or the script is stopped, no other call begins, and all that
     runs is killed.
     """
-    count = Count(told, len(items))
+    count, ended = Count(told, len(items)), queue.SimpleQueue()
     with concurrent.futures.ThreadPoolExecutor(at_once or os.cpu_count()) as pool:
         try:
             # a thread that was begun and isn't the pool's yet would be waited for by nobody
             with held():
-                futures = [pool.submit(call, item) for item in items]
-            for done, future in enumerate(concurrent.futures.as_completed(futures), 1):
-                future.result()
+                futures = [begin(pool, call, item, ended) for item in items]
+            for done in range(1, len(futures) + 1):
+                await_next(ended).result()
                 if told:
                     count.tell(done)
             return [future.result() for future in futures]
         except BaseException:
             end_calls(pool)
             raise
+
+
+def begin(pool, call, item, ended):
+    """Has a call made by a pool; its future comes to the queue when it has ended."""
+    future = pool.submit(call, item)
+    future.add_done_callback(ended.put)
+    return future
 
 
 def end_calls(pool):
@@ -185,7 +224,7 @@ def rt_run(folder, *words):
     """Has `rt` prove, build and run the program of a crate, and returns its exit status. All that it prints goes to standard error."""
     try:
         with running(["rt", "run", *words], cwd=folder, stdout=sys.stderr) as process:
-            process.wait()
+            await_end(process)
             return status_of(process)
     except FileNotFoundError:
         raise BuildFailed("there is no `rt`: put the toolchain's folder on the PATH, or name a built program by --bar", 127) from None

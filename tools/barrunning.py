@@ -5,7 +5,7 @@ import subprocess
 import bartimeline
 from barcauses import causes_of
 from barformats import Malformed, Session, faults_of_length
-from barprogram import running, status_of
+from barprogram import await_end, lines_of, running, status_of
 from barreplays import between_peers, differences, replays_of
 from barscript import Refusal, counted, failed, listed, refuse, say, told_of, well
 from barsession import begin_of, is_free, key_of, party_words, session_words
@@ -103,14 +103,14 @@ def line_of(folder, party, status):
 def run_parties(folder, program, begin):
     """Runs all parties, each a process of its own, and prints a line for each as it ends: their statuses, and that of the command."""
     statuses = {}
-    with running(session_words(folder, program, begin), stdout=subprocess.PIPE, text=True) as process:
-        for line in process.stdout:
-            told = re.fullmatch(r"party (\d+) status (\d+)", line.rstrip("\n"))
+    with running(session_words(folder, program, begin), stdout=subprocess.PIPE) as process:
+        for line in lines_of(process):
+            told = re.fullmatch(r"party (\d+) status (\d+)", line)
             if told:
                 party, status = map(int, told.groups())
                 statuses[party] = status
-            say(line_of(folder, party, status) if told else line.rstrip("\n"))
-        process.wait()
+            say(line_of(folder, party, status) if told else line)
+        await_end(process)
         return statuses, status_of(process)
 
 

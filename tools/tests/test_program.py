@@ -1,7 +1,9 @@
 """The program's words and statuses, and the processes that are started and killed."""
 import os
 import signal
+import subprocess
 import sys
+import threading
 import time
 import unittest
 from unittest import mock
@@ -75,6 +77,43 @@ class Processes(RoomCase):
         with self.assertRaises(barscript.Failure):
             barprogram.spread(call, [*files, None, None, None, None], at_once=3)
         self.assertEqual([has_ended(self.number_in(file)) for file in files], [True, True])
+
+    def other_thread_takes_a_signal(self):
+        """A signal that this process was sent and another thread than the main one took."""
+        before = signal.getsignal(signal.SIGTERM)
+        self.addCleanup(signal.signal, signal.SIGTERM, before)
+        signal.signal(signal.SIGTERM, barscript.stop)
+        self.enterContext(mock.patch.object(barscript, "SIGNALS", (signal.SIGTERM,)))
+        return threading.Timer(0.3, lambda: signal.pthread_kill(threading.get_ident(), signal.SIGTERM))
+
+    def assert_stopped(self, call):
+        """A call in the main thread is stopped soon by a signal that another thread takes."""
+        timer, began = self.other_thread_takes_a_signal(), time.monotonic()
+        timer.start()
+        with self.assertRaises(barscript.Stopped):
+            call()
+        self.assertLess(time.monotonic() - began, 20)
+        timer.join()
+
+    def test_a_signal_that_another_thread_takes_stops_a_command(self):
+        self.assert_stopped(lambda: barprogram.run_words("sleep", ["60"]))
+
+    def test_a_signal_that_another_thread_takes_stops_calls(self):
+        self.assert_stopped(lambda: barprogram.spread(lambda seconds: barprogram.run_words("sleep", [seconds]), ["60", "60"]))
+
+    def test_a_signal_that_another_thread_takes_stops_reading(self):
+        def read():
+            with barprogram.running(["sleep", "60"], stdout=subprocess.PIPE) as process:
+                return [*barprogram.lines_of(process)]
+
+        self.assert_stopped(read)
+
+    def test_lines_of_a_process(self):
+        script = "printf 'one\\ntw'; sleep 0.3; printf 'o\\n\\nthree'"
+        with barprogram.running(["sh", "-c", script], stdout=subprocess.PIPE) as process:
+            self.assertEqual([*barprogram.lines_of(process)], ["one", "two", "", "three"])
+            barprogram.await_end(process)
+        self.assertEqual(process.returncode, 0)
 
     def test_answers_stand_in_the_order_of_the_items(self):
         def call(number):
