@@ -8,7 +8,7 @@ import html
 from bardatagrams import Case, Exchange, Promise, Update
 from barexchanges import Account, Side
 from barformats import CASE, CONTENT, SLOTS
-
+from barscript import counted
 
 # ---- elements
 
@@ -37,10 +37,6 @@ def arrow(x, y, up):
     """A small triangle, whose middle is at x and whose upper edge is at y."""
     points = (x - 4, y + 4.5, x + 4, y + 4.5, x, y) if up else (x - 4, y, x + 4, y, x, y + 4.5)
     return tag("path", d="M{:.1f} {:.1f}L{:.1f} {:.1f}L{:.1f} {:.1f}Z".format(*points), class_="key")
-
-
-def counted(count, word):
-    return f"{count} {word}{'' if count == 1 else 's'}"
 
 
 def items(promise):

@@ -1,20 +1,19 @@
 """Tests of tools/check-documents, over a small made-up repository."""
+import argparse
 import importlib.machinery
 import importlib.util
-import io
 import pathlib
 import subprocess
-import sys
 import tempfile
 import unittest
 import unittest.mock
 
-TOOLS = pathlib.Path(__file__).resolve().parent.parent
-sys.path.insert(0, str(TOOLS))
+from support import TOOLS, lines_of
 
 import barblocks
 import barchecks
 import bardocuments
+import barscript
 
 README = """# bar
 
@@ -450,46 +449,44 @@ class Passages(unittest.TestCase):
 class Script(Repository):
     """The script itself: its outcome is its last line."""
 
-    def outcome(self, changes, *words):
+    def outcome(self, changes, run=False):
+        """The script's exit status and its last line, and the lines before it."""
         write_repository(self.root, changes)
         loader = importlib.machinery.SourceFileLoader("check_documents", str(TOOLS / "check-documents"))
         script = importlib.util.module_from_spec(importlib.util.spec_from_loader(loader.name, loader))
         loader.exec_module(script)
-        out, err = io.StringIO(), io.StringIO()
-        with (
-            unittest.mock.patch.multiple(script, ROOT=self.root, EXCUSED={}, ALLOWED={}),
-            unittest.mock.patch.multiple(sys, argv=["check-documents", *words], stdout=out, stderr=err),
-        ):
-            status = script.main()
-        return status, out.getvalue().splitlines(), err.getvalue().splitlines()
+        program = self.root / "crates/bar/out/bar"
+        with unittest.mock.patch.multiple(script, ROOT=self.root, PROGRAM=program, EXCUSED={}, ALLOWED={}):
+            outcome, out, err = lines_of(lambda: barscript.outcome_of(script.main, argparse.Namespace(run=run)))
+        return outcome.status, outcome.lines[-1], [*out, *err]
 
     def test_well(self):
-        status, out, err = self.outcome({})
+        status, last, lines = self.outcome({})
         self.assertEqual(status, 0)
-        self.assertRegex(out[-1], r"^OK: \d+ names in 5 documents, 1 block run$")
-        self.assertEqual(err, ["README.md:9: the block is run"])
+        self.assertRegex(last, r"^OK: \d+ names in 5 documents, 1 block run$")
+        self.assertEqual(lines, ["README.md:9: the block is run"])
 
     def test_failed(self):
-        status, out, _ = self.outcome({"docs/MORE.md": "# More\n"})
+        status, last, _ = self.outcome({"docs/MORE.md": "# More\n"})
         self.assertEqual(status, 1)
-        self.assertRegex(out[-1], r"^FAILED: 1 fault \(\d+ names in 6 documents, 1 block run\)$")
+        self.assertRegex(last, r"^FAILED: 1 fault \(\d+ names in 6 documents, 1 block run\)$")
 
     def test_no_program(self):
-        status, out, err = self.outcome({}, "--run")
-        self.assertEqual((status, out), (2, []))
-        self.assertRegex(err[-1], "^REFUSED: there is no program at crates/bar/out/bar")
+        status, last, lines = self.outcome({}, run=True)
+        self.assertEqual((status, lines), (2, []))
+        self.assertRegex(last, "^REFUSED: .*crates/bar/out/bar is missing: `rt run`")
 
     def test_no_documents(self):
-        status, _, err = self.outcome({"README.md": None})
+        status, last, _ = self.outcome({"README.md": None})
         self.assertEqual(status, 2)
-        self.assertRegex(err[-1], "^REFUSED: .*README.md")
+        self.assertRegex(last, "^REFUSED: .*README.md")
 
     def test_a_document_that_is_no_text(self):
         write_repository(self.root, {})
         (self.root / "docs/MORE.md").write_bytes(b"\xff\xfe")
-        status, _, err = self.outcome({})
+        status, last, _ = self.outcome({})
         self.assertEqual(status, 2)
-        self.assertRegex(err[-1], "^REFUSED: .*docs/MORE.md")
+        self.assertRegex(last, "^REFUSED: .*docs/MORE.md")
 
     def test_help(self):
         ran = subprocess.run([TOOLS / "check-documents", "--help"], capture_output=True, text=True)
