@@ -3,7 +3,7 @@ import errno
 import signal
 import tempfile
 
-from barformats import Malformed, faults_of_length
+from barformats import Malformed
 from barprogram import Status, told_of_status
 from barscript import listed
 from barsession import is_free, key_of
@@ -49,7 +49,7 @@ def cause_of_input(folder, session, party):
     """That the broadcaster's stream is too large, if it is."""
     if party:
         return None
-    return next(faults_of_length(folder.stream.stat().st_size, session.rounds, session.per_round, session.lms), None)
+    return next(session.faults_of_stream(folder.stream.stat().st_size), None)
 
 
 CAUSES = {Status.FILE: cause_of_files, Status.KEY: cause_of_key, Status.LINK: cause_of_link, Status.INPUT: cause_of_input}

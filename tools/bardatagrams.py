@@ -6,10 +6,13 @@ import dataclasses
 import struct
 import typing
 
-from barformats import BLOCK, CASE, EVICT, KEY, KEYREQ, MANIFEST, QUERY, REPLY, REQUEST, RESPONSE, head_of
+from barformats import BLOCK, CASE, EVICT, KEY, KEYREQ, MANIFEST, QUERY, REPLY, REQUEST, RESPONSE, UPDATES, head_of
 
 # how many bytes the block of an update has, a junk item, a digest, and a nonce or a key
 BLOCK_SIZE, JUNK_SIZE, DIGEST_SIZE, SECRET_SIZE = 1024, 1280, 32, 32
+
+# how many updates a word of a window has a bit for
+WORD = 64
 
 # where a datagram's round stands, what follows the count or index of one of the broadcaster, and what follows the four numbers of a CASE
 ROUND_AT, REST_AT, TERMS_AT = 16, 21, 24
@@ -148,7 +151,9 @@ class Reader:
 
     def __init__(self, session):
         self.session = session
-        self.window = 8 * session.life
+        # how many words a window has for each round, and how many bytes in all
+        self.words = UPDATES[session.version] // WORD
+        self.window = 8 * self.words * session.life
         self.terms_sizes = SECRET_SIZE + 2 * self.window, 4 * self.window + 1
         self.signature = 12 + 32 * (1 + CHAINS[session.ots] + LEVELS[session.lms])
         signed = {REQUEST: 84, RESPONSE: 20 + self.window, QUERY: 52 + 2 * self.window, REPLY: 21 + 2 * self.window, KEY: 54}
@@ -215,5 +220,6 @@ class Reader:
     def window_at(self, number, written, at):
         """The updates of a window of this round that stands at this place."""
         first = max(1, number - self.session.life + 1)
-        words = enumerate(struct.unpack_from(f">{self.session.life}Q", written, at), first)
-        return frozenset(Update(round_, index) for round_, word in words for index in range(64) if word >> index & 1)
+        words = enumerate(struct.unpack_from(f">{self.words * self.session.life}Q", written, at))
+        places = [WORD * place + bit for place, word in words for bit in range(WORD) if word >> bit & 1]
+        return frozenset(Update(first + place // (WORD * self.words), place % (WORD * self.words)) for place in places)

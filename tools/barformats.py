@@ -15,14 +15,17 @@ SLOTS = 8
 LEAVES_A_ROUND = 18
 LEAVES = {5: 32, 6: 1024, 7: 32_768}
 
+# how many updates a round has at most in a session of each version
+UPDATES = {1: 64, 2: 128}
+
 # the kinds of datagrams, and those that are signed
 MANIFEST, BLOCK, REQUEST, RESPONSE, DIVULGE, QUERY, REPLY, CASE, KEYREQ, KEY, EVIDENCE, EVICT = range(1, 13)
 SIGNED = {MANIFEST, REQUEST, RESPONSE, QUERY, REPLY, CASE, KEY, EVICT}
 
-# how long the heads of a recording and of a datagram are, and what every datagram begins with
+# how long the heads of a recording and of a datagram are, and what every datagram begins with, before the session's version
 RECORDING_HEAD = 15
 DATAGRAM_HEAD = 16
-MAGIC = b"\xba\x47\x01"
+MAGIC = b"\xba\x47"
 
 
 class Malformed(Failure):
@@ -34,11 +37,12 @@ class Malformed(Failure):
 
 @dataclasses.dataclass(frozen=True)
 class Number:
-    """The range of a number of a session or a key, and what it tells."""
+    """The range of a number of a session or a key, what it tells, and by what the range is narrowed, in words."""
 
     least: int
     most: int
     told: str
+    why: str = ""
 
     def has(self, value):
         """Whether a value is a number in this range."""
@@ -46,11 +50,12 @@ class Number:
 
 
 NUMBERS = {
+    "version": Number(min(UPDATES), max(UPDATES), f"the version; by it a round has up to {listed(UPDATES.values(), 'or')} updates"),
     "peers": Number(2, 200, "how many peers there are"),
     "rounds": Number(1, 1820, "for how many rounds the stream is sent"),
     "life": Number(2, 16, "how many rounds an update lives"),
     "cap": Number(1, 16, "how many items an exchange trades at most"),
-    "per_round": Number(1, 64, "how many updates a round has at most"),
+    "per_round": Number(1, max(UPDATES.values()), "how many updates a round has at most"),
     "fanout": Number(1, 200, "how many peers the broadcaster sends an update to, at most all of them"),
     "port": Number(1024, 65_335, "the broadcaster's port, before those of the peers"),
     "tick_ms": Number(1, 60_000, f"how many milliseconds a tick has; a round has {SLOTS} ticks"),
@@ -60,15 +65,28 @@ NUMBERS = {
 }
 
 
+def range_of(name, numbers):
+    """The range of one of these numbers, which another of them may narrow."""
+    number = NUMBERS[name]
+    if name == "fanout" and NUMBERS["peers"].has(numbers.get("peers")):
+        return dataclasses.replace(number, most=numbers["peers"], why=", the number of peers")
+    if name == "per_round" and NUMBERS["version"].has(numbers.get("version")):
+        return dataclasses.replace(number, most=UPDATES[numbers["version"]], why=f" in version {numbers['version']}")
+    return number
+
+
 def faults_of_number(name, numbers, shown):
     """What refuses one of these numbers, which is shown by another name."""
-    number, value, why = NUMBERS[name], numbers.get(name), ""
-    if name == "fanout" and NUMBERS["peers"].has(numbers.get("peers")):
-        number, why = dataclasses.replace(number, most=numbers["peers"]), ", the number of peers"
+    number, value = range_of(name, numbers), numbers.get(name)
     if value is None:
         yield f"{shown} is missing"
     elif not number.has(value):
-        yield f"{shown} is {reprlib.repr(value)}: it has to be a whole number of {number.least:,} to {number.most:,}{why}"
+        yield f"{shown} is {reprlib.repr(value)}: it has to be a whole number of {number.least:,} to {number.most:,}{number.why}"
+
+
+def version_for(per_round):
+    """The lowest version in which a round may have so many updates."""
+    return min(version for version, most in UPDATES.items() if most >= per_round)
 
 
 def type_for(rounds):
@@ -97,42 +115,47 @@ def room_of(rounds, per_round):
     return rounds * per_round * CONTENT
 
 
-def told_of_room(rounds, per_round, lms):
-    """So many rounds of so many updates, in words, with the LMS type where the given one has too few leaves for them."""
+def told_of_room(rounds, per_round, version, lms):
+    """So many rounds of so many updates, in words, with the version and the LMS type where the given ones have too few for them."""
+    needed = [f"version {version_for(per_round)}"] if per_round > UPDATES[version] else []
+    needed += [f"LMS type {type_for(rounds)}"] if type_for(rounds) > lms else []
     told = f"{counted(rounds, 'round')} of {counted(per_round, 'update')}"
-    return f"{told} with LMS type {type_for(rounds)}" if type_for(rounds) > lms else told
+    return f"{told} with {listed(needed)}" if needed else told
 
 
-def larger_rooms(length, rounds, per_round, lms):
+def larger_rooms(length, version, rounds, per_round, lms):
     """Which numbers have room for a stream of this length, in words: more rounds, more updates a round, or both."""
     pieces, most_rounds, most_updates = -(-length // CONTENT), NUMBERS["rounds"].most, NUMBERS["per_round"].most
-    ways = [(-(-pieces // per_round), per_round), (rounds, -(-pieces // rounds)), (-(-pieces // most_updates), most_updates)]
-    told = [told_of_room(*way, lms) for way in ways if way[0] <= most_rounds and way[1] <= most_updates]
+    fullest = [(-(-pieces // updates), updates) for updates in sorted({UPDATES[version], most_updates})]
+    ways = [(-(-pieces // per_round), per_round), (rounds, -(-pieces // rounds)), *fullest]
+    told = [told_of_room(*way, version, lms) for way in dict.fromkeys(ways) if way[0] <= most_rounds and way[1] <= most_updates]
     if told:
         return f"take {' or '.join(told[:2])}"
     return f"take a stream of at most {room_of(most_rounds, most_updates):,} bytes, the room of the longest session"
 
 
-def faults_of_length(length, rounds, per_round, lms):
+def faults_of_length(length, version, rounds, per_round, lms):
     """What refuses a stream of this length in a session of these numbers."""
     room = room_of(rounds, per_round)
     if length > room:
         told = f"{counted(rounds, 'round')} of {counted(per_round, 'update')} have room for {room:,}"
-        yield f"the stream has {length:,} bytes, and {told}: {larger_rooms(length, rounds, per_round, lms)}"
+        yield f"the stream has {length:,} bytes, and {told}: {larger_rooms(length, version, rounds, per_round, lms)}"
 
 
 # ---- texts
 
 
-def document_of(text):
-    """The dictionary of a TOML document of version 1."""
+def document_of(text, versions):
+    """The dictionary of a TOML document of one of these versions."""
     try:
         document = tomllib.loads(text.decode())
     except (ValueError, RecursionError) as error:
         raise Malformed(f"it is no TOML: {error}") from None
     version = document.get("version")
-    if type(version) is not int or version != 1:
-        raise Malformed(f"its version is {reprlib.repr(version)}: it has to be 1" if "version" in document else "its version is missing")
+    if version is None:
+        raise Malformed("its version is missing")
+    if type(version) is not int or version not in versions:
+        raise Malformed(f"its version is {reprlib.repr(version)}: it has to be {listed(versions, 'or')}")
     return document
 
 
@@ -166,6 +189,7 @@ def faults_of_anchors(peers):
 class Session:
     """The id and the numbers of a session's text."""
 
+    version: int
     id: str
     rounds: int
     life: int
@@ -181,7 +205,7 @@ class Session:
     @classmethod
     def of_text(cls, text):
         """Reads a session's text. Where its numbers are refused, its keys and anchors aren't looked at."""
-        document = document_of(text)
+        document = document_of(text, UPDATES)
         peers = document.get("peer")
         if not isinstance(peers, list) or not all(isinstance(peer, dict) for peer in peers):
             raise Malformed("it has no tables [[peer]]")
@@ -191,7 +215,7 @@ class Session:
         faults = faults or [*faults_of_public_keys(document, peers), *faults_of_anchors(peers)]
         if faults:
             raise Malformed("; ".join(faults))
-        return cls(document["id"].lower(), **{name: numbers[name] for name in names})
+        return cls(id=document["id"].lower(), **{name: numbers[name] for name in names})
 
     @classmethod
     def read(cls, path):
@@ -218,6 +242,10 @@ class Session:
         """How many bytes a stream may have."""
         return room_of(self.rounds, self.per_round)
 
+    def faults_of_stream(self, length):
+        """What refuses a stream of this length."""
+        return faults_of_length(length, self.version, self.rounds, self.per_round, self.lms)
+
 
 @dataclasses.dataclass(frozen=True)
 class KeyFile:
@@ -232,8 +260,8 @@ class KeyFile:
 
     @classmethod
     def of_text(cls, text):
-        """Reads a key file."""
-        document = document_of(text)
+        """Reads a key file, whose version is 1 in a session of any version."""
+        document = document_of(text, [1])
         names = ["party", "rounds", "lms", "ots"]
         faults = [*faults_of_digits("id", document.get("id"), 16), *faults_of_numbers(document, names)]
         faults += faults_of_digits("secret", document.get("secret"), 64)
@@ -314,6 +342,6 @@ def finding_of(name):
 
 def head_of(datagram, session):
     """The kind, sender and receiver of a datagram of the session, or None."""
-    if len(datagram) < DATAGRAM_HEAD or not datagram.startswith(MAGIC) or datagram[4:12].hex() != session.id:
+    if len(datagram) < DATAGRAM_HEAD or datagram[:3] != MAGIC + bytes([session.version]) or datagram[4:12].hex() != session.id:
         return None
     return datagram[3], int.from_bytes(datagram[12:14], "big"), int.from_bytes(datagram[14:16], "big")

@@ -7,13 +7,13 @@ import pathlib
 import secrets
 import shutil
 
-from barformats import NUMBERS, Session, faults_of_length, faults_of_numbers
+from barformats import Session, faults_of_length, faults_of_numbers, range_of
 from barprogram import spread
 from barscript import held
 from barsession import Folder, free_port, make_key
 
 # the numbers of a session for which none are given
-DEFAULTS = {"peers": 5, "rounds": 10, "life": 6, "cap": 8, "per_round": 8, "fanout": 3, "tick_ms": 50, "lms": 6, "ots": 3}
+DEFAULTS = {"version": 1, "peers": 5, "rounds": 10, "life": 6, "cap": 8, "per_round": 8, "fanout": 3, "tick_ms": 50, "lms": 6, "ots": 3}
 
 
 def option_of(name):
@@ -55,12 +55,13 @@ def faults_of_folder(path):
 
 def faults_of_stream(path, numbers):
     """What refuses the file of a stream in a session of these numbers, as far as they are numbers."""
+    names = ("version", "rounds", "per_round", "lms")
     if not path.is_file():
         yield f"the stream {path} is {'no file' if path.exists() else 'missing'}: name a file"
     elif not os.access(path, os.R_OK):
         yield f"the stream {path} can't be read: name a file that can"
-    elif all(NUMBERS[name].has(numbers.get(name)) for name in ("rounds", "per_round", "lms")):
-        yield from faults_of_length(path.stat().st_size, numbers["rounds"], numbers["per_round"], numbers["lms"])
+    elif all(range_of(name, numbers).has(numbers.get(name)) for name in names):
+        yield from faults_of_length(path.stat().st_size, *(numbers[name] for name in names))
 
 
 def faults_of_seed(seed):
@@ -116,8 +117,8 @@ def make_keys(folder, program, session_id, numbers, seed):
 
 def text_of(session_id, numbers, keys):
     """The session's text."""
-    lines = [f"{name} = {number}" for name, number in numbers.items() if name != "peers"]
-    return "\n".join(["version = 1", f'id = "{session_id}"', *lines, "\n[[peer]]\n".join(keys)])
+    lines = [f"{name} = {number}" for name, number in numbers.items() if name not in ("version", "peers")]
+    return "\n".join([f"version = {numbers['version']}", f'id = "{session_id}"', *lines, "\n[[peer]]\n".join(keys)])
 
 
 def make(wanted, program):

@@ -4,7 +4,7 @@ import subprocess
 
 import bartimeline
 from barcauses import causes_of
-from barformats import Malformed, Session, faults_of_length
+from barformats import Malformed, Session
 from barprogram import await_end, lines_of, running, status_of
 from barreplays import between_peers, differences, replays_of
 from barscript import Refusal, counted, failed, listed, refuse, say, told_of, well
@@ -73,8 +73,7 @@ def faults_of(folder, session, kill):
     if not missing:
         keys = [*faults_of_keys(folder, session)]
         yield from keys or faults_of_results(folder, session)
-        numbers = session.rounds, session.per_round, session.lms
-        yield from (f"{fault}; {ANEW}" for fault in faults_of_length(folder.stream.stat().st_size, *numbers))
+        yield from (f"{fault}; {ANEW}" for fault in session.faults_of_stream(folder.stream.stat().st_size))
     if kill is not None and not 1 <= kill <= session.peers:
         yield f"--kill {kill} names no peer: take one of 1 to {session.peers}"
     yield from faults_of_ports(session)

@@ -67,10 +67,10 @@ def counted(count, word):
     return f"{count:,} {word}{'' if count == 1 else 's'}"
 
 
-def listed(words):
-    """Words one behind the other, with `and` before the last."""
+def listed(words, joined="and"):
+    """Words one behind the other, with `and` or another word before the last."""
     *firsts, last = map(str, words)
-    return f"{', '.join(firsts)} and {last}" if firsts else last
+    return f"{', '.join(firsts)} {joined} {last}" if firsts else last
 
 
 def refuse(faults):

@@ -80,6 +80,8 @@ TOKEN = 16
 # where the signs stand in a column: the exchange that a peer starts, and the two in which it answers
 SEATS = (2.5, 21.5, 39.5)
 STRIP = 55
+# how many marks stand in a row at most
+MOST_MARKS = 32
 
 
 @dataclasses.dataclass
@@ -114,9 +116,14 @@ class Chart:
 
 
 def marks(x, y, classes):
-    """A row of marks, one an update, each with its class and its words."""
-    step = STRIP / max(8, len(classes))
-    return [box(x + 2 + at * step, y, max(step - 1, 0.8), 9, class_, told, 1) for at, (class_, told) in enumerate(classes)]
+    """A row of marks, one an update, each with its class and its words; where they are many, rows of low marks about the same middle."""
+    rows = -(-len(classes) // MOST_MARKS) or 1
+    columns = max(8, -(-len(classes) // rows))
+    step, (pitch, gap, corner) = STRIP / columns, (10, 1, 1) if rows == 1 else (3.6, 0.6, 0)
+    top, size = y + 4.5 - (rows * pitch - gap) / 2, (max(step - gap, 0.8), pitch - gap)
+    places = [(x + 2 + at % columns * step, top + at // columns * pitch) for at in range(len(classes))]
+    boxes = [box(*place, *size, class_, told, corner) for place, (class_, told) in zip(places, classes)]
+    return boxes if rows == 1 else [tag("g", *boxes, stroke_width=0.4)]
 
 
 def mark_of(account, update):
@@ -254,9 +261,9 @@ full sign, the first on its line, is the exchange that the peer started; behind 
     """Both partners first send what they promise in sealed briefcases, and then the keys to these: giving the key is paying. The arrow
 above a sign says that this peer paid, and the arrow below it that it was paid, by a key that opens what was promised. A pale sign came to
 nothing: one of the two lacked nothing that the other had, the offer was not wanted, or no answer came.""",
-    """The marks at the foot of a row are the updates that are played in this round; an update is played {life} rounds after its own. A mark
-is grey where the update came from the broadcaster, which sends each to {fanout}, and green where it came by a trade; of both ways the first
-counts. Point at a sign or a mark to read what it says.""",
+    """The marks at the foot of a row are the updates that are played in this round, in order, and in several lines where they are many; an
+update is played {life} rounds after its own. A mark is grey where the update came from the broadcaster, which sends each to {fanout}, and
+green where it came by a trade; of both ways the first counts. Point at a sign or a mark to read what it says.""",
 )
 
 
@@ -387,4 +394,5 @@ def page(session, logs):
     reading = [tag("p", said.format(life=session.life, fanout=counted(session.fanout, "peer"))) for said in READING]
     parts += [tag("h2", "How to read it"), tag("div", *reading, class_="reading"), tag("h2", "Each peer"), table(charts[0], accounts)]
     head = f'<meta charset="utf-8"><meta name="viewport" content="width=device-width"><title>Session {html.escape(session.id)}</title>'
-    return f'<!doctype html>\n<html lang="en"><head>{head}<style>{DRAWING_STYLE}{PAGE_STYLE}</style></head>\n<body>{tag("main", *parts)}</body></html>\n'
+    head += tag("style", DRAWING_STYLE, PAGE_STYLE)
+    return f'<!doctype html>\n<html lang="en"><head>{head}</head>\n<body>{tag("main", *parts)}</body></html>\n'

@@ -8,7 +8,10 @@ from bardatagrams import Exchange, Update
 from barformats import BLOCK, CASE, EVICT, KEY, KEYREQ, MANIFEST, QUERY, REPLY, REQUEST, RESPONSE, SLOTS, Session, entries_of
 from barreplays import log_of
 
-SESSION = Session(id="00112233445566aa", rounds=6, life=3, cap=2, per_round=4, fanout=1, port=21000, tick_ms=20, lms=5, ots=4, peers=3)
+NUMBERS = {"rounds": 6, "life": 3, "cap": 2, "fanout": 1, "port": 21000, "tick_ms": 20, "lms": 5, "ots": 4, "peers": 3}
+SESSION = Session(1, "00112233445566aa", per_round=4, **NUMBERS)
+# a session of version 2, with as many updates a round as it may have
+WIDE = Session(2, "00112233445566aa", per_round=128, **NUMBERS)
 # a signature of these types
 SIGNATURE = bytes(1292)
 EVERYONE = 0xFFFF
@@ -23,37 +26,43 @@ def block_with(content):
     return len(content).to_bytes(2, "big") + content.ljust(1022, b"\0")
 
 
+def blocks_of(session):
+    """A block for each update of a session. All of them differ."""
+    return {Update(number, index): block_with(bytes([number, index])) for number in range(1, 7) for index in range(session.per_round)}
+
+
 # blocks that all differ, and blocks that are all the same
-PLAIN = {Update(number, index): block_with(bytes([number, index])) for number in range(1, 7) for index in range(4)}
+PLAIN, WIDE_PLAIN = blocks_of(SESSION), blocks_of(WIDE)
 ZEROS = dict.fromkeys(PLAIN, block_with(bytes(1022)))
 
 
 # ---- datagrams
 
 
-def datagram(kind, sender, receiver, body):
-    return b"\xba\x47\x01" + bytes([kind]) + bytes.fromhex(SESSION.id) + struct.pack(">HH", sender, receiver) + body
+def datagram(kind, sender, receiver, body, session=SESSION):
+    return b"\xba\x47" + bytes([session.version, kind]) + bytes.fromhex(session.id) + struct.pack(">HH", sender, receiver) + body
 
 
-def manifest(number, blocks=PLAIN):
+def manifest(number, blocks=PLAIN, session=SESSION):
     digests = [hashlib.sha256(block).digest() for update, block in sorted(blocks.items()) if update.round == number]
-    return datagram(MANIFEST, 0, EVERYONE, struct.pack(">IB", number, len(digests)) + b"".join(digests) + SIGNATURE)
+    return datagram(MANIFEST, 0, EVERYONE, struct.pack(">IB", number, len(digests)) + b"".join(digests) + SIGNATURE, session)
 
 
-def block(receiver, update, blocks=PLAIN):
-    return datagram(BLOCK, 0, receiver, struct.pack(">IB", *update) + blocks[update])
+def block(receiver, update, blocks=PLAIN, session=SESSION):
+    return datagram(BLOCK, 0, receiver, struct.pack(">IB", *update) + blocks[update], session)
 
 
-def evict(number, *parties):
-    return datagram(EVICT, 0, EVERYONE, struct.pack(f">IB{len(parties)}H", number, len(parties), *parties) + SIGNATURE)
+def evict(number, *parties, session=SESSION):
+    return datagram(EVICT, 0, EVERYONE, struct.pack(f">IB{len(parties)}H", number, len(parties), *parties) + SIGNATURE, session)
 
 
-def window(number, updates):
-    """A window of a round, as it's written."""
-    words = [0] * SESSION.life
+def window(number, updates, session=SESSION):
+    """A window of a round, as it's written: by rounds, of each the lowest 64 indices first."""
+    words = [0] * session.version * session.life
     for update in updates:
-        words[update.round - max(1, number - SESSION.life + 1)] |= 1 << update.index
-    return struct.pack(f">{SESSION.life}Q", *words)
+        row = update.round - max(1, number - session.life + 1)
+        words[session.version * row + update.index // 64] |= 1 << update.index % 64
+    return struct.pack(f">{len(words)}Q", *words)
 
 
 def table(*manifests):
@@ -72,22 +81,28 @@ class Trade:
     terms: bytes
     promises: tuple
     blocks: dict
+    session: Session
 
     @classmethod
-    def balanced(cls, exchange, histories, promises, blocks=PLAIN):
+    def balanced(cls, exchange, histories, promises, blocks=PLAIN, session=SESSION):
         """A balanced exchange, by the histories of the initiator and of the responder."""
-        terms = bytes(range(32)) + b"".join(window(exchange.round, history) for history in histories)
-        return cls(exchange, terms, [(updates, 0) for updates in promises], blocks)
+        terms = bytes(range(32)) + b"".join(window(exchange.round, history, session) for history in histories)
+        return cls(exchange, terms, [(updates, 0) for updates in promises], blocks, session)
 
     @classmethod
-    def push(cls, exchange, windows, junk, blocks=PLAIN):
+    def push(cls, exchange, windows, junk, blocks=PLAIN, session=SESSION):
         """A push, by its young, aged, wanted and given updates and its junk."""
-        terms = b"".join(window(exchange.round, updates) for updates in windows) + bytes([junk])
-        return cls(exchange, terms, [(windows[3], junk), (windows[2], 0)], blocks)
+        terms = b"".join(window(exchange.round, updates, session) for updates in windows) + bytes([junk])
+        return cls(exchange, terms, [(windows[3], junk), (windows[2], 0)], blocks, session)
+
+    @property
+    def no_updates(self):
+        """A window of no updates, as it's written."""
+        return window(self.exchange.round, [], self.session)
 
     def datagram(self, kind, by_initiator, body):
         sides = self.exchange.initiator, self.exchange.responder
-        return datagram(kind, *(sides if by_initiator else reversed(sides)), struct.pack(">I", self.exchange.round) + body)
+        return datagram(kind, *(sides if by_initiator else reversed(sides)), struct.pack(">I", self.exchange.round) + body, self.session)
 
     def of_case(self, kind, by_initiator, body):
         return self.datagram(kind, by_initiator, bytes([self.exchange.push, not by_initiator]) + body)
@@ -95,21 +110,21 @@ class Trade:
     def request(self):
         """The initiator's first message."""
         if self.exchange.push:
-            return self.datagram(QUERY, True, bytes(32 + 16 * SESSION.life) + SIGNATURE)
+            return self.datagram(QUERY, True, bytes(32) + 2 * self.no_updates + SIGNATURE)
         return self.datagram(REQUEST, True, bytes(64) + SIGNATURE)
 
     def answer(self):
         """The responder's first message."""
         if self.exchange.push:
-            return self.datagram(REPLY, False, bytes(16 * SESSION.life + 1) + SIGNATURE)
-        return self.datagram(RESPONSE, False, bytes(8 * SESSION.life) + SIGNATURE)
+            return self.datagram(REPLY, False, 2 * self.no_updates + bytes(1) + SIGNATURE)
+        return self.datagram(RESPONSE, False, self.no_updates + SIGNATURE)
 
     def briefcase_key(self, by_initiator):
         return hashlib.sha256(b"%d %r" % (by_initiator, self.exchange.spelled())).digest()
 
     def case(self, by_initiator, terms=None):
         updates, junk = self.promises[by_initiator]
-        plain = b"".join(self.blocks[update] for update in updates) + junk_of(SESSION, self.exchange, junk)
+        plain = b"".join(self.blocks[update] for update in updates) + junk_of(self.session, self.exchange, junk)
         sealed = exclusive_or(plain, keystream(self.briefcase_key(by_initiator), len(plain)))
         return self.of_case(CASE, by_initiator, bytes([len(updates), junk]) + (terms or self.terms) + sealed + SIGNATURE)
 
@@ -131,8 +146,8 @@ def taken(it):
 class Diary:
     """What a peer takes and sends, in the order in which it does."""
 
-    def __init__(self, party):
-        self.party, self.tick = party, 0
+    def __init__(self, party, session=SESSION):
+        self.party, self.session, self.tick = party, session, 0
         self.entries, self.lines, self.manifests = [], [], []
 
     def until(self, tick):
@@ -145,7 +160,7 @@ class Diary:
 
     def take_manifest(self, *numbers, blocks=PLAIN):
         """Takes the manifests of these rounds, which are admitted."""
-        self.manifests += [manifest(number, blocks) for number in numbers]
+        self.manifests += [manifest(number, blocks, self.session) for number in numbers]
         self.take(*self.manifests[-len(numbers) :])
 
     def send(self, *datagrams):
@@ -161,7 +176,7 @@ class Diary:
         self.meet(trade, asks)
         self.take(case or trade.case(not asks))
         self.send(trade.key_request(asks))
-        self.ask(trade, key_tick or SLOTS * (trade.exchange.round + SESSION.life))
+        self.ask(trade, key_tick or SLOTS * (trade.exchange.round + self.session.life))
         if key_tick:
             self.take(*(keys or [trade.key(not asks)]))
 
@@ -182,7 +197,7 @@ class Diary:
             self.send(trade.key_request(trade.exchange.initiator == self.party))
 
     def recording(self):
-        return b"BARL\x01" + bytes.fromhex(SESSION.id) + struct.pack(">H", self.party) + b"".join(self.entries) + b"\0"
+        return b"BARL\x01" + bytes.fromhex(self.session.id) + struct.pack(">H", self.party) + b"".join(self.entries) + b"\0"
 
     def log(self, played=b"", cut=None, evidence=None):
         """The log of the recording, or of so many of its bytes, with evidence by the party against which it's kept."""

@@ -22,7 +22,7 @@ import barscript
 from barsession import LOOPBACK
 
 ID = "0011223344556677"
-NUMBERS = {"peers": 2, "rounds": 1, "life": 2, "cap": 4, "per_round": 2, "fanout": 1, "tick_ms": 20, "lms": 5, "ots": 3}
+NUMBERS = {"version": 1, "peers": 2, "rounds": 1, "life": 2, "cap": 4, "per_round": 2, "fanout": 1, "tick_ms": 20, "lms": 5, "ots": 3}
 
 
 def fake_program(room, **ways):

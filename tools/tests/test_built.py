@@ -1,6 +1,8 @@
 """The built program in small sessions, and its ranges. These tests are skipped where it isn't built."""
+import itertools
 import re
 import tempfile
+import tomllib
 import unittest
 
 from support import ROOT, RoomCase, bound, lines_of
@@ -35,6 +37,12 @@ class Sessions(RoomCase):
         self.assertEqual(sorted(line[:16] for line in out[:3]), ["party 0 status 0", "party 1 status 0", "party 2 status 0"])
         self.assertIn("spent, since the session was run: all keys", self.reasons_of(lambda: barrunning.accept(folder))[0])
 
+    def test_a_session_of_version_2(self):
+        self.stream.write_bytes(bytes(70 * 1022))
+        folder, session = self.make_session(PROGRAM, version=2, per_round=128)
+        status, last, _ = self.run_session(folder, session)
+        self.assertEqual((status, last), (0, f"OK: all parties ended with status 0, all replays agree, page {folder.page}"))
+
     def test_a_peer_is_killed(self):
         folder, session = self.make_session(PROGRAM, life=4)
         status, last, out = self.run_session(folder, session, 2)
@@ -67,13 +75,15 @@ class Ranges(unittest.TestCase):
 
     def test_numbers(self):
         text = (EXAMPLE / "session.toml").read_bytes()
-        document = barformats.document_of(text)
+        document = tomllib.loads(text.decode())
         names = ["rounds", "life", "cap", "per_round", "fanout", "port", "tick_ms", "lms", "ots"]
         bounds = {name: (barformats.NUMBERS[name].least, barformats.NUMBERS[name].most) for name in names}
-        tries = ((name, value) for name, (least, most) in bounds.items() for value in (least - 1, least, most, most + 1, 3, 4, 56, 57))
-        for name, value in tries:
+        others = [3, 4, 56, 57, 64, 65]
+        tries = [(name, value) for name, (least, most) in bounds.items() for value in {least - 1, least, most, most + 1, *others}]
+        for version, (name, value) in itertools.product((1, 2), tries):
             changed = text.replace(f"\n{name} = {document[name]}\n".encode(), f"\n{name} = {value}\n".encode())
-            with self.subTest(name=name, value=value):
+            changed = changed.replace(b"version = 1\n", b"version = %d\n" % version)
+            with self.subTest(version=version, name=name, value=value):
                 self.assertEqual(self.status_of(changed) != Status.SESSION, self.is_session(changed))
 
     def test_keys(self):
@@ -81,7 +91,7 @@ class Ranges(unittest.TestCase):
         first, second, third, _ = re.findall(b'\nkey = "(.*)"', text)
         changes = [(first, other) for other in (first.upper(), first[:-1], b"g" + first[1:], b"00000005" + first[8:])]
         changes += [(third, second), (third, second.upper()), (b"anchor", b"other")]
-        changes += [(b"version = 1", b"version = 2"), (b"[[peer]]", b"[peer]")]
+        changes += [*((b"version = 1", b"version = %d" % version) for version in (0, 2, 3)), (b"[[peer]]", b"[peer]")]
         for old, new in changes:
             with self.subTest(old=old, new=new):
                 changed = text.replace(old, new)

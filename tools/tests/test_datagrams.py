@@ -8,7 +8,7 @@ import made_sessions as made
 from barbriefcases import keystream, opened
 from bardatagrams import BalancedTerms, Exchange, Promise, PushTerms, Reader, Update
 from barformats import KEY, KEYREQ, QUERY, REPLY, REQUEST, RESPONSE
-from made_sessions import PLAIN, SESSION, Trade
+from made_sessions import PLAIN, SESSION, WIDE, WIDE_PLAIN, Trade
 
 BALANCED = Trade.balanced(Exchange(4, False, 2, 3), [[Update(2, 0), Update(3, 1)], [Update(4, 3)]], [[Update(4, 3)], [Update(2, 0)]])
 PUSH_WINDOWS = [[Update(4, 0), Update(4, 1)], [Update(2, 2), Update(3, 3)], [Update(4, 1)], []]
@@ -16,6 +16,14 @@ PUSH = Trade.push(Exchange(4, True, 2, 3), PUSH_WINDOWS, 1)
 DATAGRAMS = [made.manifest(1), made.evict(2, 1, 3), made.block(3, Update(5, 1))]
 DATAGRAMS += [message() for trade in (BALANCED, PUSH) for message in (trade.request, trade.answer)]
 DATAGRAMS += [part(side) for trade in (BALANCED, PUSH) for part in (trade.case, trade.key_request, trade.key) for side in (False, True)]
+
+# exchanges of a session of version 2, of updates in both words of a round
+LOW, HIGH = [Update(2, 0), Update(2, 63), Update(4, 64)], [Update(3, 65), Update(4, 127)]
+WIDE_BALANCED = Trade.balanced(Exchange(4, False, 2, 3), [LOW, HIGH], [HIGH, LOW[:2]], WIDE_PLAIN, WIDE)
+WIDE_PUSH = Trade.push(Exchange(4, True, 2, 3), [[Update(4, 63), Update(4, 64)], HIGH[:1], [Update(4, 64)], HIGH[:1]], 0, WIDE_PLAIN, WIDE)
+WIDE_DATAGRAMS = [made.manifest(1, WIDE_PLAIN, WIDE), made.evict(2, 1, 3, session=WIDE), made.block(3, Update(5, 127), WIDE_PLAIN, WIDE)]
+WIDE_DATAGRAMS += [message() for trade in (WIDE_BALANCED, WIDE_PUSH) for message in (trade.request, trade.answer)]
+WIDE_DATAGRAMS += [part(True) for trade in (WIDE_BALANCED, WIDE_PUSH) for part in (trade.case, trade.key_request, trade.key)]
 
 
 def changed(datagram, **bytes_at):
@@ -71,6 +79,45 @@ class Reading(unittest.TestCase):
         parties = [changed(key, at_13=0), changed(key, at_15=4), changed(key, at_13=2), changed(made.manifest(1), at_13=1)]
         parties += [changed(made.evict(2, 1), at_15=1), changed(made.block(3, Update(5, 1)), at_13=1)]
         self.assertEqual([self.reader.read(it) for it in numbers + parties], [None] * 9)
+
+
+class Versions(unittest.TestCase):
+    def test_a_datagram_is_of_the_session_of_its_version_alone(self):
+        readers = {1: Reader(SESSION), 2: Reader(WIDE)}
+        for version, datagrams in ((1, DATAGRAMS), (2, WIDE_DATAGRAMS)):
+            for datagram in datagrams:
+                self.assertIsNotNone(readers[version].read(datagram))
+                self.assertIsNone(readers[3 - version].read(datagram))
+                self.assertIsNone(readers[version].read(changed(datagram, at_2=3 - version)))
+
+    def test_lengths_of_version_2(self):
+        lengths = {len(datagram) for datagram in WIDE_DATAGRAMS if datagram[3] not in (KEY, KEYREQ)}
+        window, signature = 48, len(made.SIGNATURE)
+        told = {21 + 32 * 128 + signature, 21 + 4 + signature, 1045, 84 + signature, 20 + window + signature}
+        told |= {52 + 2 * window + signature, 21 + 2 * window + signature}
+        told |= {24 + 32 + 2 * window + 2 * 1024 + signature, 24 + 4 * window + 1 + 1024 + signature}
+        self.assertEqual(lengths, told)
+
+    def test_windows_of_both_widths(self):
+        for session, words in ((SESSION, 1), (WIDE, 2)):
+            reader, size = Reader(session), 8 * words * session.life
+            self.assertEqual(reader.window, size)
+            for place in range(64 * words * session.life):
+                word, bit = divmod(place, 64)
+                written = bytes(8 * word) + (1 << bit).to_bytes(8, "big") + bytes(size - 8 * word - 8)
+                update = Update(4 + place // (64 * words), place % (64 * words))
+                self.assertEqual(reader.window_at(6, b"before" + written, 6), {update})
+
+    def test_the_window_of_an_early_round_begins_with_round_1(self):
+        for session, words in ((SESSION, 1), (WIDE, 2)):
+            written = bytes(8 * words - 1) + b"\1" + bytes(8 * words * (session.life - 1))
+            self.assertEqual(Reader(session).window_at(2, written, 0), {Update(1, 64 * words - 64)})
+
+    def test_terms_and_promises_of_indices_above_63(self):
+        cases = [Reader(WIDE).read(trade.case(side)) for trade in (WIDE_BALANCED, WIDE_PUSH) for side in (True, False)]
+        promised = [(LOW[0], LOW[1]), tuple(HIGH), (Update(4, 64),), (Update(3, 65),)]
+        self.assertEqual([case.promise for case in cases], [Promise(updates, 0) for updates in promised])
+        self.assertEqual(cases[0].terms, BalancedTerms(bytes(range(32)), frozenset(LOW), frozenset(HIGH)))
 
 
 class Briefcases(unittest.TestCase):

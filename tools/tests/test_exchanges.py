@@ -7,7 +7,7 @@ sys.path.insert(0, str(pathlib.Path(__file__).resolve().parent.parent))
 import made_sessions as made
 from bardatagrams import Exchange, Reader, Update
 from barexchanges import Account, Arrival
-from made_sessions import PLAIN, SESSION, Diary, Trade, first_tick
+from made_sessions import PLAIN, SESSION, WIDE, WIDE_PLAIN, Diary, Trade, first_tick
 
 ME, PARTNER = 1, 2
 FIRST, SECOND, THIRD, FOURTH = (Update(1, index) for index in range(4))
@@ -294,6 +294,50 @@ class Pushes(unittest.TestCase):
         account = account_of(diary, evidence={str(PARTNER): made.evidence(case, PUSH_OUT.key(False))})
         (side,) = account.sides.values()
         self.assertEqual((set(account.held), side.was_cheated), (set(FRESH), 19))
+
+
+class Wide(unittest.TestCase):
+    """Exchanges of a session of version 2."""
+
+    OURS, THEIRS = [Update(1, 64), Update(2, 127)], [Update(1, 127), Update(2, 65)]
+
+    def diary(self, *updates, session=WIDE):
+        """The diary of a peer that takes the manifests of rounds 1 and 2 in tick 1, and these updates in tick 2."""
+        diary = Diary(ME, session)
+        diary.until(1)
+        diary.take_manifest(1, 2, blocks=WIDE_PLAIN)
+        diary.until(2)
+        diary.take(*(made.block(ME, update, WIDE_PLAIN, session) for update in updates))
+        return diary
+
+    def account_of(self, diary):
+        return Account(WIDE, ME, diary.log())
+
+    def test_a_balanced_exchange_of_indices_above_63(self):
+        trade = Trade.balanced(Exchange(2, False, ME, PARTNER), [self.OURS, self.THEIRS], [self.THEIRS, self.OURS], WIDE_PLAIN, WIDE)
+        diary = self.diary(*self.OURS)
+        diary.trade(trade, 9, key_tick=11)
+        account = self.account_of(diary)
+        self.assertEqual(account.held, dict.fromkeys(self.OURS, Arrival(2, 0, 2)) | dict.fromkeys(self.THEIRS, Arrival(11, PARTNER, 2)))
+        (side,) = account.sides.values()
+        self.assertEqual((side.gives.updates, side.gets.updates), (tuple(self.OURS), tuple(self.THEIRS)))
+        diary.until(first_tick(5))
+        self.assertEqual(self.account_of(diary).played, {*self.OURS, *self.THEIRS})
+
+    def test_a_push_of_indices_above_63(self):
+        trade = Trade.push(Exchange(2, True, PARTNER, ME), [self.THEIRS, self.OURS[:1], self.THEIRS, self.OURS[:1]], 1, WIDE_PLAIN, WIDE)
+        diary = self.diary(*self.OURS)
+        diary.trade(trade, 9, key_tick=10)
+        account = self.account_of(diary)
+        self.assertEqual({update for update, it in account.held.items() if it.sender == PARTNER}, {*self.THEIRS})
+        (side,) = account.sides.values()
+        self.assertEqual((side.asks, side.gives, side.gets), (False, (tuple(self.OURS[:1]), 1), (tuple(self.THEIRS), 0)))
+
+    def test_datagrams_of_version_1_count_for_nothing(self):
+        trade = Trade.balanced(Exchange(2, False, ME, PARTNER), [[FIRST], [SECOND]], [[SECOND], [FIRST]])
+        diary = self.diary(FIRST, session=SESSION)
+        diary.trade(trade, 9, key_tick=10)
+        self.assertEqual((self.account_of(diary).held, self.account_of(diary).sides), ({}, {}))
 
 
 class CutRecordings(unittest.TestCase):

@@ -1,5 +1,7 @@
 """The parsers of the tools, on the examples and on what is made up or cut."""
+import dataclasses
 import itertools
+import tomllib
 import unittest
 
 from support import ID, ROOT, datagram
@@ -27,6 +29,24 @@ class Texts(unittest.TestCase):
     def test_digits_of_both_cases(self):
         self.assertEqual(Session.of_text(SESSION.replace(b"cf560a3b8df7f16f", b"CF560A3B8DF7F16F")).id, "cf560a3b8df7f16f")
 
+    def test_sessions_of_both_versions(self):
+        for version, most in ((1, 64), (2, 128)):
+            text = SESSION.replace(b"version = 1", b"version = %d" % version)
+            session = Session.of_text(text.replace(b"per_round = 8", b"per_round = %d" % most))
+            self.assertEqual((session.version, session.per_round, session.room), (version, most, 10 * most * 1022))
+            fault = self.fault_of(Session.of_text, text.replace(b"per_round = 8", b"per_round = %d" % (most + 1)))
+            self.assertEqual(fault, f"per_round is {most + 1}: it has to be a whole number of 1 to {most} in version {version}")
+
+    def test_versions_that_are_none(self):
+        told = {"0": "0", "3": "3", "true": "True", "1.0": "1.0", '"2"': "'2'", "[1]": "[1]"}
+        for version, shown in told.items():
+            fault = self.fault_of(Session.of_text, SESSION.replace(b"version = 1", f"version = {version}".encode()))
+            self.assertEqual(fault, f"its version is {shown}: it has to be 1 or 2")
+        self.assertEqual(self.fault_of(Session.of_text, SESSION.replace(b"version = 1", b"")), "its version is missing")
+
+    def test_a_key_file_has_version_1(self):
+        self.assertEqual(self.fault_of(KeyFile.of_text, KEY.replace(b"version = 1", b"version = 2")), "its version is 2: it has to be 1")
+
     def test_each_number_out_of_its_range(self):
         names = ["rounds", "life", "cap", "per_round", "fanout", "port", "tick_ms", "lms", "ots"]
         bounds = {name: (barformats.NUMBERS[name].least, barformats.NUMBERS[name].most) for name in names}
@@ -37,14 +57,14 @@ class Texts(unittest.TestCase):
 
     def changed(self, name, line):
         """The example's text with another line for a number."""
-        return SESSION.replace(f"{name} = {barformats.document_of(SESSION)[name]}\n".encode(), line.encode())
+        return SESSION.replace(f"{name} = {tomllib.loads(SESSION.decode())[name]}\n".encode(), line.encode())
 
     def test_each_number_missing(self):
         for name in ("rounds", "life", "cap", "per_round", "fanout", "port", "tick_ms", "lms", "ots"):
             self.assertEqual(self.fault_of(Session.of_text, self.changed(name, "")), f"{name} is missing")
 
     def test_bounds_of_ranges_are_taken(self):
-        names = ["life", "cap", "per_round", "port", "tick_ms"]
+        names = ["life", "cap", "port", "tick_ms"]
         bounds = {name: (barformats.NUMBERS[name].least, barformats.NUMBERS[name].most) for name in names}
         for name, value in ((name, value) for name in names for value in bounds[name]):
             self.assertEqual(getattr(Session.of_text(self.changed(name, f"{name} = {value}\n")), name), value)
@@ -105,25 +125,38 @@ class Texts(unittest.TestCase):
 
 
 class Rooms(unittest.TestCase):
-    def fault_of(self, *numbers):
-        return next(barformats.faults_of_length(*numbers), None)
+    def fault_of(self, length, *numbers):
+        """What refuses a stream in a session of a version, so many rounds, so many updates a round and an LMS type."""
+        return next(barformats.faults_of_length(length, *numbers), None)
 
     def test_stream_that_fills_its_room(self):
-        self.assertIsNone(self.fault_of(10 * 8 * 1022, 10, 8, 6))
+        self.assertIsNone(self.fault_of(10 * 8 * 1022, 1, 10, 8, 6))
 
     def test_stream_of_a_byte_more(self):
-        fault = self.fault_of(10 * 8 * 1022 + 1, 10, 8, 6)
+        fault = self.fault_of(10 * 8 * 1022 + 1, 1, 10, 8, 6)
         told = "the stream has 81,761 bytes, and 10 rounds of 8 updates have room for 81,760: "
         self.assertEqual(fault, told + "take 11 rounds of 8 updates or 10 rounds of 9 updates")
 
     def test_more_rounds_with_a_higher_type(self):
-        self.assertTrue(self.fault_of(57 * 1022, 1, 1, 5).endswith("take 57 rounds of 1 update with LMS type 7 or 1 round of 57 updates"))
+        told = "take 57 rounds of 1 update with LMS type 7 or 1 round of 57 updates"
+        self.assertTrue(self.fault_of(57 * 1022, 1, 1, 1, 5).endswith(told))
+
+    def test_more_updates_with_version_2(self):
+        told = "take 65 rounds of 1 update with LMS type 7 or 1 round of 65 updates"
+        self.assertTrue(self.fault_of(65 * 1022, 1, 1, 1, 5).endswith(f"{told} with version 2"))
+        self.assertTrue(self.fault_of(65 * 1022, 2, 1, 1, 5).endswith(told))
+        told = "take 114 rounds of 64 updates with LMS type 7 or 57 rounds of 128 updates with version 2 and LMS type 7"
+        self.assertTrue(self.fault_of(57 * 128 * 1022, 1, 56, 64, 6).endswith(told))
 
     def test_only_both_together(self):
-        self.assertTrue(self.fault_of(3000 * 1022, 1, 1, 7).endswith("take 47 rounds of 64 updates"))
+        told = "take 47 rounds of 64 updates or 24 rounds of 128 updates with version 2"
+        self.assertTrue(self.fault_of(3000 * 1022, 1, 1, 1, 7).endswith(told))
+        self.assertTrue(self.fault_of(3000 * 1022, 2, 1, 1, 7).endswith("take 24 rounds of 128 updates"))
 
     def test_larger_than_every_room(self):
-        self.assertTrue(self.fault_of(1820 * 64 * 1022 + 1, 1, 1, 7).endswith("at most 119,042,560 bytes, the room of the longest session"))
+        told = "at most 238,085,120 bytes, the room of the longest session"
+        for version in (1, 2):
+            self.assertTrue(self.fault_of(1820 * 128 * 1022 + 1, version, 1, 1, 7).endswith(told))
 
 
 class Recordings(unittest.TestCase):
@@ -178,13 +211,20 @@ class Others(unittest.TestCase):
         self.assertEqual({name: barformats.finding_of(name) for name in [*found, *others]}, found | dict.fromkeys(others))
 
     def test_heads_of_datagrams(self):
-        session = Session(ID, 2, 2, 1, 1, 1, 20_000, 20, 5, 3, 2)
+        session = Session(1, ID, 2, 2, 1, 1, 1, 20_000, 20, 5, 3, 2)
         whole = datagram(8, 1, 65_535)
         self.assertEqual(barformats.head_of(whole, session), (8, 1, 65_535))
         self.assertEqual({barformats.head_of(whole[:end], session) for end in range(16)}, {None})
         for at in range(12):
             changed = whole[:at] + bytes([whole[at] ^ 1]) + whole[at + 1 :]
             self.assertEqual(barformats.head_of(changed, session), (9, 1, 65_535) if at == 3 else None)
+
+    def test_datagrams_of_another_version(self):
+        session = Session(1, ID, 2, 2, 1, 1, 1, 20_000, 20, 5, 3, 2)
+        sessions = {1: session, 2: dataclasses.replace(session, version=2)}
+        for (version, each), named in itertools.product(sessions.items(), range(4)):
+            head = barformats.head_of(b"\xba\x47" + bytes([named]) + datagram(8, 1, 2)[3:], each)
+            self.assertEqual(head, (8, 1, 2) if named == version else None)
 
 
 if __name__ == "__main__":

@@ -73,7 +73,22 @@ class Refusals(RoomCase):
         self.assertIn("there is no program at", self.refused("--rounds", 1)[-1])
 
     def test_nothing_refuses_the_bounds(self):
-        self.assertEqual(self.faults(peers=200, fanout=200, life=16, cap=16, per_round=64, port=65_335, tick_ms=60_000, seed=""), [])
+        bounds = {"peers": 200, "fanout": 200, "life": 16, "cap": 16, "port": 65_335, "tick_ms": 60_000}
+        for version, per_round in ((1, 64), (2, 128)):
+            self.assertEqual(self.faults(version=version, per_round=per_round, seed="", **bounds), [])
+
+    def test_updates_of_a_round_by_the_version(self):
+        for version, most in ((1, 64), (2, 128)):
+            fault = f"--per-round is {most + 1}: it has to be a whole number of 1 to {most} in version {version}"
+            self.assertEqual(self.faults(version=version, per_round=most + 1), [fault])
+        self.assertEqual(self.faults(version=3, per_round=65), ["--version is 3: it has to be a whole number of 1 to 2"])
+
+    def test_stream_with_room_in_version_2(self):
+        self.stream.write_bytes(bytes(64 * 1022 + 1))
+        fault = "the stream has 65,409 bytes, and 1 round of 64 updates have room for 65,408"
+        remedy = "take 2 rounds of 64 updates with LMS type 6 or 1 round of 65 updates with version 2"
+        self.assertEqual(self.faults(per_round=64), [f"{fault}: {remedy}"])
+        self.assertEqual(self.faults(version=2, per_round=65), [])
 
 
 class Makings(RoomCase):
@@ -86,6 +101,12 @@ class Makings(RoomCase):
         self.assertEqual([fault for party, key in enumerate(keys) for fault in key.faults(session, party)], [])
         self.assertEqual({stat.S_IMODE(file.stat().st_mode) for file in (folder.path, folder.key(1))}, {0o700, 0o600})
 
+    def test_a_session_of_version_2(self):
+        folder, session = self.make_session(fake_program(self.room), version=2, per_round=128)
+        self.assertEqual((session.version, session.per_round, session.room), (2, 128, 128 * 1022))
+        self.assertEqual(folder.session.read_text().splitlines()[0], "version = 2")
+        self.assertEqual([barformats.KeyFile.of_text(folder.key(party).read_bytes()).party for party in range(3)], [0, 1, 2])
+
     def test_the_same_seed_makes_the_same_keys(self):
         folder, session = self.make_session(fake_program(self.room))
         first = folder.session.read_bytes().replace(b"port = %d\n" % session.port, b"")
@@ -96,9 +117,12 @@ class Makings(RoomCase):
     def test_lines_of_the_script(self):
         words = ["--peers", 2, "--rounds", 1, "--fanout", 1, "--lms", 5, "--stream", self.stream, "--bar", fake_program(self.room)]
         status, out, err = run_script("make-session", self.room / "a/b", *words)
-        self.assertEqual(status, 0)
+        self.assertEqual((status, barformats.Session.read(self.room / "a/b/session.toml").version), (0, 1))
         self.assertRegex("\n".join(out), r"^OK: session [0-9a-f]{16}: 2 peers, 3.2 s, a stream of 600 bytes in a room of 8176$")
         self.assertEqual((err[0], err[-1]), ("keys: 1 of 3", "keys: 3 of 3"))
+        status, out, _ = run_script("make-session", self.room / "a/c", *words, "--version", 2, "--per-round", 128)
+        self.assertRegex("\n".join(out), r"^OK: session .*, a stream of 600 bytes in a room of 130816$")
+        self.assertEqual((status, barformats.Session.read(self.room / "a/c/session.toml").version), (0, 2))
 
     def test_a_failing_program_leaves_nothing(self):
         program, mask = fake_program(self.room, status={"keygen": 70}, said="bar: it fails\n"), os.umask(0o022)

@@ -7,7 +7,7 @@ import barreplays
 from barformats import CASE, KEY, Malformed, Session, recording_of
 from barreplays import Log
 
-SESSION = Session(ID, 2, 2, 1, 1, 1, 20_000, 20, 5, 3, 3)
+SESSION = Session(1, ID, 2, 2, 1, 1, 1, 20_000, 20, 5, 3, 3)
 ONE, OTHER = datagram(CASE, 1, 2, b"one"), datagram(KEY, 1, 2, b"other")
 
 

@@ -1,4 +1,5 @@
 """The scripts as processes: what they say of themselves, what they refuse, and how they end where they are stopped."""
+import gzip
 import os
 import re
 import shutil
@@ -59,6 +60,16 @@ class Refusals(RoomCase):
         (self.room / "world-a/recording").rename(self.room / "world-a/1.recording")
         self.assertIn("world-a/K.1, ", self.refused("check-nodes", self.room))
 
+    def test_a_folder_of_one_session_that_is_not_whole(self):
+        for name in ("world", "puppet"):
+            part = self.room / name / name
+            part.mkdir(parents=True)
+            (part / "1.recording").touch()
+            (part / "1.transcript.gz").touch()
+            (part.parent / "session.toml").touch()
+            for script in ("check-vectors", "check-nodes"):
+                self.assertIn(f"REFUSED: {part.parent}/K.1, ", self.refused(script, part.parent))
+
     def test_expected_lines_that_are_none(self):
         (self.room / "evidence").mkdir()
         (self.room / "evidence/expected.txt").write_text("e.1\t0\tparty 3 fault F1\ne.2 0 party 3 fault F1\n")
@@ -90,6 +101,21 @@ class Checks(RoomCase):
         program = fake_program(self.room, printed="as it should be\n")
         status, out, err = run_script("check-vectors", self.expected("as it should be\n"), "--bar", program)
         self.assertEqual((status, out, err), (0, ["OK: 3 values compared, none differs"], ["checks: 1 of 1"]))
+
+    def test_a_folder_of_one_session(self):
+        folder, _ = self.make_session(fake_program(self.room, printed=""), version=2)
+        folder.key(1).rename(folder.path / "K.1")
+        for name in ("world", "puppet"):
+            (folder.path / name).mkdir()
+            (folder.path / name / "1.recording").write_bytes(recording_of(b"BARL\x01" + bytes(9) + b"\x01", [None]))
+            (folder.path / name / "1.transcript.gz").write_bytes(gzip.compress(b""))
+            (folder.path / name / "1.played").write_bytes(b"played")
+            (folder.path / name / "1.table").touch()
+        status, out, _ = run_script("check-vectors", folder.path, "--bar", self.room / "bar")
+        self.assertEqual((status, out), (0, ["OK: 12 values compared, none differs"]))
+        (folder.path / "puppet/1.played").write_bytes(b"other")
+        status, out, _ = run_script("check-vectors", folder.path, "--bar", self.room / "bar")
+        self.assertEqual((status, out[0][:22], out[-1]), (1, "puppet peer 1 played: ", "FAILED: 1 of 12 values differ"))
 
     def test_values_that_differ(self):
         program = fake_program(self.room, printed="as it is\n")

@@ -10,7 +10,7 @@ import bartimeline
 import made_sessions as made
 from bardatagrams import Exchange, Update
 from barformats import EVIDENCE, SLOTS
-from made_sessions import PLAIN, SESSION, ZEROS, Diary, Trade, first_tick
+from made_sessions import PLAIN, SESSION, WIDE, WIDE_PLAIN, ZEROS, Diary, Trade, first_tick
 
 ME, PARTNER = 1, 2
 FIRST, SECOND, THIRD, FOURTH = (Update(1, index) for index in range(4))
@@ -87,6 +87,29 @@ class Marks(unittest.TestCase):
         self.assertEqual(page.words("straight")[-1], "update 1 of round 1: played, came from the broadcaster at tick 2")
         self.assertEqual(len(page.marks), 4)
         self.assertEqual(page.words("gone"), [f"stopped after tick {first_tick(4) + 2}"])
+
+    def test_128_updates_a_round(self):
+        diary = Diary(ME, WIDE)
+        diary.until(1)
+        diary.take_manifest(1, blocks=WIDE_PLAIN)
+        diary.take(*(made.block(ME, Update(1, index), WIDE_PLAIN, WIDE) for index in range(64, 128)))
+        diary.until(LAST_TICK)
+        page = Page({ME: diary.log(played=bytes(64 * 2))}, WIDE)
+        self.assertEqual([class_ for class_, _ in page.marks], ["missed"] * 64 + ["straight"] * 64)
+        self.assertEqual(page.marks[127][1], "update 128 of round 1: played, came from the broadcaster at tick 1")
+        self.assertEqual(page.table[0]["updates played that came from the broadcaster"], "64")
+        self.check_places(page)
+
+    def check_places(self, page):
+        """The marks of a peer stand in rows of 32, none over another, within the strip of their round and the peer's row."""
+        told = {told for _, told in page.marks}
+        boxes = [it for it in page.body.iter("rect") if it.findtext("title") in told]
+        places = [[float(it.get(name)) for name in ("x", "y", "width", "height")] for it in boxes]
+        self.assertEqual(sorted({y for _, y, _, _ in places}), [y for _, y, _, _ in places[::32]])
+        for (x, y, width, height), (next_x, next_y, *_) in zip(places, places[1:]):
+            self.assertTrue(x + width < next_x if y == next_y else y + height < next_y and next_x == places[0][0])
+        self.assertLess(max(x + width for x, _, width, _ in places), places[0][0] + bartimeline.STRIP)
+        self.assertLess(max(y + height for _, y, _, height in places), bartimeline.HEAD + bartimeline.CASTER + bartimeline.LANE)
 
 
 class Signs(unittest.TestCase):

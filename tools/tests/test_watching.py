@@ -12,7 +12,7 @@ import barrunning
 import barwatching
 from barformats import Session
 
-SESSION = Session(ID, 10, 6, 1, 1, 1, 26_144, 50, 6, 3, 2)
+SESSION = Session(1, ID, 10, 6, 1, 1, 1, 26_144, 50, 6, 3, 2)
 
 # the text of /proc/net/udp: ports 26143 to 26147 of the loopback address, and 26145 of another
 SOCKETS = """  sl  local_address rem_address   st tx_queue rx_queue tr tm->when retrnsmt   uid  timeout inode ref pointer drops
@@ -38,12 +38,12 @@ class Clocks(unittest.TestCase):
         self.assertEqual(self.lines(99, 100, 100.1, 100.5, 101, 101.9), ["the session begins in 1 s", "round 1 of 17", "round 3 of 17"])
 
     def test_one_line_a_round(self):
-        slow = barwatching.Clock(Session(ID, 10, 6, 1, 1, 1, 26_144, 1000, 6, 3, 2), 0)
+        slow = barwatching.Clock(Session(1, ID, 10, 6, 1, 1, 1, 26_144, 1000, 6, 3, 2), 0)
         lines = [slow.line(second) for second in range(24)]
         self.assertEqual([line for line in lines if line], ["round 1 of 17", "round 2 of 17", "round 3 of 17"])
 
     def test_the_wait_before_long_rounds(self):
-        slow = barwatching.Clock(Session(ID, 10, 6, 1, 1, 1, 26_144, 60_000, 6, 3, 2), 100_000)
+        slow = barwatching.Clock(Session(1, ID, 10, 6, 1, 1, 1, 26_144, 60_000, 6, 3, 2), 100_000)
         lines = [slow.line(second) for second in range(75, 110, 5)]
         self.assertEqual(lines[::2], ["the session begins in 25 s", "the session begins in 15 s", "the session begins in 5 s", None])
         self.assertEqual(lines[1::2], [None, None, "round 1 of 17"])

@@ -11,12 +11,12 @@ use Rattle.bar_window.specs.declared.exchange.Role.TheVariants.{Initiator, Respo
 use Rattle.bar_window.specs.declared.exchange.XKind.TheVariants.{Balanced, Push}
 use Rattle.bar_window.specs.declared.terms.Terms.TheVariants as raw
 use Rattle.bar_window.specs.declared.window.Window.{Window}
-use Rattle.bar_window.specs.Window.{members, IsWindowOf}
+use Rattle.bar_window.specs.Window.{members}
 use Rattle.bar_window.specs.Terms.{plain_terms}
-use Rattle.bar_terms.specs.Windows.{AreWindowsOf}
 use Rattle.bar_wire.specs.Bodies.{commitment_in}
 use Rattle.bar_wire.specs.Datagram.{Datagram, Response, Divulge, Place, place_by, part_of, kind_of}
 use Rattle.bar_wire.specs.declared.kind.Kind.TheVariants as kinds
+use Rattle.bar_wire.specs.Views.{AreTermWindows, IsWindowIn}
 use Rattle.bar_rules.specs.Member.{Member}
 use Rattle.bar_rules.specs.Peer.Admission.{is_row_met}
 use Rattle.bar_rules.specs.Peer.Knowledge.{Knowledge, this_round, has_said_of, has_heard_of, with_heard, learned}
@@ -68,7 +68,7 @@ response_of me k l d bytes x r hb m body at =
     record { kind_is = row.0; of = of; kept = found.0; at = found.1 }
 
 pub response_learned : (me : Member) (k : Knowledge) (l new : Ledger) (d : Datagram) (bytes : List ℕ) (x : Exchange) (r : ℕ) (nonce : List ℕ) (ha before hb : Window) (e : Entry)
-    → MayKeep me k l d bytes → d.message.body ≡ Response r (members hb) → IsAt d.message x Responder → IsWindowOf me.session.shape.life x.round hb
+    → MayKeep me k l d bytes → d.message.body ≡ Response r (members hb) → IsAt d.message x Responder → IsWindowIn me.session.shape x.round hb
     → Some e ≡ option_map (λ (k : Kept). k.entry) (find_in l x) → e.terms ≡ raw.Balanced nonce ha before
     → (MayHear l x kinds.Response bytes → ChangesKept l new x (with_heard_part kinds.Response bytes (raw.Balanced nonce ha hb) true))
     → Recalls me (with_heard me d k) new
@@ -85,7 +85,7 @@ response_learned me k l new d bytes x r nonce ha before hb e m body place window
     let may = may_hear_at me k l d bytes x Responder kinds.Response kept m.recalled m.now o.of is o.at (ap (λ kind. hears kinds.Response kind Initiator) o.kind_is) in
     let first = first_of me k l d bytes x Responder kinds.Response kept (with_heard_part kinds.Response bytes (raw.Balanced nonce ha hb) true kept) m.now o.of is o.at
     (keeps_part l x kinds.Response bytes (raw.Balanced nonce ha hb) true kept may o.at.found) in
-    let windows : AreWindowsOf me.session.shape.life x.round (raw.Balanced nonce ha before) = subst (AreWindowsOf me.session.shape.life x.round) terms_are o.at.by.windows in
+    let windows : AreTermWindows me.session.shape x.round (raw.Balanced nonce ha before) = subst (AreTermWindows me.session.shape x.round) terms_are o.at.by.windows in
     recalls_kept me k (with_heard me d k) l new x (with_heard_part kinds.Response bytes (raw.Balanced nonce ha hb) true) kept m.recalled (changes may) (later_others me k d x Responder place only) o.at
     (record {
       one =
@@ -122,7 +122,7 @@ divulge_of me k l d bytes x r nonce ha m body at =
     record { kind_is = row.0; of = of; kept = found.0; at = found.1 }
 
 pub divulge_learned : (me : Member) (k : Knowledge) (l new : Ledger) (d : Datagram) (bytes : List ℕ) (x : Exchange) (r : ℕ) (nonce old_nonce : List ℕ) (ha old_ha hb : Window) (e : Entry)
-    → MayKeep me k l d bytes → d.message.body ≡ Divulge r nonce (members ha) → IsAt d.message x Initiator → IsWindowOf me.session.shape.life x.round ha
+    → MayKeep me k l d bytes → d.message.body ≡ Divulge r nonce (members ha) → IsAt d.message x Initiator → IsWindowIn me.session.shape x.round ha
     → Some e ≡ option_map (λ (k : Kept). k.entry) (find_in l x) → e.terms ≡ raw.Balanced old_nonce old_ha hb
     → (MayHear l x kinds.Divulge bytes → ChangesKept l new x (with_heard_part kinds.Divulge bytes (raw.Balanced nonce ha hb) e.first_said))
     → Recalls me (with_heard me d k) new
@@ -141,7 +141,7 @@ divulge_learned me k l new d bytes x r nonce old_nonce ha old_ha hb e m body pla
     let full : Bool = kept.entry.first_said in
     let first = first_of me k l d bytes x Initiator kinds.Divulge kept (with_heard_part kinds.Divulge bytes (raw.Balanced nonce ha hb) full kept) m.now o.of is o.at
     (keeps_part l x kinds.Divulge bytes (raw.Balanced nonce ha hb) full kept may o.at.found) in
-    let windows : AreWindowsOf me.session.shape.life x.round (raw.Balanced old_nonce old_ha hb) = subst (AreWindowsOf me.session.shape.life x.round) terms_are o.at.by.windows in
+    let windows : AreTermWindows me.session.shape x.round (raw.Balanced old_nonce old_ha hb) = subst (AreTermWindows me.session.shape x.round) terms_are o.at.by.windows in
     recalls_kept me k (with_heard me d k) l new x (with_heard_part kinds.Divulge bytes (raw.Balanced nonce ha hb) full) kept m.recalled
     (subst (λ b. ChangesKept l new x (with_heard_part kinds.Divulge bytes (raw.Balanced nonce ha hb) b)) (ap (λ (e : Entry). e.first_said) (sym same)) (changes may))
     (record {

@@ -2,10 +2,11 @@
 ghost use Rattle.std.specs.Prelude.{◌≡◌, ◌≤◌, ℕ};
 ghost use Rattle.bar_window.specs.declared.exchange.XKind.TheVariants.{Balanced};
 ghost use Rattle.bar_window.specs.declared.exchange.Role.TheVariants.{Initiator};
-ghost use Rattle.bar_window.specs.Window.{members, IsWindowOf};
+ghost use Rattle.bar_window.specs.Window.{members};
 ghost use Rattle.bar_wire.specs.Bodies.{commitment_in};
 ghost use Rattle.bar_wire.specs.Datagram.{Datagram, Divulge, exchange_by};
 ghost use Rattle.bar_wire.specs.Grammar.{SpellsDatagram};
+ghost use Rattle.bar_wire.specs.Views.{IsWindowIn};
 ghost use Rattle.bar_rules.specs.Member.{Member};
 ghost use Rattle.bar_rules.specs.Peer.Admission.{is_row_met, meets_commitment};
 ghost use Rattle.bar_rules.specs.Peer.Agreement.{IsRecent};
@@ -14,7 +15,7 @@ ghost use Rattle.bar_store.specs.Holds.{Holds};
 ghost use Rattle.bar_ledger.specs.Recalls.{Recalls};
 ghost use Rattle.bar_balanced.specs.Balanced.{AreSpelled};
 
-use bar_exchange::{ANSWER_DEADLINE, has_digests, has_heard, is_window_of, is_within};
+use bar_exchange::{ANSWER_DEADLINE, has_digests, has_heard, is_window_in, is_within};
 use bar_ledger::Ledger;
 use bar_seeds::commitment;
 use bar_store::Store;
@@ -43,10 +44,10 @@ fn meets_commitment(
     ha: &Window,
 ) -> bool
     ensures { (me : Member) (k : Knowledge) → me.session.shape ≡ shape.now → Recalls me k ledger.now → AreSpelled me k
-        → IsRecent me k x.round → IsWindowOf me.session.shape.life x.round ha.now
+        → IsRecent me k x.round → IsWindowIn me.session.shape x.round ha.now
         → result ≡ meets_commitment me k x nonce.now (members ha.now) }
 {
-    if !is_window_of(ha, shape.life, x.round) {
+    if !is_window_in(ha, shape, x.round) {
         return false;
     }
     let Some(bytes) = ledger.heard(x, Kind::Request) else {
@@ -70,7 +71,7 @@ pub(crate) fn admits_divulge(
 ) -> bool
     ensures { (me : Member) (k : Knowledge) (from to r : ℕ) → me.session.shape ≡ shape.now → Holds me k store.now → Recalls me k ledger.now
         → AreSpelled me k → 2 ≤ me.session.shape.life → round ≡ this_round k → x ≡ exchange_by r Balanced Initiator from to
-        → IsWindowOf me.session.shape.life r ha.now → result ≡ is_row_met me k from to (Divulge r nonce.now (members ha.now)) }
+        → IsWindowIn me.session.shape r ha.now → result ≡ is_row_met me k from to (Divulge r nonce.now (members ha.now)) }
 {
     if !is_within(round, x.round, ANSWER_DEADLINE) {
         return false;

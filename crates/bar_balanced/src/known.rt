@@ -1,6 +1,7 @@
 //! What is known of the terms of a balanced exchange.
 ghost use Rattle.std.specs.Prelude.{◌≡◌, IfSome, option_map};
-ghost use Rattle.bar_window.specs.Window.{members, IsWindowOf};
+ghost use Rattle.bar_window.specs.Window.{members};
+ghost use Rattle.bar_wire.specs.Views.{IsWindowIn};
 ghost use Rattle.bar_rules.specs.Member.{Member};
 ghost use Rattle.bar_rules.specs.Peer.Agreement.{IsRecent};
 ghost use Rattle.bar_rules.specs.Peer.Knowledge.{Knowledge};
@@ -14,7 +15,7 @@ use bar_window::{Exchange, Terms, Window};
 pub(crate) fn revealed(sources: &Sources<'_>, x: Exchange) -> Option<([u8; 32], Window)>
     ensures known { (me : Member) (k : Knowledge) → Tells me k sources.now → IsRecent me k x.round
         → option_map (λ c. (c.0, members c.1)) result ≡ k.revealed x }
-    ensures windows { IfSome result (λ c. IsWindowOf sources.now.session.now.shape.life x.round c.1) }
+    ensures windows { IfSome result (λ c. IsWindowIn sources.now.session.now.shape x.round c.1) }
 {
     if !knows_commit(sources.ledger, x) {
         return None;
@@ -29,7 +30,7 @@ pub(crate) fn revealed(sources: &Sources<'_>, x: Exchange) -> Option<([u8; 32], 
 pub(crate) fn answered(sources: &Sources<'_>, x: Exchange) -> Option<Window>
     ensures known { (me : Member) (k : Knowledge) → Tells me k sources.now → IsRecent me k x.round
         → option_map members result ≡ answer_of me k x }
-    ensures windows { IfSome result (IsWindowOf sources.now.session.now.shape.life x.round) }
+    ensures windows { IfSome result (IsWindowIn sources.now.session.now.shape x.round) }
 {
     if !knows_answer(sources.ledger, x) {
         return None;

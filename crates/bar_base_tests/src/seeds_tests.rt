@@ -154,7 +154,7 @@ fn commitments_hash_the_history(rt: HostRuntime) -> Result<(), Fail> {
         initiator: 258,
         responder: 3,
     };
-    let mut history = Window::empty(7, 3);
+    let mut history = Window::empty(7, 3, false);
     history.put(UpdateId { round: 5, index: 1 });
     history.put(UpdateId {
         round: 7,

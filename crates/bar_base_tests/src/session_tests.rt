@@ -144,7 +144,7 @@ fn refused_texts_have_their_faults(rt: HostRuntime) -> Result<(), Fail> {
     // each row changes one place of the text of the smallest session
     let rows = [
         ("version = 1", "version", "NotToml"),
-        ("version = 1", "version = 2", "BadValue version"),
+        ("version = 1", "version = 3", "BadValue version"),
         ("66aB", "66a", "BadValue id"),
         ("66aB", "66ag", "BadValue id"),
         ("rounds = 1\n", "rounds = 0\n", "BadValue rounds"),
@@ -161,6 +161,7 @@ fn refused_texts_have_their_faults(rt: HostRuntime) -> Result<(), Fail> {
         ("cap = 3", "cap = 17", "BadValue cap"),
         ("per_round = 4", "per_round = 0", "BadValue per_round"),
         ("per_round = 4", "per_round = 65", "BadValue per_round"),
+        ("version = 1", "version = 0", "BadValue version"),
         ("port = 1024", "port = 1023", "BadValue port"),
         ("port = 1024", "port = 65336", "BadValue port"),
         ("tick_ms = 5", "tick_ms = 0", "BadValue tick_ms"),

@@ -1,4 +1,4 @@
-ghost use Rattle.std.specs.Prelude.{◌≡◌, ◌≤◌};
+ghost use Rattle.std.specs.Prelude.{◌≡◌, ◌≤◌, false};
 ghost use Rattle.bar_window.specs.Window.{IsWindowOf};
 
 use bar_terms::{
@@ -17,9 +17,10 @@ fn update(round: u32, index: u8) -> UpdateId
 
 /// Some updates of the window of round 6, where updates live for four rounds.
 fn window_with(rt: &impl Abort, ids: &[(u32, u8)]) -> Window
-    ensures { IsWindowOf 4 6 result }
+    ensures rounds { IsWindowOf 4 6 result }
+    ensures wide { result.wide ≡ false }
 {
-    let mut window = Window::empty(6, 4);
+    let mut window = Window::empty(6, 4, false);
     for (round, index) in ids {
         assert!(rt; 3 <= *round && *round <= 6 && *index < 64);
         window.put(UpdateId {
@@ -41,9 +42,10 @@ const X: Exchange = Exchange {
 fn twenty_of(round: u32) -> Window
     requires first { 1 ≤ round }
     requires last { round ≤ 16 }
-    ensures { IsWindowOf 16 16 result }
+    ensures rounds { IsWindowOf 16 16 result }
+    ensures wide { result.wide ≡ false }
 {
-    let mut window = Window::empty(16, 16);
+    let mut window = Window::empty(16, 16, false);
     for index in 0..20 {
         window.put(update(round, index));
     }

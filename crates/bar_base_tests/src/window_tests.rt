@@ -1,13 +1,18 @@
+ghost use Rattle.std.specs.Prelude.{◌≡◌};
+
 use bar_window::{Exchange, Role, UpdateId, Window, XKind};
 use std::process::Abort;
 
-fn update(round: u32, index: u8) -> UpdateId {
+fn update(round: u32, index: u8) -> UpdateId
+    ensures at { result.round ≡ round }
+    ensures place { result.index ≡ index }
+{
     UpdateId { round, index }
 }
 
 /// Some updates of the window of round 6, where updates live for four rounds.
 fn window_with(rt: &impl Abort, ids: &[UpdateId]) -> Window {
-    let mut window = Window::empty(6, 4);
+    let mut window = Window::empty(6, 4, false);
     for id in ids {
         let row = id.round.saturating_sub(window.base);
         assert!(rt; id.round >= window.base && row < u32::from(window.used) && id.index < 64);
@@ -28,7 +33,7 @@ fn windows_are_sets(rt: HostRuntime) {
         &[update(5, 3), update(3, 0), update(5, 1), update(3, 2)],
     );
     let hb = window_with(&rt, &[update(4, 7), update(3, 2)]);
-    assert!(rt; ha.base == hb.base && ha.used == hb.used);
+    assert!(rt; ha.base == hb.base && ha.used == hb.used && ha.wide == hb.wide);
     let rows = [
         (ha, [0x5, 0, 0xa, 0], 4),
         (hb, [0x4, 0x80, 0, 0], 2),
@@ -65,7 +70,7 @@ fn the_window_of_an_early_round_begins_with_round_one(rt: HostRuntime) {
         (1, 16, 1, 1),
         (9, 1, 9, 1),
     ] {
-        let window = Window::empty(round, life);
+        let window = Window::empty(round, life, false);
         assert_eq!(rt;
             (window.base, window.used),
             (base, used),
@@ -87,6 +92,30 @@ fn bytes_begin_with_the_first_round(rt: HostRuntime) {
         responder: 0x102,
     };
     assert_eq!(rt; exchange.bytes(), [0, 0, 0, 6, 1, 0, 1, 1, 2]);
+}
+
+/// The wide window of round 6 with the first and the last update of the second word of round 3.
+fn wide_window() -> Window {
+    let mut window = Window::empty(6, 4, true);
+    window.put(update(3, 64));
+    window.put(update(3, 127));
+    window
+}
+
+#[test]
+fn a_wide_window_has_two_words_for_each_round(rt: HostRuntime) {
+    let window = wide_window();
+    assert!(rt; window.has(update(3, 127)) && !window.has(update(3, 0)));
+    assert!(rt; window.lies_in(3, 3) && window.size() == 2);
+    assert_eq!(rt; window.byte_len(4), 64);
+}
+
+#[test]
+fn bytes_of_a_wide_window_have_the_second_word_after_the_first(rt: HostRuntime) {
+    let bytes = wide_window().bytes();
+    assert_eq!(rt; &bytes[..8], [0; 8].as_slice());
+    assert_eq!(rt; &bytes[8..16], [0x80, 0, 0, 0, 0, 0, 0, 1].as_slice());
+    assert_eq!(rt; &bytes[16..64], [0; 48].as_slice());
 }
 
 #[test]

@@ -17,6 +17,19 @@ fn shape() -> Shape {
     }
 }
 
+/// The same session in version 2, with 128 updates a round.
+fn wide_shape() -> Shape {
+    Shape {
+        version: 2,
+        id: ID,
+        peers: 2,
+        rounds: 10,
+        life: 4,
+        per_round: 128,
+        sig_len: 1452,
+    }
+}
+
 /// A header, the fields, and zeros up to a length.
 fn datagram(
     alloc: Global,
@@ -69,6 +82,36 @@ fn a_datagram_that_is_cut_off_has_the_fault_of_its_length(rt: HostRuntime) -> Re
                 "kind {kind} cut at {cut}"
             );
         }
+    }
+    Ok(())
+}
+
+/// The length of each kind in version 2 whose fields have windows, and of a REQUEST; the others are those of version 1.
+const WIDE_KINDS: [(u8, u16, u16, &[u8], usize); 7] = [
+    (1, 0, 0xffff, &[0, 0, 0, 1, 128], 5569),
+    (3, 1, 2, &[0, 0, 0, 1], 1536),
+    (4, 2, 1, &[0, 0, 0, 1], 1536),
+    (5, 1, 2, &[0, 0, 0, 1], 116),
+    (6, 1, 2, &[0, 0, 0, 1], 1632),
+    (7, 2, 1, &[0, 0, 0, 1], 1601),
+    (8, 1, 2, &[0, 0, 0, 6, 0, 0, 1, 0], 2660),
+];
+
+#[test]
+fn datagrams_of_version_two_have_wide_windows(rt: HostRuntime) -> Result<(), Fail> {
+    for (kind, from, to, fields, len) in WIDE_KINDS {
+        let mut bytes = datagram(rt.alloc(), kind, from, to, fields, len)?;
+        assert_eq!(rt;
+            decode(&bytes, &wide_shape()).err(),
+            Some(WireFault::BadVersion)
+        );
+        bytes[2] = 2;
+        assert!(rt; decode(&bytes, &wide_shape()).is_ok(), "kind {kind}");
+        assert_eq!(rt;
+            decode(&bytes[..bytes.len() - 1], &wide_shape()).err(),
+            Some(WireFault::BadLength)
+        );
+        assert_eq!(rt; decode(&bytes, &shape()).err(), Some(WireFault::BadVersion));
     }
     Ok(())
 }

@@ -30,8 +30,9 @@ pub use keygen_laws::{
     output_fails_behind_the_key, refused_keys_change_nothing, secret_refused_exactly,
 };
 pub use laws::{
-    a_front_is_played, a_replay_stops_in_order, done_exactly, done_where_all_is_accepted,
-    file_failed_only, input_refused_exactly, key_refused_exactly, only_its_files_are_changed,
-    output_failed_only, refusals_change_nothing, session_refused_exactly,
+    a_finished_recording_is_replayed, a_front_is_played, a_replay_keeps_the_rules,
+    a_replay_stops_in_order, done_exactly, done_where_all_is_accepted, file_failed_only,
+    input_refused_exactly, key_refused_exactly, only_its_files_are_changed, output_failed_only,
+    refusals_change_nothing, session_refused_exactly,
 };
 pub use run::bar_run;

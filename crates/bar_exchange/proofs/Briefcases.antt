@@ -14,12 +14,14 @@ use Rattle.bar_window.specs.Window.{members, IsWindowOf}
 use Rattle.bar_window.proofs.Members.{member_has_room}
 use Rattle.bar_terms.specs.Terms.{promised_updates, trade_count}
 use Rattle.bar_terms.specs.Windows.{AreWindowsOf}
+use Rattle.bar_wire.specs.Views.{AreTermWindows}
 use Rattle.bar_rules.specs.Member.{Member}
 use Rattle.bar_rules.specs.Peer.Knowledge.{Knowledge, this_round, answer_deadline}
 use Rattle.bar_store.specs.declared.store.Store.{Store}
 use Rattle.bar_store.specs.Held.{block_in}
 use Rattle.bar_store.specs.Holds.{Holds}
 use Rattle.bar_exchange.specs.Writing.{IsSealable}
+use Rattle.bar_rules.proofs.TermWindows.{windows_of}
 
 -- an update is alive in a round
 abbrev IsNear : ℕ → ℕ → UpdateId → Type 0
@@ -44,11 +46,11 @@ promised_near life round cap (raw.Push young aged want give junk) Responder are 
 
 -- their blocks are held as they are known, while the CASE may be sealed
 pub blocks_same : (me : Member) (k : Knowledge) (s : Store) (round cap : ℕ) (t : WindowTerms) (role : Role) → Holds me k s
-    → this_round k ≤ round + answer_deadline → AreWindowsOf me.session.shape.life round t
+    → this_round k ≤ round + answer_deadline → AreTermWindows me.session.shape round t
     → All (λ u. k.block u ≡ block_in s u) (promised_updates cap (plain_terms t) role)
 blocks_same me k s round cap t role holds time are =
     All-weaker (IsNear me.session.shape.life round) (λ u. k.block u ≡ block_in s u) (λ u near. holds.blocks u (omega (arith, near, time)))
-    (promised_updates cap (plain_terms t) role) (promised_near me.session.shape.life round cap t role are)
+    (promised_updates cap (plain_terms t) role) (promised_near me.session.shape.life round cap t role (windows_of me.session.shape round t are))
 
 pub sealable_here : (b c : UpdateId → Option (List ℕ)) (cap : ℕ) (t : Terms) (role : Role) → All (λ u. b u ≡ c u) (promised_updates cap t role)
     → IsSealable b cap t role → IsSealable c cap t role

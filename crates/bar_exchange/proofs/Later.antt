@@ -10,11 +10,11 @@ use Rattle.bar_window.specs.declared.exchange.Role.TheVariants.{Initiator, Respo
 use Rattle.bar_window.specs.declared.exchange.XKind.{XKind}
 use Rattle.bar_window.specs.Exchange.{same_role, other_role}
 use Rattle.bar_window.specs.Terms.{Terms, plain_terms}
-use Rattle.bar_terms.specs.Windows.{AreWindowsOf}
 use Rattle.bar_wire.specs.Bodies.{history_in, offer_in, reply_in}
 use Rattle.bar_wire.specs.Datagram.{Datagram, Body, Manifest, Block, Request, Response, Divulge, Query, Reply, Case, KeyReq, Key, Evidence, Evict, Place, place_by, part_of, kind_of, is_of, exchange_of}
 use Rattle.bar_wire.specs.declared.kind.Kind.{Kind}
 use Rattle.bar_wire.specs.declared.kind.Kind.TheVariants as kinds
+use Rattle.bar_wire.specs.Views.{AreTermWindows}
 use Rattle.bar_rules.specs.Member.{Member}
 use Rattle.bar_rules.specs.Values.{datagram_bytes}
 use Rattle.bar_rules.specs.Peer.Admission.{is_row_met}
@@ -170,7 +170,7 @@ later_by me x kind e bytes kept by =
     record {
       side = ap (λ (e : Entry). e.role) s.entry ∙ by.side;
       form = ap (λ (e : Entry). kind_of_terms (plain_terms e.terms)) s.entry ∙ by.form;
-      windows = subst (λ (e : Entry). AreWindowsOf me.session.shape.life x.round e.terms) (sym s.entry) by.windows;
+      windows = subst (λ (e : Entry). AreTermWindows me.session.shape x.round e.terms) (sym s.entry) by.windows;
       asked = λ r. ap (λ (e : Entry). e.first_said) s.entry ∙ by.asked (ap (λ (e : Entry). e.role) (sym s.entry) ∙ r);
       opened = λ r. ap (λ (e : Entry). e.first_said) s.entry ∙ by.opened (ap (λ (e : Entry). e.case_said) (sym s.entry) ∙ r);
     }

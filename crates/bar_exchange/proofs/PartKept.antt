@@ -9,8 +9,8 @@ use Rattle.bar_window.specs.declared.exchange.Role.{Role}
 use Rattle.bar_window.specs.declared.terms.Terms.{Terms}
 use Rattle.bar_window.specs.Exchange.{same_role}
 use Rattle.bar_window.specs.Terms.{plain_terms}
-use Rattle.bar_terms.specs.Windows.{AreWindowsOf}
 use Rattle.bar_wire.specs.declared.kind.Kind.{Kind}
+use Rattle.bar_wire.specs.Views.{AreTermWindows}
 use Rattle.bar_rules.specs.Member.{Member}
 use Rattle.bar_rules.specs.Peer.Agreement.{IsRecent}
 use Rattle.bar_rules.specs.Peer.Knowledge.{Knowledge, this_round}
@@ -40,7 +40,7 @@ part_said kind bytes terms full kept other role =
     ∙ ap (λ b. same_role role kept.entry.role && b) (terms_said terms full kept.entry other)
 
 pub part_by : (me : Member) (x : Exchange) (kind : Kind) (bytes : List ℕ) (terms : Terms) (full : Bool) (kept : Kept) → IsKeptBy me x kept → kind_of_terms (plain_terms terms) ≡ x.kind
-    → AreWindowsOf me.session.shape.life x.round terms → IsKeptBy me x (with_heard_part kind bytes terms full kept)
+    → AreTermWindows me.session.shape x.round terms → IsKeptBy me x (with_heard_part kind bytes terms full kept)
 part_by me x kind bytes terms full kept by form windows =
     let same : (with_bytes kind bytes kept).entry ≡ kept.entry = bytes-entry kind bytes kept in
     record {

@@ -1,14 +1,10 @@
--- The terms of an exchange that is kept, and those of a view.
+-- The terms of an exchange that is kept.
 use Rattle.std.proofs.Common.{◌≡◌, ℕ, ◌∙◌, true, Option, Some, None, sym, ap, subst}
 use Rattle.std.specs.Prelude.{option_map, option_and_then, IfSome}
 use Rattle.std.specs.Bool.{then_some}
 use Rattle.bar_window.specs.declared.exchange.Exchange.{Exchange}
-use Rattle.bar_window.specs.declared.terms.Terms.{Terms}
-use Rattle.bar_window.specs.declared.terms.Terms.TheVariants as raw
 use Rattle.bar_window.specs.Terms.{plain_terms}
-use Rattle.bar_terms.specs.Windows.{AreWindowsOf}
 use Rattle.bar_wire.specs.Views.{AreTermWindows}
-use Rattle.bar_wire.specs.declared.shape.Shape.{Shape}
 use Rattle.bar_rules.specs.Member.{Member}
 use Rattle.bar_rules.specs.Peer.Agreement.{IsRecent}
 use Rattle.bar_rules.specs.Peer.Knowledge.{Knowledge}
@@ -21,7 +17,7 @@ use Rattle.bar_ledger.specs.Recalls.{Recalls, IsKeptBy, complete_terms, kind_of_
 
 -- An entry of an exchange is complete: its windows are of the round, and its terms are those of the exchange.
 pub record IsComplete (me : Member) (k : Knowledge) (x : Exchange) (e : Entry) : Type 0 where
-  pub windows : AreWindowsOf me.session.shape.life x.round e.terms
+  pub windows : AreTermWindows me.session.shape x.round e.terms
   pub form : kind_of_terms (plain_terms e.terms) ≡ x.kind
   pub terms : terms_of me k x ≡ Some (plain_terms e.terms)
 
@@ -35,12 +31,7 @@ complete_is me k l x e h recent same full = go (find_in l x) same (h.kept x) (h.
     go (Some kept) s own terms =
         let is : kept.entry ≡ e = cc in
         record {
-          windows = subst (λ (e : Entry). AreWindowsOf me.session.shape.life x.round e.terms) is own.windows;
+          windows = subst (λ (e : Entry). AreTermWindows me.session.shape x.round e.terms) is own.windows;
           form = ap (λ (e : Entry). kind_of_terms (plain_terms e.terms)) (sym is) ∙ own.form;
           terms = terms ∙ ap (λ (e : Entry). then_some e.complete (plain_terms e.terms)) is ∙ ap (λ b. then_some b (plain_terms e.terms)) full;
         }
-
--- the terms of a view are windows of its round
-pub windows_of : (s : Shape) (round : ℕ) (t : Terms) → AreTermWindows s round t → AreWindowsOf s.life round t
-windows_of s round (raw.Balanced nonce ha hb) h = h
-windows_of s round (raw.Push young aged want give junk) h = h

@@ -5,11 +5,11 @@ use Rattle.bar_window.specs.declared.exchange.XKind.{XKind}
 use Rattle.bar_window.specs.declared.exchange.XKind.TheVariants.{Balanced, Push}
 use Rattle.bar_window.specs.declared.terms.Terms.{Terms}
 use Rattle.bar_window.specs.Terms.{plain_terms}
-use Rattle.bar_terms.specs.Windows.{AreWindowsOf}
 use Rattle.bar_wire.specs.Bodies.{history_in, reply_in}
 use Rattle.bar_wire.specs.Datagram.{Datagram}
 use Rattle.bar_wire.specs.declared.kind.Kind.{Kind}
 use Rattle.bar_wire.specs.declared.kind.Kind.TheVariants as kinds
+use Rattle.bar_wire.specs.Views.{AreTermWindows}
 use Rattle.bar_rules.specs.Member.{Member}
 use Rattle.bar_ledger.specs.Lookups.{commit_of, history_of, offer_of, reply_of}
 use Rattle.bar_ledger.specs.Recalls.{kind_of_terms}
@@ -22,7 +22,7 @@ telling_kind Push = kinds.Query
 -- The terms are of the kind and round of the exchange, have what the RESPONSE or REPLY says, and of the initiator's part what they had.
 pub record IsAnsweredWith (me : Member) (d : Datagram) (x : Exchange) (before after : Terms) : Type 0 where
   pub form : kind_of_terms (plain_terms after) ≡ x.kind
-  pub windows : AreWindowsOf me.session.shape.life x.round after
+  pub windows : AreTermWindows me.session.shape x.round after
   pub commit : commit_of (plain_terms after) ≡ commit_of (plain_terms before)
   pub offer : offer_of (plain_terms after) ≡ offer_of (plain_terms before)
   pub history : history_in d.message.body ≡ history_of (plain_terms after)

@@ -8,13 +8,13 @@ use Rattle.bar_window.specs.declared.exchange.XKind.TheVariants.{Balanced}
 use Rattle.bar_window.specs.declared.terms.Terms.{Terms}
 use Rattle.bar_window.specs.Exchange.{same_exchange}
 use Rattle.bar_window.specs.Terms.{plain_terms}
-use Rattle.bar_terms.specs.Windows.{AreWindowsOf}
 use Rattle.bar_wire.specs.Bodies.{offer_in}
 use Rattle.bar_wire.specs.Datagram.{Datagram, kind_of, place_of, is_of}
 use Rattle.bar_wire.specs.Grammar.{IsDatagram}
 use Rattle.bar_wire.specs.Limits.{exchanges_a_round}
 use Rattle.bar_wire.specs.declared.kind.Kind.{Kind}
 use Rattle.bar_wire.specs.declared.kind.Kind.TheVariants as kinds
+use Rattle.bar_wire.specs.Views.{AreTermWindows}
 use Rattle.bar_rules.specs.Member.{Member, IsMember}
 use Rattle.bar_rules.specs.Values.{datagram_bytes}
 use Rattle.bar_rules.specs.Peer.Admission.{is_admitted}
@@ -64,7 +64,7 @@ HasRoomLeft me k =
 pub record IsBegunWith (me : Member) (d : Datagram) (x : Exchange) (terms : Terms) : Type 0 where
   pub kind_is : kind_of d.message.body ≡ request_kind x.kind
   pub form : kind_of_terms (plain_terms terms) ≡ x.kind
-  pub windows : AreWindowsOf me.session.shape.life x.round terms
+  pub windows : AreTermWindows me.session.shape x.round terms
   pub offer : offer_in d.message.body ≡ offer_of (plain_terms terms)
 
 -- the terms of a balanced exchange have what this member commits to

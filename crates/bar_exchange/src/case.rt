@@ -3,8 +3,8 @@ ghost use Rattle.std.specs.Prelude.{◌≡◌, ◌≤◌, ℕ, List};
 ghost use Rattle.bar_window.specs.declared.update.UpdateId.{UpdateId};
 ghost use Rattle.bar_window.specs.Window.{members};
 ghost use Rattle.bar_window.specs.Terms.{Push, plain_terms};
-ghost use Rattle.bar_terms.specs.Windows.{AreWindowsOf};
 ghost use Rattle.bar_wire.specs.Datagram.{Briefcase, Case, exchange_by};
+ghost use Rattle.bar_wire.specs.Views.{AreTermWindows};
 ghost use Rattle.bar_rules.specs.Member.{Member, Session};
 ghost use Rattle.bar_rules.specs.Values.{counts_ok};
 ghost use Rattle.bar_rules.specs.Peer.Admission.{is_row_met};
@@ -34,7 +34,7 @@ fn are_of_push(counts: Counts, role: Role, want: &Window, give: &Window, junk: u
 
 /// Whether counts are those of a side's promise by the terms.
 fn are_promised(counts: Counts, terms: &Terms, role: Role, cap: u8) -> bool
-    ensures { (s : Session) (life round : ℕ) (c : Briefcase) → cap ≡ s.cap → AreWindowsOf life round terms.now
+    ensures { (s : Session) (round : ℕ) (c : Briefcase) → cap ≡ s.cap → AreTermWindows s.shape round terms.now
         → c.role ≡ role → HasCounts counts c → c.terms ≡ plain_terms terms.now → result ≡ counts_ok s c }
 {
     match terms {
@@ -61,7 +61,7 @@ pub fn admits_case(
 ) -> bool
     ensures { (me : Member) (k : Knowledge) (from to : ℕ) (c : Briefcase) → Recalls me k ledger.now → 2 ≤ me.session.shape.life
         → round ≡ this_round k → x ≡ exchange_by c.round c.kind role from to → c.role ≡ role
-        → AreWindowsOf me.session.shape.life c.round terms.now → HasCounts counts c → c.terms ≡ plain_terms terms.now
+        → AreTermWindows me.session.shape c.round terms.now → HasCounts counts c → c.terms ≡ plain_terms terms.now
         → result ≡ is_row_met me k from to (Case c) }
 {
     if !is_within(round, x.round, ANSWER_DEADLINE) {

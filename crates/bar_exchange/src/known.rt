@@ -2,7 +2,7 @@
 ghost use Rattle.std.specs.Prelude.{◌≡◌, IfSome, option_map, is_some, false};
 ghost use Rattle.std.specs.Option.{option_map_or};
 ghost use Rattle.bar_window.specs.Exchange.{other_role};
-ghost use Rattle.bar_terms.specs.Windows.{AreWindowsOf};
+ghost use Rattle.bar_wire.specs.Views.{AreTermWindows};
 ghost use Rattle.bar_rules.specs.Member.{Member};
 ghost use Rattle.bar_rules.specs.Peer.Exchanges.{opening_kind};
 ghost use Rattle.bar_rules.specs.Peer.Knowledge.{Knowledge};
@@ -10,7 +10,7 @@ ghost use Rattle.bar_ledger.specs.Lookups.{knows_answer, knows_commit, knows_off
 ghost use Rattle.bar_ledger.specs.Memory.{find_in};
 ghost use Rattle.bar_exchange.specs.Writing.{Tells, complete_by, is_known_in};
 
-use crate::aligned::are_windows_of;
+use crate::aligned::are_windows_in;
 use crate::sources::Sources;
 use bar_ledger::Ledger;
 use bar_window::{Exchange, Role, Terms, XKind};
@@ -91,12 +91,12 @@ pub(crate) fn is_complete(ledger: &Ledger, x: Exchange) -> bool
 pub fn kept_terms(sources: &Sources<'_>, x: Exchange) -> Option<Terms>
     ensures kept { (me : Member) (k : Knowledge) → Tells me k sources.now
         → result ≡ option_map (λ kept. kept.entry.terms) (find_in sources.now.ledger.now x) }
-    ensures windows { IfSome result (AreWindowsOf sources.now.session.now.shape.life x.round) }
+    ensures windows { IfSome result (AreTermWindows sources.now.session.now.shape x.round) }
 {
-    let life = sources.session.shape().life;
+    let shape = sources.session.shape();
     match sources.ledger.find(x) {
         Some(entry) => {
-            if are_windows_of(&entry.terms, life, x.round) {
+            if are_windows_in(&entry.terms, &shape, x.round) {
                 Some(entry.terms)
             } else {
                 None

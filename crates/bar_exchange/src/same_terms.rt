@@ -1,7 +1,8 @@
 //! Whether terms are those of an exchange.
 ghost use Rattle.std.specs.Prelude.{◌≡◌, ℕ};
 ghost use Rattle.bar_window.specs.Terms.{plain_terms};
-ghost use Rattle.bar_terms.specs.Windows.{AreWindowsOf};
+ghost use Rattle.bar_wire.specs.Views.{AreTermWindows};
+ghost use Rattle.bar_wire.specs.declared.shape.Shape.{Shape};
 ghost use Rattle.bar_rules.specs.Member.{Member};
 ghost use Rattle.bar_rules.specs.Peer.Admission.{same_terms, are_terms};
 ghost use Rattle.bar_rules.specs.Peer.Agreement.{IsRecent};
@@ -15,7 +16,7 @@ use bar_window::{Exchange, Terms};
 
 /// Whether two terms of a round are the same.
 fn are_same(one: &Terms, two: &Terms) -> bool
-    ensures { (life round : ℕ) → AreWindowsOf life round one.now → AreWindowsOf life round two.now
+    ensures { (shape : Shape) (round : ℕ) → AreTermWindows shape round one.now → AreTermWindows shape round two.now
         → result ≡ same_terms (plain_terms one.now) (plain_terms two.now) }
 {
     match (one, two) {
@@ -56,7 +57,7 @@ fn are_same(one: &Terms, two: &Terms) -> bool
 /// Whether terms of an exchange are those that are known of it.
 pub fn are_terms(ledger: &Ledger, x: Exchange, terms: &Terms) -> bool
     ensures { (me : Member) (k : Knowledge) → Recalls me k ledger.now → IsRecent me k x.round
-        → AreWindowsOf me.session.shape.life x.round terms.now
+        → AreTermWindows me.session.shape x.round terms.now
         → result ≡ are_terms (plain_terms terms.now) (terms_of me k x) }
 {
     match ledger.find(x) {

@@ -2,9 +2,10 @@
 ghost use Rattle.std.specs.Prelude.{◌≡◌, ◌≤◌, ◌↔◌, IsTrue, IfSome, true, length, option_map};
 ghost use Rattle.std.specs.List.{All};
 ghost use Rattle.bar_window.specs.Terms.{plain_terms};
-ghost use Rattle.bar_terms.specs.Windows.{AreAligned, AreWindowsOf};
+ghost use Rattle.bar_terms.specs.Windows.{AreAligned};
 ghost use Rattle.bar_wire.specs.Limits.{largest_datagram};
 ghost use Rattle.bar_wire.specs.declared.kind.Kind.TheVariants as kinds;
+ghost use Rattle.bar_wire.specs.Views.{AreTermWindows};
 ghost use Rattle.bar_case.specs.Sealed.{IsHeldItem};
 ghost use Rattle.bar_rules.specs.Member.{Member};
 ghost use Rattle.bar_rules.specs.Peer.Agreement.{IsRecent};
@@ -28,7 +29,7 @@ use bar_wire::Body;
 fn complete_terms(sources: &Sources<'_>, x: Exchange) -> Option<Terms>
     ensures known { (me : Member) (k : Knowledge) → Tells me k sources.now → IsRecent me k x.round
         → option_map plain_terms result ≡ terms_of me k x }
-    ensures windows { IfSome result (AreWindowsOf sources.now.session.now.shape.life x.round) }
+    ensures windows { IfSome result (AreTermWindows sources.now.session.now.shape x.round) }
 {
     if !is_complete(sources.ledger, x) {
         return None;
@@ -73,6 +74,7 @@ fn can_seal(store: &Store, terms: &Terms, role: Role, cap: u8) -> bool
 
 /// Writes the message of a CASE, with the blocks that are held now, and answers its length; or answers `None` where the terms aren't
 /// complete or a promised block isn't held.
+#[tactic(auto, using(crate::proofs::Messages::window_short))]
 pub fn write_case(sources: &Sources<'_>, x: Exchange, out: &mut [u8]) -> Option<usize>
     requires room { largest_datagram ≤ length out.old }
     ensures written { (me : Member) (k : Knowledge) → Tells me k sources.now → IsRecent me k x.round → CanSeal me k x

@@ -4,10 +4,11 @@ use Rattle.std.specs.List.{concat}
 use Rattle.std.proofs.lemmas.Bool.{cases_Bool}
 use Rattle.std.proofs.lemmas.Option.{option_and_then_some, none-some}
 use Rattle.bar_bytes.proofs.Lengths.{length_u32}
+use Rattle.bar_window.proofs.Widths.{most_places}
 use Rattle.bar_lms.proofs.DigitLemmas.{signature_short}
 use Rattle.bar_wire.specs.declared.shape.Shape.{Shape}
 use Rattle.bar_wire.specs.Datagram.{Datagram, Body, Manifest, Block, Request, Response, Divulge, Query, Reply, Case, KeyReq, Key, Evidence, Evict, kind_of}
-use Rattle.bar_wire.specs.Grammar.{HasForm, InRange, SpellsDatagram, message_bytes, pieces}
+use Rattle.bar_wire.specs.Grammar.{HasForm, InRange, SpellsDatagram, is_wide, message_bytes, pieces}
 use Rattle.bar_wire.specs.Grammar as grammar
 use Rattle.bar_wire.proofs.FieldLengths.{length_digests}
 use Rattle.bar_wire.proofs.Written.{message_len}
@@ -51,7 +52,19 @@ spelled_short s d bytes entry session spelled is =
     let message = message_len s.shape d.message in
     let signature = signature_short s.params in
     let whole = length-append (message_bytes s.shape d.message) d.signature in
-    omega (arith, ap length spelled.is, whole, message, short.fields, short.signature, signature, spelled.fits.signature_long, session.signatures, session.shape.per_round_high)
+    omega (
+      arith,
+      ap length spelled.is,
+      whole,
+      message,
+      short.fields,
+      short.signature,
+      signature,
+      spelled.fits.signature_long,
+      session.signatures,
+      session.shape.per_round_high,
+      most_places (is_wide s.shape),
+    )
 
 pub listed_short : (s : Session) (last : ℕ) (bytes : List ℕ) (entry : RoundList)
     → ((d : Datagram) → datagram_of s bytes ≡ Some d → SpellsDatagram s.shape d bytes) → IsSession s → list_after s last bytes ≡ Some entry

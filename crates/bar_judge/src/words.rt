@@ -1,11 +1,10 @@
 //! The faults that two messages show whatever the table is.
 ghost use Rattle.std.specs.Prelude.{◌≡◌, ◌≤◌, ℕ, true, option_map};
 ghost use Rattle.bar_window.specs.Terms.{plain_terms};
-ghost use Rattle.bar_window.specs.Window.{members, IsWindowOf};
-ghost use Rattle.bar_terms.specs.Windows.{AreWindowsOf};
+ghost use Rattle.bar_window.specs.Window.{members};
 ghost use Rattle.bar_wire.specs.Bodies.{is_peer_kind};
 ghost use Rattle.bar_wire.specs.Datagram.{round_of};
-ghost use Rattle.bar_wire.specs.Views.{datagram, plain, AreWindows};
+ghost use Rattle.bar_wire.specs.Views.{datagram, plain, AreWindows, AreTermWindows, IsWindowIn};
 ghost use Rattle.bar_wire.specs.declared.shape.Shape.{Shape as ShapeData};
 ghost use Rattle.bar_rules.specs.Judge.Verdict.{broken_commit, differs, fault_by_words, fault_by_case, is_twice, other_window, same_place};
 ghost use Rattle.bar_rules.specs.Member.{Session as RulesSession};
@@ -37,16 +36,15 @@ fn is_twice(m: &View<'_>, n: &View<'_>) -> bool
 /// Whether two windows are different sets.
 fn is_other(one: &Window, two: &Window, life: u8) -> bool
     requires life { life ≤ 16 }
-    ensures { (s : RulesSession) (round : ℕ) → s.shape.life ≡ life → IsWindowOf life round one.now → IsWindowOf life round two.now
+    ensures { (s : RulesSession) (round : ℕ) → s.shape.life ≡ life → IsWindowIn s.shape round one.now → IsWindowIn s.shape round two.now
         → result ≡ other_window s round (members one.now) (members two.now) }
 {
-    let len = 8 * usize::from(life);
-    one.bytes()[..len] != two.bytes()[..len]
+    one.bytes()[..one.byte_len(life)] != two.bytes()[..two.byte_len(life)]
 }
 
 /// Whether a REQUEST's commitment isn't met by the nonce and the history of the initiator's briefcase.
 fn breaks_commit(shape: &Shape, x: Exchange, body: &Body<'_>, case: &Briefcase<'_>) -> bool
-    requires windows { AreWindowsOf shape.now.life x.round case.now.terms }
+    requires windows { AreTermWindows shape.now x.round case.now.terms }
     ensures { (s : RulesSession) → s.shape ≡ shape.now
         → result ≡ broken_commit s x case.now.role (plain body.now) (plain_terms case.now.terms) }
 {
@@ -64,13 +62,13 @@ fn breaks_commit(shape: &Shape, x: Exchange, body: &Body<'_>, case: &Briefcase<'
 }
 
 /// Whether the sender's earlier message and the terms of its briefcase say different things.
-fn differs(body: &Body<'_>, case: &Briefcase<'_>, life: u8) -> bool
-    requires life { life ≤ 16 }
+fn differs(body: &Body<'_>, case: &Briefcase<'_>, shape: &Shape) -> bool
     requires round { round_of (plain body.now) ≡ case.now.round }
-    requires windows { AreWindowsOf life case.now.round case.now.terms }
-    ensures { (s : RulesSession) → s.shape.life ≡ life → AreWindows s.shape body.now
+    requires windows { AreTermWindows shape.now case.now.round case.now.terms }
+    ensures { (s : RulesSession) → s.shape ≡ shape.now → AreWindows s.shape body.now
         → result ≡ differs s case.now.role (plain body.now) (plain_terms case.now.terms) }
 {
+    let life = shape.life;
     match (body, case.role, &case.terms) {
         (Body::Response { hb, .. }, Role::Responder, Terms::Balanced { hb: answered, .. }) => {
             is_other(hb, answered, life)
@@ -128,7 +126,7 @@ fn fault_by_case(shape: &Shape, m: &View<'_>, n: &View<'_>) -> Option<Fault>
     if breaks_commit(shape, x, &m.body, &case) {
         return Some(Fault::F5);
     }
-    if differs(&m.body, &case, shape.life) {
+    if differs(&m.body, &case, shape) {
         return Some(Fault::F6);
     }
     None

@@ -30,5 +30,14 @@ pub fn count(a: &[u64]) -> u32
     requires { length a.now ≤ 1024 }
     ensures { result ≡ sum_by count_ones a.now }
 {
-    a.iter().map(|word| word.count_ones()).sum()
+    let whole = a.len() / LANES;
+    let mut sums = u64x4::splat(0);
+    'wide: for i in 0..whole {
+        sums = sums.strict_add(u64x4::from_slice(&a[LANES * i..]).count_ones());
+    }
+    let mut sum = sums.strict_reduce_sum() as u32;
+    'narrow: for k in LANES * whole..a.len() {
+        sum += a[k].count_ones();
+    }
+    sum
 }

@@ -8,10 +8,10 @@ use Rattle.bar_window.specs.declared.exchange.XKind.{XKind}
 use Rattle.bar_window.specs.declared.exchange.XKind.TheVariants.{Balanced, Push}
 use Rattle.bar_window.specs.Terms.{Terms, plain_terms}
 use Rattle.bar_window.specs.Terms as forms
-use Rattle.bar_terms.specs.Windows.{AreWindowsOf}
 use Rattle.bar_wire.specs.Bodies.{history_in, offer_in, reply_in}
 use Rattle.bar_wire.specs.declared.kind.Kind.{Kind}
 use Rattle.bar_wire.specs.declared.kind.Kind.TheVariants as kinds
+use Rattle.bar_wire.specs.Views.{AreTermWindows}
 use Rattle.bar_rules.specs.Member.{Member}
 use Rattle.bar_rules.specs.Values.{datagram_bytes}
 use Rattle.bar_rules.specs.Peer.Agreement.{IsRecent}
@@ -41,7 +41,7 @@ kind_of_terms (forms.Push young aged want give junk) = Push
 pub record IsKeptBy (me : Member) (x : Exchange) (kept : Kept) : Type 0 where
   pub side : kept.entry.role ≡ role_of me x
   pub form : kind_of_terms (plain_terms kept.entry.terms) ≡ x.kind
-  pub windows : AreWindowsOf me.session.shape.life x.round kept.entry.terms
+  pub windows : AreTermWindows me.session.shape x.round kept.entry.terms
   pub asked : kept.entry.role ≡ Initiator → kept.entry.first_said ≡ true
   pub opened : kept.entry.case_said ≡ true → kept.entry.first_said ≡ true
 

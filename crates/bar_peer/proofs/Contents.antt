@@ -1,5 +1,6 @@
 -- The contents of a round that a store gives out.
-use Rattle.std.proofs.Common.{◌≡◌, ◌∙◌, ℕ, zero, suc, ◌+◌, ◌-◌, ◌<◌, ◌≤◌, ◌≢◌, Bool, true, false, List, [], ◌∷◌, ◌++◌, Option, Some, None, sym, ap, refl, subst, arith, map, nat_le, is_some, option_copied, Bor}
+use Rattle.bar_wire.specs.Grammar.{words_of}
+use Rattle.std.proofs.Common.{◌≡◌, ◌∙◌, ℕ, zero, suc, ◌+◌, ◌-◌, ◌*◌, ◌<◌, ◌≤◌, ◌≢◌, Bool, true, false, List, [], ◌∷◌, ◌++◌, Option, Some, None, sym, ap, refl, subst, arith, map, nat_le, is_some, option_copied, Bor}
 use Rattle.std.specs.Prelude.{slice_index_or, if◌then◌else◌}
 use Rattle.std.specs.Bool.{then_some}
 use Rattle.std.specs.List.{flat_map, range_with_len}
@@ -113,13 +114,13 @@ same_contents f g round a zero same = refl
 same_contents f g round a (suc n) same = (λ i. same a i ++ same_contents f g round (a + 1) n same i)
 
 -- what a store has of a round that is fresh is what is known of it
-pub contents_told : (me : Member) (k : Knowledge) (s : Store) (round : ℕ) → Holds me k s → me.session.shape.per_round ≤ 64
+pub contents_told : (me : Member) (k : Knowledge) (s : Store) (round : ℕ) → Holds me k s → me.session.shape.per_round ≤ 64 * words_of me.session.shape
     → IsFresh me k round → contents_in s round me.session.shape.per_round ≡ contents_of_round me k round
 unfolding contents_of_round
 contents_told me k s round h few fresh =
     let f : ℕ → List (List ℕ) = content_in s round in
     let n : ℕ = me.session.shape.per_round in
     let fits : s.per_round ≡ n = sym s.table_fits ∙ h.per_round in
-    sym (ends_early f 0 n 64 few (λ i above. no_content s round i (omega (arith, above, fits))))
-    ∙ sym (same_contents f (content_at me k) round 0 64
+    sym (ends_early f 0 n (64 * words_of me.session.shape) few (λ i above. no_content s round i (omega (arith, above, fits))))
+    ∙ sym (same_contents f (content_at me k) round 0 (64 * words_of me.session.shape)
     (λ i. ap (λ o. flat_map content_of (option_to_list o)) (h.blocks (record { round = round; index = i }) fresh)))

@@ -13,7 +13,8 @@ use Rattle.bar_terms.specs.declared.items.Item.TheVariants.{Update, Junk}
 use Rattle.bar_terms.specs.Table.{Table, Known, digest_in, digest_of}
 use Rattle.bar_terms.specs.Terms.{promise, promised_junk, promised_updates}
 use Rattle.bar_case.specs.Opened.{AreTold, opened_blocks}
-use Rattle.bar_case.specs.declared.findings.Opening.TheVariants.{Good}
+use Rattle.bar_case.specs.declared.findings.Opening.{Opening}
+use Rattle.bar_case.specs.declared.findings.Opening.TheVariants.{Good, Bad, Unknown}
 use Rattle.bar_wire.specs.Datagram.{Briefcase}
 use Rattle.bar_rules.specs.Member.{Session, is_alive}
 use Rattle.bar_rules.specs.Values.{opening_of, is_good, opened_block}
@@ -80,3 +81,16 @@ unfolding opened_block
 good_given s table x c key n rest now good told near u =
     among_items table s.shape.life now (promised_updates s.cap c.terms c.role) (range_with_len 0 (promised_junk c.terms c.role)) (opened_blocks s.cap c.terms c.role c.cipher key) rest u told near
     ∙ (λ i. if is_alive s u.round now then (if is_good (sym good i) then opened_block s c key u else None) else None)
+
+not_good : (o : Opening) → ((n : ℕ) → o ≡ Good n → ⊥) → is_good o ≡ false
+not_good (Good n) bad = absurd (bad n refl)
+not_good (Bad item) bad = refl
+not_good (Unknown item) bad = refl
+
+-- an opening that isn't good gives no block
+pub bad_given : (s : Session) (table : Table) (x : Exchange) (c : Briefcase) (key : List ℕ) (blocks : List (List ℕ)) (now : ℕ)
+    → ((n : ℕ) → opening_of s table x c key ≡ Good n → ⊥) → AreGiven s now table x key (Some c) [] blocks
+unfolding opened_block
+bad_given s table x c key blocks now bad u =
+    none_if (is_alive s u.round now)
+    ∙ (λ i. if is_alive s u.round now then (if sym (not_good (opening_of s table x c key) bad) i then opened_block s c key u else None) else None)

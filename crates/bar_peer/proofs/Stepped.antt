@@ -1,5 +1,6 @@
 -- What a step leaves, over the list of inputs.
-use Rattle.std.proofs.Common.{◌≡◌, ◌≤◌, ◌-◌, ◌&&◌, ◌∙◌, ℕ, Bool, true, false, List, [], ◌∷◌, ◌++◌, refl, sym, ap, subst, arith}
+use Rattle.bar_wire.specs.Grammar.{words_of}
+use Rattle.std.proofs.Common.{◌≡◌, ◌≤◌, ◌-◌, ◌*◌, ◌&&◌, ◌∙◌, ℕ, Bool, true, false, List, [], ◌∷◌, ◌++◌, refl, sym, ap, subst, arith}
 use Rattle.std.specs.Prelude.{nat_le, ◌==◌, if◌then◌else◌, map, Some}
 use Rattle.std.specs.List.{AllByRecursion}
 use Rattle.bar_wire.specs.Datagram.{Datagram}
@@ -100,7 +101,7 @@ over-stands m inputs input over stood =
 -- ---- what the last tick plays
 
 pub plays-now : (me : Member) (k : Knowledge) (s : Store) (round : ℕ) (contents : List (List ℕ)) → contents ≡ contents_in s round me.session.shape.per_round
-    → Holds me k s → me.session.shape.per_round ≤ 64 → round ≡ this_round k - me.session.shape.life → slot_after k.ticks ≡ 0 → 1 ≤ round
+    → Holds me k s → me.session.shape.per_round ≤ 64 * words_of me.session.shape → round ≡ this_round k - me.session.shape.life → slot_after k.ticks ≡ 0 → 1 ≤ round
     → round ≤ me.session.shape.rounds → contents ≡ contents_at_tick me k
 plays-now me k s round contents is h few at slot low high =
     let first : (slot_after k.ticks == 0) ≡ true = grind (arith, nat_tests, slot) in

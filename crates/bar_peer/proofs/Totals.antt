@@ -11,7 +11,7 @@ use Rattle.bar_window.specs.declared.exchange.Role.{Role}
 use Rattle.bar_window.specs.Exchange.{other_role, same_role}
 use Rattle.bar_window.specs.Terms.{Terms, plain_terms}
 use Rattle.bar_terms.specs.Terms.{promise, can_promise}
-use Rattle.bar_terms.proofs.Aligned.{aligned}
+use Rattle.bar_rules.proofs.TermWindows.{aligned_of}
 use Rattle.bar_wire.specs.Bodies.{briefcase_in}
 use Rattle.bar_wire.specs.Datagram.{Datagram, Briefcase}
 use Rattle.bar_wire.specs.declared.kind.Kind.{Kind}
@@ -211,7 +211,7 @@ said_soundly me k l x e recalls sound rewritten f said =
     let p = promised me k x rewritten marked in
     let same : plain_terms f.kept.entry.terms ≡ p.agreed = terms_kept me k l x e p.agreed recalls f p.terms in
     subst (λ (y : Entry). AreSound l.cap y.terms) f.entry (record {
-      aligned = aligned me.session.shape.life x.round f.kept.entry.terms f.own.windows;
+      aligned = aligned_of me.session.shape x.round f.kept.entry.terms f.own.windows;
       valid = (λ i. can_promise (recalls.cap i) (same i)) ∙ (sound.cases x p.agreed marked p.terms).valid;
     })
 

@@ -532,7 +532,7 @@ const ENDS: [(Text, Text, &[u64], &[u64], &[u64], u8, &str, &[u8], usize); 16] =
         16,
     ),
     (
-        Text::Plain("version = 2"),
+        Text::Plain("version = 3"),
         Text::SmallKey,
         &[],
         &[],

@@ -1,14 +1,16 @@
 -- What a window of a round lacks and has of what is held of the round's window.
-use Rattle.std.proofs.Common.{◌≡◌, ℕ, ◌-◌, ◌∙◌, Bool, true, not, ◌&&◌, List, [], ◌∷◌, length, filter, take, refl, ap}
+use Rattle.std.proofs.Common.{◌≡◌, ℕ, ◌-◌, ◌∙◌, Bool, true, not, ◌&&◌, List, [], ◌∷◌, length, filter, take, refl, sym, ap}
 use Rattle.std.proofs.lemmas.Bool.{or_left, or_right}
 use Rattle.bar_window.specs.declared.update.UpdateId.{UpdateId}
 use Rattle.bar_window.specs.declared.window.Window.{Window}
+use Rattle.bar_window.specs.Places.{words_in}
 use Rattle.bar_window.specs.Updates.{same_update, has_update, minus, both, window_of}
-use Rattle.bar_window.specs.Window.{members, IsWindowOf}
+use Rattle.bar_window.specs.Window.{members, round_words, IsWindowOf}
 use Rattle.bar_window.proofs.Sets.{same_self, has_contains, contains_has, has_filter}
 use Rattle.bar_window.proofs.Spelling.{members_are_set}
 use Rattle.bar_terms.specs.Terms.{wanted, given}
 use Rattle.bar_terms.specs.declared.push.PushAnswer.{PushAnswer}
+use Rattle.bar_wire.specs.Views.{IsWindowIn}
 use Rattle.bar_rules.specs.Member.{Member}
 use Rattle.bar_rules.specs.Peer.Choices.{wanted_of, given_of}
 use Rattle.bar_rules.specs.Peer.Holdings.{history}
@@ -26,37 +28,41 @@ filter_agree_on p q (u ∷ us) h =
 
 -- an update of a window of the round is in what is held of the round's window exactly where it is held
 has_held : (p : UpdateId → Bool) (life round : ℕ) (w : Window) → IsWindowOf life round w
-    → (u : UpdateId) → has_update (members w) u ≡ true → has_update (filter p (window_of 1 life round)) u ≡ p u
+    → (u : UpdateId) → has_update (members w) u ≡ true → has_update (filter p (window_of (round_words w) life round)) u ≡ p u
 has_held p life round w of u h =
-    has_filter p (window_of 1 life round) u
+    has_filter p (window_of (round_words w) life round) u
     ∙ ap (λ b. b && p u)
-    (contains_has (window_of 1 life round) u ((members_are_set w life round of).inside u (has_contains (members w) u h)))
+    (contains_has (window_of (round_words w) life round) u ((members_are_set w life round of).inside u (has_contains (members w) u h)))
 
 -- what it lacks of what is held is what isn't held
 pub lacks_is : (p : UpdateId → Bool) (life round : ℕ) (w : Window) → IsWindowOf life round w
-    → minus (members w) (filter p (window_of 1 life round)) ≡ filter (λ u. not (p u)) (members w)
+    → minus (members w) (filter p (window_of (round_words w) life round)) ≡ filter (λ u. not (p u)) (members w)
 lacks_is p life round w of =
-    filter_agree_on (λ u. not (has_update (filter p (window_of 1 life round)) u)) (λ u. not (p u)) (members w)
+    filter_agree_on (λ u. not (has_update (filter p (window_of (round_words w) life round)) u)) (λ u. not (p u)) (members w)
     (λ u h. ap not (has_held p life round w of u h))
 
 -- what it has of it is what is held
 pub has_is : (p : UpdateId → Bool) (life round : ℕ) (w : Window) → IsWindowOf life round w
-    → both (members w) (filter p (window_of 1 life round)) ≡ filter p (members w)
-has_is p life round w of = filter_agree_on (has_update (filter p (window_of 1 life round))) p (members w) (has_held p life round w of)
+    → both (members w) (filter p (window_of (round_words w) life round)) ≡ filter p (members w)
+has_is p life round w of = filter_agree_on (has_update (filter p (window_of (round_words w) life round))) p (members w) (has_held p life round w of)
 
 -- what is wanted beside the history of the round
-pub wanted_is : (me : Member) (k : Knowledge) (round : ℕ) (young : Window) → IsWindowOf me.session.shape.life round young
+pub wanted_is : (me : Member) (k : Knowledge) (round : ℕ) (young : Window) → IsWindowIn me.session.shape round young
     → wanted me.session.cap (members young) (history me.session k.block round) ≡ wanted_of me k (members young)
-wanted_is me k round young of = ap (take me.session.cap) (lacks_is (holds k) me.session.shape.life round young of)
+wanted_is me k round young in_round =
+    ap (λ wide. wanted me.session.cap (members young) (filter (holds k) (window_of (words_in wide) me.session.shape.life round))) (sym in_round.wide)
+    ∙ ap (take me.session.cap) (lacks_is (holds k) me.session.shape.life round young in_round.of)
 
 -- and what is given for so many
-pub given_is : (me : Member) (k : Knowledge) (round count : ℕ) (aged : Window) → IsWindowOf me.session.shape.life round aged
+pub given_is : (me : Member) (k : Knowledge) (round count : ℕ) (aged : Window) → IsWindowIn me.session.shape round aged
     → given count (members aged) (history me.session k.block round) ≡ take count (filter (holds k) (members aged))
-given_is me k round count aged of = ap (take count) (has_is (holds k) me.session.shape.life round aged of)
+given_is me k round count aged in_round =
+    ap (λ wide. given count (members aged) (filter (holds k) (window_of (words_in wide) me.session.shape.life round))) (sym in_round.wide)
+    ∙ ap (take count) (has_is (holds k) me.session.shape.life round aged in_round.of)
 
 -- the answer to an offer by the history of the round is that of the rules
 pub answer_is : (me : Member) (k : Knowledge) (round cap : ℕ) (young aged : Window) (held : List UpdateId) (answer : PushAnswer)
-    → IsWindowOf me.session.shape.life round young → IsWindowOf me.session.shape.life round aged
+    → IsWindowIn me.session.shape round young → IsWindowIn me.session.shape round aged
     → held ≡ history me.session k.block round → cap ≡ me.session.cap
     → members answer.want ≡ wanted cap (members young) held
     → members answer.give ≡ given (length (members answer.want)) (members aged) held

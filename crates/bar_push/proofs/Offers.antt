@@ -8,10 +8,10 @@ use Rattle.bar_window.specs.declared.exchange.Role.{Role}
 use Rattle.bar_window.specs.declared.exchange.Role.TheVariants.{Initiator, Responder}
 use Rattle.bar_window.specs.Exchange.{same_role}
 use Rattle.bar_window.specs.Terms.{plain_terms}
-use Rattle.bar_terms.specs.Windows.{AreWindowsOf}
 use Rattle.bar_wire.specs.Bodies.{offer_in}
 use Rattle.bar_wire.specs.Datagram.{Datagram}
 use Rattle.bar_wire.specs.declared.kind.Kind.TheVariants as kinds
+use Rattle.bar_wire.specs.Views.{AreTermWindows}
 use Rattle.bar_rules.specs.Member.{Member}
 use Rattle.bar_rules.specs.Peer.Admission.{body_said}
 use Rattle.bar_rules.specs.Peer.Agreement.{IsRecent}
@@ -31,7 +31,7 @@ is_initiator Responder h = absurd (false≢true h)
 
 -- the offer of an entry whose QUERY is said
 pub record IsOffer (me : Member) (k : Knowledge) (x : Exchange) (e : Entry) : Type 0 where
-  pub windows : AreWindowsOf me.session.shape.life x.round e.terms
+  pub windows : AreTermWindows me.session.shape x.round e.terms
   pub offer : option_and_then offer_in (body_said k kinds.Query x Initiator) ≡ offer_of (plain_terms e.terms)
 
 pub offer_is : (me : Member) (k : Knowledge) (l : Ledger) (x : Exchange) (e : Entry) → Recalls me k l → IsRecent me k x.round
@@ -50,7 +50,7 @@ offer_is me k l x e h recent same said = go (find_in l x) same said (h.kept x) (
         let first : kept.entry.first_said ≡ true = (and_parts _ _ both.1).1 in
         let mine : role_of me x ≡ Initiator = sym own.side ∙ role in
         record {
-          windows = subst (λ (e : Entry). AreWindowsOf me.session.shape.life x.round e.terms) is own.windows;
+          windows = subst (λ (e : Entry). AreTermWindows me.session.shape x.round e.terms) is own.windows;
           offer =
               ap (λ (role : Role). option_and_then offer_in (option_map (λ (d : Datagram). d.message.body) (if same_role role Initiator then k.said kinds.Query x Initiator else k.heard kinds.Query x Initiator))) (sym mine)
               ∙ offer

@@ -11,12 +11,12 @@ use Rattle.bar_window.specs.declared.terms.Terms.TheVariants as raw
 use Rattle.bar_window.specs.declared.update.UpdateId.{UpdateId}
 use Rattle.bar_window.specs.declared.window.Window.{Window}
 use Rattle.bar_window.specs.Terms.{plain_terms}
-use Rattle.bar_window.specs.Window.{members, IsWindowOf}
-use Rattle.bar_terms.specs.Windows.{AreWindowsOf}
+use Rattle.bar_window.specs.Window.{members}
 use Rattle.bar_terms.specs.declared.push.PushAnswer.{PushAnswer}
 use Rattle.bar_wire.specs.Bodies.{offer_in, reply_in}
 use Rattle.bar_wire.specs.Datagram.{Body}
 use Rattle.bar_wire.specs.declared.kind.Kind.TheVariants as kinds
+use Rattle.bar_wire.specs.Views.{AreTermWindows, IsWindowIn}
 use Rattle.bar_rules.specs.Member.{Member}
 use Rattle.bar_rules.specs.Peer.Agreement.{IsRecent}
 use Rattle.bar_rules.specs.Peer.Choices.{wanted_of}
@@ -60,16 +60,16 @@ replied me k r q b e = some_then _ _ b e
 
 -- The windows of kept terms are of the round, and are what is offered.
 pub record IsOfferIn (me : Member) (round : ℕ) (young aged : Window) (q : List UpdateId × List UpdateId) : Type 0 where
-  pub young_of : IsWindowOf me.session.shape.life round young
-  pub aged_of : IsWindowOf me.session.shape.life round aged
+  pub young_of : IsWindowIn me.session.shape round young
+  pub aged_of : IsWindowIn me.session.shape round aged
   pub same : (members young, members aged) ≡ q
 
 pub offer_in_entry : (me : Member) (k : Knowledge) (l : Ledger) (x : Exchange) (e : Entry) (q : List UpdateId × List UpdateId) (young aged want give : Window) (junk : ℕ)
     → Recalls me k l → IsRecent me k x.round → IsFound l x e → offered me k x ≡ Some q → e.terms ≡ raw.Push young aged want give junk
     → IsOfferIn me x.round young aged q
 offer_in_entry me k l x e q young aged want give junk h recent f offer is =
-    let windows : AreWindowsOf me.session.shape.life x.round (raw.Push young aged want give junk) =
-    subst (AreWindowsOf me.session.shape.life x.round) is (kept_found me k l x e h f).windows
+    let windows : AreTermWindows me.session.shape x.round (raw.Push young aged want give junk) =
+    subst (AreTermWindows me.session.shape x.round) is (kept_found me k l x e h f).windows
     in
     record {
       young_of = windows.0;

@@ -12,12 +12,12 @@ use Rattle.bar_window.specs.declared.exchange.XKind.TheVariants.{Balanced, Push}
 use Rattle.bar_window.specs.declared.terms.Terms.TheVariants as raw
 use Rattle.bar_window.specs.declared.window.Window.{Window}
 use Rattle.bar_window.specs.Terms.{Terms, plain_terms}
-use Rattle.bar_window.specs.Window.{members, IsWindowOf}
-use Rattle.bar_terms.specs.Windows.{AreWindowsOf}
+use Rattle.bar_window.specs.Window.{members}
 use Rattle.bar_wire.specs.Bodies.{history_in, offer_in, reply_in}
 use Rattle.bar_wire.specs.Datagram.{Datagram, Reply, Place, place_by, part_of, kind_of, is_of}
 use Rattle.bar_wire.specs.declared.kind.Kind.{Kind}
 use Rattle.bar_wire.specs.declared.kind.Kind.TheVariants as kinds
+use Rattle.bar_wire.specs.Views.{AreTermWindows, IsWindowIn}
 use Rattle.bar_rules.specs.Member.{Member}
 use Rattle.bar_rules.specs.Values.{datagram_bytes}
 use Rattle.bar_rules.specs.Peer.Admission.{is_row_met, terms_with}
@@ -127,7 +127,7 @@ no_trade me k l d x e nonce ha hb o entry terms =
 
 pub reply_learned : (me : Member) (k : Knowledge) (l new : Ledger) (d : Datagram) (bytes : List ℕ) (x : Exchange) (r : ℕ) (young aged old_want old_give want give : Window) (old_junk junk : ℕ) (e : Entry)
     → MayKeep me k l d bytes → d.message.body ≡ Reply r (members want) (members give) junk → IsAt d.message x Responder
-    → IsWindowOf me.session.shape.life x.round want → IsWindowOf me.session.shape.life x.round give
+    → IsWindowIn me.session.shape x.round want → IsWindowIn me.session.shape x.round give
     → Some e ≡ option_map (λ (k : Kept). k.entry) (find_in l x) → e.terms ≡ raw.Push young aged old_want old_give old_junk
     → (MayHear l x kinds.Reply bytes → ChangesKept l new x (with_heard_part kinds.Reply bytes (raw.Push young aged want give junk) true))
     → Recalls me (with_heard me d k) new
@@ -144,7 +144,7 @@ reply_learned me k l new d bytes x r young aged old_want old_give want give old_
     let may = may_hear_at me k l d bytes x Responder kinds.Reply kept m.recalled m.now o.of is o.at (ap (λ kind. hears kinds.Reply kind Initiator) o.kind_is) in
     let first = first_of me k l d bytes x Responder kinds.Reply kept (with_heard_part kinds.Reply bytes (raw.Push young aged want give junk) true kept) m.now o.of is o.at
     (keeps_part l x kinds.Reply bytes (raw.Push young aged want give junk) true kept may o.at.found) in
-    let windows : AreWindowsOf me.session.shape.life x.round (raw.Push young aged old_want old_give old_junk) = subst (AreWindowsOf me.session.shape.life x.round) terms_are o.at.by.windows in
+    let windows : AreTermWindows me.session.shape x.round (raw.Push young aged old_want old_give old_junk) = subst (AreTermWindows me.session.shape x.round) terms_are o.at.by.windows in
     recalls_kept me k (with_heard me d k) l new x (with_heard_part kinds.Reply bytes (raw.Push young aged want give junk) true) kept m.recalled (changes may) (later_others me k d x Responder place only) o.at
     (record {
       one =

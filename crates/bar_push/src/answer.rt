@@ -4,9 +4,9 @@ ghost use Rattle.std.specs.Option.{option_map_or};
 ghost use Rattle.bar_window.specs.declared.exchange.Role.TheVariants.{Initiator, Responder};
 ghost use Rattle.bar_window.specs.declared.exchange.XKind.TheVariants.{Push};
 ghost use Rattle.bar_window.specs.Terms.{plain_terms};
-ghost use Rattle.bar_window.specs.Window.{members, IsWindowOf};
+ghost use Rattle.bar_window.specs.Window.{members};
 ghost use Rattle.bar_terms.specs.Table.{digests_of};
-ghost use Rattle.bar_terms.specs.Windows.{AreWindowsOf};
+ghost use Rattle.bar_wire.specs.Views.{AreTermWindows, IsWindowIn};
 ghost use Rattle.bar_wire.specs.Bodies.{offer_in};
 ghost use Rattle.bar_wire.specs.Datagram.{Reply, exchange_by};
 ghost use Rattle.bar_wire.specs.declared.kind.Kind.TheVariants.{Query};
@@ -19,11 +19,12 @@ ghost use Rattle.bar_store.specs.Holds.{Holds};
 ghost use Rattle.bar_ledger.specs.Lookups.{offer_of, said_in};
 ghost use Rattle.bar_ledger.specs.Recalls.{Recalls};
 
-use bar_exchange::{ANSWER_DEADLINE, is_window_of, is_within};
+use bar_exchange::{ANSWER_DEADLINE, is_window_in, is_within};
 use bar_ledger::Ledger;
 use bar_store::Store;
 use bar_terms::{PushAnswer, Table, terms_ok};
 use bar_window::{Exchange, Role, Terms, Window, XKind};
+use bar_wire::Shape;
 
 /// Whether this peer said the QUERY of a push.
 fn has_offered(ledger: &Ledger, x: Exchange) -> bool
@@ -39,9 +40,16 @@ fn has_offered(ledger: &Ledger, x: Exchange) -> bool
 }
 
 /// Whether an answer makes valid terms with an offer.
-fn fits(terms: &Terms, answer: PushAnswer, x: Exchange, cap: u8, life: u8, table: &Table) -> bool
-    ensures { (s : Session) → cap ≡ s.cap → life ≡ s.shape.life → AreWindowsOf life x.round terms.now
-        → IsWindowOf life x.round answer.want → IsWindowOf life x.round answer.give
+fn fits(
+    terms: &Terms,
+    answer: PushAnswer,
+    x: Exchange,
+    cap: u8,
+    shape: &Shape,
+    table: &Table,
+) -> bool
+    ensures { (s : Session) → cap ≡ s.cap → shape.now ≡ s.shape → AreTermWindows s.shape x.round terms.now
+        → IsWindowIn s.shape x.round answer.want → IsWindowIn s.shape x.round answer.give
         → result ≡ option_map_or (terms_ok s (digests_of table.now.lists) x)
         (terms_with (offer_of (plain_terms terms.now)) (members answer.want) (members answer.give) answer.junk) false }
 {
@@ -49,10 +57,10 @@ fn fits(terms: &Terms, answer: PushAnswer, x: Exchange, cap: u8, life: u8, table
     let Terms::Push { young, aged, .. } = *terms else {
         return false;
     };
-    if !is_window_of(&young, life, x.round) || !is_window_of(&aged, life, x.round) {
+    if !is_window_in(&young, shape, x.round) || !is_window_in(&aged, shape, x.round) {
         return false;
     }
-    if !is_window_of(&want, life, x.round) || !is_window_of(&give, life, x.round) {
+    if !is_window_in(&want, shape, x.round) || !is_window_in(&give, shape, x.round) {
         return false;
     }
     let made = Terms::Push {
@@ -62,13 +70,13 @@ fn fits(terms: &Terms, answer: PushAnswer, x: Exchange, cap: u8, life: u8, table
         give,
         junk,
     };
-    terms_ok(&made, x, cap, life, table)
+    terms_ok(&made, x, cap, shape.life, table)
 }
 
 /// Whether an answer makes valid terms with what this peer offered in a push.
 fn makes_terms(store: &Store, ledger: &Ledger, x: Exchange, answer: PushAnswer) -> bool
     ensures { (me : Member) (k : Knowledge) → Holds me k store.now → Recalls me k ledger.now → IsRecent me k x.round → x.kind ≡ Push
-        → IsWindowOf me.session.shape.life x.round answer.want → IsWindowOf me.session.shape.life x.round answer.give
+        → IsWindowIn me.session.shape x.round answer.want → IsWindowIn me.session.shape x.round answer.give
         → result ≡ option_map_or (terms_ok me.session (table_of k) x)
         (terms_with (option_and_then offer_in (body_said k Query x Initiator))
         (members answer.want) (members answer.give) answer.junk) false }
@@ -84,7 +92,7 @@ fn makes_terms(store: &Store, ledger: &Ledger, x: Exchange, answer: PushAnswer) 
         answer,
         x,
         ledger.cap(),
-        ledger.life(),
+        &ledger.shape(),
         store.table(),
     )
 }
@@ -99,7 +107,7 @@ pub(crate) fn admits_reply(
 ) -> bool
     ensures { (me : Member) (k : Knowledge) (from to r : ℕ) → Holds me k store.now → Recalls me k ledger.now → 2 ≤ me.session.shape.life
         → round ≡ this_round k → x ≡ exchange_by r Push Responder from to
-        → IsWindowOf me.session.shape.life r answer.want → IsWindowOf me.session.shape.life r answer.give
+        → IsWindowIn me.session.shape r answer.want → IsWindowIn me.session.shape r answer.give
         → result ≡ is_row_met me k from to (Reply r (members answer.want) (members answer.give) answer.junk) }
 {
     is_within(round, x.round, ANSWER_DEADLINE) && makes_terms(store, ledger, x, answer)

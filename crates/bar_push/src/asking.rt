@@ -1,9 +1,10 @@
 //! When a QUERY is admitted.
 ghost use Rattle.std.specs.Prelude.{◌≡◌, ◌+◌, ◌≤◌, ℕ, nat_lt, length};
-ghost use Rattle.bar_window.specs.Window.{members, IsWindowOf};
+ghost use Rattle.bar_window.specs.Window.{members};
 ghost use Rattle.bar_terms.specs.Terms.{offer_ok};
 ghost use Rattle.bar_wire.specs.Datagram.{Query};
 ghost use Rattle.bar_wire.specs.Grammar.{IsPeer};
+ghost use Rattle.bar_wire.specs.Views.{IsWindowIn};
 ghost use Rattle.bar_rules.specs.Member.{Member};
 ghost use Rattle.bar_rules.specs.Peer.Admission.{is_row_met};
 ghost use Rattle.bar_rules.specs.Peer.Choices.{wanted_of};
@@ -26,7 +27,7 @@ use std::sync::ledger::Ledger as StepLedger;
 /// Whether an offer is valid under the table.
 fn is_valid_offer(store: &Store, cap: u8, offer: &Offer) -> bool
     ensures { (me : Member) (k : Knowledge) → Holds me k store.now → cap ≡ me.session.cap
-        → IsWindowOf me.session.shape.life offer.now.round offer.now.aged
+        → IsWindowIn me.session.shape offer.now.round offer.now.aged
         → result ≡ offer_ok me.session.cap me.session.shape.life (table_of k) offer.now.round
         (members offer.now.young) (members offer.now.aged) }
 {
@@ -47,7 +48,7 @@ fn is_valid_offer(store: &Store, cap: u8, offer: &Offer) -> bool
 /// Whether an offer is valid under the table, and each of its updates has a digest there.
 fn is_offer_within(store: &Store, cap: u8, offer: &Offer) -> bool
     ensures { (me : Member) (k : Knowledge) → Holds me k store.now → cap ≡ me.session.cap
-        → IsWindowOf me.session.shape.life offer.now.round offer.now.aged
+        → IsWindowIn me.session.shape offer.now.round offer.now.aged
         → result ≡ is_offer_within me k offer.now.round (members offer.now.young) (members offer.now.aged) }
 {
     if !is_valid_offer(store, cap, offer) {
@@ -62,7 +63,7 @@ fn is_offer_within(store: &Store, cap: u8, offer: &Offer) -> bool
 /// Whether something of an offer is wanted.
 fn wants_some(store: &Store, cap: u8, offer: &Offer) -> bool
     ensures { (me : Member) (k : Knowledge) → Holds me k store.now → cap ≡ me.session.cap → this_round k ≤ offer.now.round + answer_deadline
-        → IsWindowOf me.session.shape.life offer.now.round offer.now.young → IsWindowOf me.session.shape.life offer.now.round offer.now.aged
+        → IsWindowIn me.session.shape offer.now.round offer.now.young → IsWindowIn me.session.shape offer.now.round offer.now.aged
         → result ≡ nat_lt 0 (length (wanted_of me k (members offer.now.young))) }
 {
     let answer = answer_to_offer(store, &offer.young, &offer.aged, cap, offer.round);
@@ -81,8 +82,8 @@ pub(crate) fn admits_query<L: StepLedger>(
     steps: &mut Steps<L>,
 ) -> bool
     ensures row { (me : Member) (k : Knowledge) (to : ℕ) → me.session ≡ session.now → Holds me k store.now → Recalls me k ledger.now
-        → round ≡ this_round k → IsPeer session.now.shape from → IsWindowOf me.session.shape.life offer.now.round offer.now.young
-        → IsWindowOf me.session.shape.life offer.now.round offer.now.aged
+        → round ≡ this_round k → IsPeer session.now.shape from → IsWindowIn me.session.shape offer.now.round offer.now.young
+        → IsWindowIn me.session.shape offer.now.round offer.now.aged
         → result ≡ is_row_met me k from to (Query offer.now.round seed.now (members offer.now.young) (members offer.now.aged)) }
     ensures cost { steps.new ≤ steps.old + (round + 1) }
 {

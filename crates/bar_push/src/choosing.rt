@@ -1,6 +1,8 @@
 //! What a responder wants and gives, by what it holds.
-ghost use Rattle.std.specs.Prelude.{◌≡◌, ◌+◌, ◌≤◌, ℕ};
+ghost use Rattle.std.specs.Prelude.{◌≡◌, ◌+◌, ◌≤◌, ◌↔◌, ℕ, IsTrue};
 ghost use Rattle.bar_window.specs.Window.{members, IsWindowOf};
+ghost use Rattle.bar_wire.specs.Views.{IsWindowIn};
+ghost use Rattle.bar_wire.specs.declared.shape.Shape.{Shape};
 ghost use Rattle.bar_rules.specs.Member.{Member};
 ghost use Rattle.bar_rules.specs.Peer.Knowledge.{Knowledge, this_round, answer_deadline};
 ghost use Rattle.bar_store.specs.Holds.{Holds};
@@ -10,6 +12,13 @@ use bar_exchange::is_window_of;
 use bar_store::Store;
 use bar_terms::{PushAnswer, push_answer};
 use bar_window::Window;
+
+/// Whether it is a window of the store's, of a round.
+fn is_of(store: &Store, window: &Window, round: u32) -> bool
+    ensures { IsTrue result ↔ (IsWindowOf store.now.life round window.now × (window.now.wide ≡ store.now.wide)) }
+{
+    is_window_of(window, store.life(), round) && window.wide == store.wide()
+}
 
 /// The answer to an offer of a round. It wants the first `cap` of the young updates that are lacking, gives the first of the aged ones that
 /// are held, at most as many, and has junk for the rest. Where a window isn't that of the round, nothing is wanted.
@@ -21,13 +30,12 @@ pub fn answer_to_offer(
     round: u32,
 ) -> PushAnswer
     ensures known { (me : Member) (k : Knowledge) → Holds me k store.now → cap ≡ me.session.cap → this_round k ≤ round + answer_deadline
-        → IsWindowOf me.session.shape.life round young.now → IsWindowOf me.session.shape.life round aged.now
+        → IsWindowIn me.session.shape round young.now → IsWindowIn me.session.shape round aged.now
         → IsAnswerTo me k (members young.now) (members aged.now) result }
-    ensures windows { (life : ℕ) → IsWindowOf life round young.now → IsWindowOf life round aged.now
-        → IsWindowOf life round result.want × IsWindowOf life round result.give }
+    ensures windows { (shape : Shape) → IsWindowIn shape round young.now → IsWindowIn shape round aged.now
+        → IsWindowIn shape round result.want × IsWindowIn shape round result.give }
 {
-    let life = store.life();
-    if !is_window_of(young, life, round) || !is_window_of(aged, life, round) {
+    if !is_of(store, young, round) || !is_of(store, aged, round) {
         return PushAnswer {
             want: young.first(0),
             give: aged.first(0),

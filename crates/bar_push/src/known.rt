@@ -1,6 +1,7 @@
 //! What is known of the terms of a push.
 ghost use Rattle.std.specs.Prelude.{◌≡◌, IfSome, option_map};
-ghost use Rattle.bar_window.specs.Window.{members, IsWindowOf};
+ghost use Rattle.bar_window.specs.Window.{members};
+ghost use Rattle.bar_wire.specs.Views.{IsWindowIn};
 ghost use Rattle.bar_rules.specs.Member.{Member};
 ghost use Rattle.bar_rules.specs.Peer.Agreement.{IsRecent};
 ghost use Rattle.bar_rules.specs.Peer.Knowledge.{Knowledge};
@@ -15,8 +16,8 @@ use bar_window::{Exchange, Terms, Window};
 pub(crate) fn offered(sources: &Sources<'_>, x: Exchange) -> Option<(Window, Window)>
     ensures known { (me : Member) (k : Knowledge) → Tells me k sources.now → IsRecent me k x.round
         → option_map (λ q. (members q.0, members q.1)) result ≡ offer_of me k x }
-    ensures young { IfSome result (λ q. IsWindowOf sources.now.session.now.shape.life x.round q.0) }
-    ensures aged { IfSome result (λ q. IsWindowOf sources.now.session.now.shape.life x.round q.1) }
+    ensures young { IfSome result (λ q. IsWindowIn sources.now.session.now.shape x.round q.0) }
+    ensures aged { IfSome result (λ q. IsWindowIn sources.now.session.now.shape x.round q.1) }
 {
     if !knows_offer(sources.ledger, x) {
         return None;
@@ -31,8 +32,8 @@ pub(crate) fn offered(sources: &Sources<'_>, x: Exchange) -> Option<(Window, Win
 pub(crate) fn replied(sources: &Sources<'_>, x: Exchange) -> Option<PushAnswer>
     ensures known { (me : Member) (k : Knowledge) → Tells me k sources.now → IsRecent me k x.round
         → option_map (λ a. (members a.want, members a.give, a.junk)) result ≡ reply_of me k x }
-    ensures want { IfSome result (λ a. IsWindowOf sources.now.session.now.shape.life x.round a.want) }
-    ensures give { IfSome result (λ a. IsWindowOf sources.now.session.now.shape.life x.round a.give) }
+    ensures want { IfSome result (λ a. IsWindowIn sources.now.session.now.shape x.round a.want) }
+    ensures give { IfSome result (λ a. IsWindowIn sources.now.session.now.shape x.round a.give) }
 {
     if !knows_answer(sources.ledger, x) {
         return None;

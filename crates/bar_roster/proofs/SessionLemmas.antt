@@ -15,7 +15,7 @@ use Rattle.bar_roster.specs.declared.fault.SessionFault.{SessionFault}
 use Rattle.bar_roster.specs.declared.fault.SessionFault.TheVariants.{NotToml, BadValue, TooFewLeaves}
 use Rattle.bar_roster.specs.declared.numbers.Numbers.{Numbers}
 use Rattle.bar_roster.specs.Fields.{◌>>=◌, of_kind, field, number_in, bytes_of, key_of, are_tables, peers_of, count_of, document}
-use Rattle.bar_roster.specs.NumberRanges.{most_rounds, AreInRange}
+use Rattle.bar_roster.specs.NumberRanges.{most_rounds, most_per_round, AreInRange}
 use Rattle.bar_roster.specs.SessionText.{SessionData, numbers_of, peer_of, peers_from, enough_leaves, session_data, parties_of, session_of}
 use Rattle.bar_roster.specs.Sessions.{IsSession}
 use Rattle.bar_roster.specs.Shapes.{height_of, params_of, is_shaped, shaped, shape_by, shape_of}
@@ -78,21 +78,21 @@ entries_range _ ds e = cc
 -- the numbers that are read are in their ranges
 numbers_in_range : (ms : Members) (n : Numbers) → numbers_of ms ≡ Ok n → AreInRange n
 numbers_in_range ms n read =
-    check_holds (field (number_in 1 1) Version (codes "version") ms) _ n read (λ version is_version after_version.
+    check_holds (field (number_in 1 2) Version (codes "version") ms) _ n read (λ version is_version after_version.
     check_holds (field (bytes_of 8) Id (codes "id") ms) _ n after_version (λ id is_id after_id.
     check_holds (field (number_in 1 most_rounds) Rounds (codes "rounds") ms) _ n after_id (λ rounds is_rounds after_rounds.
     check_holds (field (number_in 2 16) Life (codes "life") ms) _ n after_rounds (λ life is_life after_life.
     check_holds (field (number_in 1 16) Cap (codes "cap") ms) _ n after_life (λ cap is_cap after_cap.
-    check_holds (field (number_in 1 64) PerRound (codes "per_round") ms) _ n after_cap (λ per_round is_per_round after_per_round.
+    check_holds (field (number_in 1 (most_per_round version)) PerRound (codes "per_round") ms) _ n after_cap (λ per_round is_per_round after_per_round.
     check_holds (field (number_in 1024 65335) Port (codes "port") ms) _ n after_per_round (λ port is_port after_port.
     check_holds (field (number_in 1 60000) TickMs (codes "tick_ms") ms) _ n after_port (λ tick_ms is_tick_ms after_tick_ms.
     check_holds (field (number_in 5 7) Lms (codes "lms") ms) _ n after_tick_ms (λ lms is_lms after_lms.
     check_holds (field (number_in 1 4) OtsKey (codes "ots") ms) _ n after_lms (λ ots is_ots after_ots.
-    let one = in_range 1 1 Version (get_member (codes "version") ms) version is_version in
+    let version_in = in_range 1 2 Version (get_member (codes "version") ms) version is_version in
     let rounds_in = in_range 1 most_rounds Rounds (get_member (codes "rounds") ms) rounds is_rounds in
     let life_in = in_range 2 16 Life (get_member (codes "life") ms) life is_life in
     let cap_in = in_range 1 16 Cap (get_member (codes "cap") ms) cap is_cap in
-    let per_round_in = in_range 1 64 PerRound (get_member (codes "per_round") ms) per_round is_per_round in
+    let per_round_in = in_range 1 (most_per_round version) PerRound (get_member (codes "per_round") ms) per_round is_per_round in
     let lms_in = in_range 5 7 Lms (get_member (codes "lms") ms) lms is_lms in
     let ots_in = in_range 1 4 OtsKey (get_member (codes "ots") ms) ots is_ots in
     let numbers : Numbers = record {
@@ -109,7 +109,8 @@ numbers_in_range ms n read =
     } in
     let same : numbers ≡ n = cc in
     subst AreInRange same (record {
-      version = omega (arith, one.0, one.1);
+      version_low = version_in.0;
+      version_high = version_in.1;
       rounds_low = rounds_in.0;
       rounds_high = rounds_in.1;
       life_low = life_in.0;
@@ -195,14 +196,15 @@ session_of_parts : (n : Numbers) (count fanout : ℕ) (shape : Shape) (parties :
     → IsSession (session_data n shape fanout parties)
 session_of_parts n count fanout shape parties range is counted spread grown leaves = record {
   shape = record {
-    version_is = omega (arith, is.version, range.version);
+    version_low = omega (arith, is.version, range.version_low);
+    version_high = omega (arith, is.version, range.version_high);
     peers_low = omega (arith, is.peers_are, counted.0);
     peers_high = omega (arith, is.peers_are, counted.1);
     rounds_low = omega (arith, is.rounds, range.rounds_low);
     rounds_high = omega (arith, is.rounds, range.rounds_high);
     life_low = omega (arith, is.life, range.life_low);
     per_round_low = omega (arith, is.per_round, range.per_round_low);
-    per_round_high = omega (arith, is.per_round, range.per_round_high);
+    per_round_high = subst (λ v. shape.per_round ≤ most_per_round v) (sym is.version) (omega (arith, is.per_round, range.per_round_high));
   };
   signatures = is.sig_len;
   cap_low = range.cap_low;

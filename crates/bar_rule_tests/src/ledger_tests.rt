@@ -34,7 +34,7 @@ fn exchange(round: u32, initiator: u16) -> Exchange {
 fn asked(x: Exchange, seat: u8) -> Entry
     ensures { result.x ≡ x }
 {
-    let mut ha = Window::empty(5, 4);
+    let mut ha = Window::empty(5, 4, false);
     let mut hb = ha;
     ha.put(UpdateId { round: 4, index: 0 });
     hb.put(UpdateId { round: 5, index: 1 });
@@ -71,7 +71,10 @@ fn is_sound(terms: &Terms) -> bool
 {
     match terms {
         Terms::Balanced { ha, hb, .. } => {
-            ha.base == hb.base && ha.used == hb.used && balanced_count(ha, hb, 4) >= 1
+            ha.base == hb.base
+                && ha.used == hb.used
+                && ha.wide == hb.wide
+                && balanced_count(ha, hb, 4) >= 1
         }
         Terms::Push { .. } => false,
     }

@@ -2,3 +2,4 @@ mod Worked
 mod WorkedVerdicts
 mod WorkedBroadcast
 pub mod LongerRuns
+pub mod TermWindows

@@ -1,6 +1,7 @@
 //! The updates that a store holds and lacks, as windows.
 
 ghost use Rattle.std.specs.Prelude.{◌≡◌, ◌-◌, ◌≤◌, ◌&&◌, not, max, is_some, filter};
+ghost use Rattle.bar_window.specs.Places.{words_in};
 ghost use Rattle.bar_window.specs.Updates.{updates_from, window_of, first_round};
 ghost use Rattle.bar_window.specs.Window.{members, IsWindowOf};
 ghost use Rattle.bar_terms.specs.Table.{is_known, digest_of, digests_of};
@@ -15,21 +16,25 @@ impl Store {
     /// The held updates of the window of a round.
     pub fn history(&self, round: u32) -> Window
         ensures rounds { IsWindowOf self.now.life round result }
-        ensures members { members result ≡ filter (λ u. is_some (block_in self.now u)) (window_of 1 self.now.life round) }
+        ensures wide { result.wide ≡ self.now.wide }
+        ensures members { members result ≡
+            filter (λ u. is_some (block_in self.now u)) (window_of (words_in self.now.wide) self.now.life round) }
         ensures known { IsHistory self.now round (members result) }
     {
         let first = first_round(round, self.life());
-        pick(&Held(self), round, self.life(), first, round)
+        pick(&Held(self), round, self.life(), self.wide(), first, round)
     }
 
     /// The held updates of a round and the one before, of which a push offers the first ones.
     pub fn young(&self, round: u32) -> Window
         ensures rounds { IsWindowOf self.now.life round result }
-        ensures members { members result ≡ filter (λ u. is_some (block_in self.now u)) (updates_from 1 (max 1 (round - 1)) round) }
+        ensures wide { result.wide ≡ self.now.wide }
+        ensures members { members result ≡
+            filter (λ u. is_some (block_in self.now u)) (updates_from (words_in self.now.wide) (max 1 (round - 1)) round) }
         ensures known { IsYoung self.now round (members result) }
     {
         let first = round.saturating_sub(1).max(1);
-        pick(&Held(self), round, self.life(), first, round)
+        pick(&Held(self), round, self.life(), self.wide(), first, round)
     }
 
     /// The updates within the table that are lacking, of the rounds of a round's window up to the last, of which a push asks for the first
@@ -37,12 +42,13 @@ impl Store {
     pub fn lacking(&self, round: u32, last: u32) -> Window
         requires { last ≤ round }
         ensures rounds { IsWindowOf self.now.life round result }
+        ensures wide { result.wide ≡ self.now.wide }
         ensures members { members result ≡
             filter (λ u. not (is_some (block_in self.now u)) && is_known (digest_of (digests_of self.now.table.lists) u))
-            (updates_from 1 (first_round self.now.life round) last) }
+            (updates_from (words_in self.now.wide) (first_round self.now.life round) last) }
         ensures known { IsAged self.now round last (members result) }
     {
         let first = first_round(round, self.life());
-        pick(&Lacking(self), round, self.life(), first, last)
+        pick(&Lacking(self), round, self.life(), self.wide(), first, last)
     }
 }

@@ -1,6 +1,7 @@
 //! Tables of digests, and the terms of exchanges: what each side promises, and when terms are valid.
 #![tactic(auto)]
 
+mod counts;
 mod items;
 pub mod laws;
 mod promised;

@@ -3,7 +3,7 @@ use Rattle.std.proofs.lemmas.Bool.{le-leb}
 use Rattle.std.proofs.lemmas.Bool.Decides.{nat_tests}
 use Rattle.bar_window.specs.declared.exchange.Exchange.{Exchange}
 use Rattle.bar_window.specs.declared.exchange.Role.TheVariants.{Initiator}
-use Rattle.bar_window.specs.Window.{members, IsWindowOf}
+use Rattle.bar_window.specs.Window.{members}
 use Rattle.bar_wire.specs.declared.kind.Kind.TheVariants as kinds
 use Rattle.bar_rules.specs.Peer.Admission.{meets_commitment}
 use Rattle.bar_rules.specs.Peer.Agreement.{IsRecent}
@@ -11,6 +11,7 @@ use Rattle.bar_rules.specs.Peer.Knowledge.{has_heard_of, is_in_time}
 use Rattle.bar_rules.specs.Values.{datagram_bytes}
 use Rattle.bar_window.specs.declared.exchange.XKind.TheVariants.{Balanced}
 use Rattle.bar_wire.specs.Datagram.{exchange_by}
+use Rattle.bar_wire.specs.Views.{IsWindowIn}
 use Rattle.bar_exchange.proofs.FourTests.{fails_third, first_of_four, some_of}
 use Rattle.bar_balanced.proofs.divulge.admits_divulge.Goals as goal
 
@@ -29,8 +30,8 @@ returns c me k from to r shape holds h spelled life now is windows =
     let unheard : not (has_heard_of k kinds.Divulge c.args.x Initiator) ≡ true =
     ap not (sym (some_of (datagram_bytes me.session) (k.heard kinds.Divulge c.args.x Initiator)) ∙ ap (λ o. is_some o) (h.heard kinds.Divulge c.args.x Initiator recent) ∙ sym c.has_heard.ensures ∙ c.if-has_heard.false)
     in
-    let here : IsWindowOf me.session.shape.life c.args.x.round c.args.ha.now =
-    subst (λ (r : ℕ). IsWindowOf me.session.shape.life r c.args.ha.now) (sym round) windows
+    let here : IsWindowIn me.session.shape c.args.x.round c.args.ha.now =
+    subst (λ (r : ℕ). IsWindowIn me.session.shape r c.args.ha.now) (sym round) windows
     in
     first_of_four _ _ _ (is_in_time me.session k kinds.Divulge r) _
     ((λ i. not (has_heard_of k kinds.Divulge (sym is i) Initiator)) ∙ unheard)

@@ -7,11 +7,11 @@ use Rattle.bar_window.specs.declared.terms.Terms.TheVariants as raw
 use Rattle.bar_window.specs.declared.window.Window.{Window}
 use Rattle.bar_window.specs.Window.{IsWindowOf}
 use Rattle.bar_window.specs.Terms.{plain_terms}
-use Rattle.bar_terms.specs.Windows.{AreWindowsOf}
 use Rattle.bar_wire.specs.Bodies.{history_in, reply_in}
 use Rattle.bar_wire.specs.Datagram.{part_of}
 use Rattle.bar_wire.specs.declared.kind.Kind.{Kind}
 use Rattle.bar_wire.specs.declared.kind.Kind.TheVariants as kinds
+use Rattle.bar_wire.specs.Views.{AreTermWindows, IsWindowIn}
 use Rattle.bar_rules.specs.Peer.Exchanges.{answer_kind, role_of}
 use Rattle.bar_ledger.specs.declared.entry.Entry.{Entry}
 use Rattle.bar_ledger.specs.Lookups.{commit_of, offer_of}
@@ -40,11 +40,14 @@ returns-clause-learns c me k d holds h s says heard time =
     let own = kept_found me k c.args.ledger.now c.args.x c.in-Some.entry.now h found in
     let at = placed d.message (c.args.x.round, Balanced, Responder) c.args.x (role_of me c.args.x) (ap part_of says) s.place_is in
     let kind : kinds.Response ≡ answer_kind c.args.x.kind = ap answer_kind (sym at.0) in
-    let windows : AreWindowsOf me.session.shape.life c.args.x.round (raw.Balanced c.in-Balanced.nonce c.in-Balanced.ha c.in-Balanced.hb) =
-    subst (AreWindowsOf me.session.shape.life c.args.x.round) c.in-Balanced.is own.windows
+    let windows : AreTermWindows me.session.shape c.args.x.round (raw.Balanced c.in-Balanced.nonce c.in-Balanced.ha c.in-Balanced.hb) =
+    subst (AreTermWindows me.session.shape c.args.x.round) c.in-Balanced.is own.windows
     in
-    let here : IsWindowOf me.session.shape.life c.args.x.round c.history-hb.result =
-    subst (λ (life : ℕ). IsWindowOf life c.args.x.round c.history-hb.result) holds.life c.history-hb.ensures.rounds
+    let here : IsWindowIn me.session.shape c.args.x.round c.history-hb.result =
+    record {
+      of = subst (λ (life : ℕ). IsWindowOf life c.args.x.round c.history-hb.result) holds.life c.history-hb.ensures.rounds;
+      wide = c.history-hb.ensures.wide ∙ holds.wide;
+    }
     in
     let before = ap plain_terms c.in-Balanced.is in
     c.answer.ensures.learns me k d e h (subst (λ (kind : Kind). IsSaidNow me k d kind c.args.x) kind s) at.1 c.in-Some.ensures.entry

@@ -1,9 +1,10 @@
 use Rattle.std.proofs.Common.{◌≡◌, ◌∙◌, ℕ, List, Option, Some, sym, ap, take}
 use Rattle.std.specs.Prelude.{option_map}
+use Rattle.bar_window.specs.Places.{words_in}
 use Rattle.bar_window.specs.Window.{members}
 use Rattle.bar_window.specs.declared.update.UpdateId.{UpdateId}
 use Rattle.bar_wire.specs.Datagram.{Request}
-use Rattle.bar_wire.specs.declared.shape.Shape.{Shape}
+use Rattle.bar_wire.specs.Grammar.{is_wide}
 use Rattle.bar_seeds.specs.Derived as derived
 use Rattle.bar_rules.specs.Member.{Session}
 use Rattle.bar_rules.specs.Secrets.{seed_of, commitment_of}
@@ -21,11 +22,12 @@ returns-clause-written c me k tells recent round =
     let seed : c.in_ok-seed.seed ≡ seed_of me c.args.x.round =
     (let both : Some c.in_ok-seed.seed ≡ Some (seed_of me c.args.x.round) = sym c.in_ok-seed.was ∙ c.seed_of.ensures me k tells round in cc)
     in
+    let shape : c.shape-shape.result ≡ me.session.shape = c.shape-shape.ensures.value ∙ sym (ap (λ (s : Session). s.shape) tells.session) in
+    let wide : c.in_ok-nonce.ha.wide ≡ is_wide me.session.shape = c.in_ok-nonce.ensures.windows.wide ∙ ap (λ (s : Session). is_wide s.shape) (sym tells.session) in
     let commitment
     : c.commitment-commitment.result ≡ commitment_of me.session c.args.x c.in_ok-nonce.nonce (members c.in_ok-nonce.ha) =
     c.commitment-commitment.ensures
-    ∙ ap (λ (s : Shape). derived.commitment_of 1 s.life s.id c.args.x c.in_ok-nonce.nonce (members c.in_ok-nonce.ha))
-    (c.shape-shape.ensures.value ∙ sym (ap (λ (s : Session). s.shape) tells.session))
+    ∙ (λ i. derived.commitment_of (words_in (wide i)) (shape i).life (shape i).id c.args.x c.in_ok-nonce.nonce (members c.in_ok-nonce.ha))
     in
     ap Some (c.write_message.ensures.written me k tells)
     ∙ (λ i. Some (bytes_to me c.args.x (Request c.args.x.round (seed i) (commitment i))))

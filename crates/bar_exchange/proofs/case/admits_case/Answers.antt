@@ -3,9 +3,9 @@ use Rattle.std.proofs.lemmas.Bool.{le-leb}
 use Rattle.std.proofs.lemmas.Bool.Decides.{nat_tests}
 use Rattle.bar_window.specs.declared.exchange.Exchange.{Exchange}
 use Rattle.bar_window.specs.Exchange.{other_role}
-use Rattle.bar_terms.specs.Windows.{AreWindowsOf}
 use Rattle.bar_wire.specs.Datagram.{exchange_by}
 use Rattle.bar_wire.specs.declared.kind.Kind.TheVariants as kinds
+use Rattle.bar_wire.specs.Views.{AreTermWindows}
 use Rattle.bar_rules.specs.Peer.Admission.{are_terms}
 use Rattle.bar_rules.specs.Peer.Agreement.{IsRecent}
 use Rattle.bar_rules.specs.Peer.Knowledge.{has_said_of, is_in_time}
@@ -26,12 +26,12 @@ returns c me k from to b h life now is role windows counts terms =
     let said : has_said_of k kinds.Case c.args.x (other_role c.args.role) ≡ true =
     h.said kinds.Case c.args.x (other_role c.args.role) recent ∙ sym (c.has_said_case.ensures ∙ ap (said_in c.args.ledger.now kinds.Case c.args.x) c.other.ensures) ∙ case_said
     in
-    let here : AreWindowsOf me.session.shape.life c.args.x.round c.args.terms.now =
-    subst (λ (r : ℕ). AreWindowsOf me.session.shape.life r c.args.terms.now) (sym round) windows
+    let here : AreTermWindows me.session.shape c.args.x.round c.args.terms.now =
+    subst (λ (r : ℕ). AreTermWindows me.session.shape r c.args.terms.now) (sym round) windows
     in
     let known = c.are_terms.ensures me k h recent here in
     third_of_four _ _ _ (is_in_time me.session k kinds.Case b.round) _
     ((λ i. has_said_of k kinds.Case (sym same i) (other_role (role i))) ∙ said)
     ((λ i. are_terms (terms i) (terms_of me k (sym same i))) ∙ sym known ∙ terms_same)
     (le-leb _ _ (omega arith))
-    (c.are_promised.ensures me.session me.session.shape.life b.round b (c.cap.ensures ∙ h.cap) windows role counts terms)
+    (c.are_promised.ensures me.session b.round b (c.cap.ensures ∙ h.cap) windows role counts terms)

@@ -5,12 +5,12 @@ use Rattle.std.specs.Prelude.{option_map, IfSome}
 use Rattle.bar_window.specs.declared.exchange.Role.{Role}
 use Rattle.bar_window.specs.Terms.{Terms, plain_terms}
 use Rattle.bar_terms.specs.Terms.{promised_updates, promised_junk}
-use Rattle.bar_terms.specs.Windows.{AreWindowsOf}
 use Rattle.bar_seeds.specs.Derived as derived
 use Rattle.bar_wire.specs.Datagram.{Case}
 use Rattle.bar_wire.specs.declared.shape.Shape.{Shape}
 use Rattle.bar_wire.specs.Places.{kind_from, role_from}
 use Rattle.bar_wire.proofs.Codes.{kind_back, role_back}
+use Rattle.bar_wire.specs.Views.{AreTermWindows}
 use Rattle.bar_case.specs.Sealed as sealing
 use Rattle.bar_case.proofs.Blocks.{sealed_same}
 use Rattle.bar_rules.specs.Member.{Session}
@@ -30,8 +30,8 @@ returns-then-not-can_seal-clause-written c me k tells recent can =
     let known : Some t ≡ terms_of me k c.args.x = sym (ap (option_map plain_terms) c.in_ok-terms.was) ∙ c.complete_terms.ensures.known me k tells recent in
     let role : role_of me c.args.x ≡ c.side-role.result = sym (c.side-role.ensures me k tells.recalls) in
     let cap : me.session.cap ≡ c.cap-cap.result = ap (λ (s : Session). s.cap) tells.session ∙ sym c.cap-cap.ensures in
-    let windows : AreWindowsOf me.session.shape.life c.args.x.round c.in_ok-terms.terms =
-    subst (λ (s : Session). AreWindowsOf s.shape.life c.args.x.round c.in_ok-terms.terms) (sym tells.session) c.in_ok-terms.ensures.windows
+    let windows : AreTermWindows me.session.shape c.args.x.round c.in_ok-terms.terms =
+    subst (λ (s : Session). AreTermWindows s.shape c.args.x.round c.in_ok-terms.terms) (sym tells.session) c.in_ok-terms.ensures.windows
     in
     let is : IsSealable k.block me.session.cap t (role_of me c.args.x) =
     subst (λ (o : Option Terms). IfSome o (λ t. IsSealable k.block me.session.cap t (role_of me c.args.x))) (sym known) can.promise
@@ -54,8 +54,8 @@ returns-clause-written c me k tells recent can =
     let id : c.shape-shape.result.id ≡ me.session.shape.id =
     ap (λ (s : Shape). s.id) (c.shape-shape.ensures.value ∙ ap (λ (s : Session). s.shape) session)
     in
-    let windows : AreWindowsOf me.session.shape.life x.round c.in_ok-terms.terms =
-    subst (λ (s : Session). AreWindowsOf s.shape.life x.round c.in_ok-terms.terms) session c.in_ok-terms.ensures.windows
+    let windows : AreTermWindows me.session.shape x.round c.in_ok-terms.terms =
+    subst (λ (s : Session). AreTermWindows s.shape x.round c.in_ok-terms.terms) session c.in_ok-terms.ensures.windows
     in
     let key : c.key-key.result ≡ briefcase_key me x (role_of me x) = c.key-key.ensures ∙ (λ i. derived.briefcase_key (tells.secrets i) x (role i)) in
     let kind : kind_from c.code.result ≡ x.kind = ap kind_from c.code.ensures ∙ kind_back x.kind in
