@@ -1,9 +1,11 @@
 //! Outside vectors, and each public call once.
 
-ghost use Rattle.std.specs.Prelude.{◌≡◌, ◌<◌};
+ghost use Rattle.std.specs.Prelude.{◌≡◌, ◌<◌, ◌≤◌};
+ghost use Rattle.bar_roster.specs.Points.{AreSeeds};
 
 use bar_bytes::Steps;
-use bar_seeds::{Secrets, SeedChain, commitment, partner, seed_ok};
+use bar_roster::Session;
+use bar_seeds::{Checkpoints, Secrets, SeedChain, commitment, partner, seed_ok};
 use bar_window::{Exchange, Role, UpdateId, Window, XKind};
 use std::marker::Brand;
 use std::sync::ledger::{Blank, Ledger};
@@ -79,6 +81,89 @@ fn chains_meet_others_anchors(rt: HostRuntime) -> Result<(), Fail> {
             assert!(rt; !is_seed(&id, &anchor, party, round - 1, &seed), "{round}");
             assert!(rt; !is_seed(&id, &anchor, party + 1, round, &seed), "{round}");
         }
+    }
+    Ok(())
+}
+
+// A session of two peers over ten rounds; the anchors of both follow.
+const SESSION: &str = "version = 1
+id = \"0604aabbccddeeff\"
+rounds = 10
+life = 2
+cap = 1
+per_round = 1
+port = 1024
+tick_ms = 1
+lms = 6
+ots = 1
+fanout = 1
+key = \"0000000600000001111111111111111111111111111111111111111111111111111111111111111111111111111111111111111111111111\"
+
+[[peer]]
+key = \"0000000600000001111111111111111111111111111111111111111111111111111111111111111111111111111111111111111111111112\"
+anchor = \"3350206df8911f303a222ff68a0d87ef19ee7998e9e16158b9583de27ef7cb95\"
+
+[[peer]]
+key = \"0000000600000001111111111111111111111111111111111111111111111111111111111111111111111111111111111111111111111113\"
+anchor = \"0000000000000000000000000000000000000000000000000000000000000000\"
+";
+
+fn is_known_from<L: Ledger>(
+    session: &Session,
+    points: &mut Checkpoints,
+    round: u32,
+    seed: &[u8; 32],
+    blank: Blank,
+) -> bool
+    requires name { blank.name ≡ L.name }
+    requires parts { blank.parts ≡ L.parts }
+    requires some { 0 < L.parts }
+    requires peers { 1 ≤ session.now.shape.peers }
+    requires kept { AreSeeds session.now points.old }
+    ensures { AreSeeds session.now points.new }
+{
+    session.is_known_seed(1, round, seed, points, &mut Steps::<L>::new(blank))
+}
+
+/// Whether it is peer 1's seed of a round, by what is kept of the peers' seeds.
+fn is_known(session: &Session, points: &mut Checkpoints, round: u32, seed: &[u8; 32]) -> bool
+    requires peers { 1 ≤ session.now.shape.peers }
+    requires kept { AreSeeds session.now points.old }
+    ensures { AreSeeds session.now points.new }
+{
+    is_known_from::<Brand>(session, points, round, seed, Blank::new(1))
+}
+
+// Seeds in the order in which they come: later ones are tested from the last that was accepted, earlier and wrong ones from the anchor.
+#[test]
+fn seeds_are_known_in_any_order(rt: HostRuntime) -> Result<(), Fail> {
+    let (id_text, party, rounds, secret_text, _) = ANCHORS[1];
+    let mut id = [0u8; 8];
+    hex::decode_to_slice(id_text, &mut id)?;
+    let mut secret = [0u8; 32];
+    hex::decode_to_slice(secret_text, &mut secret)?;
+    let chain = SeedChain::make(rt.alloc(), &id, party, rounds, &secret)?;
+    let session = Session::read(rt.alloc(), SESSION.as_bytes())?;
+    let mut points = session.checkpoints(rt.alloc())?;
+    if session.shape().peers < 1 || rounds < 7 {
+        return Err(Fail);
+    }
+    let mut wrong = chain.seed(7);
+    wrong[0] ^= 1;
+    for (round, seed, wanted) in [
+        (5, chain.seed(5), true),
+        (7, chain.seed(7), true),
+        (7, chain.seed(7), true),
+        (7, wrong, false),
+        (6, chain.seed(7), false),
+        (6, chain.seed(6), true),
+        (8, chain.seed(7), false),
+    ] {
+        assert_eq!(rt;
+            is_known(&session, &mut points, round, &seed),
+            wanted,
+            "{round}"
+        );
     }
     Ok(())
 }

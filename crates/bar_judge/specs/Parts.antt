@@ -5,8 +5,9 @@ use Rattle.bar_window.specs.Terms.{plain_terms}
 use Rattle.bar_wire.specs.declared.shape.Shape.{Shape}
 use Rattle.bar_wire.specs.declared.view.View.{View}
 use Rattle.bar_wire.specs.Bodies.{Choice}
-use Rattle.bar_wire.specs.Datagram.{Datagram, Briefcase, KeyGiven}
+use Rattle.bar_wire.specs.Datagram.{Body, Datagram, Briefcase, KeyGiven}
 use Rattle.bar_wire.specs.Views.{IsView, datagram}
+use Rattle.bar_wire.specs.Bodies.{choice_round}
 use Rattle.bar_judge.specs.declared.briefcase.Briefcase.{Briefcase as CodeBriefcase}
 use Rattle.bar_judge.specs.declared.given_key.GivenKey.{GivenKey as CodeKey}
 use Rattle.bar_judge.specs.declared.choice.Choice.{Choice as CodeChoice}
@@ -51,3 +52,8 @@ datagrams_in s p = with_second s p.one p.two
 pub record AreRead (s : Shape) (p : Pair) : Type 0 where
   pub one : IsRead s p.one
   pub two : IfSome p.two (IsRead s)
+
+-- the round of the seed that a view shows alone, else 0
+abbrev pub choice_round_alone : Body → Option (Bor View) → ℕ
+choice_round_alone b None = choice_round b
+choice_round_alone b (Some two) = 0

@@ -1,18 +1,21 @@
 //! The fault that datagrams show.
-ghost use Rattle.std.specs.Prelude.{◌≡◌, ◌+◌, ◌≤◌, true, IfSome, option_map};
+ghost use Rattle.std.specs.Prelude.{◌≡◌, ◌+◌, ◌≤◌, true, IfSome, IsSome, option_map};
 ghost use Rattle.bar_terms.specs.Table.{digests_of};
 ghost use Rattle.bar_wire.specs.Bodies.{is_peer_kind};
 ghost use Rattle.bar_wire.specs.Views.{datagram, plain};
 ghost use Rattle.bar_rules.specs.Judge.Verdict.{fault_in_order, fault_of, fault_of_two};
-ghost use Rattle.bar_judge.specs.Parts.{IsRead, datagrams};
+ghost use Rattle.bar_seeds.specs.Checkpoints.{MovesOn};
+ghost use Rattle.bar_roster.specs.Points.{AreSeeds};
+ghost use Rattle.bar_judge.specs.Parts.{IsRead, datagrams, choice_round_alone};
 ghost use Rattle.bar_judge.specs.Verdicts.{plain_fault};
 
 use crate::fault::Fault;
-use crate::one::fault_of_one;
+use crate::one::found_in_one;
 use crate::opening::shows_bad_opening;
 use crate::words::fault_by_words;
 use bar_bytes::Steps;
 use bar_roster::Session;
+use bar_seeds::Checkpoints;
 use bar_terms::Table;
 use bar_wire::View;
 use std::sync::ledger::Ledger;
@@ -32,7 +35,12 @@ fn fault_in_order(session: &Session, table: &Table, m: &View<'_>, n: &View<'_>) 
 }
 
 /// What two datagrams show, in either order.
-fn fault_of_two(session: &Session, table: &Table, m: &View<'_>, n: &View<'_>) -> Option<Fault>
+pub(crate) fn fault_of_two(
+    session: &Session,
+    table: &Table,
+    m: &View<'_>,
+    n: &View<'_>,
+) -> Option<Fault>
     requires one { IsRead session.now.shape m.now }
     requires two { IsRead session.now.shape n.now }
     requires signed_one { is_peer_kind (plain m.now.body) ≡ true }
@@ -48,23 +56,29 @@ fn fault_of_two(session: &Session, table: &Table, m: &View<'_>, n: &View<'_>) ->
 
 /// The fault that one or two datagrams show, which are of kinds that peers sign, of one sender and with accepted signatures: the one that
 /// the verdict on their bytes shows, and `None` exactly where that verdict shows none. It counts the steps along the seeds.
+#[tactic(auto, using(bar_seeds::proofs::CheckpointLemmas::moves_none))]
 pub fn found<L: Ledger>(
     session: &Session,
     table: &Table,
     one: &View<'_>,
     two: Option<&View<'_>>,
+    points: &mut Checkpoints,
     steps: &mut Steps<L>,
 ) -> Option<Fault>
     requires one { IsRead session.now.shape one.now }
     requires two { IfSome two (λ v. IsRead session.now.shape v.now) }
     requires signed_one { is_peer_kind (plain one.now.body) ≡ true }
     requires signed_two { IfSome two (λ v. is_peer_kind (plain v.now.body) ≡ true) }
+    requires points { AreSeeds session.now points.old }
     ensures exact { option_map plain_fault result
         ≡ fault_of session.now (digests_of table.now.lists) (datagrams session.now.shape one.now two.entry) }
-    ensures cost { steps.new ≤ steps.old + session.now.shape.rounds }
+    ensures cost { steps.new ≤ steps.old + choice_round_alone (plain one.now.body) two.entry }
+    ensures kept { AreSeeds session.now points.new }
+    ensures moves { MovesOn one.now.from points.old points.new }
+    ensures pair { IsSome two.entry → points.new ≡ points.old }
 {
     match two {
-        None => fault_of_one(session, table, one, steps),
+        None => found_in_one(session, table, one, points, steps),
         Some(two) => fault_of_two(session, table, one, two),
     }
 }

@@ -1,15 +1,16 @@
 -- How many bytes the datagrams have that a peer admits, and the evidence that it keeps.
-use Rattle.std.specs.Prelude.{◌≡◌, ◌+◌, ◌≤◌, ℕ, List, Some, length, Contains}
-use Rattle.bar_wire.specs.Datagram.{Datagram, kind_of}
+use Rattle.std.specs.Prelude.{◌≡◌, ◌+◌, ◌≤◌, ℕ, List, Some, true, length, Contains}
+use Rattle.bar_wire.specs.Datagram.{Datagram, is_signed, kind_of}
 use Rattle.bar_wire.specs.Evidence.{evidence_bytes}
-use Rattle.bar_wire.specs.Grammar.{AreDatagramsInRange}
+use Rattle.bar_wire.specs.Grammar.{AreDatagramsInRange, SpellsDatagram}
 use Rattle.bar_wire.specs.Limits.{largest_datagram}
 use Rattle.bar_roster.specs.Sessions.{IsSession}
-use Rattle.bar_rules.specs.Member.{Member}
+use Rattle.bar_rules.specs.Member.{Member, Session}
 use Rattle.bar_rules.specs.Peer.Log.{Log, Heard, kept}
 use Rattle.bar_rules.specs.Peer.Rules.{IsObedient}
 use Rattle.bar_rules.specs.Peer.Sizes.{header_len, largest, most_evidence}
 use Rattle.bar_rules.specs.Values.{datagram_bytes}
+use Rattle.bar_seal.specs.Memo.{most_datagram}
 use Rattle.bar_laws.specs.Always.{InEachLog}
 
 -- each datagram that was admitted has no more bytes than the largest of its kind
@@ -37,3 +38,9 @@ abbrev pub LogKeepsShortEvidence : Type 0
 LogKeepsShortEvidence =
     (me : Member) (log : Log) (party : ℕ) (evidence : List (List ℕ)) → IsSession me.session → IsObedient me log
     → kept log party ≡ Some evidence → FitsItsRoom me evidence
+
+-- no signed datagram of a session has more bytes than a room for a checked one
+abbrev pub SignedAreShort : Type 0
+SignedAreShort =
+    (s : Session) (d : Datagram) (bytes : List ℕ) → IsSession s → SpellsDatagram s.shape d bytes → is_signed d.message.body ≡ true
+    → length bytes ≤ most_datagram

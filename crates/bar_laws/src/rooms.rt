@@ -1,7 +1,7 @@
 //! Few exchanges, in rooms that are large enough.
 
 ghost use Rattle.bar_laws.specs.Rooms.{RunHasRooms, LogHasRooms, RunKeepsFew, LogKeepsFew, RunLeavesRoom, LogLeavesRoom};
-ghost use Rattle.bar_laws.specs.Sizes.{RunFitsRooms, LogFitsRooms, LogKeepsShortEvidence};
+ghost use Rattle.bar_laws.specs.Sizes.{RunFitsRooms, LogFitsRooms, LogKeepsShortEvidence, SignedAreShort};
 
 /// Whatever datagrams and ticks come, each exchange of which a peer has admitted or signed anything has one of six rooms in its round, and no
 /// two exchanges of a round have the same. So of each round it keeps six exchanges at most; and six for each of the rounds that may still be
@@ -28,4 +28,9 @@ pub fn datagrams_fit_their_rooms()
 /// In each log that keeps the rules, evidence that is kept fits the room of its party, and can be sent.
 pub fn evidence_fits_its_room()
     ensures { LogKeepsShortEvidence }
+{}
+
+/// No signed datagram of a session has more bytes than a room for a datagram that was checked.
+pub fn signed_datagrams_are_short()
+    ensures { SignedAreShort }
 {}

@@ -1,5 +1,12 @@
 //! Which datagrams a peer admits.
-ghost use Rattle.std.specs.Prelude.{◌≡◌, ◌+◌, ◌*◌, ◌≤◌, ◌&&◌, ℕ, List, true};
+ghost use Rattle.std.specs.Prelude.{◌≡◌, ◌+◌, ◌≤◌, ◌&&◌, ℕ, List, true, if◌then◌else◌};
+ghost use Rattle.bar_seeds.specs.Checkpoints.{kept_round, MovesOn};
+ghost use Rattle.bar_roster.specs.Points.{AreSeeds};
+ghost use Rattle.bar_wire.specs.Bodies.{choice_round};
+ghost use Rattle.bar_seal.specs.Memo.{has_pair, with_pair};
+ghost use Rattle.bar_wire.specs.Datagram.{is_signed};
+ghost use Rattle.bar_rules.specs.Member.{key_of_party};
+ghost use Rattle.bar_peer.specs.Checking.{IsCheckedOnce};
 ghost use Rattle.bar_wire.specs.Bodies.{is_peer_kind};
 ghost use Rattle.bar_wire.specs.Views.{datagram, plain, IsView};
 ghost use Rattle.bar_rules.specs.Member.{is_alive, round_after};
@@ -16,11 +23,13 @@ ghost use Rattle.bar_peer.specs.Trying.{may_admit, may_show};
 use crate::memory::Memory;
 use crate::weighed::Weighed;
 use bar_bytes::Steps;
-use bar_judge::{is_accepted, is_peer_kind};
-use bar_seal::Verifier;
+use bar_judge::is_peer_kind;
+use bar_laws::rooms::signed_datagrams_are_short;
+use bar_seal::{Checker, Verifier};
+use bar_seeds::Checkpoints;
 use bar_store::Added;
 use bar_window::UpdateId;
-use bar_wire::{Body, EVERYONE, View, bytes_spell_one, kind_of, place_of};
+use bar_wire::{Body, EVERYONE, View, place_of};
 use std::sync::ledger::Ledger as StepLedger;
 
 impl Memory {
@@ -42,11 +51,21 @@ impl Memory {
     }
 
     /// The row of a datagram's kind. It counts the steps along the seeds.
-    fn meets_row<L: StepLedger>(&self, view: &View<'_>, steps: &mut Steps<L>) -> bool
+    #[tactic(auto, using(bar_seeds::proofs::CheckpointLemmas::moves_none))]
+    fn meets_row<L: StepLedger>(
+        &self,
+        view: &View<'_>,
+        points: &mut Checkpoints,
+        steps: &mut Steps<L>,
+    ) -> bool
+        requires points { AreSeeds self.now.who.session points.old }
         ensures row { (k : Knowledge) (bytes : List ℕ) → IsMemoryOf (member_of self.now.who) k self.now
             → AreSpelled (member_of self.now.who) k → IsView self.now.who.session.shape bytes view.now
             → result ≡ is_row_met (member_of self.now.who) k view.now.from view.now.to (plain view.now.body) }
-        ensures cost { steps.new ≤ steps.old + 2 * (round_after self.now.ticks + 1) }
+        ensures cost { steps.new ≤ steps.old + choice_round (plain view.now.body) }
+        ensures kept { AreSeeds self.now.who.session points.new }
+        ensures moves { MovesOn view.now.from points.old points.new }
+        ensures reached { result ≡ true → choice_round (plain view.now.body) ≤ kept_round points.new view.now.from }
     {
         let round = self.round();
         match view.body {
@@ -57,58 +76,94 @@ impl Memory {
                 index,
                 block,
             } => self.store.cause(UpdateId { round: r, index }, block, round) == Added::New,
-            _ => self.meets_row_of_exchange(view, steps),
+            _ => self.meets_row_of_exchange(view, points, steps),
         }
     }
 
     /// The row of a datagram of an exchange.
-    fn meets_row_of_exchange<L: StepLedger>(&self, view: &View<'_>, steps: &mut Steps<L>) -> bool
+    #[tactic(auto, using(bar_seeds::proofs::CheckpointLemmas::moves_both))]
+    fn meets_row_of_exchange<L: StepLedger>(
+        &self,
+        view: &View<'_>,
+        points: &mut Checkpoints,
+        steps: &mut Steps<L>,
+    ) -> bool
+        requires points { AreSeeds self.now.who.session points.old }
         ensures row { (k : Knowledge) (bytes : List ℕ) → IsMemoryOf (member_of self.now.who) k self.now
             → AreSpelled (member_of self.now.who) k → IsView self.now.who.session.shape bytes view.now
             → result ≡ (is_of_exchange (plain view.now.body)
             && is_row_met (member_of self.now.who) k view.now.from view.now.to (plain view.now.body)) }
-        ensures cost { steps.new ≤ steps.old + 2 * (round_after self.now.ticks + 1) }
+        ensures cost { steps.new ≤ steps.old + choice_round (plain view.now.body) }
+        ensures kept { AreSeeds self.now.who.session points.new }
+        ensures moves { MovesOn view.now.from points.old points.new }
+        ensures reached { result ≡ true → choice_round (plain view.now.body) ≤ kept_round points.new view.now.from }
     {
         let session = &self.who.session;
         let round = self.round();
-        bar_balanced::admit(session, &self.store, &self.ledger, round, view, steps)
-            || bar_push::admit(session, &self.store, &self.ledger, round, view, steps)
+        bar_balanced::admit(
+            session,
+            &self.store,
+            &self.ledger,
+            round,
+            view,
+            points,
+            steps,
+        ) || bar_push::admit(
+            session,
+            &self.store,
+            &self.ledger,
+            round,
+            view,
+            points,
+            steps,
+        )
     }
 
-    /// Whether the signature is accepted under the sender's key, where the kind bears one. What repeats an admitted datagram isn't verified
-    /// again. It counts each hash.
-    pub fn is_valid<V: Verifier, L: StepLedger>(
+    /// Whether the signature is accepted under the sender's key, where the kind bears one. It counts each hash, and none where the datagram is
+    /// remembered.
+    fn is_valid<V: Verifier, L: StepLedger>(
         &self,
-        verifier: &V,
+        checker: &mut Checker<V>,
         bytes: &[u8],
         view: &View<'_>,
         steps: &mut Steps<L>,
     ) -> bool
         requires view { IsView self.now.who.session.shape bytes.now view.now }
-        requires verifier { IsVerifierOf self.now.who.session (V.is_accepted verifier.now) }
-        ensures exact { (k : Knowledge) → IsMemoryOf (member_of self.now.who) k self.now → IsSound (member_of self.now.who) k
-            → IsInTime (member_of self.now.who) k (datagram self.now.who.session.shape view.now).message
-            → result ≡ has_valid_signature self.now.who.session (datagram self.now.who.session.shape view.now) }
-        ensures cost { steps.new ≤ steps.old + V.most_steps verifier.now }
+        requires verifier { IsVerifierOf self.now.who.session (V.is_accepted checker.old.verifier) }
+        requires size { V.signature_len checker.old.verifier ≡ self.now.who.session.shape.sig_len }
+        ensures exact { result ≡ has_valid_signature self.now.who.session (datagram self.now.who.session.shape view.now) }
+        ensures remembered { has_pair (key_of_party self.now.who.session view.now.from, bytes.now) checker.old.memo.pairs ≡ true → steps.new ≡ steps.old }
+        ensures most { steps.new ≤ steps.old + V.most_steps checker.old.verifier }
+        ensures memo { checker.new.memo ≡ (if result && is_signed (plain view.now.body)
+            then with_pair (key_of_party self.now.who.session view.now.from, bytes.now) checker.old.memo else checker.old.memo) }
+        ensures verifier { checker.new.verifier ≡ checker.old.verifier }
     {
-        bytes_spell_one();
-        if !kind_of(&view.body).is_signed() || self.is_repeat(bytes, view) {
+        signed_datagrams_are_short();
+        if view.sig.is_none() {
             return true;
         }
-        is_accepted(&self.who.session, verifier, view, steps)
+        let session = &self.who.session;
+        let _shape = session.shape();
+        checker.check(session.key(view.from), bytes, view, steps)
     }
 
     /// Whether a datagram is admitted, if its signature is accepted. It counts the steps along the seeds.
+    #[tactic(auto, using(bar_seeds::proofs::CheckpointLemmas::moves_none))]
     pub fn may_admit<L: StepLedger>(
         &self,
         bytes: &[u8],
         view: &View<'_>,
+        points: &mut Checkpoints,
         steps: &mut Steps<L>,
     ) -> bool
+        requires points { AreSeeds self.now.who.session points.old }
         requires view { IsView self.now.who.session.shape bytes.now view.now }
         ensures exact { (k : Knowledge) → IsMemoryOf (member_of self.now.who) k self.now → AreSpelled (member_of self.now.who) k
             → result ≡ may_admit (member_of self.now.who) k (datagram self.now.who.session.shape view.now) }
-        ensures cost { steps.new ≤ steps.old + 2 * (round_after self.now.ticks + 1) }
+        ensures cost { steps.new ≤ steps.old + choice_round (plain view.now.body) }
+        ensures kept { AreSeeds self.now.who.session points.new }
+        ensures moves { MovesOn view.now.from points.old points.new }
+        ensures reached { result ≡ true → choice_round (plain view.now.body) ≤ kept_round points.new view.now.from }
     {
         if !self.is_receiver(view) {
             return false;
@@ -116,7 +171,7 @@ impl Memory {
         if self.evictions.is_named(view.from) {
             return false;
         }
-        if !self.meets_row(view, steps) {
+        if !self.meets_row(view, points, steps) {
             return false;
         }
         !self.is_heard_again(view)
@@ -152,31 +207,43 @@ impl Memory {
     /// depends on it. It counts each hash.
     pub fn weigh<V: Verifier, L: StepLedger>(
         &self,
-        verifier: &V,
+        checker: &mut Checker<V>,
+        points: &mut Checkpoints,
         bytes: &[u8],
         view: &View<'_>,
         steps: &mut Steps<L>,
     ) -> Weighed
         requires view { IsView self.now.who.session.shape bytes.now view.now }
-        requires verifier { IsVerifierOf self.now.who.session (V.is_accepted verifier.now) }
+        requires verifier { IsVerifierOf self.now.who.session (V.is_accepted checker.old.verifier) }
+        requires size { V.signature_len checker.old.verifier ≡ self.now.who.session.shape.sig_len }
+        requires points { AreSeeds self.now.who.session points.old }
         ensures admitted { (k : Knowledge) → IsMemoryOf (member_of self.now.who) k self.now → IsSound (member_of self.now.who) k
             → result.is_admitted ≡ is_admitted (member_of self.now.who) k (datagram self.now.who.session.shape view.now) }
         ensures tried { (k : Knowledge) → IsMemoryOf (member_of self.now.who) k self.now → IsSound (member_of self.now.who) k
             → result.is_tried ≡ is_tried (member_of self.now.who) k (datagram self.now.who.session.shape view.now) }
         ensures kind { result.is_tried ≡ true → is_peer_kind (plain view.now.body) ≡ true }
-        ensures cost { steps.new ≤ steps.old + (2 * (round_after self.now.ticks + 1) + V.most_steps verifier.now) }
+        ensures most { steps.new ≤ steps.old + (choice_round (plain view.now.body) + V.most_steps checker.old.verifier) }
+        ensures remembered { has_pair (key_of_party self.now.who.session view.now.from, bytes.now) checker.old.memo.pairs ≡ true
+            → steps.new ≤ steps.old + choice_round (plain view.now.body) }
+        ensures kept { AreSeeds self.now.who.session points.new }
+        ensures moves { MovesOn view.now.from points.old points.new }
+        ensures reached { result.is_admitted ≡ true → choice_round (plain view.now.body) ≤ kept_round points.new view.now.from }
+        ensures first { result.is_admitted ≡ true → is_signed (plain view.now.body) ≡ true
+            → checker.new.memo ≡ with_pair (key_of_party self.now.who.session view.now.from, bytes.now) checker.old.memo }
+        ensures memo { IsCheckedOnce (key_of_party self.now.who.session view.now.from, bytes.now) checker.old.memo checker.new.memo }
+        ensures verifier { checker.new.verifier ≡ checker.old.verifier }
     {
         let none = Weighed {
             is_admitted: false,
             is_tried: false,
         };
-        let is_admitted = self.may_admit(bytes, view, steps);
+        let is_admitted = self.may_admit(bytes, view, points, steps);
         let is_tried = self.may_show(view);
         let is_asked = is_admitted || is_tried;
         if !is_asked {
             return none;
         }
-        if !self.is_valid(verifier, bytes, view, steps) {
+        if !self.is_valid(checker, bytes, view, steps) {
             return none;
         }
         Weighed {

@@ -111,11 +111,12 @@ impl<S: Scheme> Peer<S> {
             return Some(len);
         }
         let leaf = self.memory.leaf(say)?;
-        if leaf >= self.scheme.leaves() {
+        let scheme = self.checker.verifier();
+        if leaf >= scheme.leaves() {
             return None;
         }
         let (message, rest) = buf.split_at_mut(len);
-        Some(len + self.scheme.sign(leaf, message, rest))
+        Some(len + scheme.sign(leaf, message, rest))
     }
 
     /// Writes the datagram of an exchange that an order says to the front of a buffer, and answers its length.

@@ -1,5 +1,8 @@
 //! What a peer does at an input.
-ghost use Rattle.std.specs.Prelude.{◌≡◌, ◌≤◌, ◌++◌, ◌∷◌, ◌↔◌, [], false, nat_le, IsTrue};
+ghost use Rattle.std.specs.Prelude.{◌≡◌, ◌+◌, ◌*◌, ◌≤◌, ◌++◌, ◌∷◌, ◌↔◌, [], true, false, nat_le, IsTrue};
+ghost use Rattle.bar_seeds.specs.Checkpoints.{MovesOn};
+ghost use Rattle.bar_roster.specs.Points.{AreSeeds};
+ghost use Rattle.bar_seal.specs.Memo.{has_pair};
 ghost use Rattle.bar_wire.specs.Inputs.{plain_input};
 ghost use Rattle.bar_rules.specs.Member.{last_tick};
 ghost use Rattle.bar_rules.specs.Peer.Knowledge.{known};
@@ -7,6 +10,8 @@ ghost use Rattle.bar_rules.specs.Peer.Log.{Log};
 ghost use Rattle.bar_rules.specs.Peer.Run.{log_after, step};
 ghost use Rattle.bar_rules.specs.Peer.Ticks.{contents_at_tick};
 ghost use Rattle.bar_rules.specs.Verifiers.{IsVerifierOf};
+ghost use Rattle.bar_peer.specs.Checking.{IsCheckedOnce, AdmitsChecked, AdmitsKept, StandsFirst, IsSeedKept};
+ghost use Rattle.bar_peer.specs.Checking.{checked_in, choice_round_in, round_in, sender_in, shows_seed};
 ghost use Rattle.bar_peer.specs.Memory.{member_of, Tells};
 ghost use Rattle.bar_store.specs.Orders.{left_in};
 ghost use Rattle.bar_peer.specs.StandsFor.{Inputs, StandsFor, AreLeft, contents_left};
@@ -21,7 +26,8 @@ use crate::taking::{take_datagram, take_tick};
 use bar_bytes::Steps;
 use bar_laws::knowing::knowledge_is_enough;
 use bar_laws::obedience::signed_by_rule;
-use bar_seal::{Scheme, Verifier};
+use bar_seal::{Checker, Scheme, Verifier};
+use bar_seeds::Checkpoints;
 use bar_store::Orders;
 use bar_wire::Input;
 use std::sync::ledger::Ledger as StepLedger;
@@ -48,23 +54,37 @@ fn is_tick(input: &Input<'_>) -> bool
 }
 
 /// Takes an input that comes before the last tick is taken. It counts each hash.
+#[tactic(auto, using(bar_seeds::proofs::CheckpointLemmas::moves_none))]
 fn take_input<V: Verifier, L: StepLedger>(
     memory: &mut Memory,
     orders: &mut Orders<Order>,
-    verifier: &V,
+    checker: &mut Checker<V>,
+    points: &mut Checkpoints,
     input: Input<'_>,
     steps: &mut Steps<L>,
 )
     requires before { nat_le (last_tick memory.old.who.session) memory.old.ticks ≡ false }
-    requires verifier { IsVerifierOf memory.old.who.session (V.is_accepted verifier.now) }
+    requires verifier { IsVerifierOf memory.old.who.session (V.is_accepted checker.old.verifier) }
+    requires size { V.signature_len checker.old.verifier ≡ memory.old.who.session.shape.sig_len }
+    requires points { AreSeeds memory.old.who.session points.old }
     ensures stands { TakesInput (plain_input input.entry) memory.old orders.old memory.new orders.new }
     ensures room { orders.new.room ≡ orders.old.room }
     ensures given { orders.new.given ≡ orders.old.given }
     ensures who { memory.new.who ≡ memory.old.who }
+    ensures most { steps.new ≤ steps.old
+        + (V.most_steps checker.old.verifier + 2 * choice_round_in memory.old.who.session (plain_input input.entry)) }
+    ensures remembered { has_pair (checked_in memory.old.who.session (plain_input input.entry)) checker.old.memo.pairs ≡ true
+        → steps.new ≤ steps.old + 2 * choice_round_in memory.old.who.session (plain_input input.entry) }
+    ensures seeds { AreSeeds memory.old.who.session points.new }
+    ensures moves { MovesOn (sender_in memory.old.who.session (plain_input input.entry)) points.old points.new }
+    ensures reached { AdmitsKept memory.old (plain_input input.entry) points.new }
+    ensures first { AdmitsChecked memory.old (plain_input input.entry) checker.old.memo checker.new.memo }
+    ensures memo { IsCheckedOnce (checked_in memory.old.who.session (plain_input input.entry)) checker.old.memo checker.new.memo }
+    ensures verifier { checker.new.verifier ≡ checker.old.verifier }
 {
     match input {
         Input::Tick => take_tick(memory, orders),
-        Input::Datagram(bytes) => take_datagram(memory, orders, verifier, bytes, steps),
+        Input::Datagram(bytes) => take_datagram(memory, orders, checker, points, bytes, steps),
     }
 }
 
@@ -93,7 +113,9 @@ impl<S: Scheme> Peer<S> {
     }
 
     /// Takes an input, once all that the one before gave is given out. After its last tick a peer ignores every input. It takes no memory,
-    /// and counts each hash.
+    /// and counts each hash: those of at most one verification, and of at most twice the way along the seeds from the round that a REQUEST or
+    /// a QUERY is of. What is remembered as accepted isn't verified.
+    #[tactic(auto, using(bar_seeds::proofs::CheckpointLemmas::moves_none))]
     pub fn step<L: StepLedger>(&mut self, input: Input<'_>, steps: &mut Steps<L>)
         requires sends { left_in self.old.orders ≡ [] }
         requires contents { contents_left self.old.memory.store self.old.playing ≡ [] }
@@ -108,6 +130,18 @@ impl<S: Scheme> Peer<S> {
             ≡ (step (member_of self.old.memory.who) (log_after (member_of self.old.memory.who) [] inputs)
             (plain_input input.entry)).contents }
         ensures who { self.new.memory.who ≡ self.old.memory.who }
+        ensures verifier { self.new.checker.verifier ≡ self.old.checker.verifier }
+        // how many hashes it takes at the most, and how many where the datagram is remembered
+        ensures most { steps.new ≤ steps.old + (S.Verifier.most_steps self.old.checker.verifier
+            + 2 * round_in self.old.memory.who.session (plain_input input.entry) + 128) }
+        ensures remembered { has_pair (checked_in self.old.memory.who.session (plain_input input.entry)) self.old.checker.memo.pairs ≡ true
+            → shows_seed self.old.memory.who.session (plain_input input.entry) ≡ false → steps.new ≤ steps.old + 128 }
+        // what is remembered of datagrams that were checked, and of the peers' seeds
+        ensures memo { IsCheckedOnce (checked_in self.old.memory.who.session (plain_input input.entry))
+            self.old.checker.memo self.new.checker.memo }
+        ensures first { StandsFirst self.old.memory (plain_input input.entry) self.new.checker.memo }
+        ensures moves { MovesOn (sender_in self.old.memory.who.session (plain_input input.entry)) self.old.points self.new.points }
+        ensures reached { IsSeedKept self.old.memory (plain_input input.entry) self.new.points }
     {
         knowledge_is_enough();
         signed_by_rule();
@@ -119,7 +153,8 @@ impl<S: Scheme> Peer<S> {
         take_input(
             &mut self.memory,
             &mut self.orders,
-            &self.scheme,
+            &mut self.checker,
+            &mut self.points,
             input,
             steps,
         );

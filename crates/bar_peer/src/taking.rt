@@ -1,7 +1,14 @@
 //! What a peer does with a datagram.
 ghost use Rattle.std.specs.Prelude.{◌≡◌, ◌≤◌, ◌<◌, [], ◌+◌, ◌*◌, Some, true, is_some, length};
+ghost use Rattle.bar_seeds.specs.Checkpoints.{kept_round, MovesOn};
+ghost use Rattle.bar_roster.specs.Points.{AreSeeds};
+ghost use Rattle.bar_wire.specs.Bodies.{choice_round};
+ghost use Rattle.bar_seal.specs.Memo.{has_pair, with_pair};
+ghost use Rattle.bar_rules.specs.Member.{key_of_party};
+ghost use Rattle.bar_peer.specs.Checking.{IsCheckedOnce, AdmitsChecked, AdmitsKept, checked_in, choice_round_in, sender_in};
+ghost use Rattle.bar_wire.specs.Inputs.{Datagram as Arrival};
 ghost use Rattle.bar_wire.specs.Bodies.{is_peer_kind};
-ghost use Rattle.bar_wire.specs.Datagram.{Datagram};
+ghost use Rattle.bar_wire.specs.Datagram.{Datagram, is_signed};
 ghost use Rattle.bar_wire.specs.Views.{datagram, plain, IsView};
 ghost use Rattle.bar_rules.specs.Member.{Member, last_tick, round_after};
 ghost use Rattle.bar_rules.specs.Peer.Admission.{is_admitted as admitted};
@@ -25,7 +32,8 @@ use bar_bytes::Steps;
 use bar_laws::knowing::knowledge_is_enough;
 use bar_laws::memories::logs_are_sound;
 use bar_laws::rooms::evidence_fits_its_room;
-use bar_seal::Verifier;
+use bar_seal::{Checker, Verifier};
+use bar_seeds::Checkpoints;
 use bar_store::{Orders, keep_evidence};
 use bar_wire::{View, bytes_spell_one, decode};
 use std::sync::ledger::Ledger as StepLedger;
@@ -50,9 +58,11 @@ impl Memory {
         &mut self,
         bytes: &[u8],
         view: &View<'_>,
+        points: &mut Checkpoints,
         steps: &mut Steps<L>,
     ) -> bool
         requires view { IsView self.old.who.session.shape bytes.now view.now }
+        requires points { AreSeeds self.old.who.session points.old }
         requires signed { is_peer_kind (plain view.now.body) ≡ true }
         ensures kept { (log : Log) → let me : Member = member_of self.old.who in let d : Datagram = datagram me.session.shape view.now in
             IsObedient me (with_evidence me log d.message.from (new_evidence me (known me log) d)) → IsObedient me log → Tells log self.old
@@ -60,13 +70,15 @@ impl Memory {
             → (result ≡ is_some (new_evidence me (known me log) d))
             × Tells (with_evidence me log d.message.from (new_evidence me (known me log) d)) self.new }
         ensures rest { HasOtherEvidence self.old self.new }
-        ensures cost { steps.new ≤ steps.old + 4 * self.old.who.session.shape.rounds }
+        ensures cost { steps.new ≤ steps.old + choice_round (plain view.now.body) }
+        ensures seeds { AreSeeds self.old.who.session points.new }
+        ensures moves { MovesOn view.now.from points.old points.new }
     {
         knowledge_is_enough();
         logs_are_sound();
         evidence_fits_its_room();
         let table = self.store.table();
-        match find_evidence(&self.who, table, &self.ledger, bytes, view, steps) {
+        match find_evidence(&self.who, table, &self.ledger, bytes, view, points, steps) {
             Some(evidence) => {
                 keep_evidence(&mut self.evidence, view.from, &evidence);
                 true
@@ -119,9 +131,11 @@ fn answer_tried<L: StepLedger>(
     bytes: &[u8],
     view: &View<'_>,
     is_admitted: bool,
+    points: &mut Checkpoints,
     steps: &mut Steps<L>,
 )
     requires view { IsView memory.old.who.session.shape bytes.now view.now }
+    requires points { AreSeeds memory.old.who.session points.old }
     requires signed { is_peer_kind (plain view.now.body) ≡ true }
     ensures stands { (log : Log)
         → IsObedient (member_of memory.old.who)
@@ -137,11 +151,13 @@ fn answer_tried<L: StepLedger>(
     ensures given { orders.new.given ≡ orders.old.given }
     ensures who { memory.new.who ≡ memory.old.who }
     ensures ticks { memory.new.ticks ≡ memory.old.ticks }
-    ensures cost { steps.new ≤ steps.old + 4 * memory.old.who.session.shape.rounds }
+    ensures cost { steps.new ≤ steps.old + choice_round (plain view.now.body) }
+    ensures seeds { AreSeeds memory.old.who.session points.new }
+    ensures moves { MovesOn view.now.from points.old points.new }
 {
     knowledge_is_enough();
     logs_are_sound();
-    let is_found = memory.keep_found(bytes, view, steps);
+    let is_found = memory.keep_found(bytes, view, points, steps);
     answer(memory, orders, bytes, view, is_admitted);
     if is_found {
         orders.push(Order::Report(view.from));
@@ -153,13 +169,16 @@ fn answer_tried<L: StepLedger>(
 pub fn take_view<V: Verifier, L: StepLedger>(
     memory: &mut Memory,
     orders: &mut Orders<Order>,
-    verifier: &V,
+    checker: &mut Checker<V>,
+    points: &mut Checkpoints,
     bytes: &[u8],
     view: &View<'_>,
     steps: &mut Steps<L>,
 )
     requires view { IsView memory.old.who.session.shape bytes.now view.now }
-    requires verifier { IsVerifierOf memory.old.who.session (V.is_accepted verifier.now) }
+    requires verifier { IsVerifierOf memory.old.who.session (V.is_accepted checker.old.verifier) }
+    requires size { V.signature_len checker.old.verifier ≡ memory.old.who.session.shape.sig_len }
+    requires points { AreSeeds memory.old.who.session points.old }
     ensures stands { (log : Log)
         → IsObedient (member_of memory.old.who)
         (take_datagram (member_of memory.old.who) log (Some (datagram memory.old.who.session.shape view.now))).state
@@ -170,41 +189,72 @@ pub fn take_view<V: Verifier, L: StepLedger>(
     ensures given { orders.new.given ≡ orders.old.given }
     ensures who { memory.new.who ≡ memory.old.who }
     ensures ticks { memory.new.ticks ≡ memory.old.ticks }
-    ensures cost { steps.new ≤ steps.old
-        + (V.most_steps verifier.now + 2 * (round_after memory.old.ticks + 1) + 4 * memory.old.who.session.shape.rounds) }
+    ensures most { steps.new ≤ steps.old + (V.most_steps checker.old.verifier + 2 * choice_round (plain view.now.body)) }
+    ensures remembered { has_pair (key_of_party memory.old.who.session view.now.from, bytes.now) checker.old.memo.pairs ≡ true
+        → steps.new ≤ steps.old + 2 * choice_round (plain view.now.body) }
+    ensures seeds { AreSeeds memory.old.who.session points.new }
+    ensures moves { MovesOn view.now.from points.old points.new }
+    ensures reached { (log : Log) → IsObedient (member_of memory.old.who) log → Tells log memory.old
+        → admitted (member_of memory.old.who) (known (member_of memory.old.who) log) (datagram memory.old.who.session.shape view.now) ≡ true
+        → choice_round (plain view.now.body) ≤ kept_round points.new view.now.from }
+    ensures first { (log : Log) → IsObedient (member_of memory.old.who) log → Tells log memory.old
+        → admitted (member_of memory.old.who) (known (member_of memory.old.who) log) (datagram memory.old.who.session.shape view.now) ≡ true
+        → is_signed (plain view.now.body) ≡ true
+        → checker.new.memo ≡ with_pair (key_of_party memory.old.who.session view.now.from, bytes.now) checker.old.memo }
+    ensures memo { IsCheckedOnce (key_of_party memory.old.who.session view.now.from, bytes.now) checker.old.memo checker.new.memo }
+    ensures verifier { checker.new.verifier ≡ checker.old.verifier }
 {
     knowledge_is_enough();
     logs_are_sound();
-    let weighed = memory.weigh(verifier, bytes, view, steps);
+    let weighed = memory.weigh(checker, points, bytes, view, steps);
     if weighed.is_tried {
-        answer_tried(memory, orders, bytes, view, weighed.is_admitted, steps);
+        answer_tried(
+            memory,
+            orders,
+            bytes,
+            view,
+            weighed.is_admitted,
+            points,
+            steps,
+        );
     } else {
         answer(memory, orders, bytes, view, weighed.is_admitted);
     }
 }
 
 /// Takes a datagram. One that isn't read changes nothing. It counts each hash.
+#[tactic(auto, using(bar_seeds::proofs::CheckpointLemmas::moves_none))]
 pub fn take_datagram<V: Verifier, L: StepLedger>(
     memory: &mut Memory,
     orders: &mut Orders<Order>,
-    verifier: &V,
+    checker: &mut Checker<V>,
+    points: &mut Checkpoints,
     bytes: &[u8],
     steps: &mut Steps<L>,
 )
-    requires { IsVerifierOf memory.old.who.session (V.is_accepted verifier.now) }
+    requires verifier { IsVerifierOf memory.old.who.session (V.is_accepted checker.old.verifier) }
+    requires size { V.signature_len checker.old.verifier ≡ memory.old.who.session.shape.sig_len }
+    requires points { AreSeeds memory.old.who.session points.old }
     ensures stands { TakesDatagram bytes.now memory.old orders.old memory.new orders.new }
     ensures room { orders.new.room ≡ orders.old.room }
     ensures given { orders.new.given ≡ orders.old.given }
     ensures who { memory.new.who ≡ memory.old.who }
     ensures ticks { memory.new.ticks ≡ memory.old.ticks }
-    ensures cost { steps.new ≤ steps.old
-        + (V.most_steps verifier.now + 2 * (round_after memory.old.ticks + 1) + 4 * memory.old.who.session.shape.rounds) }
+    ensures most { steps.new ≤ steps.old + (V.most_steps checker.old.verifier + 2 * choice_round_in memory.old.who.session (Arrival bytes.now)) }
+    ensures remembered { has_pair (checked_in memory.old.who.session (Arrival bytes.now)) checker.old.memo.pairs ≡ true
+        → steps.new ≤ steps.old + 2 * choice_round_in memory.old.who.session (Arrival bytes.now) }
+    ensures seeds { AreSeeds memory.old.who.session points.new }
+    ensures moves { MovesOn (sender_in memory.old.who.session (Arrival bytes.now)) points.old points.new }
+    ensures reached { AdmitsKept memory.old (Arrival bytes.now) points.new }
+    ensures first { AdmitsChecked memory.old (Arrival bytes.now) checker.old.memo checker.new.memo }
+    ensures memo { IsCheckedOnce (checked_in memory.old.who.session (Arrival bytes.now)) checker.old.memo checker.new.memo }
+    ensures verifier { checker.new.verifier ≡ checker.old.verifier }
 {
     knowledge_is_enough();
     logs_are_sound();
     let session = &memory.who.session;
     let shape = session.shape();
     if let Ok(view) = decode(bytes, &shape) {
-        take_view(memory, orders, verifier, bytes, &view, steps);
+        take_view(memory, orders, checker, points, bytes, &view, steps);
     }
 }

@@ -6,6 +6,9 @@ ghost use Rattle.bar_wire.specs.Bodies.{is_peer_kind};
 ghost use Rattle.bar_wire.specs.Datagram.{place_of};
 ghost use Rattle.bar_wire.specs.Evidence.{datagrams_of};
 ghost use Rattle.bar_wire.specs.Views.{datagram, plain, IsView};
+ghost use Rattle.bar_seeds.specs.Checkpoints.{MovesOn};
+ghost use Rattle.bar_roster.specs.Points.{AreSeeds};
+ghost use Rattle.bar_wire.specs.Bodies.{choice_round};
 ghost use Rattle.bar_judge.specs.Parts.{IsRead};
 ghost use Rattle.bar_rules.specs.Values.{is_signed_by};
 ghost use Rattle.bar_rules.specs.Peer.Agreement.{IsRecent};
@@ -21,6 +24,7 @@ use bar_exchange::heard_from;
 use bar_judge::laws::verdicts_are_what_is_found;
 use bar_judge::{found, is_peer_kind};
 use bar_ledger::{Ledger, opening_kind};
+use bar_seeds::Checkpoints;
 use bar_terms::Table;
 use bar_wire::{EvidenceView, Kind, Place, View, decode, place_of, the_datagram_is_spelled};
 use std::sync::ledger::Ledger as StepLedger;
@@ -34,17 +38,20 @@ fn pair_with<'a, L: StepLedger>(
     kind: Kind,
     place: Place,
     view: &View<'_>,
+    points: &mut Checkpoints,
     steps: &mut Steps<L>,
 ) -> Option<&'a [u8]>
     requires view { IsRead who.now.session.shape view.now }
     requires signed { is_peer_kind (plain view.now.body) ≡ true }
+    requires points { AreSeeds who.now.session points.old }
     ensures exact { (k : Knowledge) (bytes : List ℕ) → Recalls (member_of who.now) k ledger.now → table_of k ≡ digests_of table.now.lists
         → IsSound (member_of who.now) k → IsRecent (member_of who.now) k place.x.round → IsView who.now.session.shape bytes view.now
         → is_signed_by who.now.session (datagram who.now.session.shape view.now) ≡ true
         → place_of (datagram who.now.session.shape view.now).message ≡ Some (record { exchange = place.x; role = place.role })
         → option_map (λ heard. heard ∷ bytes ∷ []) (option_copied result) ≡ pair_with who.now.session (table_of k)
         (datagram who.now.session.shape view.now) (k.heard kind place.x place.role) }
-    ensures cost { steps.new ≤ steps.old + who.now.session.shape.rounds }
+    ensures cost { steps.new ≤ steps.old }
+    ensures same { points.new ≡ points.old }
 {
     verdicts_are_what_is_found();
     the_datagram_is_spelled();
@@ -53,7 +60,7 @@ fn pair_with<'a, L: StepLedger>(
     if !is_peer_kind(&earlier.body) {
         return None;
     }
-    found(&who.session, table, &earlier, Some(view), steps)?;
+    found(&who.session, table, &earlier, Some(view), points, steps)?;
     Some(heard)
 }
 
@@ -64,26 +71,29 @@ fn earlier_of_pair<'a, L: StepLedger>(
     ledger: &'a Ledger,
     place: Place,
     view: &View<'_>,
+    points: &mut Checkpoints,
     steps: &mut Steps<L>,
 ) -> Option<&'a [u8]>
     requires view { IsRead who.now.session.shape view.now }
     requires signed { is_peer_kind (plain view.now.body) ≡ true }
+    requires points { AreSeeds who.now.session points.old }
     ensures exact { (k : Knowledge) (bytes : List ℕ) → Recalls (member_of who.now) k ledger.now → table_of k ≡ digests_of table.now.lists
         → IsSound (member_of who.now) k → IsRecent (member_of who.now) k place.x.round → IsView who.now.session.shape bytes view.now
         → is_signed_by who.now.session (datagram who.now.session.shape view.now) ≡ true
         → place_of (datagram who.now.session.shape view.now).message ≡ Some (record { exchange = place.x; role = place.role })
         → option_map (λ heard. heard ∷ bytes ∷ []) (option_copied result) ≡ pairs_in who.now.session k
         (datagram who.now.session.shape view.now) place.x place.role }
-    ensures cost { steps.new ≤ steps.old + 3 * who.now.session.shape.rounds }
+    ensures cost { steps.new ≤ steps.old }
+    ensures same { points.new ≡ points.old }
 {
     let opening = opening_kind(place.x.kind, place.role);
-    if let Some(heard) = pair_with(who, table, ledger, opening, place, view, steps) {
+    if let Some(heard) = pair_with(who, table, ledger, opening, place, view, points, steps) {
         return Some(heard);
     }
-    if let Some(heard) = pair_with(who, table, ledger, Kind::Case, place, view, steps) {
+    if let Some(heard) = pair_with(who, table, ledger, Kind::Case, place, view, points, steps) {
         return Some(heard);
     }
-    pair_with(who, table, ledger, Kind::Key, place, view, steps)
+    pair_with(who, table, ledger, Kind::Key, place, view, points, steps)
 }
 
 /// The evidence that a datagram with an accepted signature completes: itself, or it behind the first that was heard of its side of its
@@ -94,25 +104,29 @@ pub fn find_evidence<'a, L: StepLedger>(
     ledger: &'a Ledger,
     bytes: &'a [u8],
     view: &View<'_>,
+    points: &mut Checkpoints,
     steps: &mut Steps<L>,
 ) -> Option<EvidenceView<'a>>
     requires view { IsView who.now.session.shape bytes.now view.now }
     requires signed { is_peer_kind (plain view.now.body) ≡ true }
+    requires points { AreSeeds who.now.session points.old }
     ensures exact { (k : Knowledge) → Recalls (member_of who.now) k ledger.now → table_of k ≡ digests_of table.now.lists
         → IsSound (member_of who.now) k → is_tried (member_of who.now) k (datagram who.now.session.shape view.now) ≡ true
         → option_map datagrams_of result ≡ new_evidence (member_of who.now) k (datagram who.now.session.shape view.now) }
-    ensures cost { steps.new ≤ steps.old + 4 * who.now.session.shape.rounds }
+    ensures cost { steps.new ≤ steps.old + choice_round (plain view.now.body) }
+    ensures kept { AreSeeds who.now.session points.new }
+    ensures moves { MovesOn view.now.from points.old points.new }
 {
     verdicts_are_what_is_found();
     the_datagram_is_spelled();
-    if found(&who.session, table, view, None, steps).is_some() {
+    if found(&who.session, table, view, None, points, steps).is_some() {
         return Some(EvidenceView {
             one: bytes,
             two: None,
         });
     }
     let place = place_of(view)?;
-    let heard = earlier_of_pair(who, table, ledger, place, view, steps)?;
+    let heard = earlier_of_pair(who, table, ledger, place, view, points, steps)?;
     Some(EvidenceView {
         one: heard,
         two: Some(bytes),

@@ -1,5 +1,8 @@
 //! Which datagrams of pushes a peer admits.
-ghost use Rattle.std.specs.Prelude.{◌≡◌, ◌+◌, ◌≤◌, ℕ, List};
+ghost use Rattle.std.specs.Prelude.{◌≡◌, ◌+◌, ◌≤◌, ℕ, List, true};
+ghost use Rattle.bar_seeds.specs.Checkpoints.{kept_round, MovesOn};
+ghost use Rattle.bar_roster.specs.Points.{AreSeeds};
+ghost use Rattle.bar_wire.specs.Bodies.{choice_round, query_round};
 ghost use Rattle.bar_wire.specs.Views.{plain, IsView};
 ghost use Rattle.bar_rules.specs.Member.{Member};
 ghost use Rattle.bar_rules.specs.Peer.Knowledge.{Knowledge, this_round};
@@ -15,24 +18,31 @@ use bar_bytes::Steps;
 use bar_exchange::{Counts, admits_case, admits_key, admits_key_request};
 use bar_ledger::Ledger;
 use bar_roster::Session;
+use bar_seeds::Checkpoints;
 use bar_store::Store;
 use bar_terms::PushAnswer;
 use bar_wire::{Body, Place, View};
 use std::sync::ledger::Ledger as StepLedger;
 
 /// Whether a datagram of a push meets the row of its kind in this round. It counts the steps along the seeds of a QUERY.
+#[tactic(auto, using(bar_seeds::proofs::CheckpointLemmas::moves_none))]
 pub fn admit<L: StepLedger>(
     session: &Session,
     store: &Store,
     ledger: &Ledger,
     round: u32,
     view: &View<'_>,
+    points: &mut Checkpoints,
     steps: &mut Steps<L>,
 ) -> bool
+    requires { AreSeeds session.now points.old }
     ensures row { (me : Member) (k : Knowledge) (bytes : List ℕ) → me.session ≡ session.now → Holds me k store.now
         → Recalls me k ledger.now → round ≡ this_round k → IsView session.now.shape bytes view.now
         → result ≡ is_push_row_met me k view.now.from view.now.to (plain view.now.body) }
-    ensures cost { steps.new ≤ steps.old + (round + 1) }
+    ensures cost { steps.new ≤ steps.old + query_round (plain view.now.body) }
+    ensures kept { AreSeeds session.now points.new }
+    ensures moves { MovesOn view.now.from points.old points.new }
+    ensures reached { result ≡ true → choice_round (plain view.now.body) ≤ kept_round points.new view.now.from }
 {
     let Some(place) = place_of(view) else {
         return false;
@@ -51,7 +61,7 @@ pub fn admit<L: StepLedger>(
                 aged,
             };
             admits_query(
-                session, store, ledger, round, view.from, seed, &offer, steps,
+                session, store, ledger, round, view.from, seed, &offer, points, steps,
             )
         }
         Body::Reply {

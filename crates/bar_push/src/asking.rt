@@ -1,7 +1,9 @@
 //! When a QUERY is admitted.
-ghost use Rattle.std.specs.Prelude.{◌≡◌, ◌+◌, ◌≤◌, ℕ, nat_lt, length};
+ghost use Rattle.std.specs.Prelude.{◌≡◌, ◌+◌, ◌≤◌, ℕ, nat_lt, length, true};
 ghost use Rattle.bar_window.specs.Window.{members};
 ghost use Rattle.bar_terms.specs.Terms.{offer_ok};
+ghost use Rattle.bar_seeds.specs.Checkpoints.{kept_round, MovesOn};
+ghost use Rattle.bar_roster.specs.Points.{AreSeeds};
 ghost use Rattle.bar_wire.specs.Datagram.{Query};
 ghost use Rattle.bar_wire.specs.Grammar.{IsPeer};
 ghost use Rattle.bar_wire.specs.Views.{IsWindowIn};
@@ -19,6 +21,7 @@ use bar_bytes::Steps;
 use bar_exchange::{REQUEST_DEADLINE, has_digests, is_window_of, is_within, may_ask};
 use bar_ledger::Ledger;
 use bar_roster::Session;
+use bar_seeds::Checkpoints;
 use bar_store::Store;
 use bar_terms::offer_ok;
 use bar_window::XKind;
@@ -71,6 +74,7 @@ fn wants_some(store: &Store, cap: u8, offer: &Offer) -> bool
 }
 
 /// The row of a QUERY. The steps along the seeds are counted last, where all else is met.
+#[tactic(auto, using(bar_seeds::proofs::CheckpointLemmas::moves_none))]
 pub(crate) fn admits_query<L: StepLedger>(
     session: &Session,
     store: &Store,
@@ -79,13 +83,18 @@ pub(crate) fn admits_query<L: StepLedger>(
     from: u16,
     seed: &[u8; 32],
     offer: &Offer,
+    points: &mut Checkpoints,
     steps: &mut Steps<L>,
 ) -> bool
+    requires { AreSeeds session.now points.old }
     ensures row { (me : Member) (k : Knowledge) (to : ℕ) → me.session ≡ session.now → Holds me k store.now → Recalls me k ledger.now
         → round ≡ this_round k → IsPeer session.now.shape from → IsWindowIn me.session.shape offer.now.round offer.now.young
         → IsWindowIn me.session.shape offer.now.round offer.now.aged
         → result ≡ is_row_met me k from to (Query offer.now.round seed.now (members offer.now.young) (members offer.now.aged)) }
-    ensures cost { steps.new ≤ steps.old + (round + 1) }
+    ensures cost { steps.new ≤ steps.old + offer.now.round }
+    ensures kept { AreSeeds session.now points.new }
+    ensures moves { MovesOn from points.old points.new }
+    ensures reached { result ≡ true → offer.now.round ≤ kept_round points.new from }
 {
     if !is_within(round, offer.round, REQUEST_DEADLINE) {
         return false;
@@ -104,6 +113,7 @@ pub(crate) fn admits_query<L: StepLedger>(
         from,
         offer.round,
         seed,
+        points,
         steps,
     )
 }

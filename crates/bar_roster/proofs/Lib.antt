@@ -6,3 +6,4 @@ pub mod KeyReadBack
 pub mod KeyLemmas
 pub mod SessionLemmas
 pub mod WrittenAnew
+pub mod PointLemmas

@@ -8,3 +8,4 @@ pub mod KeyText
 pub mod KeyFile
 pub mod KeyFaultText
 pub mod KeyAnew
+pub mod Points

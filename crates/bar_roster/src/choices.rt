@@ -1,12 +1,15 @@
 //! The seeds of a session's peers, and the partners that these choose.
-ghost use Rattle.std.specs.Prelude.{◌≡◌, ◌+◌, ◌-◌, ◌≤◌, [], unwrap_or, slice_get};
+ghost use Rattle.std.specs.Prelude.{◌≡◌, ◌+◌, ◌-◌, ◌≤◌, [], true, unwrap_or, slice_get, IfOk};
 ghost use Rattle.bar_seeds.specs.Partners.{partner_of};
 ghost use Rattle.bar_seeds.specs.Seeds.{is_seed};
+ghost use Rattle.bar_seeds.specs.Checkpoints.{kept_round, MovesOn};
+ghost use Rattle.bar_roster.specs.Points.{AreSeeds};
 
 use crate::session::Session;
 use bar_bytes::Steps;
-use bar_seeds::{partner, seed_ok};
+use bar_seeds::{Checkpoints, partner, seed_ok};
 use bar_window::XKind;
+use std::alloc::{AllocError, Global};
 use std::sync::ledger::Ledger;
 
 impl Session {
@@ -25,6 +28,44 @@ impl Session {
         ensures cost { steps.new ≡ steps.old + round }
     {
         seed_ok(
+            &self.shape().id,
+            self.anchor(peer),
+            peer,
+            round,
+            seed,
+            steps,
+        )
+    }
+
+    /// What is kept of the seeds of its peers at first: nothing.
+    pub fn checkpoints(&self, alloc: Global) -> Result<Checkpoints, AllocError>
+        ensures { IfOk result (AreSeeds self.now) }
+    {
+        let points = Checkpoints::make(alloc, self.shape().peers)?;
+        Ok(points)
+    }
+
+    /// Whether it is a peer's seed of a round, by what is kept of the peers' seeds. It counts a step for each round back to the one that is
+    /// kept of the peer, and where the kept value isn't met, for each round.
+    pub fn is_known_seed<L: Ledger>(
+        &self,
+        peer: u16,
+        round: u32,
+        seed: &[u8; 32],
+        points: &mut Checkpoints,
+        steps: &mut Steps<L>,
+    ) -> bool
+        requires low { 1 ≤ peer }
+        requires high { peer ≤ self.now.shape.peers }
+        requires kept { AreSeeds self.now points.old }
+        ensures exact { result ≡
+            is_seed self.now.shape.id (unwrap_or (slice_get self.now.anchors (peer - 1)) []) peer round seed.now }
+        ensures cost { steps.new ≤ steps.old + round }
+        ensures kept { AreSeeds self.now points.new }
+        ensures moves { MovesOn peer points.old points.new }
+        ensures reached { result ≡ true → round ≤ kept_round points.new peer }
+    {
+        points.seed_ok(
             &self.shape().id,
             self.anchor(peer),
             peer,

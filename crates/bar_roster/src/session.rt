@@ -1,5 +1,5 @@
 //! A session: what its text says.
-ghost use Rattle.std.specs.Prelude.{◌≡◌, ◌≤◌, ◌<◌, ◌⊎◌, ◌-◌, ◌*◌, ◌^◌, Some, Err, Ok, IfOk, IfErr, OnOk, slice_get};
+ghost use Rattle.std.specs.Prelude.{◌≡◌, ◌≤◌, ◌<◌, ◌⊎◌, ◌-◌, ◌*◌, ◌^◌, Some, Err, Ok, IfOk, IfErr, OnOk, length, slice_get};
 ghost use Rattle.toml.specs.View.{table_view};
 ghost use Rattle.bar_lms.specs.Params.{levels};
 ghost use Rattle.bar_wire.specs.Limits.{leaves_a_round};
@@ -137,6 +137,14 @@ fn parties_at(alloc: Global, table: &Table, numbers: &Numbers) -> Result<Session
     })
 }
 
+/// A public key as bytes.
+fn key_bytes(key: &[u8; 56]) -> &[u8]
+    ensures value { result.now ≡ key.now }
+    ensures long { length result.now ≡ 56 }
+{
+    key.as_slice()
+}
+
 impl Session {
     ghost use Rattle.bar_roster.specs.Sessions.{IsSession};
     ghost use Rattle.bar_roster.specs.SessionText.{session_of_parts};
@@ -244,9 +252,10 @@ impl Session {
     /// The public key of a party, the broadcaster's at 0.
     pub fn key(&self, party: u16) -> &[u8]
         requires { party ≤ self.now.shape.peers }
-        ensures { slice_get self.now.keys party ≡ Some result.now }
+        ensures value { slice_get self.now.keys party ≡ Some result.now }
+        ensures long { length result.now ≡ 56 }
     {
-        self.keys[usize::from(party)].as_slice()
+        key_bytes(&self.keys[usize::from(party)])
     }
 
     /// The anchor of a peer, from 1.

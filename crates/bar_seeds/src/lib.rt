@@ -2,10 +2,12 @@
 #![tactic(auto)]
 
 mod chain;
+mod checkpoints;
 mod choice;
 pub mod laws;
 mod secrets;
 
 pub use chain::{SeedChain, seed_ok};
+pub use checkpoints::{Checkpoints, KeptSeed};
 pub use choice::partner;
 pub use secrets::{Secrets, commitment};

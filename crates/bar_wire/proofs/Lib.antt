@@ -17,5 +17,6 @@ pub mod Signed
 pub mod ReadBack
 pub mod Told
 pub mod EvidenceReads
+pub mod ChoiceLemmas
 pub mod Writes
 pub mod Written

@@ -1,5 +1,5 @@
 -- What a body holds, where it is of the kind that holds it.
-use Rattle.std.specs.Prelude.{ℕ, ◌==◌, Bool, true, false, List, [], Option, Some, None}
+use Rattle.std.specs.Prelude.{ℕ, ◌+◌, ◌==◌, Bool, true, false, List, [], Option, Some, None}
 use Rattle.bar_window.specs.declared.update.UpdateId.{UpdateId}
 use Rattle.bar_window.specs.declared.exchange.XKind.{XKind}
 use Rattle.bar_window.specs.declared.exchange.XKind.TheVariants.{Balanced, Push}
@@ -49,6 +49,19 @@ abbrev pub choice_in : Body → Option Choice
 choice_in (Request round seed commitment) = Some (record { kind = Balanced; round = round; seed = seed })
 choice_in (Query round seed young aged) = Some (record { kind = Push; round = round; seed = seed })
 choice_in _ = None
+
+-- the round of the seed that a REQUEST shows, and that a QUERY shows, else 0
+abbrev pub request_round : Body → ℕ
+request_round (Request round seed commitment) = round
+request_round _ = 0
+
+abbrev pub query_round : Body → ℕ
+query_round (Query round seed young aged) = round
+query_round _ = 0
+
+-- the round of the seed that either shows
+abbrev pub choice_round : Body → ℕ
+choice_round b = request_round b + query_round b
 
 -- the commitment of a REQUEST
 abbrev pub commitment_in : Body → Option (List ℕ)

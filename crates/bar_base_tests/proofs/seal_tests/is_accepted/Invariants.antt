@@ -1,4 +1,4 @@
 use Rattle.bar_base_tests.proofs.seal_tests.is_accepted.Given as goal
 
-abbrev pub ghosts-is_counted : goal.ghosts-is_counted
-ghosts-is_counted g a = record { name = a.blank.name; parts = a.blank.parts }
+abbrev pub ghosts-accepts_counted : goal.ghosts-accepts_counted
+ghosts-accepts_counted g a = record { name = a.blank.name; parts = a.blank.parts }

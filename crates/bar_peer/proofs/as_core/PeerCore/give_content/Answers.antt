@@ -13,7 +13,7 @@ returns-clause-gives g c =
     let rest = contents_left last.memory.store last.playing in
     content-given p.memory.store p.playing c.in_ok-content.content.now c.args.buf.now c.put.new.out rest c.min-len.result c.put.result
     (subst (λ (o : Option (List ℕ)). PlaysFirst o (contents_left p.memory.store p.playing) rest) (ap option_copied c.in_ok-content.was)
-    c.next_played.follows.holds-at-none.3)
+    c.next_played.follows.holds-at-none.4)
     c.requires
     c.min-len.ensures
     c.put.ensures

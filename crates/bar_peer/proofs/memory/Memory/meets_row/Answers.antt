@@ -1,4 +1,6 @@
-use Rattle.std.proofs.Common.{◌∙◌}
+use Rattle.std.proofs.Common.{◌∙◌, ◌+◌, ap, arith}
+use Rattle.bar_wire.specs.Views.{plain}
+use Rattle.bar_wire.specs.Bodies.{request_round, query_round}
 use Rattle.bar_peer.specs.Memory.{member_of}
 use Rattle.bar_peer.proofs.Rows.{of_others}
 use Rattle.bar_peer.proofs.memory.Memory.meets_row.Goals as goal
@@ -8,3 +10,9 @@ returns-in_default-clause-row g c k bytes h spelled is =
     let v = c.args.view.now in
     c.meets_row_of_exchange.ensures.row k bytes h spelled is
     ∙ of_others (member_of c.args.self.now.who) k v.from v.to v.body c.in_default.not-Manifest c.in_default.not-Block c.in_default.not-Evict
+
+pub returns-in-Evict-clause-reached : goal.returns-in-Evict-clause-reached
+returns-in-Evict-clause-reached g c ok = omega (arith, ap request_round (ap plain c.in-Evict.is), ap query_round (ap plain c.in-Evict.is))
+
+pub returns-in-Block-clause-reached : goal.returns-in-Block-clause-reached
+returns-in-Block-clause-reached g c ok = omega (arith, ap request_round (ap plain c.in-Block.is), ap query_round (ap plain c.in-Block.is))

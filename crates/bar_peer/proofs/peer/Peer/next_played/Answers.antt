@@ -11,7 +11,7 @@ returns-in_err-index g c =
     c.from_residual.ensures
     c.in_err-index.ensures.next.0
     c.in_err-index.ensures.next.1
-    in ((refl, λ _. tt, (refl, refl, refl, plays)), tt)
+    in ((refl, λ _. tt, (refl, refl, refl, refl, plays)), tt)
 
 pub returns : goal.returns
 returns g c =
@@ -24,4 +24,4 @@ returns g c =
     c.content.ensures
     (ap (λ round. content_in s round c.in_ok-index.index) c.next.ensures.round ∙ first.1)
     first.2
-    in ((refl, λ _. tt, (refl, refl, refl, plays)), tt)
+    in ((refl, λ _. tt, (refl, refl, refl, refl, plays)), tt)

@@ -26,6 +26,7 @@ returns g c k d h due is =
     let front = c.split_at_mut-message.result.0.now in
     let signature : _ ≡ d.signature =
     c.sign.ensures.value
+    ∙ (λ i. g.S.Scheme.signed (c.verifier-scheme.ensures i) c.in_ok-leaf.leaf front)
     ∙ p.signs.signs c.in_ok-leaf.leaf front
     ∙ (λ i. signature_of me (leaf i) ((c.split_at_mut-message.ensures.front ∙ is) i))
     ∙ sym (ap (λ (e : Datagram). e.signature) for.signature)
@@ -44,6 +45,7 @@ returns g c k d h due is =
         c.split_at_mut-message.ensures.back_len,
         c.requires.room,
         c.requires.short,
+        ap g.S.Verifier.signature_len c.verifier-scheme.ensures,
         p.signs.length_is,
         p.memory.who.is_member.session.signatures,
         signature_short me.session.params,
