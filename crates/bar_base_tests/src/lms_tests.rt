@@ -122,6 +122,37 @@ fn a_secret_gives_its_key_and_signatures(rt: HostRuntime) -> Result<(), Fail> {
     Ok(())
 }
 
+// Two leaves of one place take turns, and two messages of one leaf.
+#[test]
+fn a_key_that_remembers_signs_the_same(rt: HostRuntime) -> Result<(), Fail> {
+    let params = Params {
+        height: Height::H5,
+        ots: Ots::W4,
+    };
+    let plain = SecretKey::make(rt.alloc(), params, &[7; 8], &SECRET)?;
+    let mut remembers = SecretKey::make(rt.alloc(), params, &[7; 8], &SECRET)?;
+    remembers.remember(rt.alloc(), 2)?;
+    for (leaf, message) in [
+        (0, b"one"),
+        (0, b"one"),
+        (0, b"two"),
+        (0, b"two"),
+        (0, b"one"),
+        (2, b"one"),
+        (2, b"one"),
+        (0, b"one"),
+        (1, b"one"),
+    ] {
+        let mut wanted = [0u8; 2348];
+        let mut out = [1u8; 2348];
+        assert!(rt; leaf < 32);
+        assert_eq!(rt; plain.sign(leaf, message, &mut wanted), 2348);
+        assert_eq!(rt; remembers.sign(leaf, message, &mut out), 2348);
+        assert_eq!(rt; out.as_slice(), wanted.as_slice());
+    }
+    Ok(())
+}
+
 // The lengths and the numbers of chains are those of RFC 8554, 4.1 and 5.1.
 #[test]
 fn types_have_their_numbers(rt: HostRuntime) -> Result<(), Fail> {

@@ -37,11 +37,11 @@ unfolding chain
 length-chain at from zero x long = long
 length-chain at from (suc n) x long = length-step at (from + n) (chain at from n x)
 
-length-value : (t : Private) (q n i : ℕ) → length (value t q n i) ≡ 32
+pub length-value : (t : Private) (q n i : ℕ) → length (value t q n i) ≡ 32
 unfolding value
 length-value t q n i = length-chain _ 0 n _ (length-step _ 255 _)
 
-length-joined : (f : ℕ → List ℕ) (n : ℕ) → ((i : ℕ) → length (f i) ≡ 32) → length (joined f n) ≡ 32 * n
+pub length-joined : (f : ℕ → List ℕ) (n : ℕ) → ((i : ℕ) → length (f i) ≡ 32) → length (joined f n) ≡ 32 * n
 unfolding joined
 length-joined f zero long = refl
 length-joined f (suc n) long = omega (arith, length-append (joined f n) (f n), length-joined f n long, long n)

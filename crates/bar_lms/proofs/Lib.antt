@@ -9,3 +9,4 @@ pub mod Accepted
 pub mod KeyLemmas
 pub mod Decided
 pub mod StepLemmas
+pub mod RememberedLemmas

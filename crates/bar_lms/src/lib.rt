@@ -14,6 +14,7 @@ pub use tree::fill_tree;
 
 mod acceptance;
 mod bytes;
+mod chain_values;
 mod chains;
 mod digits;
 mod groups;
@@ -21,6 +22,7 @@ mod key;
 mod laws;
 mod params;
 mod private;
+mod remembered;
 mod secret;
 mod signing;
 mod tree;

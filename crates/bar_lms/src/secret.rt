@@ -10,19 +10,23 @@ ghost use Rattle.bar_lms.specs.Acceptance.{Accepts, is_accepted_under, is_key_of
 use crate::bytes::put;
 use crate::params::Params;
 use crate::private::Private;
-use crate::signing::sign;
+use crate::remembered::Remembered;
+use crate::signing::sign_from;
 use crate::tree::fill_tree;
 use bar_bytes::Tagged;
 use std::alloc::{AllocError, Global};
-use std::marker::Model;
+use std::cell::RefCell;
+use std::marker::{Brand, Model};
+use std::sync::ledger::Blank;
 
-/// A secret key, with its tree.
+/// A secret key, with its tree and what it remembers of its signatures.
 #[derive(Drop)]
 pub struct SecretKey {
     key: Private,
     nodes: Vec<[u8; 32]>,
     id: [u8; 8],
     secret: [u8; 32],
+    remembered: RefCell<Remembered>,
 }
 
 impl Model for SecretKey {
@@ -73,12 +77,25 @@ impl SecretKey {
         };
         let mut nodes = vec![in alloc; [0u8; 32]; 2 * params.height.leaves()]?;
         fill_tree(&key, &mut nodes);
+        let remembered = RefCell::new(Remembered::make(alloc, &key, 0)?);
         Ok(SecretKey {
             key,
             nodes,
             id: *id,
             secret: *secret,
+            remembered,
         })
+    }
+
+    /// Remembers the chain values of the last signature of each of so many leaves that follow one another, in place of what was remembered.
+    ///
+    /// The same message under the same leaf is then signed again without a step in a chain. All memory is taken here.
+    pub fn remember(&mut self, alloc: Global, leaves: u16) -> Result<(), AllocError>
+        ensures { self.new ≡ self.old }
+    {
+        let remembered = Remembered::make(alloc, &self.key, leaves)?;
+        self.remembered = RefCell::new(remembered);
+        Ok(())
     }
 
     /// The types of the key.
@@ -119,6 +136,15 @@ impl SecretKey {
         hash.add(&leaf.to_be_bytes());
         hash.add(&self.secret);
         let randomizer = hash.finish();
-        sign(&self.key, &self.nodes, leaf, &randomizer, message, out)
+        sign_from::<Brand>(
+            &self.key,
+            &self.nodes,
+            Some(&self.remembered),
+            leaf,
+            &randomizer,
+            message,
+            out,
+            Blank::new(1),
+        )
     }
 }

@@ -7,6 +7,7 @@ ghost use Rattle.bar_lms.specs.Chains.{joined, in_groups, total_from, by_eights,
 ghost use Rattle.bar_lms.specs.Tree.{HoldsTree, sibling};
 ghost use Rattle.bar_lms.specs.Signature.{signed_value, sibling_at, signature, public_of};
 ghost use Rattle.bar_lms.specs.Acceptance.{Accepts};
+ghost use Rattle.bar_lms.specs.Remembered.{chain_values};
 
 use crate::acceptance::message_hash;
 use crate::bytes::put;
@@ -14,8 +15,10 @@ use crate::digits::{coef, with_checksum};
 use crate::groups::digits_of_eight;
 use crate::params::Params;
 use crate::private::Private;
+use crate::remembered::Remembered;
 use crate::tree::{value, values_of_eight};
 use bar_bytes::Steps;
+use std::cell::RefCell;
 use std::marker::Brand;
 use std::sync::ledger::{Blank, Ledger};
 
@@ -80,8 +83,8 @@ fn put_singles<L: Ledger>(
     }
 }
 
-// Writes the values of the chains, from byte 40 on.
-fn put_values<L: Ledger>(
+/// Writes the values of the chains, from byte 40 on.
+pub(crate) fn put_values<L: Ledger>(
     key: &Private,
     q: u32,
     hash: &[u8; 32],
@@ -96,6 +99,29 @@ fn put_values<L: Ledger>(
 {
     put_groups(key, q, hash, out, steps);
     put_singles(key, q, hash, out, steps);
+}
+
+// Writes the same by what is remembered, where that isn't in use.
+fn put_values_by<L: Ledger>(
+    key: &Private,
+    remembered: Option<&RefCell<Remembered>>,
+    q: u32,
+    hash: &[u8; 32],
+    out: &mut [u8],
+    steps: &mut Steps<L>,
+)
+    requires { 40 + 32 * chains key.now.params.ots ≤ length out.old }
+    ensures grown { take (40 + 32 * chains key.now.params.ots) out.new ≡ take 40 out.old ++ chain_values key.now q hash.now }
+    ensures rest { drop (40 + 32 * chains key.now.params.ots) out.new ≡ drop (40 + 32 * chains key.now.params.ots) out.old }
+{
+    let Some(cell) = remembered else {
+        put_values(key, q, hash, out, steps);
+        return;
+    };
+    match cell.try_borrow_mut() {
+        Ok(mut kept) => kept.put_values(key, q, hash, out, steps),
+        Err(_) => put_values(key, q, hash, out, steps),
+    }
 }
 
 // The node that has the same parent.
@@ -143,9 +169,11 @@ fn put_number(out: &mut [u8], at: usize, number: u32)
     put(out, at, &number.to_be_bytes());
 }
 
-fn sign_from<L: Ledger>(
+/// Writes a signature as `sign` does, by what is remembered of the key.
+pub(crate) fn sign_from<L: Ledger>(
     key: &Private,
     nodes: &[[u8; 32]],
+    remembered: Option<&RefCell<Remembered>>,
     q: u32,
     randomizer: &[u8; 32],
     message: &[u8],
@@ -162,7 +190,7 @@ fn sign_from<L: Ledger>(
     ensures length { result ≡ signature_len key.now.params }
     ensures value { take result out.new ≡ signature key.now q randomizer.now message.now }
     ensures rest { drop result out.new ≡ drop result out.old }
-    ensures hash { length randomizer.now ≡ 32 }
+    ensures accepted { Accepts (public_of key.now) message.now (take result out.new) }
 {
     let mut steps = Steps::<L>::new(blank);
     let Params { height, ots } = key.params;
@@ -170,7 +198,7 @@ fn sign_from<L: Ledger>(
     put_number(out, 4, ots.number());
     put_hash(out, 8, randomizer);
     let hash = message_hash(&key.ident, q, randomizer, message, &mut steps);
-    put_values(key, q, &hash, out, &mut steps);
+    put_values_by(key, remembered, q, &hash, out, &mut steps);
     let at = 40 + 32 * ots.chains();
     put_number(out, at, height.number());
     put_path(key, nodes, q, out, at + 4);
@@ -197,5 +225,5 @@ pub fn sign(
     ensures rest { drop result out.new ≡ drop result out.old }
     ensures accepted { Accepts (public_of key.now) message.now (take result out.new) }
 {
-    sign_from::<Brand>(key, nodes, q, randomizer, message, out, Blank::new(1))
+    sign_from::<Brand>(key, nodes, None, q, randomizer, message, out, Blank::new(1))
 }

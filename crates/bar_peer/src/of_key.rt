@@ -9,10 +9,16 @@ ghost use Rattle.bar_peer.specs.StandsFor.{StandsFor, contents_left};
 use crate::peer::Peer;
 use bar_roster::{KeyFile, Session};
 use bar_seal::LmsScheme;
+use bar_wire::{LEAVES_A_ROUND, Shape};
 use std::alloc::{AllocError, Global};
 
+/// How many leaves the rounds have that may still be asked about, of which there are two more than an update lives.
+fn leaves_in_use(shape: &Shape) -> u16 {
+    LEAVES_A_ROUND as u16 * (u16::from(shape.life) + 2)
+}
+
 impl Peer<LmsScheme> {
-    /// The peer of a session that a key file is of. It took no input yet.
+    /// The peer of a session that a key file is of. It took no input yet. What it says again it doesn't sign anew.
     pub fn of_key_file(
         alloc: Global,
         session: Session,
@@ -24,13 +30,14 @@ impl Peer<LmsScheme> {
         ensures contents { IfOk result (λ p. contents_left p.memory.store p.playing ≡ []) }
         ensures member { IfOk result (λ p. member_of p.memory.who ≡ member_by session key.secrets) }
     {
-        let _shape = session.shape();
+        let mut signer = key.signer;
+        signer.remember(alloc, leaves_in_use(&session.shape()))?;
         Peer::start(
             alloc,
             session,
             key.secrets,
             key.chain,
-            LmsScheme::new(key.signer),
+            LmsScheme::new(signer),
         )
     }
 }

@@ -7,5 +7,5 @@ use Rattle.bar_lms.proofs.secret.SecretKey.sign.Goals as goal
 pub returns-clause-accepted_under : goal.returns-clause-accepted_under
 unfolding signed
 returns-clause-accepted_under c =
-    let value : take c.sign.result c.sign.new.out ≡ signed c.args.self.now c.args.leaf c.args.message.now = grind (arith, common_steps) in
+    let value : take c.sign_from.result c.sign_from.new.out ≡ signed c.args.self.now c.args.leaf c.args.message.now = grind (arith, common_steps) in
     rw value (made_accepted c.args.self.now c.args.leaf c.args.message.now c.requires.leaf)

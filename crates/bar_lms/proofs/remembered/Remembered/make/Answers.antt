@@ -1,0 +1,11 @@
+use Rattle.std.proofs.lemmas.List.Elements.{All-push}
+use Rattle.bar_lms.specs.Remembered.{AreValuesOf}
+use Rattle.bar_lms.proofs.RememberedLemmas.{none_kept}
+use Rattle.bar_lms.proofs.remembered.Remembered.make.Goals as goal
+
+pub places-preserved : goal.places-preserved
+places-preserved c =
+    let are : AreValuesOf c.args.key.now c.in_ok-place.place =
+    none_kept c.args.key.now c.in_ok-place.place (rw c.chains-size.ensures at c.in_ok-place.ensures)
+    in
+    rw c.in_ok-push.ensures.items (All-push (AreValuesOf c.args.key.now) c.places.all.items c.in_ok-place.place c.places.invariant are)

@@ -1,0 +1,6 @@
+use Rattle.std.specs.Prelude.{All}
+use Rattle.bar_lms.specs.Remembered.{AreValuesOf}
+use Rattle.bar_lms.proofs.remembered.Remembered.make.Given as goal
+
+abbrev pub invariant-places : goal.invariant-places
+invariant-places l = All (AreValuesOf l.key) l.all.items

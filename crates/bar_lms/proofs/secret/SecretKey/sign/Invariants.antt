@@ -1,0 +1,4 @@
+use Rattle.bar_lms.proofs.secret.SecretKey.sign.Given as goal
+
+abbrev pub ghosts-sign_from : goal.ghosts-sign_from
+ghosts-sign_from a = record { name = a.blank.name; parts = a.blank.parts }

@@ -1,0 +1,16 @@
+-- What is remembered of the signatures of a key.
+use Rattle.std.specs.Prelude.{◌≡◌, ℕ, ◌*◌, List, Some}
+use Rattle.bar_lms.specs.declared.private.Private.{Private}
+use Rattle.bar_lms.specs.declared.chain_values.ChainValues.{ChainValues}
+use Rattle.bar_lms.specs.Params.{chains}
+use Rattle.bar_lms.specs.Chains.{joined}
+use Rattle.bar_lms.specs.Signature.{signed_value}
+
+-- the chain values of the signature of a hash under leaf q, one after another
+abbrev pub chain_values : Private → ℕ → List ℕ → List ℕ
+chain_values t q hash = joined (signed_value t q hash) (chains t.params.ots)
+
+-- there is room for a key's chain values, and what is kept are those of the leaf and the hash beside it
+pub record AreValuesOf (t : Private) (v : ChainValues) : Type 0 where
+  pub size : v.values.size ≡ 32 * chains t.params.ots
+  pub kept : (bytes : List ℕ) → v.values.kept ≡ Some bytes → bytes ≡ chain_values t v.leaf v.hash
