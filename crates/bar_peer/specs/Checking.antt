@@ -15,7 +15,7 @@ use Rattle.bar_rules.specs.Peer.Knowledge.{Knowledge, known}
 use Rattle.bar_rules.specs.Peer.Log.{Log}
 use Rattle.bar_rules.specs.Peer.Rules.{IsObedient}
 use Rattle.bar_rules.specs.Peer.Run.{log_after}
-use Rattle.bar_seal.specs.Memo.{Pair, Memo, with_pair}
+use Rattle.bar_seal.specs.Memo.{Pair, Memo, has_pair, with_pair}
 use Rattle.bar_peer.specs.declared.memory.Memory.{Memory}
 use Rattle.bar_peer.specs.Memory.{Tells, member_of}
 use Rattle.bar_peer.specs.StandsFor.{Inputs, StandsFor}
@@ -76,7 +76,8 @@ AdmitsKept m input points =
 -- whether a peer with this memory that took these inputs admits the next one, which comes before its last tick
 abbrev pub admits_next : Memory → Inputs → Input → Bool
 admits_next m inputs input =
-    not (nat_le (last_tick m.who.session) m.ticks) && admits (member_of m.who) (known (member_of m.who) (log_after (member_of m.who) [] inputs)) input
+    not (nat_le (last_tick m.who.session) m.ticks)
+    && admits (member_of m.who) (known (member_of m.who) (log_after (member_of m.who) [] inputs)) input
 
 -- so a signed datagram stands first in the memo behind the step that admits it
 abbrev pub StandsFirst : Memory → Input → Memo → Type 0
@@ -89,3 +90,10 @@ abbrev pub IsSeedKept : Memory → Input → Checkpoints → Type 0
 IsSeedKept m input points =
     (inputs : Inputs) → StandsFor m inputs → admits_next m inputs input ≡ true
     → choice_round_in m.who.session input ≤ kept_round points (sender_in m.who.session input)
+
+-- so it is remembered by then
+abbrev pub AdmittedIsRemembered : Type 0
+AdmittedIsRemembered =
+    (m : Memory) (inputs : Inputs) (input : Input) (memo : Memo) → StandsFirst m input memo → StandsFor m inputs
+    → admits_next m inputs input ≡ true → is_signed_in m.who.session input ≡ true
+    → has_pair (checked_in m.who.session input) memo.pairs ≡ true

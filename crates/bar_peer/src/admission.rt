@@ -119,8 +119,8 @@ impl Memory {
         )
     }
 
-    /// Whether the signature is accepted under the sender's key, where the kind bears one. It counts each hash, and none where the datagram is
-    /// remembered.
+    /// Whether the signature is accepted under the sender's key, where the kind bears one. It counts each hash, and none where the datagram
+    /// is remembered.
     fn is_valid<V: Verifier, L: StepLedger>(
         &self,
         checker: &mut Checker<V>,
@@ -132,7 +132,8 @@ impl Memory {
         requires verifier { IsVerifierOf self.now.who.session (V.is_accepted checker.old.verifier) }
         requires size { V.signature_len checker.old.verifier ≡ self.now.who.session.shape.sig_len }
         ensures exact { result ≡ has_valid_signature self.now.who.session (datagram self.now.who.session.shape view.now) }
-        ensures remembered { has_pair (key_of_party self.now.who.session view.now.from, bytes.now) checker.old.memo.pairs ≡ true → steps.new ≡ steps.old }
+        ensures remembered { has_pair (key_of_party self.now.who.session view.now.from, bytes.now) checker.old.memo.pairs ≡ true
+            → steps.new ≡ steps.old }
         ensures most { steps.new ≤ steps.old + V.most_steps checker.old.verifier }
         ensures memo { checker.new.memo ≡ (if result && is_signed (plain view.now.body)
             then with_pair (key_of_party self.now.who.session view.now.from, bytes.now) checker.old.memo else checker.old.memo) }

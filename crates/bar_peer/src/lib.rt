@@ -15,6 +15,7 @@ mod opening;
 mod order;
 mod peer;
 mod playing;
+mod remembering;
 mod repeats;
 mod replying;
 mod reports;
@@ -30,4 +31,5 @@ mod weighed;
 
 pub use credentials::Credentials;
 pub use peer::Peer;
+pub use remembering::admitted_datagrams_are_remembered;
 pub use runs::rules_give_the_run;

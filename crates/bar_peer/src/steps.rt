@@ -113,8 +113,8 @@ impl<S: Scheme> Peer<S> {
     }
 
     /// Takes an input, once all that the one before gave is given out. After its last tick a peer ignores every input. It takes no memory,
-    /// and counts each hash: those of at most one verification, and of at most twice the way along the seeds from the round that a REQUEST or
-    /// a QUERY is of. What is remembered as accepted isn't verified.
+    /// and counts each hash: those of at most one verification, and of at most twice the way along the seeds from the round of a REQUEST or a
+    /// QUERY. What is remembered as accepted isn't verified.
     #[tactic(auto, using(bar_seeds::proofs::CheckpointLemmas::moves_none))]
     pub fn step<L: StepLedger>(&mut self, input: Input<'_>, steps: &mut Steps<L>)
         requires sends { left_in self.old.orders ≡ [] }

@@ -240,7 +240,8 @@ pub fn take_datagram<V: Verifier, L: StepLedger>(
     ensures given { orders.new.given ≡ orders.old.given }
     ensures who { memory.new.who ≡ memory.old.who }
     ensures ticks { memory.new.ticks ≡ memory.old.ticks }
-    ensures most { steps.new ≤ steps.old + (V.most_steps checker.old.verifier + 2 * choice_round_in memory.old.who.session (Arrival bytes.now)) }
+    ensures most { steps.new ≤ steps.old
+        + (V.most_steps checker.old.verifier + 2 * choice_round_in memory.old.who.session (Arrival bytes.now)) }
     ensures remembered { has_pair (checked_in memory.old.who.session (Arrival bytes.now)) checker.old.memo.pairs ≡ true
         → steps.new ≤ steps.old + 2 * choice_round_in memory.old.who.session (Arrival bytes.now) }
     ensures seeds { AreSeeds memory.old.who.session points.new }

@@ -1,12 +1,12 @@
 //! What holds of all seeds, partners and hashes. These functions do nothing: what they ensure is a law.
 
-ghost use Rattle.std.specs.Prelude.{◌≡◌, ℕ, ◌≤◌, ◌≢◌, ◌↔◌, List, length, IsTrue};
+ghost use Rattle.std.specs.Prelude.{◌≡◌, ℕ, ◌-◌, ◌≤◌, ◌≢◌, ◌↔◌, List, length, IsTrue};
 ghost use Rattle.bar_window.specs.declared.update.UpdateId.{UpdateId};
 ghost use Rattle.bar_window.specs.declared.exchange.XKind.{XKind};
 ghost use Rattle.bar_window.specs.declared.exchange.Role.{Role};
 ghost use Rattle.bar_window.specs.declared.exchange.Exchange.{Exchange};
 ghost use Rattle.bar_seeds.specs.declared.secrets.Secrets.{Secrets};
-ghost use Rattle.bar_seeds.specs.Seeds.{chain_start, is_seed, seed_of, anchor_of};
+ghost use Rattle.bar_seeds.specs.Seeds.{chain_down, chain_start, is_seed, seed_of, anchor_of};
 ghost use Rattle.bar_seeds.specs.Partners.{partner_of};
 ghost use Rattle.bar_seeds.specs.Derived.{nonce_of, briefcase_key, commitment_of};
 
@@ -20,6 +20,13 @@ pub fn seeds_are_tested()
 pub fn own_seeds_meet_the_anchor()
     ensures { (s : Secrets) (rounds round : ℕ) → round ≤ rounds →
         IsTrue (is_seed s.id (anchor_of s rounds) s.party round (seed_of s rounds round)) }
+{}
+
+/// The seed that a secret gives a round leads to those of each round before, to the anchor as that of round 0. So by the last seed that is
+/// kept of a party, its own later ones are tested in as many steps as there are rounds between.
+pub fn own_seeds_lead_to_earlier_ones()
+    ensures { (s : Secrets) (rounds round before : ℕ) → before ≤ round → round ≤ rounds →
+        chain_down s.id s.party before (round - before) (seed_of s rounds round) ≡ seed_of s rounds before }
 {}
 
 /// A partner is one of the peers, other than oneself.

@@ -23,7 +23,7 @@ const ID: [u8; 8] = [0x00, 0x11, 0x22, 0x33, 0x44, 0x55, 0x66, 0x77];
 
 /// The numbers of the sessions beside those of their datagrams.
 const NUMBERS: Numbers = Numbers {
-    cap: 4,
+    cap: 16,
     fanout: 1,
     port: 1024,
     tick_ms: 1,
@@ -85,22 +85,25 @@ const SIX: [Secrets; 6] = [
 
 const STREAM_LEN: usize = 4000;
 
-/// The world of a session of two peers.
-fn two_peers(alloc: Global) -> Result<World, AllocError>
+/// A stream of 70 updates, which a session of version 2 sends in one round.
+const LONG_STREAM_LEN: usize = 71_540;
+
+/// The world of a session of two peers, in which a round has up to 8 updates, or in version 2 up to 128.
+fn two_peers(alloc: Global, wide: bool, stream_len: usize) -> Result<World, AllocError>
     ensures { IfOk result (λ world. IsReady world) }
 {
     let shape = Shape {
-        version: 1,
+        version: if wide { 2 } else { 1 },
         id: ID,
         peers: 2,
         rounds: 10,
         life: 4,
-        per_round: 8,
+        per_round: if wide { 128 } else { 8 },
         sig_len: 1452,
     };
     let keys = keys_of(alloc, PARAMS, shape.rounds, &THREE)?;
     let session = session(alloc, shape, NUMBERS, &keys)?;
-    let stream = vec![in alloc; 165; STREAM_LEN]?;
+    let stream = vec![in alloc; 165; stream_len]?;
     World::of_keys(alloc, &session, keys, stream)
 }
 
@@ -184,27 +187,38 @@ fn move_in_vain(alloc: Global, world: &mut World, sent: u64) -> Result<(), Alloc
     run_world(world, &moves)
 }
 
-/// How many parties played the whole stream.
-fn whole_count(world: &World) -> usize {
+/// How many parties played the whole stream, of so many bytes.
+fn whole_count(world: &World, stream_len: usize) -> usize {
     world
         .played
         .iter()
-        .filter(|text| text.len() == STREAM_LEN)
+        .filter(|text| text.len() == stream_len)
         .count()
 }
 
 #[test]
 fn nobody_is_evicted_where_all_is_delivered(rt: HostRuntime) -> Result<(), Fail> {
     let alloc = rt.alloc();
-    let mut world = two_peers(alloc)?;
+    let mut world = two_peers(alloc, false, STREAM_LEN)?;
     let sent = play(alloc, &mut world, 120)?;
-    assert!(rt; whole_count(&world) == 2);
+    assert!(rt; whole_count(&world, STREAM_LEN) == 2);
     assert!(rt; world.evicted().is_empty());
     let played = world.played.clone()?;
     move_in_vain(alloc, &mut world, sent)?;
     assert!(rt; world.pool(sent).is_none());
     assert!(rt; world.evicted().is_empty());
     assert!(rt; world.played == played);
+    Ok(())
+}
+
+// The broadcaster sends each update to one peer, so the other has it by a trade, those past the 64th too.
+#[test]
+fn all_of_70_updates_are_traded_in_version_2(rt: HostRuntime) -> Result<(), Fail> {
+    let alloc = rt.alloc();
+    let mut world = two_peers(alloc, true, LONG_STREAM_LEN)?;
+    play(alloc, &mut world, 120)?;
+    assert!(rt; whole_count(&world, LONG_STREAM_LEN) == 2);
+    assert!(rt; world.evicted().is_empty());
     Ok(())
 }
 
