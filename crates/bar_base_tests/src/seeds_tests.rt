@@ -145,9 +145,8 @@ fn seeds_are_known_in_any_order(rt: HostRuntime) -> Result<(), Fail> {
     let chain = SeedChain::make(rt.alloc(), &id, party, rounds, &secret)?;
     let session = Session::read(rt.alloc(), SESSION.as_bytes())?;
     let mut points = session.checkpoints(rt.alloc())?;
-    if session.shape().peers < 1 || rounds < 7 {
-        return Err(Fail);
-    }
+    assert!(rt; session.shape().peers == 2);
+    assert!(rt; rounds == 10);
     let mut wrong = chain.seed(7);
     wrong[0] ^= 1;
     for (round, seed, wanted) in [

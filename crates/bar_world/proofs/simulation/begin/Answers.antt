@@ -1,11 +1,17 @@
-use Rattle.std.proofs.Common.{◌∙◌, List, [], refl, ap, subst}
+use Rattle.std.proofs.Common.{◌∙◌, List, [], refl, sym, ap, subst}
 use Rattle.std.specs.Prelude.{slice_index_or}
 use Rattle.bar_roster.specs.declared.key_file.KeyFile.{KeyFile}
+use Rattle.bar_rules.specs.World.World.{IsSetup}
 use Rattle.bar_world.specs.Keys.{held_in}
 use Rattle.bar_world.specs.Kept.{StandsFor}
 use Rattle.bar_world.proofs.Begins.{liar-is, setup-is, stream-fits}
 use Rattle.bar_world.proofs.SimEnds.{begun-playing}
 use Rattle.bar_world.proofs.simulation.begin.Goals as goal
+
+pub of_keys-requires-clause-setup : goal.of_keys-requires-clause-setup
+of_keys-requires-clause-setup c =
+    subst IsSetup (sym (setup-is c.args.seed _ _ _ c.in_ok-session.ensures (ap held_in c.in_ok-keys.ensures) c.in_ok-stream.ensures))
+    (c.simulations_are_fair.ensures.setup c.args.seed)
 
 pub of_keys-requires-clause-room : goal.of_keys-requires-clause-room
 of_keys-requires-clause-room c =
