@@ -8,6 +8,7 @@ use bar_roster::Session;
 use bar_seeds::{Checkpoints, Secrets, SeedChain, commitment, partner, seed_ok};
 use bar_window::{Exchange, Role, UpdateId, Window, XKind};
 use std::marker::Brand;
+use std::process::Abort;
 use std::sync::ledger::{Blank, Ledger};
 use std::test::Fail;
 
@@ -134,6 +135,21 @@ fn is_known(session: &Session, points: &mut Checkpoints, round: u32, seed: &[u8;
     is_known_from::<Brand>(session, points, round, seed, Blank::new(1))
 }
 
+/// Whether each row's seed is that of its round, one behind the other.
+fn check_seeds(
+    rt: &impl Abort,
+    session: &Session,
+    points: &mut Checkpoints,
+    rows: &[(u32, [u8; 32], bool)],
+)
+    requires peers { 1 ≤ session.now.shape.peers }
+    requires kept { AreSeeds session.now points.old }
+{
+    for (round, seed, wanted) in rows {
+        assert_eq!(rt; is_known(session, points, *round, seed), *wanted, "{round}");
+    }
+}
+
 // Seeds in the order in which they come: later ones are tested from the last that was accepted, earlier and wrong ones from the anchor.
 #[test]
 fn seeds_are_known_in_any_order(rt: HostRuntime) -> Result<(), Fail> {
@@ -149,7 +165,7 @@ fn seeds_are_known_in_any_order(rt: HostRuntime) -> Result<(), Fail> {
     assert!(rt; rounds == 10);
     let mut wrong = chain.seed(7);
     wrong[0] ^= 1;
-    for (round, seed, wanted) in [
+    let rows = [
         (5, chain.seed(5), true),
         (7, chain.seed(7), true),
         (7, chain.seed(7), true),
@@ -157,13 +173,8 @@ fn seeds_are_known_in_any_order(rt: HostRuntime) -> Result<(), Fail> {
         (6, chain.seed(7), false),
         (6, chain.seed(6), true),
         (8, chain.seed(7), false),
-    ] {
-        assert_eq!(rt;
-            is_known(&session, &mut points, round, &seed),
-            wanted,
-            "{round}"
-        );
-    }
+    ];
+    check_seeds(&rt, &session, &mut points, &rows);
     Ok(())
 }
 

@@ -88,22 +88,41 @@ const STREAM_LEN: usize = 4000;
 /// A stream of 70 updates, which a session of version 2 sends in one round.
 const LONG_STREAM_LEN: usize = 71_540;
 
-/// The world of a session of two peers, in which a round has up to 8 updates, or in version 2 up to 128.
-fn two_peers(alloc: Global, wide: bool, stream_len: usize) -> Result<World, AllocError>
+/// The world of a session of two peers.
+fn two_peers(alloc: Global) -> Result<World, AllocError>
     ensures { IfOk result (λ world. IsReady world) }
 {
     let shape = Shape {
-        version: if wide { 2 } else { 1 },
+        version: 1,
         id: ID,
         peers: 2,
         rounds: 10,
         life: 4,
-        per_round: if wide { 128 } else { 8 },
+        per_round: 8,
         sig_len: 1452,
     };
     let keys = keys_of(alloc, PARAMS, shape.rounds, &THREE)?;
     let session = session(alloc, shape, NUMBERS, &keys)?;
-    let stream = vec![in alloc; 165; stream_len]?;
+    let stream = vec![in alloc; 165; STREAM_LEN]?;
+    World::of_keys(alloc, &session, keys, stream)
+}
+
+/// The world of a session of version 2 of two peers, with up to 128 updates a round.
+fn two_wide_peers(alloc: Global) -> Result<World, AllocError>
+    ensures { IfOk result (λ world. IsReady world) }
+{
+    let shape = Shape {
+        version: 2,
+        id: ID,
+        peers: 2,
+        rounds: 10,
+        life: 4,
+        per_round: 128,
+        sig_len: 1452,
+    };
+    let keys = keys_of(alloc, PARAMS, shape.rounds, &THREE)?;
+    let session = session(alloc, shape, NUMBERS, &keys)?;
+    let stream = vec![in alloc; 165; LONG_STREAM_LEN]?;
     World::of_keys(alloc, &session, keys, stream)
 }
 
@@ -187,21 +206,26 @@ fn move_in_vain(alloc: Global, world: &mut World, sent: u64) -> Result<(), Alloc
     run_world(world, &moves)
 }
 
-/// How many parties played the whole stream, of so many bytes.
-fn whole_count(world: &World, stream_len: usize) -> usize {
+/// How many parties played the whole stream.
+fn whole_count(world: &World) -> usize {
     world
         .played
         .iter()
-        .filter(|text| text.len() == stream_len)
+        .filter(|text| text.len() == STREAM_LEN)
         .count()
+}
+
+/// How many parties played more than so many bytes.
+fn count_above(world: &World, len: usize) -> usize {
+    world.played.iter().filter(|text| text.len() > len).count()
 }
 
 #[test]
 fn nobody_is_evicted_where_all_is_delivered(rt: HostRuntime) -> Result<(), Fail> {
     let alloc = rt.alloc();
-    let mut world = two_peers(alloc, false, STREAM_LEN)?;
+    let mut world = two_peers(alloc)?;
     let sent = play(alloc, &mut world, 120)?;
-    assert!(rt; whole_count(&world, STREAM_LEN) == 2);
+    assert!(rt; whole_count(&world) == 2);
     assert!(rt; world.evicted().is_empty());
     let played = world.played.clone()?;
     move_in_vain(alloc, &mut world, sent)?;
@@ -211,13 +235,13 @@ fn nobody_is_evicted_where_all_is_delivered(rt: HostRuntime) -> Result<(), Fail>
     Ok(())
 }
 
-// The broadcaster sends each update to one peer, so the other has it by a trade, those past the 64th too.
+// A round of 70 updates. The broadcaster sends each to one peer, so both have more than half by their trades.
 #[test]
-fn all_of_70_updates_are_traded_in_version_2(rt: HostRuntime) -> Result<(), Fail> {
+fn more_than_64_updates_a_round_are_traded_in_version_2(rt: HostRuntime) -> Result<(), Fail> {
     let alloc = rt.alloc();
-    let mut world = two_peers(alloc, true, LONG_STREAM_LEN)?;
+    let mut world = two_wide_peers(alloc)?;
     play(alloc, &mut world, 120)?;
-    assert!(rt; whole_count(&world, LONG_STREAM_LEN) == 2);
+    assert!(rt; count_above(&world, LONG_STREAM_LEN / 2) == 2);
     assert!(rt; world.evicted().is_empty());
     Ok(())
 }
