@@ -233,9 +233,14 @@ class Session:
         return self.rounds + self.life + 1
 
     @property
+    def ticks(self):
+        """How many ticks a party takes."""
+        return SLOTS * self.ends
+
+    @property
     def seconds(self):
         """How long a session runs, from its first tick to its last."""
-        return SLOTS * self.ends * self.tick_ms / 1000
+        return self.ticks * self.tick_ms / 1000
 
     @property
     def room(self):
@@ -314,7 +319,12 @@ def whole_recording(recording):
 
 def transcript_of(printed):
     """Of each line of a transcript the number of its input, counted from 1, the receiver and the datagram."""
-    for place, line in enumerate(printed.splitlines(), 1):
+    return sends_of(printed.splitlines())
+
+
+def sends_of(lines):
+    """The same, of lines as they come."""
+    for place, line in enumerate(lines, 1):
         try:
             number, receiver, digits = line.split(" ")
             told = int(number), int(receiver), bytes.fromhex(digits)

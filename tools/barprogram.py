@@ -250,10 +250,28 @@ def take_program(parser):
     parser.add_argument("--bar", type=pathlib.Path, default=PROGRAM, metavar="PATH", help=told)
 
 
+def take_programs(parser):
+    """Adds the options that name the program and an earlier one."""
+    take_program(parser)
+    told = "an earlier program, which takes turns with the program and is compared with it"
+    parser.add_argument("--before", type=pathlib.Path, metavar="PATH", help=told)
+
+
 def program_of(words):
     """The whole path of the program. That of this repository is built where it isn't there."""
     if words.bar == PROGRAM and not PROGRAM.exists():
         build()
-    if not (words.bar.is_file() and os.access(words.bar, os.X_OK)):
-        raise Refusal(f"there is no program at {words.bar}: `rt run` in {CRATE} builds one")
-    return words.bar.resolve()
+    return program_at(words.bar)
+
+
+def program_at(path):
+    """The whole path of a program that is there."""
+    if not (path.is_file() and os.access(path, os.X_OK)):
+        raise Refusal(f"there is no program at {path}: `rt run` in {CRATE} builds one")
+    return path.resolve()
+
+
+def programs_of(words):
+    """The program, by the name `now`, and behind `before` where an earlier one is named."""
+    before = {"before": program_at(words.before)} if words.before else {}
+    return before | {"now": program_of(words)}

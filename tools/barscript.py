@@ -73,11 +73,30 @@ def listed(words, joined="and"):
     return f"{', '.join(firsts)} {joined} {last}" if firsts else last
 
 
+def compared(values, form, unit, noise=0):
+    """What was measured, by names, in a format and a unit; of one alone its value, else the ratio of the second to the first too.
+
+    There is no ratio where one of them isn't above the noise.
+    """
+    told = {name: f"{value:{form}} {unit}" for name, value in values.items()}
+    if len(told) == 1:
+        return listed(told.values())
+    first, second = values.values()
+    ratio = f"ratio {second / first:.2f}" if min(first, second) > noise else "no ratio"
+    return ", ".join([*(f"{name} {value}" for name, value in told.items()), ratio])
+
+
 def refuse(faults):
     """Refuses to go on where there are faults."""
     reasons = [*faults]
     if reasons:
         raise Refusal(*reasons)
+
+
+def faults_of_counts(words, *names):
+    """What refuses these words of a script, which count something, where they are given."""
+    values = ((name, getattr(words, name)) for name in names)
+    return (f"--{name} is {value}: take 1 or more" for name, value in values if value is not None and value < 1)
 
 
 def require(paths, remedy):

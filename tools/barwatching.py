@@ -1,4 +1,4 @@
-"""What is done beside a session while it runs: its progress is told, what receive buffers lose is noted, and a peer may be killed."""
+"""What is done beside a session while it runs: its progress is told, what buffers lose is noted, a peer may be killed or flooded."""
 import concurrent.futures
 import contextlib
 import math
@@ -10,12 +10,16 @@ import sys
 import threading
 import time
 
-from barformats import SLOTS
-from barscript import held, progress
+from bardatagrams import Message, Reader
+from barformats import RECORDING_HEAD, REQUEST, SLOTS, entries_of
+from barscript import counted, held, progress
 from barsession import LOOPBACK
 
 # how many seconds lie between two looks, between two lines on the rounds at least, and between two lines on the wait for the start
 LOOK, LINE, WAIT = 0.25, 1, 10
+
+# how many seconds a flood lasts, and how many lie between two looks at it
+FLOOD, FLOOD_LOOK = 1, 0.002
 
 SOCKETS = pathlib.Path("/proc/net/udp")
 # the loopback address as that file has it
@@ -90,6 +94,82 @@ class Watch:
             now = time.time()
             self.look(now)
             pause = min(LOOK, self.middle - now) if now < self.middle else LOOK
+
+
+class Growing:
+    """A recording that is being written."""
+
+    def __init__(self, path):
+        self.path, self.at = path, RECORDING_HEAD
+
+    def more(self):
+        """The inputs that were written whole since the last call, each a datagram or None for a tick."""
+        try:
+            with open(self.path, "rb") as file:
+                file.seek(self.at)
+                entries, _ = entries_of(bytes(RECORDING_HEAD) + file.read())
+        except FileNotFoundError:
+            return []
+        self.at += sum(1 if entry is None else 3 + len(entry) for entry in entries)
+        return entries
+
+
+class Flood:
+    """Sends a peer the first REQUEST that it takes so many times more, within a second, as long as it answers each again.
+
+    It notes how many of these the peer takes, and how late its ticks are at the most, by its recording as it grows.
+    """
+
+    def __init__(self, session, begin, party, recording, count):
+        self.session, self.begin, self.party, self.count = session, begin, party, count
+        self.reader, self.recording, self.model, self.since, self.last = Reader(session), Growing(recording), None, None, None
+        self.sent = self.taken = self.ticks = self.late = 0
+
+    def look(self, now, sender):
+        """One look at this time, in seconds."""
+        self.read(now)
+        if self.ticks < self.session.ticks:
+            self.late = max(self.late, now - (self.begin + self.ticks * self.session.tick_ms) / 1000)
+        if self.model:
+            due = min(self.count, math.ceil(self.count * (now - self.since) / FLOOD))
+            for _ in range(due - self.sent):
+                sender.sendto(self.model, (LOOPBACK, self.session.port + self.party))
+            self.sent = max(due, self.sent)
+
+    def read(self, now):
+        """Notes what the peer took up to this time."""
+        for entry in self.recording.more():
+            if entry is None:
+                self.ticks += 1
+            elif entry == self.model:
+                self.taken, self.last = self.taken + 1, now
+            elif self.model is None and self.is_request(entry):
+                self.model, self.since, self.last = entry, now, now
+
+    def is_request(self, datagram):
+        message = self.reader.read(datagram)
+        return isinstance(message, Message) and message.kind == REQUEST and message.receiver == self.party
+
+    def looks(self, ended):
+        """Looks until the end, and once behind it."""
+        with socket.socket(socket.AF_INET, socket.SOCK_DGRAM) as sender:
+            while not ended.wait(FLOOD_LOOK):
+                self.look(time.time(), sender)
+        self.read(time.time())
+
+    @property
+    def kept(self):
+        """Whether the peer took all ticks, none of them later than the next one was due."""
+        return self.ticks == self.session.ticks and self.late * 1000 < self.session.tick_ms
+
+    def line(self):
+        """What came of it, in words."""
+        if not self.sent:
+            return f"peer {self.party} took no REQUEST, so none was sent again"
+        rate = self.taken / (self.last - self.since) if self.taken else 0
+        took = f"was sent a REQUEST {counted(self.sent, 'time')} more and took {self.taken:,} of these, {rate:,.0f} a second"
+        ticks = f"it {'kept' if self.kept else 'did not keep'} its ticks: it took {self.ticks:,} of {self.session.ticks:,}"
+        return f"peer {self.party} {took}; {ticks}, at most {1000 * self.late:.0f} ms late"
 
 
 @contextlib.contextmanager

@@ -72,7 +72,7 @@ def replay(options):
     """Plays what a replay plays, and prints the transcript of what the peer sent behind the first tick."""
     peer = pathlib.Path(options["recording"]).read_bytes()[14]
     pathlib.Path(options["played"]).write_text(WAYS.get("replayed", "played"))
-    pathlib.Path(f"{options['found']}.table").touch()
+    pathlib.Path(f"{options['found']}.table").write_bytes(b"")
     for datagram in WAYS.get("sent", {}).get(str(peer), []):
         print(1, int(datagram[28:32], 16), datagram)
 

@@ -5,7 +5,7 @@ import tempfile
 import tomllib
 import unittest
 
-from support import ROOT, RoomCase, bound, lines_of
+from support import ROOT, RoomCase, bound, lines_of, run_script
 
 import barformats
 import barprogram
@@ -54,6 +54,32 @@ class Sessions(RoomCase):
         with bound(session.port + 2):
             status, last, _ = self.run_session(folder, session)
         self.assertEqual((status, last), (1, f"FAILED: party 2 status 6: port {session.port + 2} is taken"))
+
+
+class Measures(RoomCase):
+    """What the scripts measure that compare two programs, here of the program with itself. The numbers differ from run to run."""
+
+    def test_what_datagrams_cost(self):
+        self.stream.write_bytes(bytes(3 * 4 * 1022))
+        folder, session = self.make_session(PROGRAM, rounds=4, per_round=4, lms=6)
+        outcome, _, _ = lines_of(lambda: barrunning.run_session(folder, session, PROGRAM))
+        self.assertEqual(outcome.status, 0, outcome.lines)
+        status, out, err = run_script("measure-replay", folder.path, "--count", 30, "--times", 1, "--before", PROGRAM)
+        self.assertEqual((status, out[-1]), (0, "OK: replays of up to 30 datagrams were measured"), err)
+        kinds = [re.split("[,:]", line)[0] for line in out[:-1]]
+        self.assertEqual(kinds[:-1], ["a hash", *["memory without an input"] * 3, "repeated", "forged", "verified", "early"])
+        self.assertRegex(kinds[-1], "^request of round [1-4]$")
+        told = ", 30 datagrams, each: before -?[0-9.]+ ms, now -?[0-9.]+ ms, (ratio [0-9.]+|no ratio)"
+        # on a machine that is busy no KEY may have come
+        self.assertGreaterEqual(sum(bool(re.search(told, line)) for line in out), 4, out)
+
+    def test_a_flood(self):
+        words = ["--peers", 2, "--rounds", 1, "--tick-ms", 20, "--flood", 50, "--before", PROGRAM]
+        status, out, err = run_script("benchmark-session", *words)
+        self.assertEqual((status, out[-1]), (0, "OK: 1 session measured"), err)
+        told = "peer 1 was sent a REQUEST 50 times more and took [0-9]+ of these, [0-9]+ a second; it "
+        self.assertEqual(sum(bool(re.match(told, line)) for line in out), 2, out)
+        self.assertRegex(out[-2], "^2 peers together, before the first tick: before .*; from it on: before [0-9.]+ s, now [0-9.]+ s, ")
 
 
 class Ranges(unittest.TestCase):

@@ -150,6 +150,14 @@ class Buildings(RoomCase):
             reasons = self.reasons_of(lambda path=path: self.program_of(path))
             self.assertEqual(reasons, (f"there is no program at {path}: `rt run` in {self.room} builds one",))
 
+    def test_an_earlier_program(self):
+        program = fake_program(self.room)
+        self.assertEqual(barprogram.programs_of(mock.Mock(bar=program, before=None)), {"now": program.resolve()})
+        programs = barprogram.programs_of(mock.Mock(bar=program, before=program))
+        self.assertEqual(([*programs], {*programs.values()}), (["before", "now"], {program.resolve()}))
+        reasons = self.reasons_of(lambda: barprogram.programs_of(mock.Mock(bar=program, before=self.stream)))
+        self.assertTrue(reasons[0].startswith(f"there is no program at {self.stream}: "), reasons)
+
     def test_a_program_is_built_where_it_is_not_there(self):
         script = 'echo "$@" > words; mkdir out; echo > out/bar; chmod 755 out/bar'
         with self.rt(script), mock.patch.object(sys, "stderr", open(os.devnull, "w")) as quiet, quiet:

@@ -1,4 +1,5 @@
 """Sessions that are run by a program that stands for `bar`: what is refused, the causes of failures, and outcomes."""
+import argparse
 import errno
 import pathlib
 import shutil
@@ -297,6 +298,16 @@ class Ends(unittest.TestCase):
     def test_words_in_a_row(self):
         self.assertEqual([barscript.listed(words) for words in ([1], [1, 2], [1, 2, 3])], ["1", "1 and 2", "1, 2 and 3"])
         self.assertEqual([barscript.counted(count, "peer") for count in (0, 1, 2000)], ["0 peers", "1 peer", "2,000 peers"])
+
+    def test_measurements_that_are_compared(self):
+        self.assertEqual(barscript.compared({"now": 0.5}, ".2f", "s"), "0.50 s")
+        self.assertEqual(barscript.compared({"before": 2000, "now": 500}, ",", "bytes"), "before 2,000 bytes, now 500 bytes, ratio 0.25")
+        self.assertEqual(barscript.compared({"before": -0.1, "now": 2}, ".1f", "ms"), "before -0.1 ms, now 2.0 ms, no ratio")
+        self.assertEqual(barscript.compared({"before": 0.1, "now": 2}, ".1f", "ms", 0.2), "before 0.1 ms, now 2.0 ms, no ratio")
+
+    def test_words_that_count(self):
+        words = argparse.Namespace(times=0, count=1, flood=None)
+        self.assertEqual([*barscript.faults_of_counts(words, "count", "flood", "times")], ["--times is 0: take 1 or more"])
 
     def test_files_that_are_required(self):
         here = pathlib.Path(__file__)

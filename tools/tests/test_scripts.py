@@ -8,7 +8,8 @@ import unittest
 
 from support import ROOT, TOOLS, RoomCase, datagram, fake_program, has_ended, run_script, start_script, wait_for
 
-from barformats import MANIFEST, recording_of
+from bardatagrams import Reader
+from barformats import CASE, REQUEST, RESPONSE, Session, recording_of
 
 SCRIPTS = sorted(path.name for path in TOOLS.iterdir() if path.is_file() and not path.suffix)
 
@@ -80,11 +81,15 @@ class Refusals(RoomCase):
         self.assertEqual(status, 2)
         self.assertEqual([line.split(" is ")[0] for line in err[:2]], ["--peers", "--rounds"])
         self.assertEqual(run_script("benchmark-keys", "HEAD", "--lms", 8)[0], 2)
+        self.assertEqual(self.refused("benchmark-session", "--flood", 0), "REFUSED: --flood is 0: take 1 or more")
+        self.assertEqual(self.refused("measure-replay", "--times", 0), "REFUSED: --times is 0: take 1 or more")
 
     def test_programs_that_are_missing(self):
         for script, *words in (("check-streams",), ("check-vectors",), ("benchmark-session",), ("demo",)):
             with self.subTest(script=script):
                 self.assertIn("there is no program at", self.refused(script, *words, "--bar", self.room / "none"))
+        for script in ("benchmark-session", "measure-replay"):
+            self.assertIn("there is no program at", self.refused(script, "--before", self.room / "none"))
 
 
 class Checks(RoomCase):
@@ -128,29 +133,51 @@ class Checks(RoomCase):
         self.assertEqual((status, out[-1]), (1, "FAILED: 10 values of 10 runs differ"))
         self.assertTrue(all(line.startswith("replay: ") for line in out[:-1]), out)
 
-    def test_longer_recordings(self):
+    def world(self):
+        """The folder of a world, which is that of an example."""
         world = self.room / "world"
         shutil.copytree(ROOT / "examples/first-path/one-block", world)
         (world / "key.toml").rename(world / "K.1")
         (world / "recording").rename(world / "1.recording")
-        status, out, _ = run_script("measure-replay", world, 500, "--bar", fake_program(self.room))
-        self.assertEqual(status, 0)
-        counts = [re.match(r"(\w+): (\d+) datagrams, ", line) for line in out[1:-1]]
-        wanted = [("repeated", "0"), ("repeated", "480"), ("forged", "0"), ("forged", "480"), ("verified", "0"), ("verified", "4")]
-        self.assertEqual([(told[1], told[2]) for told in counts], wanted)
-        self.assertEqual(out[-1], "OK: replays of up to 500 datagrams were measured")
+        return world
 
-    def test_manifests_that_are_still_to_come(self):
-        world = self.room / "world"
-        shutil.copytree(ROOT / "examples/first-path/one-block", world)
-        (world / "key.toml").rename(world / "K.1")
-        session_id = "cf560a3b8df7f16f"
-        manifests = [datagram(MANIFEST, 0, 65_535, bytes([number]) * 8, session_id) for number in range(3)]
-        entries = [b"junk", None, manifests[0], None, manifests[0], manifests[1], None, None, manifests[2]]
-        (world / "1.recording").write_bytes(recording_of(b"BARL\x01" + bytes.fromhex(session_id) + b"\x00\x01", entries))
-        _, out, _ = run_script("measure-replay", world, 50, "--bar", fake_program(self.room))
-        counts = [line.split(",")[0] for line in out[2:-1:2]]
-        self.assertEqual(counts, [f"{kind}: 40 datagrams" for kind in ("repeated", "forged", "verified")])
+    def other_program(self, **ways):
+        """An earlier program that stands for `bar`."""
+        room = self.room / "earlier"
+        room.mkdir()
+        return fake_program(room, **ways)
+
+    def test_longer_recordings(self):
+        status, out, _ = run_script("measure-replay", self.world(), "--count", 500, "--times", 1, "--bar", fake_program(self.room))
+        self.assertEqual((status, out[-1]), (0, "OK: replays of up to 500 datagrams were measured"))
+        told = [re.sub(r"(: )-?[\d,.]+ (us|bytes|s|ms).*", r"\1", line) for line in out[:-1]]
+        wanted = ["a hash: ", *(f"memory without an input, {told}: " for told in ("resident", "own", "data"))]
+        wanted += ["repeated: this recording has none", "forged, 500 datagrams, each: "]
+        wanted += ["verified, 500 datagrams, each: ", "early: this recording has none"]
+        self.assertEqual(told, wanted)
+
+    def test_recordings_with_two_programs(self):
+        programs = ["--bar", fake_program(self.room), "--before", self.other_program()]
+        status, out, _ = run_script("measure-replay", self.world(), "--count", 10, "--times", 1, *programs)
+        self.assertEqual(status, 0)
+        told = r"^memory without an input, data: before [\d,]+ bytes, now [\d,]+ bytes, ratio \d\.\d\d, [+-][\d,]+ bytes$"
+        self.assertRegex(out[3], told)
+        told = r"^forged, 10 datagrams, each: before -?[\d.]+ ms, now -?[\d.]+ ms, (ratio [\d.]+|no ratio), give or take 0\.0000 ms$"
+        self.assertRegex(out[5], told)
+
+    def test_programs_that_say_other_things(self):
+        programs = ["--bar", fake_program(self.room), "--before", self.other_program(sent={"1": [datagram(CASE, 1, 2).hex()]})]
+        status, out, _ = run_script("measure-replay", self.world(), "--count", 10, "--times", 1, *programs)
+        self.assertEqual((status, out[-1]), (1, "FAILED: the programs' transcripts of the recording alone differ"))
+
+    def test_requests_that_are_answered_otherwise(self):
+        world = self.world()
+        session = Session.read(world / "session.toml")
+        asked = datagram(REQUEST, 2, 1, (1).to_bytes(4, "big") + bytes(64 + Reader(session).signature), session.id)
+        (world / "1.recording").write_bytes(recording_of(b"BARL\x01" + bytes.fromhex(session.id) + b"\x00\x01", [asked, None]))
+        program = fake_program(self.room, sent={"1": [datagram(RESPONSE, 1, 2).hex()]})
+        status, out, _ = run_script("measure-replay", world, "--count", 10, "--times", 1, "--bar", program)
+        self.assertEqual((status, out[-1]), (1, "FAILED: now: repeated: the transcript has 1 lines instead of 11"))
 
 
 class Signals(RoomCase):

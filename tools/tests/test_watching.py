@@ -1,4 +1,5 @@
 """What is told of a session by the time, and what receive buffers lose."""
+import dataclasses
 import os
 import subprocess
 import sys
@@ -6,11 +7,15 @@ import time
 import unittest
 from unittest import mock
 
-from support import ID, RoomCase, lines_of
+from support import ID, RoomCase, bound, lines_of
 
 import barrunning
 import barwatching
-from barformats import Session
+import made_sessions
+from bardatagrams import Exchange
+from barformats import RECORDING_HEAD, Session, recording_of
+from barsession import LOOPBACK
+from made_sessions import Trade
 
 SESSION = Session(1, ID, 10, 6, 1, 1, 1, 26_144, 50, 6, 3, 2)
 
@@ -105,6 +110,109 @@ class Watches(RoomCase):
         watch = barwatching.Watch(SESSION, 0, words)
         self.look(watch, 2, "")
         self.assertEqual(watch.victim, words)
+
+
+class Sender:
+    """A socket that notes what is sent by it."""
+
+    def __init__(self):
+        self.sent = []
+
+    def sendto(self, sent, to):
+        self.sent.append((sent, to))
+
+
+class Floods(RoomCase):
+    """A flood of a peer whose recording grows. The session begins at 100 s, and a tick has 0.02 s."""
+
+    asked = Trade.balanced(Exchange(1, False, 2, 1), [[], []], [[], []]).request()
+    other = Trade.balanced(Exchange(1, False, 1, 2), [[], []], [[], []]).request()
+
+    def setUp(self):
+        super().setUp()
+        self.path, self.sender = self.room / "recording", Sender()
+        self.flood = barwatching.Flood(made_sessions.SESSION, 100_000, 1, self.path, 10)
+
+    def write(self, *entries, cut=None):
+        """Writes inputs to the recording, or so many of their bytes."""
+        if not self.path.exists():
+            self.path.write_bytes(bytes(RECORDING_HEAD))
+        written = recording_of(b"", entries)[:-1]
+        with open(self.path, "ab") as file:
+            file.write(written[:cut])
+        return written[cut:] if cut else b""
+
+    def look(self, now):
+        """How many were sent at a look."""
+        before = len(self.sender.sent)
+        self.flood.look(now, self.sender)
+        return len(self.sender.sent) - before
+
+    def test_a_recording_that_grows(self):
+        growing = barwatching.Growing(self.path)
+        self.assertEqual(growing.more(), [])
+        rest = self.write(None, b"one", b"two", cut=8)
+        self.assertEqual((growing.more(), growing.more()), ([None, b"one"], []))
+        with open(self.path, "ab") as file:
+            file.write(rest + b"\x00")
+        self.assertEqual((growing.more(), growing.more()), ([b"two"], []))
+
+    def test_the_first_request_is_sent_again(self):
+        self.assertEqual(self.look(99), 0)
+        self.write(None, self.other, b"junk")
+        self.assertEqual(self.look(100.01), 0)
+        self.write(self.asked, self.other)
+        self.assertEqual([self.look(100.01 + after) for after in (0, 0.19, 0.55, 2, 3)], [0, 2, 4, 4, 0])
+        self.assertEqual(set(self.sender.sent), {(self.asked, (LOOPBACK, made_sessions.SESSION.port + 1))})
+
+    def test_what_the_peer_takes(self):
+        self.write(None, self.asked)
+        self.look(100.01)
+        self.write(self.asked, None, self.asked)
+        self.look(100.51)
+        self.write(self.asked)
+        self.look(102.01)
+        self.assertEqual((self.flood.taken, self.flood.ticks, self.flood.sent), (3, 2, 10))
+        told = "peer 1 was sent a REQUEST 10 times more and took 3 of these, 2 a second; it did not keep its ticks: it took 2 of 80, "
+        self.assertTrue(self.flood.line().startswith(told), self.flood.line())
+
+    def test_ticks_that_are_late(self):
+        ticks = made_sessions.SESSION.ticks
+        self.write(None)
+        self.look(100.015)
+        self.assertEqual(self.flood.late, 0)
+        self.look(100.03)
+        self.assertAlmostEqual(self.flood.late, 0.01)
+        self.write(self.asked, *[None] * (ticks - 2))
+        self.look(100.1)
+        self.assertFalse(self.flood.kept)
+        self.write(None)
+        self.look(200)
+        self.assertTrue(self.flood.kept)
+        self.assertAlmostEqual(self.flood.late, 0.01)
+        self.assertTrue(self.flood.line().endswith(f"; it kept its ticks: it took {ticks} of {ticks}, at most 10 ms late"))
+
+    def test_a_tick_that_came_when_the_next_was_due(self):
+        self.write(None)
+        self.look(100.045)
+        self.write(*[None] * (made_sessions.SESSION.ticks - 1))
+        self.look(100.05)
+        self.assertFalse(self.flood.kept)
+
+    def test_no_request(self):
+        self.write(None, self.other)
+        self.look(100.1)
+        self.assertEqual(self.flood.line(), "peer 1 took no REQUEST, so none was sent again")
+
+    def test_a_flood_beside_a_session(self):
+        with bound(0) as taken:
+            self.flood.session = dataclasses.replace(made_sessions.SESSION, port=taken.getsockname()[1] - 1)
+            with barwatching.watched(self.flood):
+                self.write(None, self.asked)
+                taken.settimeout(20)
+                self.assertEqual([taken.recv(65_536) for _ in range(10)], [self.asked] * 10)
+                self.write(self.asked, self.asked)
+        self.assertEqual((self.flood.sent, self.flood.taken), (10, 2))
 
 
 if __name__ == "__main__":
