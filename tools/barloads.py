@@ -118,12 +118,14 @@ def forged(datagram, number):
 class Load:
     """So many copies of a datagram before each of some inputs, which are counted from 0, or behind the last one.
 
-    Each copy is the same as its model, or where they are forged has another signature. `answers` is how many lines answer one.
+    Each copy is the same as its model, or where they are forged has another signature. A datagram that is remembered is verified at its
+    first copy alone. `answers` is how many lines answer one.
     """
 
     told: str
     parts: dict
     is_forged: bool = False
+    is_remembered: bool = False
     answers: int = 0
 
     @property
@@ -175,10 +177,10 @@ def request_loads(recorded, count):
 
 def loads_of(recorded, count):
     """The loads of all kinds, each of so many datagrams at most."""
-    yield Load("repeated", spread_over(recorded, repeated_requests(recorded), count), answers=1)
+    yield Load("repeated", spread_over(recorded, repeated_requests(recorded), count), is_remembered=True, answers=1)
     yield Load("forged", spread_over(recorded, past_manifests(recorded), count), is_forged=True)
     yield Load("verified", spread_over(recorded, coming_manifests(recorded), count), is_forged=True)
-    yield Load("early", spread_over(recorded, early_keys(recorded), count))
+    yield Load("early", spread_over(recorded, early_keys(recorded), count), is_remembered=True)
     yield from request_loads(recorded, count)
 
 

@@ -1,7 +1,7 @@
 ghost use Rattle.std.specs.Prelude.{◌≡◌, ◌≤◌, length};
 ghost use Rattle.bar_wire.specs.Limits.{largest_datagram};
 ghost use Rattle.bar_rules.specs.Signers.{IsSignerOf};
-ghost use Rattle.bar_rules.specs.Verifiers.{IsVerifierOf};
+ghost use Rattle.bar_rules.specs.Verifiers.{IsVerifierOf, NamesLeavesOf};
 ghost use Rattle.bar_caster.specs.Memory.{member_of};
 ghost use Rattle.bar_caster.specs.Ticking.{most_orders};
 
@@ -22,6 +22,7 @@ pub struct Caster<S: Scheme> {
     /// Room for a datagram that is written and signed.
     pub(crate) scratch: Vec<u8>,
     ghost verifies: { IsVerifierOf memory.session (S.Verifier.is_accepted scheme) },
+    ghost names: { NamesLeavesOf memory.session (S.Verifier.leaf_named scheme) (S.Verifier.signature_len scheme) },
     ghost signs: { IsSignerOf (member_of memory) (S.signed scheme) (S.leaf_count scheme) (S.Verifier.signature_len scheme) },
     ghost room: { most_orders memory.session ≤ orders.room },
     ghost ranks_are: { length ranks ≡ memory.session.shape.peers },

@@ -4,7 +4,7 @@ ghost use Rattle.bar_wire.specs.Limits.{largest_content, largest_datagram};
 ghost use Rattle.bar_rules.specs.Broadcaster.Party.{IsBroadcaster};
 ghost use Rattle.bar_rules.specs.Members.{member_by};
 ghost use Rattle.bar_rules.specs.Signers.{IsSignerOf};
-ghost use Rattle.bar_rules.specs.Verifiers.{IsVerifierOf};
+ghost use Rattle.bar_rules.specs.Verifiers.{IsVerifierOf, NamesLeavesOf};
 ghost use Rattle.bar_store.specs.Orders.{left_in};
 ghost use Rattle.bar_caster.specs.Memory.{stream_of};
 ghost use Rattle.bar_caster.specs.StandsFor.{StandsFor};
@@ -92,6 +92,7 @@ impl<S: Scheme + Drop> Caster<S> {
         requires id { secrets.id ≡ session.shape.id }
         requires broadcaster { IsBroadcaster (member_by session secrets) }
         requires verifies { IsVerifierOf session (S.Verifier.is_accepted scheme) }
+        requires names { NamesLeavesOf session (S.Verifier.leaf_named scheme) (S.Verifier.signature_len scheme) }
         requires signs { IsSignerOf (member_by session secrets) (S.signed scheme) (S.leaf_count scheme) (S.Verifier.signature_len scheme) }
         ensures stands { IfOk result (λ c. StandsFor c.memory []) }
         ensures sends { IfOk result (λ c. left_in c.orders ≡ []) }

@@ -7,7 +7,7 @@ ghost use Rattle.bar_rules.specs.Broadcaster.Sending.{caster_take, judge_body, j
 ghost use Rattle.bar_rules.specs.Member.{last_tick};
 ghost use Rattle.bar_rules.specs.Peer.Log.{Log};
 ghost use Rattle.bar_rules.specs.Values.{datagram_of};
-ghost use Rattle.bar_rules.specs.Verifiers.{IsVerifierOf};
+ghost use Rattle.bar_rules.specs.Verifiers.{IsVerifierOf, NamesLeavesOf};
 ghost use Rattle.bar_caster.specs.Memory.{Tells, IsOfTheSame, member_of, stream_of};
 ghost use Rattle.bar_caster.specs.Orders.{Stands};
 ghost use Rattle.bar_caster.specs.StandsFor.{Inputs, StandsFor, log_of};
@@ -35,6 +35,7 @@ impl Memory {
         steps: &mut Steps<L>,
     )
         requires verifier { IsVerifierOf self.old.session (V.is_accepted verifier.now) }
+        requires names { NamesLeavesOf self.old.session (V.leaf_named verifier.now) (V.signature_len verifier.now) }
         ensures judged { (log : Log) (evidence : List (List ℕ)) → Tells log self.old → IsEvidence bytes.now evidence
             → Tells (judge_body (member_of self.old) (stream_of self.old) log (Evidence evidence)) self.new }
         ensures ticks { self.new.ticks ≡ self.old.ticks }
@@ -64,6 +65,7 @@ impl Memory {
         steps: &mut Steps<L>,
     )
         requires verifier { IsVerifierOf self.old.session (V.is_accepted verifier.now) }
+        requires names { NamesLeavesOf self.old.session (V.leaf_named verifier.now) (V.signature_len verifier.now) }
         ensures judged { (log : Log) → Tells log self.old
             → Tells (judge_datagram (member_of self.old) (stream_of self.old) log (datagram_of self.old.session bytes.now)) self.new }
         ensures ticks { self.new.ticks ≡ self.old.ticks }

@@ -1,5 +1,6 @@
 //! What a table file and an evidence file say, and the verdict on them, with a count of steps that nobody reads.
 ghost use Rattle.std.specs.Prelude.{◌≡◌, ◌⊎◌, ◌<◌, Err, IfOk, IfErr, option_map};
+ghost use Rattle.bar_lms.specs.Params.{signature_len};
 ghost use Rattle.bar_terms.specs.Table.{digests_of};
 ghost use Rattle.bar_wire.specs.Evidence.{datagrams_of};
 ghost use Rattle.bar_rules.specs.Judge.Verdict.{verdict};
@@ -55,6 +56,15 @@ pub fn read_evidence(bytes: &[u8]) -> Option<EvidenceView<'_>>
     split_evidence(bytes).ok()
 }
 
+/// The verifier of a session's signatures, which have the length that its shape says.
+fn verifier_of(session: &Session) -> LmsVerifier
+    ensures params { result.params ≡ session.now.params }
+    ensures long { signature_len result.params ≡ session.now.shape.sig_len }
+{
+    let _ = session.shape();
+    LmsVerifier::new(session.params())
+}
+
 fn judge_counted<L: Ledger>(
     session: &Session,
     table: &Table,
@@ -66,7 +76,7 @@ fn judge_counted<L: Ledger>(
     requires some { 0 < L.parts }
     ensures { plain_verdict result ≡ verdict session.now (digests_of table.now.lists) (datagrams_of evidence.now) }
 {
-    let verifier = LmsVerifier::new(session.params());
+    let verifier = verifier_of(session);
     verdict(
         session,
         &verifier,

@@ -1,5 +1,5 @@
 -- The terms of an exchange that is kept.
-use Rattle.std.proofs.Common.{◌≡◌, ℕ, ◌∙◌, true, Option, Some, None, sym, ap, subst}
+use Rattle.std.proofs.Common.{◌≡◌, ◌∙◌, true, Option, Some, None, sym, ap, subst}
 use Rattle.std.specs.Prelude.{option_map, option_and_then, IfSome}
 use Rattle.std.specs.Bool.{then_some}
 use Rattle.bar_window.specs.declared.exchange.Exchange.{Exchange}

@@ -4,3 +4,4 @@ pub mod Parts
 pub mod Counts
 pub mod Writing
 pub mod Answering
+pub mod Naming

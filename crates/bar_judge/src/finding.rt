@@ -3,18 +3,21 @@ ghost use Rattle.std.specs.Prelude.{◌≡◌, ◌+◌, ◌≤◌, true, IfSome,
 ghost use Rattle.bar_terms.specs.Table.{digests_of};
 ghost use Rattle.bar_wire.specs.Bodies.{is_peer_kind};
 ghost use Rattle.bar_wire.specs.Views.{datagram, plain};
-ghost use Rattle.bar_rules.specs.Judge.Verdict.{fault_in_order, fault_of, fault_of_two};
+ghost use Rattle.bar_rules.specs.Judge.Verdict.{fault_in_order, fault_of, fault_of_messages, fault_of_two};
+ghost use Rattle.bar_rules.specs.Verifiers.{NamesLeavesOf};
 ghost use Rattle.bar_seeds.specs.Checkpoints.{MovesOn};
 ghost use Rattle.bar_roster.specs.Points.{AreSeeds};
 ghost use Rattle.bar_judge.specs.Parts.{IsRead, datagrams, choice_round_alone};
 ghost use Rattle.bar_judge.specs.Verdicts.{plain_fault};
 
 use crate::fault::Fault;
+use crate::leaves::is_leaf_twice;
 use crate::one::found_in_one;
 use crate::opening::shows_bad_opening;
 use crate::words::fault_by_words;
 use bar_bytes::Steps;
 use bar_roster::Session;
+use bar_seal::Verifier;
 use bar_seeds::Checkpoints;
 use bar_terms::Table;
 use bar_wire::View;
@@ -34,19 +37,14 @@ fn fault_in_order(session: &Session, table: &Table, m: &View<'_>, n: &View<'_>) 
     fault_by_words(&session.shape(), m, n)
 }
 
-/// What two datagrams show, in either order.
-pub(crate) fn fault_of_two(
-    session: &Session,
-    table: &Table,
-    m: &View<'_>,
-    n: &View<'_>,
-) -> Option<Fault>
+/// What two messages show, in either order.
+fn fault_of_messages(session: &Session, table: &Table, m: &View<'_>, n: &View<'_>) -> Option<Fault>
     requires one { IsRead session.now.shape m.now }
     requires two { IsRead session.now.shape n.now }
     requires signed_one { is_peer_kind (plain m.now.body) ≡ true }
     requires signed_two { is_peer_kind (plain n.now.body) ≡ true }
-    ensures { option_map plain_fault result ≡ fault_of_two session.now (digests_of table.now.lists)
-        (datagram session.now.shape m.now) (datagram session.now.shape n.now) }
+    ensures { option_map plain_fault result ≡ fault_of_messages session.now (digests_of table.now.lists)
+        (datagram session.now.shape m.now).message (datagram session.now.shape n.now).message }
 {
     match fault_in_order(session, table, m, n) {
         Some(fault) => Some(fault),
@@ -54,17 +52,41 @@ pub(crate) fn fault_of_two(
     }
 }
 
+/// What two datagrams show: first by their leaves, and then by their messages.
+pub(crate) fn fault_of_two<V: Verifier>(
+    session: &Session,
+    verifier: &V,
+    table: &Table,
+    m: &View<'_>,
+    n: &View<'_>,
+) -> Option<Fault>
+    requires leaves { NamesLeavesOf session.now (V.leaf_named verifier.now) (V.signature_len verifier.now) }
+    requires one { IsRead session.now.shape m.now }
+    requires two { IsRead session.now.shape n.now }
+    requires signed_one { is_peer_kind (plain m.now.body) ≡ true }
+    requires signed_two { is_peer_kind (plain n.now.body) ≡ true }
+    ensures { option_map plain_fault result ≡ fault_of_two session.now (digests_of table.now.lists)
+        (datagram session.now.shape m.now) (datagram session.now.shape n.now) }
+{
+    if is_leaf_twice(session, verifier, m, n) {
+        return Some(Fault::F7);
+    }
+    fault_of_messages(session, table, m, n)
+}
+
 /// The fault that one or two datagrams show, which are of kinds that peers sign, of one sender and with accepted signatures: the one that
 /// the verdict on their bytes shows, and `None` exactly where that verdict shows none. It counts the steps along the seeds.
 #[tactic(auto, using(bar_seeds::proofs::CheckpointLemmas::moves_none))]
-pub fn found<L: Ledger>(
+pub fn found<V: Verifier, L: Ledger>(
     session: &Session,
+    verifier: &V,
     table: &Table,
     one: &View<'_>,
     two: Option<&View<'_>>,
     points: &mut Checkpoints,
     steps: &mut Steps<L>,
 ) -> Option<Fault>
+    requires leaves { NamesLeavesOf session.now (V.leaf_named verifier.now) (V.signature_len verifier.now) }
     requires one { IsRead session.now.shape one.now }
     requires two { IfSome two (λ v. IsRead session.now.shape v.now) }
     requires signed_one { is_peer_kind (plain one.now.body) ≡ true }
@@ -79,6 +101,6 @@ pub fn found<L: Ledger>(
 {
     match two {
         None => found_in_one(session, table, one, points, steps),
-        Some(two) => fault_of_two(session, table, one, two),
+        Some(two) => fault_of_two(session, verifier, table, one, two),
     }
 }

@@ -27,7 +27,7 @@ fn list_in<'a>(body: &Body<'a>) -> Option<(u32, &'a [u8])>
 }
 
 /// The round and the digests of bytes that spell a MANIFEST of a round after the last one, with an accepted signature. It counts each hash.
-pub(crate) fn list_after<'a, V: Verifier, L: Ledger>(
+pub fn list_after<'a, V: Verifier, L: Ledger>(
     session: &Session,
     verifier: &V,
     last: u32,

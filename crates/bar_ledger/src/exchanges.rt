@@ -3,18 +3,27 @@ ghost use Rattle.std.specs.Prelude.{◌≡◌, Some};
 ghost use Rattle.bar_window.specs.Exchange.{same_exchange};
 ghost use Rattle.bar_rules.specs.Peer.Exchanges.{opening_kind, precedes};
 ghost use Rattle.bar_ledger.specs.Hearing.{hears, is_opening};
+ghost use Rattle.bar_ledger.specs.Naming.{is_beside};
 ghost use Rattle.bar_ledger.specs.Order.{parties_precede, is_above, is_below, best_with};
 
 use bar_window::{Exchange, Role, XKind};
 use bar_wire::Kind;
 
-pub(crate) fn is_same(x: Exchange, y: Exchange) -> bool
+/// Whether two exchanges are one.
+pub fn is_same(x: Exchange, y: Exchange) -> bool
     ensures { result ≡ same_exchange x y }
 {
     x.round == y.round
         && x.kind.code() == y.kind.code()
         && x.initiator == y.initiator
         && x.responder == y.responder
+}
+
+/// Whether an exchange is another one than the first, and one of its parties is this.
+pub(crate) fn is_beside(x: Exchange, party: u16, y: Exchange) -> bool
+    ensures { result ≡ is_beside x party y }
+{
+    !is_same(x, y) && (y.initiator == party || y.responder == party)
 }
 
 fn precedes_in_round(x: Exchange, y: Exchange) -> bool

@@ -7,15 +7,17 @@ ghost use Rattle.bar_terms.specs.Terms.{promise};
 ghost use Rattle.bar_ledger.specs.Kept.{kept_of, newly, with_new, with_bytes, heard_of, live_of, is_for, keeps};
 ghost use Rattle.bar_wire.specs.declared.shape.Shape.{Shape};
 ghost use Rattle.bar_ledger.specs.Hearing.{is_opening};
-ghost use Rattle.bar_ledger.specs.Asking.{is_asked, open_of};
+ghost use Rattle.bar_ledger.specs.Naming.{names, shares_leaf};
+ghost use Rattle.bar_ledger.specs.Asking.{chosen, is_any, is_asked, open_of};
 ghost use Rattle.bar_ledger.specs.Slots.{HasRooms, size_for};
 ghost use Rattle.bar_ledger.specs.Totals.{totals_by, no_totals, CanTotal, AreSound};
 
 use crate::entry::Entry;
-use crate::exchanges::{is_same, opens};
+use crate::exchanges::{is_beside, is_same, opens};
 use crate::sizes::{largest, most_first};
 use crate::totals::Totals;
 use bar_bytes::Room;
+use bar_seal::Verifier;
 use bar_window::{Exchange, Role, XKind};
 use bar_wire::{Kind, Shape};
 use std::alloc::{AllocError, Global};
@@ -86,6 +88,52 @@ impl Slot {
                     && entry.x.round == round
             }
             None => false,
+        }
+    }
+
+    /// Whether it keeps another exchange than this one, with a party, of which a signed datagram was heard that names a leaf.
+    pub(crate) fn shares_leaf<V: Verifier>(
+        &self,
+        verifier: &V,
+        x: Exchange,
+        party: u16,
+        leaf: u32,
+    ) -> bool
+        ensures { result ≡ option_map_or (shares_leaf (V.leaf_named verifier.now) (V.signature_len verifier.now) leaf x party)
+            (kept_of self.now) false }
+    {
+        let Some(entry) = &self.entry else {
+            return false;
+        };
+        is_beside(x, party, entry.x)
+            && (names(verifier, self.first.kept(), leaf)
+                || names(verifier, self.case.kept(), leaf)
+                || names(verifier, self.key.kept(), leaf))
+    }
+
+    /// Whether it does, and doesn't give it up in a round.
+    pub(crate) fn names_leaf<V: Verifier>(
+        &self,
+        verifier: &V,
+        x: Exchange,
+        party: u16,
+        leaf: u32,
+        life: u8,
+        round: u32,
+    ) -> bool
+        ensures { result ≡ option_map_or (shares_leaf (V.leaf_named verifier.now) (V.signature_len verifier.now) leaf x party)
+            (live_of life round self.now) false }
+    {
+        self.is_live(life, round) && self.shares_leaf(verifier, x, party, leaf)
+    }
+
+    /// Its exchange, where it isn't given up in a round.
+    pub(crate) fn exchange(&self, life: u8, round: u32) -> Option<Exchange>
+        ensures { result ≡ option_and_then (chosen is_any) (live_of life round self.now) }
+    {
+        match &self.entry {
+            Some(entry) => self.is_live(life, round).then_some(entry.x),
+            None => None,
         }
     }
 
@@ -197,6 +245,18 @@ impl Slot {
             opened: size_if(entry.key_said, entry, entry.role, cap),
         }
     }
+}
+
+/// Whether the signature that ends a datagram names a leaf.
+pub fn names<V: Verifier>(verifier: &V, datagram: Option<&[u8]>, leaf: u32) -> bool
+    ensures { result ≡ option_map_or (names (V.leaf_named verifier.now) (V.signature_len verifier.now) leaf)
+        (option_copied datagram.entry) false }
+{
+    let Some(bytes) = datagram else {
+        return false;
+    };
+    let len = verifier.sig_len();
+    len <= bytes.len() && verifier.leaf_in(&bytes[bytes.len() - len..]) == leaf
 }
 
 /// How many items a side promises, where it did.

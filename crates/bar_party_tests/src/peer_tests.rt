@@ -543,6 +543,61 @@ fn check_bad_key(rt: &impl Abort, alloc: Global, pair: &mut Pair) -> Result<(), 
     Ok(check_shown(rt, alloc, &mut pair.two, &key, &evidence)?)
 }
 
+/// The REQUEST that peer 2 sends peer 1 at its next tick, in a round.
+fn next_request(
+    rt: &impl Abort,
+    alloc: Global,
+    peer: &mut Peer<LmsScheme>,
+    round: u8,
+) -> Result<Vec<u8>, AllocError> {
+    sent_at_tick(rt, alloc, peer, &front(Kind::Request, 2, 1, round))
+}
+
+/// The REQUEST of a round, signed with the leaf of round 1.
+fn request_by_leaf_0(
+    rt: &impl Abort,
+    alloc: Global,
+    peer: &mut Peer<LmsScheme>,
+    round: u8,
+) -> Result<Vec<u8>, Fail> {
+    let mut message = next_request(rt, alloc, peer, round)?;
+    message.truncate(84);
+    let scheme = scheme_of(alloc, session(), 9)?;
+    Ok(signed(rt, alloc, &scheme, 0, &message)?)
+}
+
+/// Gives a peer a datagram, for which it reports evidence so often.
+fn check_reported(
+    rt: &impl Abort,
+    alloc: Global,
+    peer: &mut Peer<LmsScheme>,
+    datagram: &[u8],
+    evidence: &Evidence,
+    reports: usize,
+) -> Result<(), AllocError> {
+    let sends = answers(rt, alloc, peer, datagram)?;
+    check_count(rt, &sends, &evidence.report, reports);
+    Ok(())
+}
+
+/// Two REQUESTs of one leaf are evidence, unless the earlier one is given up: that of round 1 is in round 6, and that of round 6 isn't in
+/// round 7.
+fn check_leaf_twice(rt: &impl Abort, alloc: Global, pair: &mut Pair) -> Result<(), Fail> {
+    let first = next_request(rt, alloc, &mut pair.two, 1)?;
+    ticks(rt, alloc, &mut pair.one, 1)?;
+    answers(rt, alloc, &mut pair.one, &first)?;
+    pass(rt, alloc, pair, 40)?;
+    let second = request_by_leaf_0(rt, alloc, &mut pair.two, 6)?;
+    answers(rt, alloc, &mut pair.one, &second)?;
+    assert_eq!(rt; pair.one.evidence(2), None);
+    pass(rt, alloc, pair, 8)?;
+    let third = request_by_leaf_0(rt, alloc, &mut pair.two, 7)?;
+    let evidence = evidence_of(alloc, 1, 2, &[&second, &third])?;
+    check_reported(rt, alloc, &mut pair.one, &third, &evidence, 1)?;
+    check_evidence(rt, &pair.one, &evidence);
+    Ok(check_reported(rt, alloc, &mut pair.one, &third, &evidence, 0)?)
+}
+
 /// The EVICT of round 1 that names a party.
 fn eviction_of(
     rt: &impl Abort,
@@ -730,6 +785,7 @@ enum PairCheck {
     Trades,
     Pushes,
     BadKey,
+    LeafTwice,
     Eviction,
     Cap,
     CutTrade,
@@ -748,6 +804,7 @@ fn check_pair(
         PairCheck::Trades => check_trades(rt, alloc, pair)?,
         PairCheck::Pushes => check_pushes(rt, alloc, pair)?,
         PairCheck::BadKey => check_bad_key(rt, alloc, pair)?,
+        PairCheck::LeafTwice => check_leaf_twice(rt, alloc, pair)?,
         PairCheck::Eviction => check_eviction(rt, alloc, pair)?,
         PairCheck::Cap => check_cap(rt, alloc, pair)?,
         PairCheck::CutTrade => check_cut_trade(rt, alloc, pair)?,
@@ -786,6 +843,11 @@ fn young_updates_are_pushed_for_old_ones_and_junk(rt: HostRuntime) -> Result<(),
 #[test]
 fn a_key_that_opens_badly_is_reported_with_its_briefcase(rt: HostRuntime) -> Result<(), Fail> {
     check_new_pair(&rt, rt.alloc(), session(), PairCheck::BadKey)
+}
+
+#[test]
+fn a_leaf_that_signed_in_two_exchanges_is_reported(rt: HostRuntime) -> Result<(), Fail> {
+    check_new_pair(&rt, rt.alloc(), session(), PairCheck::LeafTwice)
 }
 
 #[test]

@@ -1,5 +1,5 @@
 -- What admits a datagram, what refuses it, and at which evidence is looked for.
-use Rattle.std.proofs.Common.{◌≡◌, ◌≤◌, ◌∙◌, ◌+◌, ◌==◌, is_some, nat_le, ℕ, Bool, true, false, Some, None, ◌&&◌, not, sym, ap, refl}
+use Rattle.std.proofs.Common.{◌≡◌, ◌∙◌, ◌+◌, ◌==◌, is_some, nat_le, ℕ, Bool, true, false, Some, None, ◌&&◌, not, sym, ap, refl}
 use Rattle.std.specs.Prelude.{if◌then◌else◌}
 use Rattle.std.proofs.lemmas.Bool.{and_parts, false≢true}
 use Rattle.std.proofs.lemmas.Option.{same_Some}
@@ -15,10 +15,7 @@ use Rattle.bar_rules.specs.Values.{is_signed_by}
 use Rattle.bar_rules.specs.Peer.Admission.{is_admitted, is_for, is_heard_again, is_row_met, has_valid_signature}
 use Rattle.bar_rules.specs.Peer.Evidence.{is_tried}
 use Rattle.bar_rules.specs.Peer.Knowledge.{Knowledge, this_round}
-use Rattle.bar_peer.specs.Repeats.{IsInTime}
 use Rattle.bar_peer.specs.Trying.{may_admit, may_show}
-use Rattle.bar_peer.proofs.Rows.{in_time}
-use Rattle.bar_peer.proofs.Stale.{in-time-by}
 
 pub last_false : (a : Bool) → false ≡ (a && false)
 last_false true = refl
@@ -139,12 +136,6 @@ untried me k d is = sym (tried_by_signature me k d ∙ (λ i. is i && is_signed_
 -- what may show evidence is of a kind that peers sign, and of an exchange that may still be asked about
 pub shows_peer_kind : (me : Member) (k : Knowledge) (d : Datagram) → may_show me k d ≡ true → is_peer_kind d.message.body ≡ true
 shows_peer_kind me k d e = (and_parts _ _ (and_parts _ _ (and_parts _ _ (and_parts _ _ e).0).0).0).0
-
-pub shows_in_time : (me : Member) (k : Knowledge) (d : Datagram) → may_show me k d ≡ true → IsInTime me k d.message
-shows_in_time me k d e = in-time-by me k d.message.from d.message.to d.message.body (and_parts _ _ e).1
-
-pub admits_in_time : (me : Member) (k : Knowledge) (d : Datagram) → 2 ≤ me.session.shape.life → may_admit me k d ≡ true → IsInTime me k d.message
-admits_in_time me k d life e = in_time me k d.message.from d.message.to d.message.body life (and_parts _ _ e).1
 
 pub shows_signed : (me : Member) (k : Knowledge) (d : Datagram) → may_show me k d ≡ true → has_valid_signature me.session d ≡ is_signed_by me.session d
 shows_signed me k d e = valid_of_peer me.session d (shows_peer_kind me k d e)

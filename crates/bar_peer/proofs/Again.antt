@@ -12,11 +12,9 @@ use Rattle.bar_ledger.specs.Lookups.{heard_in}
 use Rattle.bar_ledger.specs.Recalls.{Recalls}
 use Rattle.bar_rules.specs.Member.{Session, Member}
 use Rattle.bar_rules.specs.Values.{datagram_bytes}
-use Rattle.bar_rules.specs.Peer.Admission.{has_valid_signature}
 use Rattle.bar_rules.specs.Peer.Agreement.{IsRecent}
 use Rattle.bar_rules.specs.Peer.Knowledge.{Knowledge}
 use Rattle.bar_rules.specs.Peer.Replies.{heard_like, if_same, repeated}
-use Rattle.bar_laws.specs.Soundness.{IsSound}
 use Rattle.bar_balanced.specs.Balanced.{AreSpelled}
 use Rattle.bar_peer.specs.Repeats.{IsInTime}
 
@@ -68,28 +66,3 @@ repeats me k d heard bytes same one h spells free is eq =
     let like : Option Datagram = heard_like k d.message.body (place_of d.message) in
     (λ i. if free i then None else if_same me.session d like)
     ∙ same_as me.session d like heard bytes same one (λ e. spelled_like me k d.message.body (place_of d.message) e h) spells is eq
-
--- what was admitted under the name of a datagram has a signature that was accepted, where its kind bears one
-valid_like : (me : Member) (k : Knowledge) (b : Body) (o : Option Place) (e : Datagram) → IsSound me k → heard_like k b o ≡ Some e
-    → has_valid_signature me.session e ≡ true
-valid_like me k b None e h is = absurd (cc)
-valid_like me k b (Some p) e h is = h.accepted (kind_of b) p.exchange p.role e is
-
-repeats_one : (s : Session) (d e : Datagram) (o : Option Datagram) → if_same s d o ≡ Some e → o ≡ Some e
-repeats_one s d e None is = absurd (cc)
-repeats_one s d e (Some heard) is = by (bytes_eq (datagram_bytes s heard) (datagram_bytes s d)) is
-  where
-    by : (same : Bool) → then_some same heard ≡ Some e → Some heard ≡ Some e
-    by true is = is
-    by false is = absurd (cc)
-
--- what is repeated has one
-pub again_valid : (me : Member) (k : Knowledge) (d : Datagram) → IsSound me k → repeated me k d ≡ Some d → has_valid_signature me.session d ≡ true
-again_valid me k d h is = by (k.is_announced d.message.from) is
-  where
-    like : Option Datagram
-    like = heard_like k d.message.body (place_of d.message)
-
-    by : (announced : Bool) → (if announced then None else if_same me.session d like) ≡ Some d → has_valid_signature me.session d ≡ true
-    by true is = absurd (cc)
-    by false is = valid_like me k d.message.body (place_of d.message) d h (repeats_one me.session d d like is)

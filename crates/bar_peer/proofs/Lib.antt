@@ -10,6 +10,7 @@ pub mod Answered
 pub mod Keys
 pub mod Learned
 pub mod Heard
+pub mod Elsewhere
 pub mod Hears
 pub mod Sent
 pub mod Timely

@@ -27,7 +27,7 @@ use Rattle.bar_rules.specs.Member.{Session, Member}
 use Rattle.bar_rules.specs.Values.{datagram_bytes, datagram_of, is_signed_by}
 use Rattle.bar_rules.specs.Peer.Admission.{has_valid_signature}
 use Rattle.bar_rules.specs.Peer.Agreement.{IsRecent}
-use Rattle.bar_rules.specs.Peer.Evidence.{accuses, if_accuses, is_tried, new_evidence, pair_with, pairs_by}
+use Rattle.bar_rules.specs.Peer.Evidence.{accuses, if_accuses, is_tried, new_evidence, pair_with, pairs_of}
 use Rattle.bar_rules.specs.Peer.Knowledge.{Knowledge, table_of, this_round}
 use Rattle.bar_laws.specs.Soundness.{IsSound}
 use Rattle.bar_ledger.specs.declared.ledger.Ledger.{Ledger}
@@ -241,12 +241,12 @@ tried_parts me k d tried =
 pub tried_is : (me : Member) (k : Knowledge) (d : Datagram) (bytes : List ℕ) (t : Table) (found : Option CodeFault) (shows : Bool) (o : Option Place)
     → VerdictsAreFound → IsGood me.session d → bytes ≡ datagram_bytes me.session d → is_tried me k d ≡ true → table_of k ≡ t
     → option_map plain_fault found ≡ fault_of me.session t (d ∷ []) → shows ≡ is_some found → o ≡ place_of d.message
-    → new_evidence me k d ≡ option_or (then_some shows (bytes ∷ [])) (pairs_by me.session k d o)
+    → new_evidence me k d ≡ option_or (then_some shows (bytes ∷ [])) (pairs_of me k d o)
 unfolding new_evidence
 tried_is me k d bytes t found shows o law good spelled tried table exact is at =
     let same : is_some (fault_of me.session t (d ∷ [])) ≡ shows = ap is_some (sym exact) ∙ some_of plain_fault found ∙ sym is in
     (λ i. if tried i
     then option_or (if_accuses me.session (table i) d.message.from (datagram_bytes me.session d ∷ []))
-    (pairs_by me.session k d (sym at i)) else None)
-    ∙ ap (λ one. option_or one (pairs_by me.session k d o))
+    (pairs_of me k d (sym at i)) else None)
+    ∙ ap (λ one. option_or one (pairs_of me k d o))
     (one_shown me.session t d law good ∙ (λ i. then_some (same i) (sym spelled i ∷ [])))

@@ -1,6 +1,6 @@
 ghost use Rattle.std.specs.Prelude.{◌≡◌, ◌≤◌};
 ghost use Rattle.bar_roster.specs.Points.{AreSeeds};
-ghost use Rattle.bar_rules.specs.Verifiers.{IsVerifierOf};
+ghost use Rattle.bar_rules.specs.Verifiers.{IsVerifierOf, NamesLeavesOf};
 ghost use Rattle.bar_peer.specs.Memory.{member_of};
 ghost use Rattle.bar_rules.specs.Signers.{IsSignerOf};
 ghost use Rattle.bar_peer.specs.Ticking.{most_orders};
@@ -23,6 +23,8 @@ pub struct Peer<S: Scheme> {
     pub(crate) orders: Orders<Order>,
     pub(crate) playing: Playing,
     ghost verifies: { IsVerifierOf memory.who.session (S.Verifier.is_accepted checker.verifier) },
+    ghost names: { NamesLeavesOf memory.who.session (S.Verifier.leaf_named checker.verifier)
+        (S.Verifier.signature_len checker.verifier) },
     ghost signs: { IsSignerOf (member_of memory.who) (S.signed checker.verifier) (S.leaf_count checker.verifier)
         (S.Verifier.signature_len checker.verifier) },
     ghost seeds: { AreSeeds memory.who.session points },

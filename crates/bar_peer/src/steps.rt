@@ -9,7 +9,7 @@ ghost use Rattle.bar_rules.specs.Peer.Knowledge.{known};
 ghost use Rattle.bar_rules.specs.Peer.Log.{Log};
 ghost use Rattle.bar_rules.specs.Peer.Run.{log_after, step};
 ghost use Rattle.bar_rules.specs.Peer.Ticks.{contents_at_tick};
-ghost use Rattle.bar_rules.specs.Verifiers.{IsVerifierOf};
+ghost use Rattle.bar_rules.specs.Verifiers.{IsVerifierOf, NamesLeavesOf};
 ghost use Rattle.bar_peer.specs.Checking.{IsCheckedOnce, AdmitsChecked, AdmitsKept, StandsFirst, IsSeedKept};
 ghost use Rattle.bar_peer.specs.Checking.{checked_in, choice_round_in, round_in, sender_in, shows_seed};
 ghost use Rattle.bar_peer.specs.Memory.{member_of, Tells};
@@ -65,7 +65,7 @@ fn take_input<V: Verifier, L: StepLedger>(
 )
     requires before { nat_le (last_tick memory.old.who.session) memory.old.ticks ≡ false }
     requires verifier { IsVerifierOf memory.old.who.session (V.is_accepted checker.old.verifier) }
-    requires size { V.signature_len checker.old.verifier ≡ memory.old.who.session.shape.sig_len }
+    requires names { NamesLeavesOf memory.old.who.session (V.leaf_named checker.old.verifier) (V.signature_len checker.old.verifier) }
     requires points { AreSeeds memory.old.who.session points.old }
     ensures stands { TakesInput (plain_input input.entry) memory.old orders.old memory.new orders.new }
     ensures room { orders.new.room ≡ orders.old.room }

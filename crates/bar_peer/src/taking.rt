@@ -17,7 +17,7 @@ ghost use Rattle.bar_rules.specs.Peer.Knowledge.{known};
 ghost use Rattle.bar_rules.specs.Peer.Log.{Log};
 ghost use Rattle.bar_rules.specs.Peer.Rules.{IsObedient};
 ghost use Rattle.bar_rules.specs.Peer.Run.{answered_to, take_datagram, with_evidence};
-ghost use Rattle.bar_rules.specs.Verifiers.{IsVerifierOf};
+ghost use Rattle.bar_rules.specs.Verifiers.{IsVerifierOf, NamesLeavesOf};
 ghost use Rattle.bar_peer.specs.Memory.{member_of, HasOtherEvidence, Tells};
 ghost use Rattle.bar_peer.specs.Sending.{Stands};
 ghost use Rattle.bar_peer.specs.Steps.{TakesTick, TakesDatagram};
@@ -54,14 +54,16 @@ pub fn take_tick(memory: &mut Memory, orders: &mut Orders<Order>)
 impl Memory {
     /// Keeps the evidence that a datagram with an accepted signature completes, and answers whether there is some. It counts the steps along
     /// the seeds.
-    fn keep_found<L: StepLedger>(
+    fn keep_found<V: Verifier, L: StepLedger>(
         &mut self,
+        verifier: &V,
         bytes: &[u8],
         view: &View<'_>,
         points: &mut Checkpoints,
         steps: &mut Steps<L>,
     ) -> bool
         requires view { IsView self.old.who.session.shape bytes.now view.now }
+        requires names { NamesLeavesOf self.old.who.session (V.leaf_named verifier.now) (V.signature_len verifier.now) }
         requires points { AreSeeds self.old.who.session points.old }
         requires signed { is_peer_kind (plain view.now.body) ≡ true }
         ensures kept { (log : Log) → let me : Member = member_of self.old.who in let d : Datagram = datagram me.session.shape view.now in
@@ -78,7 +80,16 @@ impl Memory {
         logs_are_sound();
         evidence_fits_its_room();
         let table = self.store.table();
-        match find_evidence(&self.who, table, &self.ledger, bytes, view, points, steps) {
+        match find_evidence(
+            &self.who,
+            verifier,
+            table,
+            &self.ledger,
+            bytes,
+            view,
+            points,
+            steps,
+        ) {
             Some(evidence) => {
                 keep_evidence(&mut self.evidence, view.from, &evidence);
                 true
@@ -125,9 +136,10 @@ fn answer(
 
 /// Looks for evidence at a datagram with an accepted signature and keeps it, then answers the datagram, and reports the evidence. It counts
 /// the steps along the seeds.
-fn answer_tried<L: StepLedger>(
+fn answer_tried<V: Verifier, L: StepLedger>(
     memory: &mut Memory,
     orders: &mut Orders<Order>,
+    verifier: &V,
     bytes: &[u8],
     view: &View<'_>,
     is_admitted: bool,
@@ -135,6 +147,7 @@ fn answer_tried<L: StepLedger>(
     steps: &mut Steps<L>,
 )
     requires view { IsView memory.old.who.session.shape bytes.now view.now }
+    requires names { NamesLeavesOf memory.old.who.session (V.leaf_named verifier.now) (V.signature_len verifier.now) }
     requires points { AreSeeds memory.old.who.session points.old }
     requires signed { is_peer_kind (plain view.now.body) ≡ true }
     ensures stands { (log : Log)
@@ -157,7 +170,7 @@ fn answer_tried<L: StepLedger>(
 {
     knowledge_is_enough();
     logs_are_sound();
-    let is_found = memory.keep_found(bytes, view, points, steps);
+    let is_found = memory.keep_found(verifier, bytes, view, points, steps);
     answer(memory, orders, bytes, view, is_admitted);
     if is_found {
         orders.push(Order::Report(view.from));
@@ -177,7 +190,7 @@ pub fn take_view<V: Verifier, L: StepLedger>(
 )
     requires view { IsView memory.old.who.session.shape bytes.now view.now }
     requires verifier { IsVerifierOf memory.old.who.session (V.is_accepted checker.old.verifier) }
-    requires size { V.signature_len checker.old.verifier ≡ memory.old.who.session.shape.sig_len }
+    requires names { NamesLeavesOf memory.old.who.session (V.leaf_named checker.old.verifier) (V.signature_len checker.old.verifier) }
     requires points { AreSeeds memory.old.who.session points.old }
     ensures stands { (log : Log)
         → IsObedient (member_of memory.old.who)
@@ -211,6 +224,7 @@ pub fn take_view<V: Verifier, L: StepLedger>(
         answer_tried(
             memory,
             orders,
+            checker.verifier(),
             bytes,
             view,
             weighed.is_admitted,
@@ -233,7 +247,7 @@ pub fn take_datagram<V: Verifier, L: StepLedger>(
     steps: &mut Steps<L>,
 )
     requires verifier { IsVerifierOf memory.old.who.session (V.is_accepted checker.old.verifier) }
-    requires size { V.signature_len checker.old.verifier ≡ memory.old.who.session.shape.sig_len }
+    requires names { NamesLeavesOf memory.old.who.session (V.leaf_named checker.old.verifier) (V.signature_len checker.old.verifier) }
     requires points { AreSeeds memory.old.who.session points.old }
     ensures stands { TakesDatagram bytes.now memory.old orders.old memory.new orders.new }
     ensures room { orders.new.room ≡ orders.old.room }

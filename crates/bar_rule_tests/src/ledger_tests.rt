@@ -150,3 +150,19 @@ fn totals_stand_for_a_life(rt: HostRuntime) -> Result<(), Fail> {
     assert_eq!(rt; totals(&rt, &ledger, x), none);
     Ok(())
 }
+
+#[test]
+fn kept_exchanges_have_places_in_order(rt: HostRuntime) -> Result<(), Fail> {
+    let mut ledger = Ledger::make(rt.alloc(), 1, 4, &SHAPE)?;
+    add(&rt, &mut ledger, asked(exchange(3, 2), 0));
+    add(&rt, &mut ledger, asked(exchange(1, 3), 0));
+    add(&rt, &mut ledger, asked(exchange(1, 2), 1));
+    assert_eq!(rt; ledger.place(0), Some(exchange(1, 2)));
+    assert_eq!(rt; ledger.place(1), Some(exchange(1, 3)));
+    assert_eq!(rt; ledger.place(2), Some(exchange(3, 2)));
+    assert_eq!(rt; ledger.place(3), None);
+    ledger.forget(6);
+    assert_eq!(rt; ledger.place(0), Some(exchange(3, 2)));
+    assert_eq!(rt; ledger.place(1), None);
+    Ok(())
+}

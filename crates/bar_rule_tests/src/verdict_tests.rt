@@ -69,12 +69,13 @@ fn sign(
     rt: &impl Abort,
     alloc: Global,
     scheme: &LmsScheme,
+    leaf: u32,
     message: &mut Vec<u8>,
 ) -> Result<(), AllocError> {
     let leaves = scheme.leaves();
-    assert!(rt; 0 < leaves);
+    assert!(rt; leaf < leaves);
     let mut sig = vec![in alloc; 0; scheme.sig_len()]?;
-    scheme.sign(0, message, &mut sig);
+    scheme.sign(leaf, message, &mut sig);
     message.extend_from_slice(&sig)
 }
 
@@ -86,29 +87,35 @@ fn add_window(bytes: &mut Vec<u8>, rows: [u8; 4]) -> Result<(), AllocError> {
     Ok(())
 }
 
-/// The CASE that peer 1 as responder sends peer 2 in round 6. It promises update (4, 7), and its cipher is all zeros.
-fn case_of(rt: &impl Abort, alloc: Global, scheme: &LmsScheme) -> Result<Vec<u8>, AllocError> {
+/// The CASE that peer 1 as responder sends peer 2 in round 6, signed with a leaf. It promises update (4, 7), and its cipher is all zeros.
+fn case_of(
+    rt: &impl Abort,
+    alloc: Global,
+    scheme: &LmsScheme,
+    leaf: u32,
+) -> Result<Vec<u8>, AllocError> {
     let mut bytes = front(alloc, 8, 1, 2, 6)?;
     bytes.extend_from_slice(&[0, 1, 1, 0])?;
     bytes.extend_from_slice(&[0; 32])?;
     add_window(&mut bytes, [5, 0, 10, 0])?;
     add_window(&mut bytes, [4, 0x80, 0, 0])?;
     bytes.extend_from_slice(&[0; 1024])?;
-    sign(rt, alloc, scheme, &mut bytes)?;
+    sign(rt, alloc, scheme, leaf, &mut bytes)?;
     Ok(bytes)
 }
 
-/// A KEY of peer 1 to peer 2 for a side of that exchange.
+/// A KEY of peer 1 to peer 2 for a side of that exchange, signed with a leaf.
 fn key_of(
     rt: &impl Abort,
     alloc: Global,
     scheme: &LmsScheme,
     role: u8,
+    leaf: u32,
 ) -> Result<Vec<u8>, AllocError> {
     let mut bytes = front(alloc, 10, 1, 2, 6)?;
     bytes.extend_from_slice(&[0, role])?;
     bytes.extend_from_slice(&[0; 32])?;
-    sign(rt, alloc, scheme, &mut bytes)?;
+    sign(rt, alloc, scheme, leaf, &mut bytes)?;
     Ok(bytes)
 }
 
@@ -124,6 +131,7 @@ fn line_with<L: Ledger>(
     requires parts { blank.parts ≡ L.parts }
     requires some { 0 < L.parts }
 {
+    let _ = session.shape();
     let verifier = LmsVerifier::new(session.params());
     let verdict = verdict(
         session,
@@ -163,10 +171,10 @@ fn a_key_that_opens_its_briefcase_badly_is_shown(rt: HostRuntime) -> Result<(), 
     let empty = Table::make(alloc, 10, 8)?;
     let mut full = Table::make(alloc, 10, 8)?;
     assert!(rt; full.extend(4, &[0; 256]));
-    let case = case_of(&rt, alloc, &scheme)?;
-    let key = key_of(&rt, alloc, &scheme, 1)?;
+    let case = case_of(&rt, alloc, &scheme, 103)?;
+    let key = key_of(&rt, alloc, &scheme, 1, 104)?;
     assert_eq!(rt; (case.len(), key.len()), (2_596, 1_506));
-    let other = key_of(&rt, alloc, &scheme, 0)?;
+    let other = key_of(&rt, alloc, &scheme, 0, 92)?;
     let unsigned = changed(alloc, &key)?;
     for (table, one, two, expected) in [
         (&full, &case, Some(&key), "party 1 fault F1"),
@@ -178,6 +186,63 @@ fn a_key_that_opens_its_briefcase_badly_is_shown(rt: HostRuntime) -> Result<(), 
     ] {
         let two = two.map(|two| two.as_slice());
         assert_eq!(rt; line(alloc, &session, table, one, two)?.as_str(), expected);
+    }
+    Ok(())
+}
+
+/// The REQUEST of peer 1 to peer 2 in round 1, signed with a leaf.
+fn first_of(
+    rt: &impl Abort,
+    alloc: Global,
+    scheme: &LmsScheme,
+    leaf: u32,
+) -> Result<Vec<u8>, AllocError> {
+    let chain = SeedChain::make(alloc, &ID, 1, 10, &[8; 32])?;
+    let mut bytes = front(alloc, 3, 1, 2, 1)?;
+    bytes.extend_from_slice(&chain.seed(1))?;
+    bytes.extend_from_slice(&[0; 32])?;
+    sign(rt, alloc, scheme, leaf, &mut bytes)?;
+    Ok(bytes)
+}
+
+/// The RESPONSE of peer 1 to peer 2 in round 6, with updates of the first round of its window, signed with a leaf.
+fn response_of(
+    rt: &impl Abort,
+    alloc: Global,
+    scheme: &LmsScheme,
+    updates: u8,
+    leaf: u32,
+) -> Result<Vec<u8>, AllocError> {
+    let mut bytes = front(alloc, 4, 1, 2, 6)?;
+    add_window(&mut bytes, [updates, 0, 0, 0])?;
+    sign(rt, alloc, scheme, leaf, &mut bytes)?;
+    Ok(bytes)
+}
+
+#[test]
+fn a_leaf_that_signed_two_messages_is_shown(rt: HostRuntime) -> Result<(), Fail> {
+    let alloc = rt.alloc();
+    let session = session_of(alloc, session())?;
+    let scheme = scheme_of(alloc, &session, 8)?;
+    let table = Table::make(alloc, 10, 8)?;
+    let request = first_of(&rt, alloc, &scheme, 0)?;
+    let response = response_of(&rt, alloc, &scheme, 0, 0)?;
+    assert_eq!(rt; (request.len(), response.len()), (1_536, 1_504));
+    let later = response_of(&rt, alloc, &scheme, 0, 6)?;
+    let other = response_of(&rt, alloc, &scheme, 1, 6)?;
+    let case = case_of(&rt, alloc, &scheme, 103)?;
+    let key = key_of(&rt, alloc, &scheme, 1, 103)?;
+    let mut full = Table::make(alloc, 10, 8)?;
+    assert!(rt; full.extend(4, &[0; 256]));
+    for (table, one, two, expected) in [
+        (&table, &request, &response, "party 1 fault F7"),
+        (&table, &response, &request, "party 1 fault F7"),
+        (&table, &request, &later, "no fault: Consistent"),
+        (&table, &later, &other, "party 1 fault F4"),
+        (&full, &case, &key, "party 1 fault F7"),
+    ] {
+        let line = line(alloc, &session, table, one, Some(two.as_slice()))?;
+        assert_eq!(rt; line.as_str(), expected);
     }
     Ok(())
 }
@@ -194,7 +259,7 @@ fn request_of(
     let mut bytes = front(alloc, 3, 4, to, 1)?;
     bytes.extend_from_slice(&chain.seed(1))?;
     bytes.extend_from_slice(&[commitment; 32])?;
-    sign(rt, alloc, scheme, &mut bytes)?;
+    sign(rt, alloc, scheme, 0, &mut bytes)?;
     Ok(bytes)
 }
 

@@ -3,3 +3,4 @@ mod WorkedVerdicts
 mod WorkedBroadcast
 pub mod LongerRuns
 pub mod TermWindows
+pub mod Shared

@@ -16,6 +16,7 @@ use Rattle.bar_wire.specs.Grammar.{words_of, spelling}
 use Rattle.bar_wire.specs.Grammar as grammar
 use Rattle.bar_wire.specs.Places as places
 use Rattle.bar_case.specs.Sealed as sealing
+use Rattle.bar_seal.specs.Leaves.{leaf_in}
 use Rattle.bar_case.specs.Opened.{opened_blocks}
 use Rattle.bar_case.specs.Opened as opening
 use Rattle.bar_case.specs.declared.findings.Opening.{Opening}
@@ -95,3 +96,7 @@ unsigned m = record { message = m; signature = [] }
 -- the signature is accepted under the sender's key
 abbrev pub is_signed_by : Session → Datagram → Bool
 is_signed_by s d = is_accepted_under s.params (key_of_party s d.message.from) (message_bytes s d.message) d.signature
+
+-- the leaf that its signature names
+abbrev pub leaf_named : Session → Datagram → ℕ
+leaf_named s d = leaf_in d.signature

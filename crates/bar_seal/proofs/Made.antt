@@ -1,5 +1,5 @@
 -- The places of a memo while they are made, the last first.
-use Rattle.std.proofs.Common.{◌≡◌, ℕ, zero, suc, ◌+◌, ◌-◌, ◌≤◌, ◌<◌, Bool, true, false, List, [], ◌∷◌, length, take, Option, Some, None, nat_eq, refl, sym, ap, ◌∙◌, subst, arith}
+use Rattle.std.proofs.Common.{◌≡◌, ℕ, ◌+◌, ◌-◌, ◌≤◌, ◌<◌, false, List, [], ◌∷◌, length, take, Option, None, nat_eq, refl, sym, ap, ◌∙◌, subst, arith}
 use Rattle.std.proofs.lemmas.Bool.Decides.{nat_tests}
 use Rattle.std.proofs.lemmas.List.{take_all}
 use Rattle.std.specs.List.{IsDistinct, AllByRecursion}
@@ -9,8 +9,8 @@ use Rattle.lru.specs.LruCache.{LruCache, put_entries}
 use Rattle.std.specs.Prelude.{option_map, option_and_then}
 use Rattle.bar_bytes.specs.Room.{RoomFor}
 use Rattle.bar_seal.specs.declared.checked.Checked.{Checked}
-use Rattle.bar_seal.specs.Memo.{Pair, most_key, most_datagram, pair_in, pairs_in}
-use Rattle.bar_seal.specs.Places.{AreAll, AreSome, AreRoomy, AreFree, IsFilledFirst, IsRoomy}
+use Rattle.bar_seal.specs.Memo.{most_key, most_datagram, pair_in, pairs_in}
+use Rattle.bar_seal.specs.Places.{AreAll, AreRoomy, AreFree, IsFilledFirst, IsRoomy}
 use Rattle.bar_seal.proofs.Remembered.{Place}
 use Rattle.bar_seal.proofs.Recalled.{free_pairs}
 

@@ -1,19 +1,16 @@
 -- The pairs of a memo's places: a place that is found, and brought to the front.
-use Rattle.std.proofs.Common.{◌≡◌, ℕ, zero, suc, ◌+◌, ◌-◌, ◌≤◌, ◌<◌, ◌||◌, Bool, true, false, List, [], ◌∷◌, length, take, Option, Some, None, nat_eq, refl, sym, ap, ◌∙◌, subst, arith, is_some, option_map, cond}
+use Rattle.std.proofs.Common.{◌≡◌, ℕ, ◌+◌, ◌≤◌, ◌||◌, Bool, true, false, List, [], ◌∷◌, length, Option, Some, None, nat_eq, refl, sym, ap, ◌∙◌, subst, arith, is_some, cond}
 use Rattle.std.proofs.lemmas.Bool.Decides.{nat_tests}
 use Rattle.std.proofs.lemmas.Bool.{and_parts}
 use Rattle.std.proofs.lemmas.Slice.Eq.{bytes_eq-Decides}
 use Rattle.std.proofs.lemmas.Option.{same_Some}
-use Rattle.std.proofs.lemmas.List.{take_all}
-use Rattle.std.specs.Bool.{Decides}
-use Rattle.std.specs.List.{find, list_any, cons_option, IsDistinct, AllByRecursion}
-use Rattle.std.specs.Map.{keys_of, lookup, lookup_entry, remove_entry}
+use Rattle.std.specs.List.{find, cons_option, IsDistinct, AllByRecursion}
+use Rattle.std.specs.Map.{keys_of, lookup_entry, remove_entry}
 use Rattle.std.specs.Option.{option_map_or}
 use Rattle.std.specs.Str.{bytes_eq}
-use Rattle.lru.specs.LruCache.{promoted}
 use Rattle.bar_seal.specs.declared.checked.Checked.{Checked}
-use Rattle.bar_seal.specs.Memo.{Pair, Memo, same_pair, pair_in, keeps, pairs_in, has_pair, but, with_pair}
-use Rattle.bar_seal.specs.Places.{AreSome, AreRoomy, AreFree, IsFilledFirst, IsRoomy}
+use Rattle.bar_seal.specs.Memo.{Pair, same_pair, pair_in, keeps, pairs_in, has_pair, but}
+use Rattle.bar_seal.specs.Places.{AreSome, IsFilledFirst, IsRoomy}
 
 abbrev pub Place : Type 0
 Place = ℕ × Checked

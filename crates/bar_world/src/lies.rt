@@ -14,6 +14,7 @@ ghost use Rattle.bar_world.specs.Moves.{plain_move};
 use crate::moves::Move;
 use crate::packet::Packet;
 use bar_lms::SecretKey;
+use bar_seal::leaf_in;
 use bar_wire::{Body, Shape, View, decode, encode};
 use std::alloc::{AllocError, Global};
 
@@ -35,13 +36,13 @@ fn other_key(key: &[u8; 32]) -> [u8; 32]
 }
 
 /// The number of the leaf that a signature names, where it is long enough to name one.
-fn leaf_in(sig: &[u8]) -> Option<u32>
+fn named_leaf(sig: &[u8]) -> Option<u32>
     ensures { MatchOption result (length sig.now < 4) (λ leaf. leaf ≡ number_at sig.now 0) }
 {
     if sig.len() < 4 {
         return None;
     }
-    Some(u32::from_be_bytes([sig[0], sig[1], sig[2], sig[3]]))
+    Some(leaf_in(sig))
 }
 
 /// The length of a KEY without its signature.
@@ -96,7 +97,7 @@ impl Liar {
         let Some(sig) = view.sig else {
             return Ok(None);
         };
-        let Some(leaf) = leaf_in(sig) else {
+        let Some(leaf) = named_leaf(sig) else {
             return Ok(None);
         };
         if leaf as usize >= self.signer.params().height.leaves() {

@@ -1,18 +1,19 @@
 -- A briefcase and a key that opens it badly show their sender, and are completed as evidence.
 use Rattle.bar_wire.specs.Bodies.{briefcase_in, key_in, is_peer_kind}
+use Rattle.std.specs.Bool.{then_some}
 use Rattle.bar_wire.specs.declared.kind.Kind.TheVariants as kinds
-use Rattle.bar_rules.specs.Peer.Evidence.{is_tried, pair_with, pairs_in, pairs_by, accuses, if_accuses, new_evidence}
+use Rattle.bar_rules.specs.Peer.Evidence.{is_tried, pair_with, pairs_in, pairs_by, pairs_elsewhere, accuses, if_accuses, new_evidence}
 use Rattle.bar_rules.specs.Peer.Exchanges.{opening_kind}
 use Rattle.bar_rules.specs.Peer.Knowledge.{known}
 use Rattle.bar_rules.specs.Peer.Log.{Log, first_heard, table}
 use Rattle.bar_rules.specs.Member.{Session, Member}
 use Rattle.bar_rules.specs.Values.{datagram_bytes, datagram_of, is_signed_by}
-use Rattle.bar_rules.specs.Judge.Verdict.{Shown, BadOpening, verdict, verdict_on, all_read, fault_of_two, bad_opening, pair_opening, key_fits, are_of_one_peer}
+use Rattle.bar_rules.specs.Judge.Verdict.{Fault, Shown, BadOpening, LeafTwice, verdict, verdict_on, all_read, fault_of_messages, fault_of_two, is_leaf_twice, bad_opening, pair_opening, key_fits, are_of_one_peer}
 use Rattle.bar_terms.specs.Table.{Table}
 use Rattle.bar_window.specs.declared.exchange.Exchange.{Exchange}
 use Rattle.bar_wire.specs.Datagram.{Datagram, Case, Key, Briefcase, KeyGiven, is_of, part_of, exchange_by, place_by}
 use Rattle.std.specs.Option.{option_or}
-use Rattle.std.proofs.Common.{◌≡◌, true, [], ◌∷◌, refl, sym, ap, subst}
+use Rattle.std.proofs.Common.{◌≡◌, Bool, true, false, [], ◌∷◌, refl, sym, ap, subst}
 use Rattle.std.specs.Prelude.{Option, Some, None, is_some, option_map}
 use Rattle.std.specs.List.{list_all}
 use Rattle.std.proofs.lemmas.Bool.{and_from, eq-eqb}
@@ -29,10 +30,18 @@ pub record IsBadPair (s : Session) (t : Table) (d e : Datagram) (c : Briefcase) 
   pub case_reads : datagram_of s (datagram_bytes s d) ≡ Some d
   pub key_reads : datagram_of s (datagram_bytes s e) ≡ Some e
 
-pair-fault : (s : Session) (t : Table) (d e : Datagram) (c : Briefcase) (k : KeyGiven) → IsBadPair s t d e c k → fault_of_two s t d e ≡ Some BadOpening
-pair-fault s t d e c k p =
+messages-fault : (s : Session) (t : Table) (d e : Datagram) (c : Briefcase) (k : KeyGiven) → IsBadPair s t d e c k → fault_of_messages s t d.message e.message ≡ Some BadOpening
+messages-fault s t d e c k p =
     let h : bad_opening s t d.message e.message (briefcase_in d.message.body) (key_in e.message.body) ≡ true = rw (p.case, p.key) (and_from _ _ p.fits p.bad) in
     rw h refl
+
+-- unless their leaves show them first
+pair-fault : (s : Session) (t : Table) (d e : Datagram) (c : Briefcase) (k : KeyGiven) → IsBadPair s t d e c k → (f : Fault) × (fault_of_two s t d e ≡ Some f)
+pair-fault s t d e c k p = go (is_leaf_twice s d e) (fault_of_messages s t d.message e.message) (messages-fault s t d e c k p)
+  where
+    go : (b : Bool) (o : Option Fault) → o ≡ Some BadOpening → (f : Fault) × (option_or (then_some b LeafTwice) o ≡ Some f)
+    go true o h = (LeafTwice, refl)
+    go false o h = (BadOpening, h)
 
 one-peer : (s : Session) (t : Table) (d e : Datagram) (c : Briefcase) (k : KeyGiven) → IsBadPair s t d e c k → are_of_one_peer (d ∷ e ∷ []) ≡ true
 one-peer s t d e c k p =
@@ -46,14 +55,17 @@ pair-read : (s : Session) (t : Table) (d e : Datagram) (c : Briefcase) (k : KeyG
 pair-read s t d e c k p = rw (p.case_reads, p.key_reads) refl
 
 pub pair-shown : (s : Session) (t : Table) (d e : Datagram) (c : Briefcase) (k : KeyGiven) → IsBadPair s t d e c k
-    → verdict s t (datagram_bytes s d ∷ datagram_bytes s e ∷ []) ≡ Shown d.message.from BadOpening
+    → (f : Fault) × (verdict s t (datagram_bytes s d ∷ datagram_bytes s e ∷ []) ≡ Shown d.message.from f)
 pair-shown s t d e c k p =
-    subst (λ o. verdict_on s t o ≡ Shown d.message.from BadOpening) (sym (pair-read s t d e c k p))
-    (rw (one-peer s t d e c k p, both-signed s t d e c k p, pair-fault s t d e c k p) refl)
+    let f = pair-fault s t d e c k p in (
+      f.0,
+      subst (λ o. verdict_on s t o ≡ Shown d.message.from f.0) (sym (pair-read s t d e c k p))
+          (rw (one-peer s t d e c k p, both-signed s t d e c k p, f.1) refl),
+    )
 
 pair-serves : (s : Session) (t : Table) (d e : Datagram) (c : Briefcase) (k : KeyGiven) → IsBadPair s t d e c k → is_some (pair_with s t e (Some d)) ≡ true
 pair-serves s t d e c k p =
-    let named : accuses e.message.from (verdict s t (datagram_bytes s d ∷ datagram_bytes s e ∷ [])) ≡ true = rw (pair-shown s t d e c k p) (eq-eqb _ _ p.from) in
+    let named : accuses e.message.from (verdict s t (datagram_bytes s d ∷ datagram_bytes s e ∷ [])) ≡ true = rw (pair-shown s t d e c k p).1 (eq-eqb _ _ p.from) in
     rw named refl
 
 or-first : {A : Type 0} (o p : Option A) → is_some o ≡ true → is_some (option_or o p) ≡ true
@@ -77,4 +89,5 @@ bad-completed me log d e c k found tried p =
     or-second (pair_with me.session (table log) e (first_heard (is_of (opening_kind x.kind k.role) x k.role) log)) _ (or-first _ _ case) in
     rw tried
     (or-second (if_accuses me.session (table log) e.message.from (datagram_bytes me.session e ∷ [])) _
-    (subst (λ b. is_some (pairs_by me.session (known me log) e (option_map (place_by e.message.from e.message.to) (part_of b))) ≡ true) (sym p.key) pairs))
+    (or-first _ (pairs_elsewhere me (known me log) e (option_map (place_by e.message.from e.message.to) (part_of e.message.body)))
+    (subst (λ b. is_some (pairs_by me.session (known me log) e (option_map (place_by e.message.from e.message.to) (part_of b))) ≡ true) (sym p.key) pairs)))

@@ -3,7 +3,7 @@ use Rattle.bar_wire.specs.Bodies.{briefcase_in, choice_in, key_in}
 use Rattle.bar_case.specs.Opened.{opening, is_bad}
 use Rattle.bar_rules.specs.Member.{Session}
 use Rattle.bar_rules.specs.Values.{terms_ok, counts_ok, is_signed_by}
-use Rattle.bar_rules.specs.Judge.Verdict.{Fault, BadOpening, BadTerms, Shown, NotShown, bad_terms, fault_of_one, fault_of_two, bad_opening, fault_of, judged, verdict_on, verdict, fault_by_words, wrong_partner, WrongPartner, all_read, are_of_one_peer, Malformed, NotSigned}
+use Rattle.bar_rules.specs.Judge.Verdict.{Fault, BadOpening, BadTerms, Shown, NotShown, bad_terms, fault_of_one, fault_of_messages, fault_of_two, is_leaf_twice, LeafTwice, bad_opening, fault_of, judged, verdict_on, verdict, fault_by_words, wrong_partner, WrongPartner, all_read, are_of_one_peer, Malformed, NotSigned}
 use Rattle.bar_terms.specs.Table.{Table, Extends, digest_of, NoManifest, none_past_end, is_past_end}
 use Rattle.bar_terms.specs.Terms.{offer_ok}
 use Rattle.bar_window.specs.Terms.{Terms}
@@ -127,10 +127,8 @@ pair_stays false false true b' None q f ka kb na nb e = rw (kb refl) e
 pair_stays false false false false None q f ka kb na nb e = e
 pair_stays false false false true None q f ka kb na nb e = let z = nb refl in let w = rw z.2 at e in cc
 
-pub fault_of_two-stays : BadStaysBad → (s : Session) (old new : Table) (d e : Datagram) (f : Fault) → Extends old new → fault_of_two s old d e ≡ Some f → fault_of_two s new d e ≡ Some f
-fault_of_two-stays law s old new d g f h e =
-    let m : Message = d.message in
-    let n : Message = g.message in
+messages_stay : BadStaysBad → (s : Session) (old new : Table) (m n : Message) (f : Fault) → Extends old new → fault_of_messages s old m n ≡ Some f → fault_of_messages s new m n ≡ Some f
+messages_stay law s old new m n f h e =
     pair_stays _ _ _ _ _ _ f
     (bad_opening-stays law s old new m n (briefcase_in m.body) (key_in n.body) h)
     (bad_opening-stays law s old new n m (briefcase_in n.body) (key_in m.body) h)
@@ -139,6 +137,15 @@ fault_of_two-stays law s old new d g f h e =
     (λ t. let z = bad_opening-kinds s new n m t in
     (no_opening s old n m z.0.0 z.1.0 z.0.1 z.1.1, words-key_case s n m z.0.0 z.1.0 z.0.1 z.1.1, words-case_key s n m z.0.0 z.1.0 z.0.1 z.1.1))
     e
+
+-- leaves need no table, and come first
+leaves_first : (b : Bool) (o p : Option Fault) (f : Fault) → (o ≡ Some f → p ≡ Some f) → option_or (then_some b LeafTwice) o ≡ Some f → option_or (then_some b LeafTwice) p ≡ Some f
+leaves_first true o p f k e = e
+leaves_first false o p f k e = k e
+
+pub fault_of_two-stays : BadStaysBad → (s : Session) (old new : Table) (d e : Datagram) (f : Fault) → Extends old new → fault_of_two s old d e ≡ Some f → fault_of_two s new d e ≡ Some f
+fault_of_two-stays law s old new d g f h e =
+    leaves_first (is_leaf_twice s d g) _ _ f (messages_stay law s old new d.message g.message f h) e
 
 -- a fault of one message
 one_stays : (a a' b : Bool) (f : Fault) → (a ≡ true → a' ≡ true) → (a' ≡ true → b ≡ false) → option_or (then_some a BadTerms) (then_some b WrongPartner) ≡ Some f → option_or (then_some a' BadTerms) (then_some b WrongPartner) ≡ Some f

@@ -1,32 +1,37 @@
 -- No member is framed by what it signed.
 use Rattle.bar_rules.specs.Peer.Evidence.{accuses}
 use Rattle.bar_wire.specs.Bodies.{briefcase_in, choice_in, key_in}
+use Rattle.bar_seal.specs.Leaves.{leaf_in}
+use Rattle.bar_laws.specs.Framing.{accuses_by_words}
 use Rattle.bar_case.specs.Opened.{is_bad}
 use Rattle.bar_case.specs.Opened as opening
 use Rattle.bar_case.specs.Sealed.{IsTold}
 use Rattle.bar_rules.specs.Peer.Holdings.{block_of, is_held}
 use Rattle.bar_rules.specs.Peer.Knowledge.{known}
-use Rattle.bar_rules.specs.Peer.Log.{Log, Ticked, Heard, Said, Kept, table, HasSaid}
+use Rattle.bar_rules.specs.Peer.Log.{Log, Ticked, Heard, Said, Kept, table, HasSaid, HasSigned}
 use Rattle.bar_rules.specs.Member.{Session, Member, IsMember}
 use Rattle.bar_rules.specs.Peer.Rules.{IsObedient, IsSignedByRule}
 use Rattle.bar_rules.specs.Secrets.{briefcase_key, is_seed, seed_of, partner_of, secrets_of}
 use Rattle.bar_rules.specs.Peer.Signing.{MaySign, MaySay, MayGiveCase, MayGiveKey}
 use Rattle.bar_rules.specs.Values.{terms_ok, opening_of, counts_ok, is_signed_by}
-use Rattle.bar_rules.specs.Judge.Verdict.{key_fits, pair_opening, bad_opening, bad_terms, wrong_partner, fault_of_one, fault_of_two, fault_of, all_read, are_of_one_peer, judged, verdict, Fault, NotShown, Malformed, NotSigned}
+use Rattle.bar_rules.specs.Judge.Verdict.{key_fits, pair_opening, bad_opening, bad_terms, wrong_partner, fault_of_one, fault_of_messages, is_leaf_twice, fault_of, all_read, are_of_one_peer, sender_of, judged, verdict, Fault, LeafTwice, NotShown, Malformed, NotSigned}
 use Rattle.bar_terms.specs.Table.{no_lists, Table, Agrees, digest_of, digest_in, Known, NoManifest}
 use Rattle.bar_terms.specs.Terms.{promised_updates}
 use Rattle.bar_window.specs.declared.exchange.Exchange.{Exchange}
 use Rattle.bar_window.specs.declared.exchange.XKind.{XKind}
 use Rattle.bar_window.specs.declared.exchange.XKind.TheVariants.{Balanced, Push}
 use Rattle.bar_window.specs.declared.update.UpdateId.{UpdateId}
-use Rattle.bar_wire.specs.Datagram.{round_of, Message, Datagram, Body, Request, Query, Case, Key, Briefcase, KeyGiven, exchange_by}
+use Rattle.bar_wire.specs.Datagram.{round_of, Message, Datagram, Body, Request, Query, Case, Key, Briefcase, KeyGiven, exchange_by, identity_of}
 use Rattle.sha2.specs.Sha256.{sha256}
 use Rattle.std.proofs.Common.{◌≤◌, ◌≡◌, ℕ, Bool, true, false, List, [], ◌∷◌, refl, sym, ap, ◌∙◌, subst, inl, inr, ◌&&◌, not, arith}
-use Rattle.std.specs.Prelude.{Option, Some, None, ◌⊎◌, if◌then◌else◌}
+use Rattle.std.specs.Prelude.{Option, Some, None, ◌⊎◌, ◌==◌, if◌then◌else◌}
+use Rattle.std.specs.Bool.{then_some}
+use Rattle.std.specs.Str.{bytes_eq}
 use Rattle.std.specs.List.{AllByRecursion, list_all}
-use Rattle.std.specs.Option.{option_map_or}
-use Rattle.std.proofs.lemmas.Bool.{and_parts, and_from, and_right, eq-eqb, not_from_true}
-use Rattle.bar_laws.proofs.Logs.{own_key, own_seed, allowed-at, same_exchange-is, same_role-is, WasSaid, later-entry, said-rule, some-is, held-known, table-later, SaidIn, was-said, never_bad_terms, agrees-before, party-on, role-own, sign-elsewhere}
+use Rattle.std.specs.Option.{option_or, option_map_or}
+use Rattle.std.proofs.lemmas.Bool.{and_parts, and_from, and_right, both_ways, eq-eqb, eqb-true, not_from_true}
+use Rattle.bar_laws.proofs.Logs.{own_key, own_seed, allowed-at, same_exchange-is, same_role-is, WasSaid, later-entry, said-rule, some-is, held-known, table-later, SaidIn, was-said, never_bad_terms, agrees-before, party-on, role-own, sign-elsewhere, same_bytes_refl}
+use Rattle.bar_laws.proofs.Runs.{named-once}
 use Rattle.bar_laws.proofs.Judging.ShownStays.{case_of-is, key_of-is}
 use Rattle.bar_laws.proofs.Judging.OwnWordsAgree.{never-by_words}
 use Rattle.bar_laws.proofs.Judging.PromisesHeld.{AllHeld, promise-held}
@@ -143,9 +148,24 @@ never-bad_terms_of me log two m h p agree = go (briefcase_in m.message.body) ref
 never-one : (me : Member) (log : Log) (two : Table) (m : Datagram) → IsMember me → IsObedient me log → SaidIn log m → Agrees (table log) two → fault_of_one me.session two m ≡ None
 never-one me log two m is h p agree = rw (never-bad_terms_of me log two m h p agree, never-wrong_partner me log m is h p) refl
 
-never-two : (me : Member) (log : Log) (two : Table) (m n : Datagram) → IsObedient me log → SaidIn log m → SaidIn log n → Agrees (table log) two → fault_of_two me.session two m n ≡ None
-never-two me log two m n h p q agree =
+never-by_messages : (me : Member) (log : Log) (two : Table) (m n : Datagram) → IsObedient me log → SaidIn log m → SaidIn log n → Agrees (table log) two
+    → fault_of_messages me.session two m.message n.message ≡ None
+never-by_messages me log two m n h p q agree =
     rw (never-bad_opening me log two m n h p q agree, never-by_words me log m n h p q, never-bad_opening me log two n m h q p agree, never-by_words me log n m h q p) refl
+
+-- two said datagrams of different identities name different leaves
+never-leaf_twice : (me : Member) (log : Log) (m n : Datagram) → IsMember me → IsObedient me log → SaidIn log m → SaidIn log n → is_leaf_twice me.session m n ≡ false
+never-leaf_twice me log m n is h p q = go (bytes_eq (identity_of m.message) (identity_of n.message)) (leaf_in m.signature == leaf_in n.signature) refl refl
+  where
+    go : (a b : Bool) → bytes_eq (identity_of m.message) (identity_of n.message) ≡ a → (leaf_in m.signature == leaf_in n.signature) ≡ b → (not a && b) ≡ false
+    go true b e f = refl
+    go false false e f = refl
+    go false true e f =
+        let one : m ≡ n = named-once me log m n is.session h (was-said log m p) (was-said log n q) (eqb-true (leaf_in m.signature) (leaf_in n.signature) f) in
+        let same : bytes_eq (identity_of m.message) (identity_of n.message) ≡ true = subst (λ (c : Datagram). bytes_eq (identity_of m.message) (identity_of c.message) ≡ true) one (same_bytes_refl (identity_of m.message)) in
+        absurd (both_ways _ e same)
+
+-- ---- evidence of words
 
 -- a message that was said is that of a said datagram
 pub said-message : (log : Log) (m : Message) → HasSaid log m → (d : Datagram) × SaidIn log d × (d.message ≡ m)
@@ -156,29 +176,68 @@ said-message (Ticked ∷ log) m h = let s = said-message log m h in (s.0, inr s.
 said-message (Heard d ∷ log) m h = let s = said-message log m h in (s.0, inr s.1, s.2)
 said-message (Kept q e ∷ log) m h = let s = said-message log m h in (s.0, inr s.1, s.2)
 
--- faults are of messages: whatever the signatures beside them
+-- faults of messages, whatever the signatures beside them
 one-by-message : (s : Session) (t : Table) (d e : Datagram) → d.message ≡ e.message → fault_of_one s t d ≡ fault_of_one s t e
 one-by-message s t d e same = λ i. fault_of_one s t (record { message = same i; signature = [] })
 
-two-by-messages : (s : Session) (t : Table) (d e f g : Datagram) → d.message ≡ e.message → f.message ≡ g.message → fault_of_two s t d f ≡ fault_of_two s t e g
-two-by-messages s t d e f g p q = λ i. fault_of_two s t (record { message = p i; signature = [] }) (record { message = q i; signature = [] })
+-- no fault but that of a leaf
+abbrev IsNoWord : Option Fault → Type 0
+IsNoWord o = (o ≡ None) ⊎ (o ≡ Some LeafTwice)
 
--- datagrams whose messages a member signed show no fault, under any table that agrees with its own
-pub no-framing : (me : Member) (log : Log) (two : Table) (ds : List Datagram) → IsMember me → IsObedient me log → Agrees (table log) two → AllByRecursion (λ (d : Datagram). HasSaid log d.message) ds
-    → fault_of me.session two ds ≡ None
-no-framing me log two [] is h agree a = refl
-no-framing me log two (d ∷ []) is h agree a =
+leaf-or-none : (b : Bool) (o : Option Fault) → o ≡ None → IsNoWord (option_or (then_some b LeafTwice) o)
+leaf-or-none true o e = inr refl
+leaf-or-none false o e = inl e
+
+-- datagrams whose messages a member signed show no fault of words, under any table that agrees with its own
+no-words : (me : Member) (log : Log) (two : Table) (ds : List Datagram) → IsMember me → IsObedient me log → Agrees (table log) two → AllByRecursion (λ (d : Datagram). HasSaid log d.message) ds
+    → IsNoWord (fault_of me.session two ds)
+no-words me log two [] is h agree a = inl refl
+no-words me log two (d ∷ []) is h agree a =
     let s = said-message log d.message a.0 in
-    one-by-message me.session two d s.0 (sym s.2) ∙ never-one me log two s.0 is h s.1 agree
-no-framing me log two (d ∷ e ∷ []) is h agree a =
+    inl (one-by-message me.session two d s.0 (sym s.2) ∙ never-one me log two s.0 is h s.1 agree)
+no-words me log two (d ∷ e ∷ []) is h agree a =
     let s = said-message log d.message a.0 in
     let t = said-message log e.message a.1.0 in
-    two-by-messages me.session two d s.0 e t.0 (sym s.2) (sym t.2) ∙ never-two me log two s.0 t.0 h s.1 t.1 agree
+    leaf-or-none (is_leaf_twice me.session d e) (fault_of_messages me.session two d.message e.message)
+    ((λ i. fault_of_messages me.session two (sym s.2 i) (sym t.2 i)) ∙ never-by_messages me log two s.0 t.0 h s.1 t.1 agree)
+no-words me log two (d ∷ e ∷ f ∷ ds) is h agree a = inl refl
+
+-- evidence whose messages a member signed does not name it with a fault of words
+pub not-named-by-words : (me : Member) (log : Log) (two : Table) (evidence : List (List ℕ)) (ds : List Datagram) → IsMember me → IsObedient me log → Agrees (table log) two
+    → all_read me.session evidence ≡ Some ds → AllByRecursion (λ (d : Datagram). HasSaid log d.message) ds → accuses_by_words me.party (verdict me.session two evidence) ≡ false
+not-named-by-words me log two evidence ds is h agree read said = rw read (checked (are_of_one_peer ds) (list_all (is_signed_by me.session) ds) (fault_of me.session two ds) (no-words me log two ds is h agree said))
+  where
+    checked : (a b : Bool) (o : Option Fault) → IsNoWord o → accuses_by_words me.party (if not a then NotShown Malformed else (if not b then NotShown NotSigned else judged me.session two ds o)) ≡ false
+    checked false b o e = refl
+    checked true false o e = refl
+    checked true true None e = refl
+    checked true true (Some f) (inl e) = cc
+    checked true true (Some f) (inr e) = let same : f ≡ LeafTwice = cc in rw same (and_right (sender_of ds == me.party) false refl)
+
+-- ---- evidence of datagrams
+
+pub signed-said : (log : Log) (d : Datagram) → HasSigned log d → SaidIn log d
+signed-said [] d h = absurd h
+signed-said (Said e ∷ log) d (inl s) = inl (ap Said s)
+signed-said (Said e ∷ log) d (inr h) = inr (signed-said log d h)
+signed-said (Ticked ∷ log) d h = inr (signed-said log d h)
+signed-said (Heard e ∷ log) d h = inr (signed-said log d h)
+signed-said (Kept q e ∷ log) d h = inr (signed-said log d h)
+
+-- datagrams that a member signed show no fault, under any table that agrees with its own
+pub no-framing : (me : Member) (log : Log) (two : Table) (ds : List Datagram) → IsMember me → IsObedient me log → Agrees (table log) two → AllByRecursion (λ (d : Datagram). HasSigned log d) ds
+    → fault_of me.session two ds ≡ None
+no-framing me log two [] is h agree a = refl
+no-framing me log two (d ∷ []) is h agree a = never-one me log two d is h (signed-said log d a.0) agree
+no-framing me log two (d ∷ e ∷ []) is h agree a =
+    let p = signed-said log d a.0 in
+    let q = signed-said log e a.1.0 in
+    rw (never-leaf_twice me log d e is h p q) (never-by_messages me log two d e h p q agree)
 no-framing me log two (d ∷ e ∷ f ∷ ds) is h agree a = refl
 
--- evidence whose messages a member signed does not name it
+-- evidence of datagrams that a member signed does not name it
 pub not-named : (me : Member) (log : Log) (two : Table) (evidence : List (List ℕ)) (ds : List Datagram) → IsMember me → IsObedient me log → Agrees (table log) two
-    → all_read me.session evidence ≡ Some ds → AllByRecursion (λ (d : Datagram). HasSaid log d.message) ds → accuses me.party (verdict me.session two evidence) ≡ false
+    → all_read me.session evidence ≡ Some ds → AllByRecursion (λ (d : Datagram). HasSigned log d) ds → accuses me.party (verdict me.session two evidence) ≡ false
 not-named me log two evidence ds is h agree read said = rw read (checked (are_of_one_peer ds) (list_all (is_signed_by me.session) ds) (fault_of me.session two ds) (no-framing me log two ds is h agree said))
   where
     checked : (a b : Bool) (o : Option Fault) → o ≡ None → accuses me.party (if not a then NotShown Malformed else (if not b then NotShown NotSigned else judged me.session two ds o)) ≡ false

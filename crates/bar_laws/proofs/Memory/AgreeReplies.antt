@@ -1,6 +1,7 @@
 -- A log, and what agrees with it in what a peer keeps, answer a datagram alike.
 use Rattle.bar_wire.specs.Bodies.{is_peer_kind}
 use Rattle.bar_wire.specs.declared.kind.Kind.{Kind}
+use Rattle.bar_window.specs.Exchange.{other_role, same_exchange}
 use Rattle.bar_window.specs.declared.exchange.Exchange.{Exchange}
 use Rattle.bar_window.specs.declared.exchange.Role.{Role}
 use Rattle.bar_window.specs.declared.exchange.Role.TheVariants.{Initiator, Responder}
@@ -11,8 +12,9 @@ use Rattle.bar_wire.specs.Datagram.{Place, Datagram, Body, Request, Response, Di
 use Rattle.bar_rules.specs.Runs.{Outcome, begun}
 use Rattle.bar_rules.specs.Peer.Agreement.{AgreesWith, IsRecent}
 use Rattle.bar_rules.specs.Peer.Admission.{is_admitted}
-use Rattle.bar_rules.specs.Peer.Evidence.{is_tried, pair_with, pairs_by, if_accuses, new_evidence}
-use Rattle.bar_rules.specs.Peer.Exchanges.{opening_kind}
+use Rattle.bar_rules.specs.Peer.Evidence.{is_tried, pair_with, pairs_in, pairs_by, pairs_among, pairs_elsewhere, pairs_of, shared_from, shared_with, if_accuses, new_evidence}
+use Rattle.bar_rules.proofs.Shared.{IsShared, shared_are}
+use Rattle.bar_rules.specs.Peer.Exchanges.{opening_kind, role_of}
 use Rattle.bar_rules.specs.Peer.Knowledge.{table_of, Knowledge, known, this_round, with_heard, with_kept, request_deadline, answer_deadline}
 use Rattle.bar_rules.specs.Peer.Log.{Log, Heard, Kept, round_now}
 use Rattle.bar_rules.specs.Peer.Machine.{Keeping, logs, minds}
@@ -22,8 +24,8 @@ use Rattle.bar_rules.specs.Peer.Replies.{is_trade_worth, orders_when, orders_for
 use Rattle.bar_rules.specs.Peer.Terms.{terms_of}
 use Rattle.bar_rules.specs.Member.{Member}
 use Rattle.bar_rules.specs.Values.{datagram_bytes, is_signed_by}
-use Rattle.std.proofs.Common.{◌≡◌, ℕ, ◌<◌, ◌≤◌, ◌+◌, Bool, true, false, List, [], ◌∷◌, refl, sym, ap, ◌∙◌, subst, ◌&&◌, ◌||◌, not, eqb, cond, arith}
-use Rattle.std.specs.Prelude.{option_map, Option, Some, None, is_some, nat_le}
+use Rattle.std.proofs.Common.{◌≡◌, ℕ, ◌<◌, ◌≤◌, ◌+◌, ◌-◌, Bool, true, false, List, [], ◌∷◌, refl, sym, ap, ◌∙◌, subst, ◌&&◌, ◌||◌, not, eqb, cond, arith}
+use Rattle.std.specs.Prelude.{option_map, Option, Some, None, is_some, nat_le, if◌then◌else◌}
 use Rattle.std.specs.Bool.{then_some}
 use Rattle.std.specs.Option.{option_or}
 use Rattle.std.specs.List.{AllByRecursion}
@@ -137,18 +139,39 @@ module _ (me : Member) (one two : Knowledge) (same : AgreesWith me one two) (lif
           option_or (pair_with me.session (same.table i) d (same.heard (opening_kind x.kind p.2) x p.2 r i))
           (option_or (pair_with me.session (same.table i) d (same.heard kinds.Case x p.2 r i)) (pair_with me.session (same.table i) d (same.heard kinds.Key x p.2 r i))))
 
+  pairs_in-same : (d : Datagram) (y : Exchange) (role : Role) → IsRecent me one y.round → pairs_in me.session one d y role ≡ pairs_in me.session two d y role
+  pairs_in-same d y role r =
+      λ i.
+      option_or (pair_with me.session (same.table i) d (same.heard (opening_kind y.kind role) y role r i))
+      (option_or (pair_with me.session (same.table i) d (same.heard kinds.Case y role r i)) (pair_with me.session (same.table i) d (same.heard kinds.Key y role r i)))
+
+  among-same : (d : Datagram) (x : Exchange) (low : ℕ) (ys : List Exchange) → this_round one ≤ low + me.session.shape.life
+      → AllByRecursion (IsShared me.party d.message.from low) ys → pairs_among me one d x ys ≡ pairs_among me two d x ys
+  among-same d x low [] h a = refl
+  among-same d x low (y ∷ ys) h a =
+      let recent : IsRecent me one y.round = let late : low ≤ y.round = a.0.late in omega (arith, h, late) in
+      λ i. option_or (if same_exchange x y then None else pairs_in-same d y (other_role (role_of me y)) recent i) (among-same d x low ys h a.1 i)
+
+  elsewhere-same : (d : Datagram) (o : Option Place) → pairs_elsewhere me one d o ≡ pairs_elsewhere me two d o
+  elsewhere-same d None = refl
+  elsewhere-same d (Some p) =
+      let low : ℕ = this_round one - me.session.shape.life in
+      among-same d p.exchange low (shared_with me one d.message.from) (omega arith)
+      (shared_are me.party d.message.from low low (me.session.shape.life + 2) (omega arith))
+      ∙ ap (λ n. pairs_among me two d p.exchange (shared_from me.party d.message.from (n - me.session.shape.life) (me.session.shape.life + 2))) (now me one two same)
+
   completed-same : (d : Datagram) → new_evidence me one d ≡ new_evidence me two d
   unfolding new_evidence
   completed-same d = go (is_tried me one d) refl ∙ ap (λ t. cond t (found two) None) (tried-same d)
     where
       found : Knowledge → Option (List (List ℕ))
-      found k = option_or (if_accuses me.session (table_of k) d.message.from (datagram_bytes me.session d ∷ [])) (pairs_by me.session k d (place_of d.message))
+      found k = option_or (if_accuses me.session (table_of k) d.message.from (datagram_bytes me.session d ∷ [])) (pairs_of me k d (place_of d.message))
 
       go : (b : Bool) → is_tried me one d ≡ b → cond b (found one) None ≡ cond (is_tried me one d) (found two) None
       go false e = rw e refl
       go true e =
           let h : this_round one ≤ round_of d.message.body + me.session.shape.life = leb-true (this_round one) (round_of d.message.body + me.session.shape.life) (and_parts _ _ e).1 in
-          rw e (λ i. option_or (if_accuses me.session (same.table i) d.message.from (datagram_bytes me.session d ∷ [])) (pairs-same d h i))
+          rw e (λ i. option_or (if_accuses me.session (same.table i) d.message.from (datagram_bytes me.session d ∷ [])) (option_or (pairs-same d h i) (elsewhere-same d (place_of d.message) i)))
 
 -- ---- one datagram
 

@@ -21,7 +21,7 @@ use Rattle.std.specs.Prelude.{Option, Some, None, is_some, option_and_then, slic
 use Rattle.std.proofs.lemmas.Bool.{and_from, eq-eqb}
 use Rattle.bar_laws.proofs.Logs.{IsEntry, allowed-at, IsLater, later-entry, WasHeard, first_heard-was, some-is, same_exchange_refl, same_role_refl, table-later, SaidIn, sender-on, receiver-on, party-on, party-over}
 use Rattle.bar_laws.proofs.Runs.{HeardIn, heard-in}
-use Rattle.bar_laws.proofs.Judging.{HeardBriefcase, heard-briefcase, key-row, heard-signed, said-message, never-opens_bad, good-opening, has-block}
+use Rattle.bar_laws.proofs.Judging.{HeardBriefcase, heard-briefcase, key-row, heard-signed, signed-said, never-opens_bad, good-opening, has-block}
 use Rattle.bar_laws.proofs.Worlds.SoundWorlds.{IsSound}
 use Rattle.bar_laws.proofs.Worlds.Evictions.{list-is, agrees-with-stream}
 
@@ -29,9 +29,12 @@ use Rattle.bar_laws.proofs.Worlds.Evictions.{list-is, agrees-with-stream}
 said-by : (setup : Setup) (trusted : ℕ → Bool) (w : World) (p q : ℕ) (mine theirs : Log) (d : Datagram) → IsSound setup trusted w → trusted q ≡ true
     → slice_get w.logs p ≡ Some mine → slice_get w.logs q ≡ Some theirs → HeardIn mine d → (before : Log) × Allows (member setup p) before (Heard d)
     → is_signed d.message.body ≡ true → d.message.from ≡ q → (e : Datagram) × SaidIn theirs e × (e.message ≡ d.message)
-said-by setup trusted w p q mine theirs d sound trust atp atq heard al signed from =
-    said-message theirs d.message
-    (sound.heard p mine d atp heard d theirs al.1.1 signed (subst (λ z. trusted z ≡ true) (sym from) trust) (heard-signed (member setup p) al.0 d al.1.0 signed) (subst (λ z. slice_get w.logs z ≡ Some theirs) (sym from) atq))
+said-by setup trusted w p q mine theirs d sound trust atp atq heard al signed from = (
+  d,
+  signed-said theirs d
+      (sound.heard p mine d atp heard d theirs al.1.1 signed (subst (λ z. trusted z ≡ true) (sym from) trust) (heard-signed (member setup p) al.0 d al.1.0 signed) (subst (λ z. slice_get w.logs z ≡ Some theirs) (sym from) atq)),
+  refl,
+)
 
 some-or : {A : Type 0} (o p : Option A) → is_some p ≡ true → is_some (option_or o p) ≡ true
 some-or (Some a) p e = refl

@@ -3,14 +3,14 @@ use Rattle.bar_rules.specs.Broadcaster.Party.{IsBroadcaster}
 use Rattle.bar_rules.specs.Broadcaster.Sending.{caster_step}
 use Rattle.bar_wire.specs.Bodies.{evidence_in}
 use Rattle.bar_rules.specs.Peer.Knowledge.{known}
-use Rattle.bar_rules.specs.Peer.Log.{heard_in, kept, kept_in, Log, Entry, Ticked, Heard, Said, Kept, HasSaid}
+use Rattle.bar_rules.specs.Peer.Log.{heard_in, kept, kept_in, Log, Entry, Ticked, Heard, Said, Kept, HasSigned}
 use Rattle.bar_rules.specs.Member.{IsMember}
 use Rattle.bar_rules.specs.Peer.Rules.{IsObedient}
 use Rattle.bar_rules.specs.Peer.Run.{Out, step}
 use Rattle.bar_rules.specs.Peer.Signing.{MaySay}
 use Rattle.bar_rules.specs.Values.{datagram_bytes, datagram_of}
 use Rattle.bar_rules.specs.World.World.{World, Move, TickOf, Deliver, Hostile, member, party_step, spelled, takes, takes_by, delivered, happens, run, IsGenuine, AllGenuine, IsUnforged, AreUnforged, Setup, IsSetup, initial}
-use Rattle.bar_wire.specs.Datagram.{Message, Datagram, Body, Evidence, Manifest, is_signed}
+use Rattle.bar_wire.specs.Datagram.{Datagram, Body, Evidence, Manifest, is_signed}
 use Rattle.bar_wire.specs.Inputs.{Input}
 use Rattle.bar_wire.specs.Inputs as event
 use Rattle.std.proofs.Common.{◌≡◌, ℕ, zero, suc, Bool, true, false, List, [], ◌∷◌, ◌++◌, refl, sym, ap, ◌∙◌, subst, inl, inr, map, eqb, arith, ◌<◌, ◌≤◌, ◌+◌, length}
@@ -52,26 +52,26 @@ get-below (x ∷ xs) (suc p) h = get-below xs p (omega (arith, h))
 
 -- ---- growth
 
-said-append : (new log : Log) (m : Message) → HasSaid log m → HasSaid (new ++ log) m
-said-append [] log m h = h
-said-append (Said d ∷ new) log m h = inr (said-append new log m h)
-said-append (Ticked ∷ new) log m h = said-append new log m h
-said-append (Heard d ∷ new) log m h = said-append new log m h
-said-append (Kept q e ∷ new) log m h = said-append new log m h
+signed-append : (new log : Log) (d : Datagram) → HasSigned log d → HasSigned (new ++ log) d
+signed-append [] log d h = h
+signed-append (Said c ∷ new) log d h = inr (signed-append new log d h)
+signed-append (Ticked ∷ new) log d h = signed-append new log d h
+signed-append (Heard c ∷ new) log d h = signed-append new log d h
+signed-append (Kept q e ∷ new) log d h = signed-append new log d h
 
-has-said-later : (log before : Log) (m : Message) → IsLater log before → HasSaid before m → HasSaid log m
-has-said-later log before m later h = subst (λ l. HasSaid l m) (sym later.split) (said-append later.new before m h)
+has-signed-later : (log before : Log) (d : Datagram) → IsLater log before → HasSigned before d → HasSigned log d
+has-signed-later log before d later h = subst (λ l. HasSigned l d) (sym later.split) (signed-append later.new before d h)
 
-said-has : (log : Log) (d : Datagram) → SaidIn log d → HasSaid log d.message
-said-has [] d h = absurd h
-said-has (Said c ∷ log) d (inl e) = let same : c ≡ d = cc in inl (ap (λ z. z.message) same)
-said-has (Said c ∷ log) d (inr h) = inr (said-has log d h)
-said-has (Ticked ∷ log) d (inl e) = cc
-said-has (Ticked ∷ log) d (inr h) = said-has log d h
-said-has (Heard c ∷ log) d (inl e) = cc
-said-has (Heard c ∷ log) d (inr h) = said-has log d h
-said-has (Kept q f ∷ log) d (inl e) = cc
-said-has (Kept q f ∷ log) d (inr h) = said-has log d h
+said-signed : (log : Log) (d : Datagram) → SaidIn log d → HasSigned log d
+said-signed [] d h = absurd h
+said-signed (Said c ∷ log) d (inl e) = let same : c ≡ d = cc in inl same
+said-signed (Said c ∷ log) d (inr h) = inr (said-signed log d h)
+said-signed (Ticked ∷ log) d (inl e) = cc
+said-signed (Ticked ∷ log) d (inr h) = said-signed log d h
+said-signed (Heard c ∷ log) d (inl e) = cc
+said-signed (Heard c ∷ log) d (inr h) = said-signed log d h
+said-signed (Kept q f ∷ log) d (inl e) = cc
+said-signed (Kept q f ∷ log) d (inr h) = said-signed log d h
 
 -- each log of the second world has grown from one of the first
 pub record IsWider (new old : World) : Type 0 where
@@ -80,7 +80,7 @@ pub record IsWider (new old : World) : Type 0 where
 genuine-wider : (setup : Setup) (trusted : ℕ → Bool) (new old : World) (b : List ℕ) → IsWider new old → IsGenuine setup trusted old b → IsGenuine setup trusted new b
 genuine-wider setup trusted new old b w g = λ d log reads sign trust accepted at.
     let h = w.grown d.message.from log at in
-    has-said-later log h.0 d.message h.2 (g d h.0 reads sign trust accepted h.1)
+    has-signed-later log h.0 d h.2 (g d h.0 reads sign trust accepted h.1)
 
 all-wider : (setup : Setup) (trusted : ℕ → Bool) (new old : World) (bs : List (List ℕ)) → IsWider new old → AllGenuine setup trusted old bs → AllGenuine setup trusted new bs
 all-wider setup trusted new old [] w a = tt
@@ -216,12 +216,12 @@ module _ (setup : Setup) (trusted : ℕ → Bool) (w : World) (p : ℕ) (log : L
       go : (l : Log) → slice_get (slice_set w.logs p out.state) p ≡ Some l → slice_get (slice_set w.logs p out.state) p ≡ Some out.state → l ≡ out.state
       go l e f = cc
 
-  -- a message that was said is genuine
-  said-genuine : (d e : Datagram) → SaidIn out.state d → e ≡ d → (l : Log) → slice_get after.logs e.message.from ≡ Some l → HasSaid l e.message
+  -- a datagram that was said is genuine
+  said-genuine : (d e : Datagram) → SaidIn out.state d → e ≡ d → (l : Log) → slice_get after.logs e.message.from ≡ Some l → HasSigned l e
   said-genuine d e s same l f =
       let own : e.message.from ≡ p = ap (λ z. z.message.from) same ∙ (st.mine d s).from in
       let is : l ≡ out.state = here l (subst (λ z. slice_get after.logs z ≡ Some l) own f) in
-      subst (λ z. HasSaid z e.message) (sym is) (subst (λ z. HasSaid out.state z.message) (sym same) (said-has out.state d s))
+      subst (λ z. HasSigned z e) (sym is) (subst (λ z. HasSigned out.state z) (sym same) (said-signed out.state d s))
 
   sent-unforged : (s : ℕ × Datagram) → SentBy (member setup p) out.state s → ((d : Datagram) → datagram_of setup.session (datagram_bytes setup.session s.1) ≡ Some d → d ≡ s.1) → IsUnforged setup trusted after (datagram_bytes setup.session s.1)
   sent-unforged s (inl said) r = (

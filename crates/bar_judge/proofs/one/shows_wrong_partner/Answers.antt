@@ -1,4 +1,4 @@
-use Rattle.std.proofs.Common.{◌+◌, arith}
+use Rattle.std.proofs.Common.{arith}
 use Rattle.bar_wire.specs.Views.{plain}
 use Rattle.bar_judge.specs.Parts.{plain_choice}
 use Rattle.bar_wire.proofs.ChoiceLemmas.{choice_rounds}

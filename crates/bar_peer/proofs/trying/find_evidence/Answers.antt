@@ -6,7 +6,7 @@ use Rattle.bar_wire.specs.Evidence.{datagrams_of}
 use Rattle.bar_wire.specs.Sides.{place_in}
 use Rattle.bar_wire.specs.Views.{datagram}
 use Rattle.bar_rules.specs.Member.{Member}
-use Rattle.bar_rules.specs.Peer.Evidence.{new_evidence, pairs_by}
+use Rattle.bar_rules.specs.Peer.Evidence.{new_evidence, pairs_of}
 use Rattle.bar_peer.specs.Memory.{member_of}
 use Rattle.bar_peer.proofs.Tries.{IsGood, IsTried, good_by, tried_is, tried_parts}
 use Rattle.bar_peer.proofs.trying.find_evidence.Goals as goal
@@ -33,7 +33,7 @@ returns-in_err-place-clause-exact g c k h table sound tried =
     let d : Datagram = datagram me.session.shape c.args.view.now in
     let is : IsTried me k d = tried_parts me k d tried in
     let good : IsGood me.session d = good_by me.session d c.args.bytes.now c.the_datagram_is_spelled.ensures c.requires.view.spelled c.requires.signed is.accepted in
-    let evidence : new_evidence me k d ≡ pairs_by me.session k d None =
+    let evidence : new_evidence me k d ≡ pairs_of me k d None =
     tried_is me k d c.args.bytes.now (digests_of c.args.table.now.lists) c.found.result false None
     c.verdicts_are_what_is_found.ensures
     good
@@ -54,7 +54,7 @@ returns-in_err-heard-clause-exact g c k h table sound tried =
     let good : IsGood me.session d = good_by me.session d c.args.bytes.now c.the_datagram_is_spelled.ensures c.requires.view.spelled c.requires.signed is.accepted in
     let place : Place = place_in c.in_ok-place.place in
     let at : Some place ≡ place_of d.message = c.in_ok-place.ensures me.session.shape in
-    let evidence : new_evidence me k d ≡ pairs_by me.session k d (Some place) =
+    let evidence : new_evidence me k d ≡ pairs_of me k d (Some place) =
     tried_is me k d c.args.bytes.now (digests_of c.args.table.now.lists) c.found.result false (Some place)
     c.verdicts_are_what_is_found.ensures
     good
@@ -66,7 +66,7 @@ returns-in_err-heard-clause-exact g c k h table sound tried =
     at
     in
     (λ i. option_map datagrams_of (c.from_residual-in_err-heard.ensures i))
-    ∙ c.in_err-heard.ensures.exact k c.args.bytes.now h table sound (is.near place (sym at)) c.requires.view is.accepted (sym at)
+    ∙ c.in_err-heard.ensures.exact k c.args.bytes.now h table sound c.requires.view tried (sym at)
     ∙ sym evidence
 
 pub returns-clause-exact : goal.returns-clause-exact
@@ -77,7 +77,7 @@ returns-clause-exact g c k h table sound tried =
     let good : IsGood me.session d = good_by me.session d c.args.bytes.now c.the_datagram_is_spelled.ensures c.requires.view.spelled c.requires.signed is.accepted in
     let place : Place = place_in c.in_ok-place.place in
     let at : Some place ≡ place_of d.message = c.in_ok-place.ensures me.session.shape in
-    let evidence : new_evidence me k d ≡ pairs_by me.session k d (Some place) =
+    let evidence : new_evidence me k d ≡ pairs_of me k d (Some place) =
     tried_is me k d c.args.bytes.now (digests_of c.args.table.now.lists) c.found.result false (Some place)
     c.verdicts_are_what_is_found.ensures
     good
@@ -88,4 +88,4 @@ returns-clause-exact g c k h table sound tried =
     c.if-is_some.ensures
     at
     in
-    c.in_ok-heard.ensures.exact k c.args.bytes.now h table sound (is.near place (sym at)) c.requires.view is.accepted (sym at) ∙ sym evidence
+    c.in_ok-heard.ensures.exact k c.args.bytes.now h table sound c.requires.view tried (sym at) ∙ sym evidence

@@ -1,13 +1,24 @@
-use Rattle.std.proofs.Common.{◌<◌, length, sym, ◌∙◌, refl, arith}
-use Rattle.bar_ledger.proofs.Loops.{none-more}
-use Rattle.bar_ledger.proofs.Slots.{entries-none}
+use Rattle.std.proofs.Common.{subst, sym, arith}
+use Rattle.bar_ledger.specs.Memory.{all_in}
+use Rattle.bar_ledger.specs.Order.{IsFirstAbove}
+use Rattle.bar_ledger.proofs.Rising.{start-all, step-number, end-of-walk, number-found}
 use Rattle.bar_ledger.proofs.ledger.Ledger.place.Goals as goal
 
-pub loop-place-init : goal.loop-place-init
-loop-place-init c = rw (entries-none c.args.self.now.shape.life c.args.self.now.round) refl
+pub walk-init : goal.walk-init
+walk-init c = (start-all (all_in c.args.self.now), omega arith)
 
-pub loop-place-preserved : goal.loop-place-preserved
-loop-place-preserved c =
-    let l = c.args.self.now in
-    let inside : c.loop-place.place < length l.slots.items = omega (arith, c.loop-place-test.true, c.len-place-end.ensures, l.slots.ok.0) in
-    none-more c.args.x l.shape.life l.round l.slots.items c.loop-place.place c.index.result.now inside c.index.ensures (sym c.keeps.ensures ∙ c.if-keeps.false) c.loop-place.invariant
+pub walk-preserved : goal.walk-preserved
+walk-preserved c =
+    let xs = all_in c.args.self.now in
+    let first = subst (λ o. IsFirstAbove c.walk.after o xs) c.in-Some.is c.next_kept.ensures.rest in
+    ((step-number c.walk.after xs c.walk.number c.in-Some.x c.walk.invariant.0 first).1, omega (arith, c.walk-test.true))
+
+pub returns-in_default : goal.returns-in_default
+returns-in_default c =
+    sym (end-of-walk c.walk.after (all_in c.args.self.now) c.walk.number c.args.k c.next_kept.result c.in_default.not-Some c.walk.invariant.0
+    c.next_kept.ensures.rest c.walk.invariant.1)
+
+pub returns : goal.returns
+returns c =
+    number-found c.walk.after (all_in c.args.self.now) c.walk.number c.args.k c.next_kept-2.result c.walk.invariant.0 c.next_kept-2.ensures.rest
+    (omega (arith, c.walk.invariant.1, c.walk-test.false))

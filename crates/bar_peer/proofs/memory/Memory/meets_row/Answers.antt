@@ -1,4 +1,4 @@
-use Rattle.std.proofs.Common.{◌∙◌, ◌+◌, ap, arith}
+use Rattle.std.proofs.Common.{◌∙◌, ap, arith}
 use Rattle.bar_wire.specs.Views.{plain}
 use Rattle.bar_wire.specs.Bodies.{request_round, query_round}
 use Rattle.bar_peer.specs.Memory.{member_of}
