@@ -3,7 +3,7 @@ import re
 
 from bardocuments import Fault
 
-README_LINES = 120
+README_LINES = 130
 CRATE_COLUMNS = 140
 WORDS = re.compile(r"\b(?:yet|TODO|today)\b", re.IGNORECASE)
 # a row of the table of statuses: the status, and its line

@@ -380,7 +380,7 @@ class Blocks(Repository):
 
 class Pages(Repository):
     def test_a_long_readme(self):
-        self.assert_found(self.check({"README.md": README + "\n" * 100})[1], "more than 120")
+        self.assert_found(self.check({"README.md": README + "\n" * 120})[1], "more than 130")
 
     def test_a_long_line_of_a_crate(self):
         self.assert_found(self.changed("README.md", ": `double`;", f": {'so ' * 40}`double`;"), "README.md:5: ", "more than 140")

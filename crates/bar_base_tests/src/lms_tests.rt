@@ -6,7 +6,7 @@ ghost use Rattle.std.specs.Prelude.{◌≡◌, ◌<◌};
 
 use bar_bytes::Steps;
 use bar_lms::{
-    BadType, Height, KeyFault, Ots, Params, Private, PublicKey, SecretKey, fill_tree, sign, verify,
+    BadType, Height, KeyFault, Ots, Params, PublicKey, SecretKey, fill_tree, sign_tree, verify,
 };
 use sha2::{Digest, Sha256};
 use std::marker::Brand;
@@ -74,18 +74,22 @@ fn signs_byte_for_byte_as_others_do(rt: HostRuntime) -> Result<(), Fail> {
         height: Height::H5,
         ots: Ots::W8,
     };
-    let key = Private {
-        params,
-        ident,
-        seed,
-    };
     let mut nodes = [[0u8; 32]; 64];
-    fill_tree(&key, &mut nodes);
+    fill_tree(params, &seed, &ident, &mut nodes);
     let mut randomizer = [0u8; 32];
     assert_eq!(rt; wanted.len(), 1292);
     randomizer.copy_from_slice(&wanted[8..40]);
     let mut out = [0u8; 1292];
-    let len = sign(&key, &nodes, 13, &randomizer, &message, &mut out);
+    let len = sign_tree(
+        params,
+        &seed,
+        &ident,
+        &nodes,
+        13,
+        &randomizer,
+        &message,
+        &mut out,
+    );
     assert_eq!(rt; len, 1292);
     assert_eq!(rt; out.as_slice(), wanted.as_slice());
     Ok(())

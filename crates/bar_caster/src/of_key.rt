@@ -37,6 +37,7 @@ impl Caster<LmsScheme> {
             → IfErr result (λ e. e ≡ faults.NoMemory) }
     {
         let _shape = session.shape();
+        let _top = session.top();
         Caster::start(
             alloc,
             session,

@@ -5,7 +5,7 @@ use Rattle.std.proofs.lemmas.Bool.{cases_Bool}
 use Rattle.std.proofs.lemmas.Option.{option_and_then_some, none-some}
 use Rattle.bar_bytes.proofs.Lengths.{length_u32}
 use Rattle.bar_window.proofs.Widths.{most_places}
-use Rattle.bar_lms.proofs.DigitLemmas.{signature_short}
+use Rattle.bar_roster.proofs.Levels.{session_short}
 use Rattle.bar_wire.specs.declared.shape.Shape.{Shape}
 use Rattle.bar_wire.specs.Datagram.{Datagram, Body, Manifest, Block, Request, Response, Divulge, Query, Reply, Case, KeyReq, Key, Evidence, Evict, kind_of}
 use Rattle.bar_wire.specs.Grammar.{HasForm, InRange, SpellsDatagram, is_wide, message_bytes, pieces}
@@ -50,7 +50,7 @@ spelled_short : (s : Session) (d : Datagram) (bytes : List ℕ) (entry : RoundLi
 spelled_short s d bytes entry session spelled is =
     let short = is_short s.shape d.message.body entry spelled.fits.form spelled.fits.range is in
     let message = message_len s.shape d.message in
-    let signature = signature_short s.params in
+    let signature = session_short s session in
     let whole = length-append (message_bytes s.shape d.message) d.signature in
     omega (
       arith,

@@ -1,7 +1,7 @@
 -- What holds of the broadcaster over every list of inputs: whom it evicts, what it signs, and to whom it sends.
 use Rattle.std.specs.Prelude.{◌≡◌, ◌⊎◌, ℕ, ◌+◌, ◌-◌, ◌*◌, ◌<◌, ◌≤◌, ◌^◌, ◌==◌, ◌&&◌, Bool, false, List, [], ◌∷◌, ◌++◌, map, filter, length, Some, None, Contains}
 use Rattle.std.specs.List.{AllByRecursion}
-use Rattle.bar_lms.specs.Params.{levels}
+use Rattle.bar_lms.specs.Schemes.{leaves_by}
 use Rattle.bar_window.specs.declared.update.UpdateId.{UpdateId}
 use Rattle.bar_wire.specs.Datagram.{Datagram, Body, Manifest, Block, Evidence, Evict, kind_of, round_of}
 use Rattle.bar_wire.specs.Evidence.{evidence_bytes}
@@ -94,7 +94,7 @@ pub record IsSignedInTime (me : Member) (stream : List ℕ) (log : Log) (d : Dat
   pub low : 1 ≤ round_of d.message.body
   pub high : round_of d.message.body ≤ me.session.shape.rounds
   pub begun : round_of d.message.body ≤ round_now log
-  pub below : caster_leaf d.message.body < 2 ^ levels me.session.params.height
+  pub below : caster_leaf d.message.body < leaves_by me.session.top me.session.params
 
 -- Each round of the session that has begun has its manifest. When a message is signed, none of its kind and round was signed before; so
 -- there are one manifest and at most one notice a round, and no leaf signs two messages.

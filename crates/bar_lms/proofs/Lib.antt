@@ -8,5 +8,7 @@ pub mod SignLemmas
 pub mod Accepted
 pub mod KeyLemmas
 pub mod Decided
+pub mod HssLemmas
+pub mod SchemeLemmas
 pub mod StepLemmas
 pub mod RememberedLemmas

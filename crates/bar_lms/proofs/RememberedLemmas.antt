@@ -5,6 +5,7 @@ use Rattle.std.proofs.lemmas.List.Elements.{All-get_or}
 use Rattle.std.specs.Prelude.{All}
 use Rattle.bar_bytes.specs.Room.{RoomFor}
 use Rattle.bar_lms.specs.declared.chain_values.ChainValues.{ChainValues}
+use Rattle.bar_lms.specs.declared.params.Ots.{Ots}
 use Rattle.bar_lms.specs.declared.private.Private.{Private}
 use Rattle.bar_lms.specs.Params.{chains}
 use Rattle.bar_lms.specs.Signature.{signed_value}
@@ -22,13 +23,13 @@ read_back out next bytes at n room grown =
     sym (drop-take at n next) ∙ rw grown (drop_at (take at out) bytes at (length-take-le at out room))
 
 -- what holds of each place holds of one of them
-pub values_at : (t : Private) (places : List ChainValues) (i : ℕ) (v : ChainValues) → v ≡ slice_index_or places i v → i < length places
-    → All (AreValuesOf t) places → AreValuesOf t v
-values_at t places i v is inside all = rw is (All-get_or (AreValuesOf t) places i v inside all)
+pub values_at : (ots : Ots) (places : List ChainValues) (i : ℕ) (v : ChainValues) → v ≡ slice_index_or places i v → i < length places
+    → All (AreValuesOf ots) places → AreValuesOf ots v
+values_at ots places i v is inside all = rw is (All-get_or (AreValuesOf ots) places i v inside all)
 
 -- a place in which nothing is kept
-pub none_kept : (t : Private) (v : ChainValues) → v.values ≡ record { size = 32 * chains t.params.ots; kept = None } → AreValuesOf t v
-none_kept t v is = record {
+pub none_kept : (ots : Ots) (v : ChainValues) → v.values ≡ record { size = 32 * chains ots; kept = None } → AreValuesOf ots v
+none_kept ots v is = record {
   size = ap (λ (r : RoomFor). r.size) is;
   kept = λ bytes kept. absurd (let no : v.values.kept ≡ None = ap (λ (r : RoomFor). r.kept) is in cc (no, kept));
 }

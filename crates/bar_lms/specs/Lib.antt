@@ -5,4 +5,6 @@ pub mod Signature
 pub mod Acceptance
 pub mod Secret
 pub mod Remembered
+pub mod Hss
+pub mod Schemes
 pub use Rattle.sha2.specs.Sha256

@@ -1,5 +1,6 @@
--- What is remembered of the signatures of a key.
+-- What is remembered of signatures.
 use Rattle.std.specs.Prelude.{◌≡◌, ℕ, ◌*◌, List, Some}
+use Rattle.bar_lms.specs.declared.params.Ots.{Ots}
 use Rattle.bar_lms.specs.declared.private.Private.{Private}
 use Rattle.bar_lms.specs.declared.chain_values.ChainValues.{ChainValues}
 use Rattle.bar_lms.specs.Params.{chains}
@@ -10,7 +11,7 @@ use Rattle.bar_lms.specs.Signature.{signed_value}
 abbrev pub chain_values : Private → ℕ → List ℕ → List ℕ
 chain_values t q hash = joined (signed_value t q hash) (chains t.params.ots)
 
--- there is room for a key's chain values, and what is kept are those of the leaf and the hash beside it
-pub record AreValuesOf (t : Private) (v : ChainValues) : Type 0 where
-  pub size : v.values.size ≡ 32 * chains t.params.ots
-  pub kept : (bytes : List ℕ) → v.values.kept ≡ Some bytes → bytes ≡ chain_values t v.leaf v.hash
+-- there is room for the chain values of such one-time signatures, and what is kept are those of the key, the leaf and the hash beside it
+pub record AreValuesOf (ots : Ots) (v : ChainValues) : Type 0 where
+  pub size : v.values.size ≡ 32 * chains ots
+  pub kept : (bytes : List ℕ) → v.values.kept ≡ Some bytes → bytes ≡ chain_values v.key v.leaf v.hash

@@ -1,37 +1,52 @@
 //! The chain values of one signature.
 
-ghost use Rattle.std.specs.Prelude.{◌≡◌, ◌≤◌, length, Some, None, IfOk, IfSome, option_copied};
+ghost use Rattle.std.specs.Prelude.{◌≡◌, ◌*◌, ◌≤◌, length, Some, None, IfOk, IfSome};
+ghost use Rattle.bar_lms.specs.Params.{chains};
 
+use crate::params::{Height, Ots, Params};
+use crate::private::Private;
 use bar_bytes::Room;
 use std::alloc::{AllocError, Global};
 
-/// The chain values of the signature of a hash under a leaf, where some are kept.
+/// The chain values of the signature of a hash under a leaf of a key, where some are kept.
 #[derive(Drop)]
 pub(crate) struct ChainValues {
+    key: Private,
     leaf: u32,
     hash: [u8; 32],
     values: Room,
 }
 
 impl ChainValues {
-    /// Room for so many bytes of values, with none kept.
-    pub(crate) fn make(alloc: Global, size: usize) -> Result<ChainValues, AllocError>
-        ensures { IfOk result (λ v. v.values ≡ record { size = size; kept = None }) }
+    /// Room for the values of keys of these one-time signatures, with none kept.
+    pub(crate) fn make(alloc: Global, ots: Ots) -> Result<ChainValues, AllocError>
+        ensures { IfOk result (λ v. v.values ≡ record { size = 32 * chains ots; kept = None }) }
     {
-        let values = Room::make(alloc, size)?;
+        let values = Room::make(alloc, 32 * ots.chains())?;
+        let params = Params {
+            height: Height::H5,
+            ots,
+        };
         Ok(ChainValues {
+            key: Private {
+                params,
+                ident: [0; 16],
+                seed: [0; 32],
+            },
             leaf: 0,
             hash: [0; 32],
             values,
         })
     }
 
-    /// The values, where those are kept that are of this leaf and this hash.
-    pub(crate) fn get(&self, leaf: u32, hash: &[u8; 32]) -> Option<&[u8]>
-        ensures found { self.now.leaf ≡ leaf → self.now.hash ≡ hash.now → option_copied result ≡ self.now.values.kept }
-        ensures only { IfSome result (λ values.
-            (self.now.leaf ≡ leaf) × (self.now.hash ≡ hash.now) × (self.now.values.kept ≡ Some values.now)) }
+    /// The values, where those are kept that are of this key, this leaf and this hash.
+    pub(crate) fn get(&self, key: &Private, leaf: u32, hash: &[u8; 32]) -> Option<&[u8]>
+        ensures { IfSome result (λ values. (self.now.key ≡ key.now) × (self.now.leaf ≡ leaf)
+            × (self.now.hash ≡ hash.now) × (self.now.values.kept ≡ Some values.now)) }
     {
+        if self.key != *key {
+            return None;
+        }
         if self.leaf == leaf && self.hash == *hash {
             self.values.kept()
         } else {
@@ -39,15 +54,17 @@ impl ChainValues {
         }
     }
 
-    /// Keeps the values of a leaf and a hash, in place of those that were kept.
-    pub(crate) fn keep(&mut self, leaf: u32, hash: &[u8; 32], values: &[u8])
+    /// Keeps the values of a leaf and a hash under a key, in place of those that were kept.
+    pub(crate) fn keep(&mut self, key: &Private, leaf: u32, hash: &[u8; 32], values: &[u8])
         requires { length values.now ≤ self.old.values.size }
         ensures { self.new ≡ record {
+          key = key.now;
           leaf = leaf;
           hash = hash.now;
           values = record { size = self.old.values.size; kept = Some values.now };
         } }
     {
+        self.key = key.copied();
         self.leaf = leaf;
         self.hash = *hash;
         self.values.keep(values);

@@ -4,13 +4,14 @@
 pub use acceptance::verify;
 pub use key::{KeyFault, PublicKey};
 pub use laws::{
-    acceptance_is_tested, acceptance_under_types_is_tested, keys_are_tested, signed_is_accepted,
+    acceptance_is_tested, acceptance_under_types_is_tested, hss_acceptance_is_tested,
+    hss_signed_is_accepted, keys_are_tested, signed_is_accepted,
 };
 pub use params::{BadType, Height, Ots, Params};
-pub use private::Private;
+pub use place::Place;
+pub use remembered::Remembered;
 pub use secret::SecretKey;
-pub use signing::sign;
-pub use tree::fill_tree;
+pub use trees::{fill_tree, public_key, sign_tree, sign_tree_at};
 
 mod acceptance;
 mod bytes;
@@ -21,8 +22,10 @@ mod groups;
 mod key;
 mod laws;
 mod params;
+mod place;
 mod private;
 mod remembered;
 mod secret;
 mod signing;
 mod tree;
+mod trees;

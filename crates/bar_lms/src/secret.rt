@@ -9,10 +9,11 @@ ghost use Rattle.bar_lms.specs.Acceptance.{Accepts, is_accepted_under, is_key_of
 
 use crate::bytes::put;
 use crate::params::Params;
+use crate::place::Place;
 use crate::private::Private;
 use crate::remembered::Remembered;
 use crate::signing::sign_from;
-use crate::tree::fill_tree;
+use crate::tree::fill;
 use bar_bytes::Tagged;
 use std::alloc::{AllocError, Global};
 use std::cell::RefCell;
@@ -76,8 +77,8 @@ impl SecretKey {
             seed,
         };
         let mut nodes = vec![in alloc; [0u8; 32]; 2 * params.height.leaves()]?;
-        fill_tree(&key, &mut nodes);
-        let remembered = RefCell::new(Remembered::make(alloc, &key, 0)?);
+        fill(&key, &mut nodes);
+        let remembered = RefCell::new(Remembered::make(alloc, params.ots, 0)?);
         Ok(SecretKey {
             key,
             nodes,
@@ -93,7 +94,7 @@ impl SecretKey {
     pub fn remember(&mut self, alloc: Global, leaves: u16) -> Result<(), AllocError>
         ensures { self.new ≡ self.old }
     {
-        let remembered = Remembered::make(alloc, &self.key, leaves)?;
+        let remembered = Remembered::make(alloc, self.key.params.ots, leaves)?;
         self.remembered = RefCell::new(remembered);
         Ok(())
     }
@@ -139,7 +140,10 @@ impl SecretKey {
         sign_from::<Brand>(
             &self.key,
             &self.nodes,
-            Some(&self.remembered),
+            Some(Place {
+                remembered: &self.remembered,
+                number: leaf,
+            }),
             leaf,
             &randomizer,
             message,

@@ -14,11 +14,10 @@ use crate::bytes::put;
 use crate::digits::{coef, with_checksum};
 use crate::groups::digits_of_eight;
 use crate::params::Params;
+use crate::place::Place;
 use crate::private::Private;
-use crate::remembered::Remembered;
 use crate::tree::{value, values_of_eight};
 use bar_bytes::Steps;
-use std::cell::RefCell;
 use std::marker::Brand;
 use std::sync::ledger::{Blank, Ledger};
 
@@ -104,7 +103,7 @@ pub(crate) fn put_values<L: Ledger>(
 // Writes the same by what is remembered, where that isn't in use.
 fn put_values_by<L: Ledger>(
     key: &Private,
-    remembered: Option<&RefCell<Remembered>>,
+    place: Option<Place<'_>>,
     q: u32,
     hash: &[u8; 32],
     out: &mut [u8],
@@ -114,12 +113,12 @@ fn put_values_by<L: Ledger>(
     ensures grown { take (40 + 32 * chains key.now.params.ots) out.new ≡ take 40 out.old ++ chain_values key.now q hash.now }
     ensures rest { drop (40 + 32 * chains key.now.params.ots) out.new ≡ drop (40 + 32 * chains key.now.params.ots) out.old }
 {
-    let Some(cell) = remembered else {
+    let Some(place) = place else {
         put_values(key, q, hash, out, steps);
         return;
     };
-    match cell.try_borrow_mut() {
-        Ok(mut kept) => kept.put_values(key, q, hash, out, steps),
+    match place.remembered.try_borrow_mut() {
+        Ok(mut kept) => kept.put_values(place.number, key, q, hash, out, steps),
         Err(_) => put_values(key, q, hash, out, steps),
     }
 }
@@ -169,11 +168,14 @@ fn put_number(out: &mut [u8], at: usize, number: u32)
     put(out, at, &number.to_be_bytes());
 }
 
-/// Writes a signature as `sign` does, by what is remembered of the key.
+/// Writes the signature of a message under leaf q with a randomizer (RFC 8554, 5.4.1), and answers its length. It takes the chain values from
+/// a place, if there is one that keeps them, or else leaves them there.
+///
+/// `nodes` is the tree of the key, as `fill` writes it.
 pub(crate) fn sign_from<L: Ledger>(
     key: &Private,
     nodes: &[[u8; 32]],
-    remembered: Option<&RefCell<Remembered>>,
+    place: Option<Place<'_>>,
     q: u32,
     randomizer: &[u8; 32],
     message: &[u8],
@@ -198,32 +200,9 @@ pub(crate) fn sign_from<L: Ledger>(
     put_number(out, 4, ots.number());
     put_hash(out, 8, randomizer);
     let hash = message_hash(&key.ident, q, randomizer, message, &mut steps);
-    put_values_by(key, remembered, q, &hash, out, &mut steps);
+    put_values_by(key, place, q, &hash, out, &mut steps);
     let at = 40 + 32 * ots.chains();
     put_number(out, at, height.number());
     put_path(key, nodes, q, out, at + 4);
     key.params.sig_len()
-}
-
-/// Writes the signature of a message under leaf q with a randomizer (RFC 8554, 5.4.1), and answers its length.
-///
-/// `nodes` is the tree of the key, as `fill_tree` writes it.
-pub fn sign(
-    key: &Private,
-    nodes: &[[u8; 32]],
-    q: u32,
-    randomizer: &[u8; 32],
-    message: &[u8],
-    out: &mut [u8],
-) -> usize
-    requires tree { HoldsTree key.now nodes.now }
-    requires places { length nodes.now ≡ 2 * 2 ^ levels key.now.params.height }
-    requires leaf { q < 2 ^ levels key.now.params.height }
-    requires room { signature_len key.now.params ≤ length out.old }
-    ensures length { result ≡ signature_len key.now.params }
-    ensures value { take result out.new ≡ signature key.now q randomizer.now message.now }
-    ensures rest { drop result out.new ≡ drop result out.old }
-    ensures accepted { Accepts (public_of key.now) message.now (take result out.new) }
-{
-    sign_from::<Brand>(key, nodes, None, q, randomizer, message, out, Blank::new(1))
 }

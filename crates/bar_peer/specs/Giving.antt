@@ -1,7 +1,7 @@
 -- What is given out for an order.
 use Rattle.std.specs.Prelude.{◌≡◌, ℕ, ◌<◌, ◌^◌, List, [], Some, IfSome}
 use Rattle.std.specs.Bool.{MatchBool}
-use Rattle.bar_lms.specs.Params.{levels}
+use Rattle.bar_lms.specs.Schemes.{leaves_by}
 use Rattle.bar_wire.specs.Datagram.{Datagram, kind_of, part_of, place_of}
 use Rattle.bar_wire.specs.Grammar.{IsRound}
 use Rattle.bar_wire.specs.Kinds.{is_signed_kind}
@@ -28,7 +28,7 @@ pub record IsSignedFor (me : Member) (k : Knowledge) (say : Say) (d : Datagram) 
   pub place : place_of d.message ≡ Some (record { exchange = say.x; role = role_of me say.x })
   pub round : IsRound me.session.shape say.x.round
   pub seat : IfSome (k.seat say.x) (λ seat. seat < seats_a_round)
-  pub below : leaf_for k d.message < 2 ^ levels me.session.params.height
+  pub below : leaf_for k d.message < leaves_by me.session.top me.session.params
   pub signature : d ≡ signed me k d.message
 
 -- The datagram of an order says what would be written now, which can be written, and it is signed where its kind is.

@@ -30,6 +30,7 @@ impl Peer<LmsScheme> {
         ensures contents { IfOk result (λ p. contents_left p.memory.store p.playing ≡ []) }
         ensures member { IfOk result (λ p. member_of p.memory.who ≡ member_by session key.secrets) }
     {
+        let _top = session.top();
         let mut signer = key.signer;
         signer.remember(alloc, leaves_in_use(&session.shape()))?;
         Peer::start(

@@ -7,13 +7,15 @@ use Rattle.std.specs.Bool.{Decides, one_answer, MatchBool}
 use Rattle.std.specs.Str.{bytes_eq}
 use Rattle.std.proofs.lemmas.Bool.{and_parts, and_from, eqb-true, leb-true}
 use Rattle.std.proofs.lemmas.Slice.Eq.{bytes_eq-Decides}
+use Rattle.bar_lms.specs.declared.params.Height.{Height}
+use Rattle.bar_lms.specs.Schemes.{public_by}
 use Rattle.bar_lms.specs.Secret.{public_key}
 use Rattle.bar_seeds.specs.Seeds.{anchor_of}
 use Rattle.bar_seeds.specs.declared.secrets.Secrets.{Secrets}
 use Rattle.bar_roster.specs.declared.key_fields.KeyData.{KeyData}
 use Rattle.bar_roster.specs.declared.key_file.KeyFile.{KeyFile}
 use Rattle.bar_roster.specs.SessionText.{SessionData}
-use Rattle.bar_roster.specs.KeyFile.{Fits, fits, is_at, is_of_session, secrets_in, signing_secret, checked_key, checked_table, key_file_of, IsHeldBy, IsMadeFor, IsKeyFileOf}
+use Rattle.bar_roster.specs.KeyFile.{Fits, fits, is_at, is_of_session, key_in, secrets_in, signing_secret, checked_key, checked_table, key_file_of, IsHeldBy, IsMadeFor, IsKeyFileOf}
 use Rattle.bar_roster.specs.Fields.{document}
 use Rattle.bar_roster.specs.KeyText.{key_fields}
 use Rattle.bar_roster.specs.declared.key_fault.KeyFileFault.{KeyFileFault}
@@ -32,15 +34,20 @@ row_test rows place row = at_test (slice_get rows place) row
 pub row_at : (rows : List (List ℕ)) (place : ℕ) (row held : List ℕ) (b : Bool) → slice_get rows place ≡ Some held → Decides b (held ≡ row) → b ≡ is_at rows place row
 row_at rows place row held b e same = rw e (one_answer _ _ same (bytes_eq-Decides held row))
 
+-- in a session of one level the public key is that of LMS
+pub key_single : (s : SessionData) (secret : List ℕ) → s.top ≡ None → key_in s secret ≡ public_key (signing_secret s secret)
+unfolding public_by
+key_single s secret e = ap (λ (top : Option Height). public_by top s.params s.shape.id secret) e
+
 pub fits_test : (s : SessionData) (party : ℕ) (secret : List ℕ) → Decides (fits s party secret) (Fits s party secret)
 fits_test s zero secret =
-    let key = row_test s.keys 0 (public_key (signing_secret s secret)) in (
+    let key = row_test s.keys 0 (key_in s secret) in (
       λ h. record { key = key.0 (and_parts _ _ h).0; anchor = λ some. absurd (omega arith) },
       λ f. and_from _ _ (key.1 f.key) refl,
     )
 fits_test s (suc peer) secret =
     let party : ℕ = suc peer in
-    let key = row_test s.keys party (public_key (signing_secret s secret)) in
+    let key = row_test s.keys party (key_in s secret) in
     let anchor = row_test s.anchors (party - 1) (anchor_of (secrets_in s party secret) s.shape.rounds) in
     let other : (party == 0) ≡ false = grind (arith, nat_tests) in (
       λ h.

@@ -7,3 +7,4 @@ pub mod KeyLemmas
 pub mod SessionLemmas
 pub mod WrittenAnew
 pub mod PointLemmas
+pub mod Levels

@@ -5,6 +5,7 @@ use Rattle.std.proofs.lemmas.Bool.{and_parts, leb-true}
 use Rattle.std.specs.Option.{ok_or}
 use Rattle.toml.specs.Data.{Data, integer, array, Items, no_items, item, Members, get_member}
 use Rattle.bar_lms.specs.Params.{levels, signature_len}
+use Rattle.bar_roster.proofs.Levels.{one_level}
 use Rattle.bar_lms.specs.declared.params.Height.{Height}
 use Rattle.bar_wire.specs.Limits.{leaves_a_round}
 use Rattle.bar_wire.specs.declared.shape.Shape.{Shape}
@@ -207,6 +208,7 @@ session_of_parts n count fanout shape parties range is counted spread grown leav
     per_round_high = subst (λ v. shape.per_round ≤ most_per_round v) (sym is.version) (omega (arith, is.per_round, range.per_round_high));
   };
   signatures = is.sig_len;
+  levels = one_level (params_of n.lms n.ots);
   cap_low = range.cap_low;
   cap_high = range.cap_high;
   fanout_low = spread.0;

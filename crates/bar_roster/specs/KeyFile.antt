@@ -5,7 +5,8 @@ use Rattle.std.specs.Option.{option_map_or}
 use Rattle.std.specs.Str.{bytes_eq}
 use Rattle.toml.specs.Data.{Members}
 use Rattle.bar_lms.specs.Params.{lms_type, ots_type}
-use Rattle.bar_lms.specs.Secret.{Secret, public_key}
+use Rattle.bar_lms.specs.Schemes.{public_by}
+use Rattle.bar_lms.specs.Secret.{Secret}
 use Rattle.bar_seeds.specs.declared.secrets.Secrets.{Secrets}
 use Rattle.bar_seeds.specs.Seeds.{anchor_of}
 use Rattle.bar_roster.specs.declared.key_file.KeyFile.{KeyFile}
@@ -23,9 +24,13 @@ secrets_in s party secret = record { id = s.shape.id; party = party; secret = se
 abbrev pub signing_secret : SessionData → List ℕ → Secret
 signing_secret s secret = record { params = s.params; id = s.shape.id; secret = secret }
 
+-- the public key that comes from a secret
+abbrev pub key_in : SessionData → List ℕ → List ℕ
+key_in s secret = public_by s.top s.params s.shape.id secret
+
 -- The session holds for a party the public key, and for a peer the anchor, that come from a secret.
 pub record Fits (s : SessionData) (party : ℕ) (secret : List ℕ) : Type 0 where
-  pub key : slice_get s.keys party ≡ Some (public_key (signing_secret s secret))
+  pub key : slice_get s.keys party ≡ Some (key_in s secret)
   pub anchor : 1 ≤ party → slice_get s.anchors (party - 1) ≡ Some (anchor_of (secrets_in s party secret) s.shape.rounds)
 
 -- whether a row stands at a place
@@ -35,7 +40,7 @@ is_at rows place row = option_map_or (λ held. bytes_eq held row) (slice_get row
 -- the same as a test
 abbrev pub fits : SessionData → ℕ → List ℕ → Bool
 fits s party secret =
-    is_at s.keys party (public_key (signing_secret s secret))
+    is_at s.keys party (key_in s secret)
     && ((party == 0) || is_at s.anchors (party - 1) (anchor_of (secrets_in s party secret) s.shape.rounds))
 
 -- whether the numbers are the session's, and the party is the broadcaster or a peer, as asked for

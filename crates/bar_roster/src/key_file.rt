@@ -3,7 +3,7 @@
 ghost use Rattle.std.specs.Prelude.{◌≡◌, ◌-◌, ◌≤◌, ◌⊎◌, Some, None, Ok, Err, IfOk, IfErr};
 ghost use Rattle.toml.specs.View.{table_view};
 ghost use Rattle.bar_roster.specs.Fields.{document};
-ghost use Rattle.bar_roster.specs.KeyFile.{fits, is_at, is_of_session, key_file_of};
+ghost use Rattle.bar_roster.specs.KeyFile.{fits, is_at, is_of_session, key_file_of, key_in};
 
 use crate::fields::document_table;
 use crate::key_fields::{KeyData, key_fields_at};
@@ -96,14 +96,25 @@ impl KeyFile {
         })
     }
 
+    // The public key that comes from the secret.
+    fn public_in(&self, session: &Session) -> [u8; 56]
+        requires made { IsMadeFor session.now self.now.secrets.party self.now.secrets.secret self.now }
+        requires single { session.now.top ≡ None }
+        ensures { result ≡ key_in session.now self.now.secrets.secret }
+    {
+        let _ = session;
+        self.signer.public()
+    }
+
     // Whether the session holds the public key, and for a peer the anchor, that come from the secret.
     fn fits(&self, session: &Session) -> bool
         requires party { self.now.secrets.party ≤ session.now.shape.peers }
         requires made { IsMadeFor session.now self.now.secrets.party self.now.secrets.secret self.now }
+        requires single { session.now.top ≡ None }
         ensures { result ≡ fits session.now self.now.secrets.party self.now.secrets.secret }
     {
         let party = self.secrets.party;
-        holds_key(session, party, &self.signer.public())
+        holds_key(session, party, &self.public_in(session))
             && (party == 0 || holds_anchor(session, party, &self.chain.anchor()))
     }
 
@@ -120,6 +131,7 @@ impl KeyFile {
         ensures err { IfErr result (λ e. (e ≡ KeyFileFault.NoMemory) ⊎ (key_file_of session.now caster fresh bytes.now ≡ Err e)) }
         ensures fits { IfOk result (IsKeyFileOf session.now caster) }
     {
+        let _ = session.top();
         let table = key_table(alloc, bytes)?;
         let key = key_fields_at(&table).ok_or(KeyFileFault::BadValue)?;
         if !is_of_session(&key, session, caster) {

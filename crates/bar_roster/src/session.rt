@@ -1,5 +1,5 @@
 //! A session: what its text says.
-ghost use Rattle.std.specs.Prelude.{◌≡◌, ◌≤◌, ◌<◌, ◌⊎◌, ◌-◌, ◌*◌, ◌^◌, Some, Err, Ok, IfOk, IfErr, OnOk, length, slice_get};
+ghost use Rattle.std.specs.Prelude.{◌≡◌, ◌≤◌, ◌<◌, ◌⊎◌, ◌-◌, ◌*◌, ◌^◌, Some, None, Err, Ok, IfOk, IfErr, OnOk, length, slice_get};
 ghost use Rattle.toml.specs.View.{table_view};
 ghost use Rattle.bar_lms.specs.Params.{levels};
 ghost use Rattle.bar_wire.specs.Limits.{leaves_a_round};
@@ -31,6 +31,7 @@ pub struct Session {
 }
 
 impl Model for Session {
+    ghost use Rattle.std.specs.Prelude.{None};
     ghost use Rattle.bar_roster.specs.SessionText.{SessionData};
 
     ghost Value = { SessionData };
@@ -41,6 +42,7 @@ impl Model for Session {
       fanout = s.fanout;
       port = s.port;
       tick_ms = s.tick_ms;
+      top = None;
       params = s.params;
       keys = s.keys.items;
       anchors = s.anchors.items;
@@ -54,6 +56,7 @@ impl Model for Session {
       fanout = s.fanout;
       port = s.port;
       tick_ms = s.tick_ms;
+      top = None;
       params = s.params;
       keys = s.keys.items;
       anchors = s.anchors.items;
@@ -240,6 +243,14 @@ impl Session {
         ensures { result ≡ self.now.tick_ms }
     {
         self.tick_ms
+    }
+
+    /// The LMS type of the upper tree, where signatures have two levels: `None` in every session.
+    pub fn top(&self) -> Option<u32>
+        ensures { self.now.top ≡ None }
+    {
+        let _ = &self.shape;
+        None
     }
 
     /// The types of the session's signatures.

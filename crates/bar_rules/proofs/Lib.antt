@@ -4,3 +4,4 @@ mod WorkedBroadcast
 pub mod LongerRuns
 pub mod TermWindows
 pub mod Shared
+pub mod Single

@@ -5,12 +5,12 @@ use Rattle.bar_window.specs.declared.exchange.Exchange.{Exchange}
 use Rattle.bar_window.specs.declared.exchange.Role.{Role}
 use Rattle.bar_window.specs.declared.exchange.XKind.{XKind}
 use Rattle.bar_wire.specs.Grammar.{words_of}
-use Rattle.bar_lms.specs.Secret as lms
+use Rattle.bar_lms.specs.Schemes.{signed_by}
 use Rattle.bar_seeds.specs.declared.secrets.Secrets.{Secrets}
 use Rattle.bar_seeds.specs.Seeds as seeds
 use Rattle.bar_seeds.specs.Partners as partners
 use Rattle.bar_seeds.specs.Derived as derived
-use Rattle.bar_roster.specs.KeyFile.{secrets_in, signing_secret}
+use Rattle.bar_roster.specs.KeyFile.{secrets_in}
 use Rattle.bar_rules.specs.Member.{Session, Member, anchor_of_peer}
 
 abbrev pub secrets_of : Member → Secrets
@@ -41,4 +41,4 @@ partner_of s seed kind peer = partners.partner_of s.shape.id s.shape.peers seed 
 
 -- the signature with a leaf of the key that comes from a secret
 abbrev pub signature_of : Member → ℕ → List ℕ → List ℕ
-signature_of me leaf message = lms.signed (signing_secret me.session me.secret) leaf message
+signature_of me leaf message = signed_by me.session.top me.session.params me.session.shape.id me.secret leaf message

@@ -10,13 +10,12 @@ use Rattle.bar_window.specs.WindowBytes as windows
 use Rattle.bar_terms.specs.Table.{Table}
 use Rattle.bar_terms.specs.Terms.{promised_updates, promised_junk}
 use Rattle.bar_terms.specs.Terms as terms
-use Rattle.bar_lms.specs.Acceptance.{is_accepted_under}
+use Rattle.bar_lms.specs.Schemes.{accepted_by, named_by}
 use Rattle.bar_wire.specs.Datagram.{Message, Datagram, Briefcase}
 use Rattle.bar_wire.specs.Grammar.{words_of, spelling}
 use Rattle.bar_wire.specs.Grammar as grammar
 use Rattle.bar_wire.specs.Places as places
 use Rattle.bar_case.specs.Sealed as sealing
-use Rattle.bar_seal.specs.Leaves.{leaf_in}
 use Rattle.bar_case.specs.Opened.{opened_blocks}
 use Rattle.bar_case.specs.Opened as opening
 use Rattle.bar_case.specs.declared.findings.Opening.{Opening}
@@ -95,8 +94,8 @@ unsigned m = record { message = m; signature = [] }
 
 -- the signature is accepted under the sender's key
 abbrev pub is_signed_by : Session → Datagram → Bool
-is_signed_by s d = is_accepted_under s.params (key_of_party s d.message.from) (message_bytes s d.message) d.signature
+is_signed_by s d = accepted_by s.top s.params (key_of_party s d.message.from) (message_bytes s d.message) d.signature
 
 -- the leaf that its signature names
 abbrev pub leaf_named : Session → Datagram → ℕ
-leaf_named s d = leaf_in d.signature
+leaf_named s d = named_by s.top s.params d.signature

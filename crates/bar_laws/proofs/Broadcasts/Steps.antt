@@ -1,6 +1,6 @@
 -- What an input adds to the broadcaster's log, and what it sends, one thing after another: what each of these keeps holds after the input.
 use Rattle.bar_laws.specs.Broadcasting.{IsSignedInTime, manifest_of}
-use Rattle.bar_lms.specs.Params.{levels}
+use Rattle.bar_lms.specs.Schemes.{leaves_by}
 use Rattle.bar_rules.specs.Broadcaster.Party.{IsBroadcaster}
 use Rattle.bar_rules.specs.Broadcaster.Sending.{evicted, served, caster_signed, send_all, announce_by, announce, announce_manifest, announce_evictions, send_block, send_blocks, caster_tick, evict_by, judge_body, judge_datagram}
 use Rattle.bar_rules.specs.Broadcaster.Stream.{round_blocks, manifest_list, caster_table, is_in_fanout, peers_of}
@@ -81,13 +81,13 @@ blocks-keep me stream P k m i (block ∷ blocks) out h =
 
 pub manifest-in-time : (me : Member) (stream : List ℕ) (log : Log) (m : ℕ) → IsBroadcaster me → 1 ≤ m → m ≤ me.session.shape.rounds → m ≤ round_now log → IsSignedInTime me stream log (manifest_of me stream m)
 manifest-in-time me stream log m is low high begun =
-    let few : leaves_a_round * me.session.shape.rounds ≤ 2 ^ levels me.session.params.height = is.session.leaves in
+    let few : leaves_a_round * me.session.shape.rounds ≤ leaves_by me.session.top me.session.params = is.session.leaves in
     record { announces = refl; signed = refl; fits = manifest-fits me stream m is.session low high; low = low; high = high; begun = begun; below = omega (arith, few, low, high) }
 
 evict-in-time : (me : Member) (stream : List ℕ) (log : Log) (m : ℕ) → IsBroadcaster me → 1 ≤ m → m ≤ me.session.shape.rounds → m ≤ round_now log → 0 < length (evicted me.session log)
     → IsSignedInTime me stream log (caster_signed me (2 * (m - 1) + 1) (Evict m (evicted me.session log)))
 evict-in-time me stream log m is low high begun some =
-    let few : leaves_a_round * me.session.shape.rounds ≤ 2 ^ levels me.session.params.height = is.session.leaves in
+    let few : leaves_a_round * me.session.shape.rounds ≤ leaves_by me.session.top me.session.params = is.session.leaves in
     record { announces = tt; signed = refl; fits = evict-fits me log m is.session low high some; low = low; high = high; begun = begun; below = omega (arith, few, low, high) }
 
 -- ---- the tick

@@ -19,7 +19,7 @@ use Rattle.std.specs.Prelude.{Option, Some, None, is_some, cond, nat_le, nat_lt,
 use Rattle.bar_laws.proofs.Logs.{first_said-was, SaidIn, said-in, all-of, all-kept, all-map, all-snoc}
 use Rattle.bar_laws.proofs.Runs.{Adds, SentBy, adds-send, sent-said, came, ticked-low}
 use Rattle.bar_laws.proofs.Fitting.SignedAccepted.{signed-accepted}
-use Rattle.bar_lms.specs.Params.{levels}
+use Rattle.bar_lms.specs.Schemes.{leaves_by}
 use Rattle.bar_laws.proofs.Fitting.CasterFits.{manifest-fits, evict-fits, block-fits, served-are-peers, blocks-are-whole, blocks-are-few}
 use Rattle.bar_roster.specs.Sessions.{IsSession}
 use Rattle.bar_wire.specs.Grammar.{IsDatagram}
@@ -147,7 +147,7 @@ casts-blocks me stream log o m i (b ∷ blocks) out z s low high few whole a =
     (λ p peer. block-fits me.session (record { round = m; index = i }) b p s low high (omega (arith, few)) whole.0 peer.0 peer.1)
     (all-kept (IsPeerOf me.session) (is_in_fanout me (record { round = m; index = i })) (served me.session out.state) (all-of (IsPeerOf me.session) (served me.session out.state) (served-are-peers me.session out.state))) a)
 
-caster-accepted : (me : Member) (leaf : ℕ) (body : Body) → IsBroadcaster me → leaf < 2 ^ levels me.session.params.height → is_signed_by me.session (caster_signed me leaf body) ≡ true
+caster-accepted : (me : Member) (leaf : ℕ) (body : Body) → IsBroadcaster me → leaf < leaves_by me.session.top me.session.params → is_signed_by me.session (caster_signed me leaf body) ≡ true
 caster-accepted me leaf body is below = signed-accepted me.session 0 me.secret leaf (caster_message body) is.fits refl below
 
 casts-tick : (me : Member) (stream : List ℕ) (log : Log) (o : Option Datagram) (out : Out) → IsBroadcaster me → 1 ≤ round_now out.state → Casts me stream log o out → Casts me stream log o (caster_tick me stream out)
@@ -156,11 +156,11 @@ casts-tick me stream log o out is low a = go (not (nat_le m me.session.shape.rou
     m : ℕ
     m = round_now out.state
 
-    below : m ≤ me.session.shape.rounds → 2 * (m - 1) < 2 ^ levels me.session.params.height
-    below high = let few : leaves_a_round * me.session.shape.rounds ≤ 2 ^ levels me.session.params.height = is.session.leaves in omega (arith, few, low, high)
+    below : m ≤ me.session.shape.rounds → 2 * (m - 1) < leaves_by me.session.top me.session.params
+    below high = let few : leaves_a_round * me.session.shape.rounds ≤ leaves_by me.session.top me.session.params = is.session.leaves in omega (arith, few, low, high)
 
-    above : m ≤ me.session.shape.rounds → 2 * (m - 1) + 1 < 2 ^ levels me.session.params.height
-    above high = let few : leaves_a_round * me.session.shape.rounds ≤ 2 ^ levels me.session.params.height = is.session.leaves in omega (arith, few, low, high)
+    above : m ≤ me.session.shape.rounds → 2 * (m - 1) + 1 < leaves_by me.session.top me.session.params
+    above high = let few : leaves_a_round * me.session.shape.rounds ≤ leaves_by me.session.top me.session.params = is.session.leaves in omega (arith, few, low, high)
 
     manifest : m ≤ me.session.shape.rounds → Casts me stream log o (announce_manifest me stream m out)
     manifest high = casts-announce me stream log o out (2 * (m - 1)) m (Manifest m (manifest_list me.session stream m)) refl (omega arith) (manifest-fits me stream m is.session low high) (caster-accepted me (2 * (m - 1)) (Manifest m (manifest_list me.session stream m)) is (below high)) a

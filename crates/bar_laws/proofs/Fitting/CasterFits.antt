@@ -2,8 +2,7 @@
 use Rattle.bar_roster.specs.NumberRanges.{most_rounds}
 use Rattle.bar_rules.specs.Broadcaster.Sending.{evicted, served, caster_message, caster_signed}
 use Rattle.bar_rules.specs.Broadcaster.Stream.{block_bytes, piece_of, round_blocks, manifest_list, peers_of}
-use Rattle.bar_lms.specs.Params.{levels}
-use Rattle.bar_roster.specs.KeyFile.{signing_secret}
+use Rattle.bar_lms.specs.Schemes.{leaves_by}
 use Rattle.bar_roster.specs.Sessions.{IsSession}
 use Rattle.bar_rules.specs.Peer.Log.{kept, Log}
 use Rattle.bar_rules.specs.Member.{Session, Member}
@@ -14,7 +13,7 @@ use Rattle.bar_wire.specs.Limits.{leaves_a_round}
 use Rattle.bar_wire.specs.Datagram.{Manifest, Block, Evict}
 use Rattle.bar_wire.specs.Grammar.{IsDatagram, RisesTo}
 use Rattle.sha2.specs.Sha256.{sha256}
-use Rattle.bar_laws.proofs.Logs.{length-sha256, lms_signed_has_its_length, all-mapped}
+use Rattle.bar_laws.proofs.Logs.{length-sha256, signed_long, all-mapped}
 use Rattle.std.proofs.Common.{◌≡◌, ℕ, zero, suc, ◌+◌, ◌*◌, ◌-◌, ◌<◌, ◌≤◌, ◌^◌, Bool, true, false, List, [], ◌∷◌, length, refl, sym, ◌∙◌, cond, arith, length-append, length-take}
 use Rattle.std.specs.Prelude.{Contains, filter, is_some, is_none, nat_lt}
 use Rattle.std.specs.List.{AllByRecursion, range_with_len}
@@ -63,8 +62,8 @@ kept-rise p high low a (suc n) from to = go (p a) (λ l h. kept-rise p high l (a
 
 leaf-length : (me : Member) (leaf : ℕ) (message : List ℕ) → IsSession me.session → leaf < leaves_a_round * me.session.shape.rounds → length (signature_of me leaf message) ≡ me.session.shape.sig_len
 leaf-length me leaf message s low =
-    let leaves : leaves_a_round * me.session.shape.rounds ≤ 2 ^ levels me.session.params.height = s.leaves in
-    lms_signed_has_its_length (signing_secret me.session me.secret) leaf message (omega (arith, low, leaves)) ∙ sym s.signatures
+    let leaves : leaves_a_round * me.session.shape.rounds ≤ leaves_by me.session.top me.session.params = s.leaves in
+    signed_long me.session.top me.session.params me.session.shape.id me.secret leaf message (omega (arith, low, leaves)) ∙ sym s.signatures
 
 -- ---- blocks
 

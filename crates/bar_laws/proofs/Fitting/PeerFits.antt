@@ -1,6 +1,5 @@
 -- What a peer signs and sends is in the grammar.
 use Rattle.bar_rules.specs.Peer.Evidence.{new_evidence}
-use Rattle.bar_roster.specs.KeyFile.{signing_secret}
 use Rattle.bar_rules.specs.Runs.{begun}
 use Rattle.bar_rules.specs.Peer.Admission.{is_admitted}
 use Rattle.bar_rules.specs.Peer.Exchanges.{request_kind, role_of, partner_in, revealed, open_exchanges, with_exchange, exchange_said, exchanges_said}
@@ -34,7 +33,7 @@ use Rattle.std.proofs.Common.{◌≡◌, ◌≢◌, ℕ, ◌+◌, ◌<◌, ◌�
 use Rattle.std.specs.Prelude.{Option, Some, None, option_map, map, nat_le}
 use Rattle.std.specs.List.{AllByRecursion}
 use Rattle.std.proofs.lemmas.Bool.{eqb-true, eq-eqb, both_ways}
-use Rattle.bar_laws.proofs.Logs.{allowed-at, lms_signed_has_its_length, IsFormed, IsBetween, between-by, party-peer, fits-formed, revealed-formed, heard-fits, was-heard-fits, part-in-range, first_said-was, said-rule, SaidIn, was-said, said-in, all-both, all-flat-map, all-kept, all-snoc}
+use Rattle.bar_laws.proofs.Logs.{allowed-at, signed_long, IsFormed, IsBetween, between-by, party-peer, fits-formed, revealed-formed, heard-fits, was-heard-fits, part-in-range, first_said-was, said-rule, SaidIn, was-said, said-in, all-both, all-flat-map, all-kept, all-snoc}
 use Rattle.bar_laws.proofs.Fitting.EvidenceFits.{evidence-fits}
 use Rattle.bar_laws.proofs.Runs.{keeps-leaves, send_if-log, step-obedient, repeated-heard, when-all, said-contains}
 use Rattle.bar_laws.proofs.Fitting.SaidFits.{sign-formed, all-formed, round-small}
@@ -73,7 +72,7 @@ said-fits me log d is h s =
     let leaves = keeps-leaves me log is.session h in
     let contains = said-contains log d s in
     let sealed : d.signature ≡ (signed me (known me log) d.message).signature = ap (λ z. z.signature) (leaves.stays d contains) in
-    let long = lms_signed_has_its_length (signing_secret me.session me.secret) (leaf_for (known me log) d.message) (message_bytes me.session d.message) (leaves.below d contains) in
+    let long = signed_long me.session.top me.session.params me.session.shape.id me.secret (leaf_for (known me log) d.message) (message_bytes me.session d.message) (leaves.below d contains) in
     record {
       from_fits = peer-small me d.message.from is formed.from;
       to_fits = peer-small me d.message.to is formed.to;

@@ -2,7 +2,7 @@
 use Rattle.std.proofs.Common.{◌≡◌, ℕ, ◌+◌, ◌*◌, ◌≤◌, ◌==◌, true, length, ap, arith}
 use Rattle.std.specs.Prelude.{max}
 use Rattle.std.proofs.Math.Nat.{max-le}
-use Rattle.bar_lms.proofs.DigitLemmas.{signature_short}
+use Rattle.bar_roster.proofs.Levels.{session_short}
 use Rattle.bar_window.proofs.Widths.{few_words, most_places}
 use Rattle.bar_roster.specs.NumberRanges.{most_per_round}
 use Rattle.bar_roster.specs.Sessions.{IsSession}
@@ -28,7 +28,7 @@ small : (s : Session) → IsSession s → IsSmall s
 small s is =
     let window : window_len s.shape ≤ 256 = omega (arith, few_words (is_wide s.shape) s.shape.life s.shape.shaped.few) in
     record {
-      signature = omega (arith, is.signatures, signature_short s.params);
+      signature = omega (arith, is.signatures, session_short s is);
       window = window;
       terms = max-le (omega (arith, window)) (omega (arith, window));
       digests = omega (arith, is.shape.per_round_high, few-a-round s.shape.version);

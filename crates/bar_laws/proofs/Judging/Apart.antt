@@ -5,7 +5,6 @@ use Rattle.std.specs.Bool.{then_some}
 use Rattle.std.specs.Option.{option_or, option_map_or}
 use Rattle.std.specs.Str.{bytes_eq}
 use Rattle.std.proofs.lemmas.Bool.{and_left, and_right, both_ways}
-use Rattle.bar_seal.specs.Leaves.{leaf_in}
 use Rattle.bar_terms.specs.Table.{Table}
 use Rattle.bar_window.specs.Exchange.{same_exchange, same_role, kind_code, role_code}
 use Rattle.bar_window.specs.declared.exchange.Exchange.{Exchange}
@@ -15,6 +14,7 @@ use Rattle.bar_window.specs.declared.exchange.XKind.{XKind}
 use Rattle.bar_window.specs.declared.exchange.XKind.TheVariants.{Balanced, Push}
 use Rattle.bar_wire.specs.Bodies.{briefcase_in, key_in, is_peer_kind}
 use Rattle.bar_wire.specs.Datagram.{Message, Datagram, Body, Request, Response, Query, Reply, Case, Key, Briefcase, KeyGiven, kind_number, part_of, named, identity_of, exchange_by, exchange_of, place_by}
+use Rattle.bar_rules.specs.Values.{leaf_named}
 use Rattle.bar_rules.specs.Member.{Session}
 use Rattle.bar_rules.specs.Judge.Verdict.{LeafTwice, same_place, key_fits, pair_opening, bad_opening, is_twice, fault_by_case, fault_in_order, fault_of_two}
 use Rattle.bar_laws.proofs.Logs.{same_bytes-is, same_exchange-is, same_exchange_refl}
@@ -155,12 +155,12 @@ no-fault s t d e a =
     rw (opening, twice, case) refl
 
 -- nothing but that their signatures name one leaf
-pub apart-shows : (s : Session) (t : Table) (d e : Datagram) → AreApart d e → fault_of_two s t d e ≡ then_some (eqb (leaf_in d.signature) (leaf_in e.signature)) LeafTwice
+pub apart-shows : (s : Session) (t : Table) (d e : Datagram) → AreApart d e → fault_of_two s t d e ≡ then_some (eqb (leaf_named s d) (leaf_named s e)) LeafTwice
 apart-shows s t d e a =
     let first = no-fault s t d e a in
     let second = no-fault s t e d (flipped d e a) in
     let other = other-identity d e a in
-    rw (first, second, other) (last (eqb (leaf_in d.signature) (leaf_in e.signature)))
+    rw (first, second, other) (last (eqb (leaf_named s d) (leaf_named s e)))
   where
     last : (b : Bool) → option_or (then_some b LeafTwice) None ≡ then_some b LeafTwice
     last true = refl

@@ -1,7 +1,6 @@
 -- No member is framed by what it signed.
 use Rattle.bar_rules.specs.Peer.Evidence.{accuses}
 use Rattle.bar_wire.specs.Bodies.{briefcase_in, choice_in, key_in}
-use Rattle.bar_seal.specs.Leaves.{leaf_in}
 use Rattle.bar_laws.specs.Framing.{accuses_by_words}
 use Rattle.bar_case.specs.Opened.{is_bad}
 use Rattle.bar_case.specs.Opened as opening
@@ -13,7 +12,7 @@ use Rattle.bar_rules.specs.Member.{Session, Member, IsMember}
 use Rattle.bar_rules.specs.Peer.Rules.{IsObedient, IsSignedByRule}
 use Rattle.bar_rules.specs.Secrets.{briefcase_key, is_seed, seed_of, partner_of, secrets_of}
 use Rattle.bar_rules.specs.Peer.Signing.{MaySign, MaySay, MayGiveCase, MayGiveKey}
-use Rattle.bar_rules.specs.Values.{terms_ok, opening_of, counts_ok, is_signed_by}
+use Rattle.bar_rules.specs.Values.{terms_ok, opening_of, counts_ok, is_signed_by, leaf_named}
 use Rattle.bar_rules.specs.Judge.Verdict.{key_fits, pair_opening, bad_opening, bad_terms, wrong_partner, fault_of_one, fault_of_messages, is_leaf_twice, fault_of, all_read, are_of_one_peer, sender_of, judged, verdict, Fault, LeafTwice, NotShown, Malformed, NotSigned}
 use Rattle.bar_terms.specs.Table.{no_lists, Table, Agrees, digest_of, digest_in, Known, NoManifest}
 use Rattle.bar_terms.specs.Terms.{promised_updates}
@@ -155,13 +154,13 @@ never-by_messages me log two m n h p q agree =
 
 -- two said datagrams of different identities name different leaves
 never-leaf_twice : (me : Member) (log : Log) (m n : Datagram) → IsMember me → IsObedient me log → SaidIn log m → SaidIn log n → is_leaf_twice me.session m n ≡ false
-never-leaf_twice me log m n is h p q = go (bytes_eq (identity_of m.message) (identity_of n.message)) (leaf_in m.signature == leaf_in n.signature) refl refl
+never-leaf_twice me log m n is h p q = go (bytes_eq (identity_of m.message) (identity_of n.message)) (leaf_named me.session m == leaf_named me.session n) refl refl
   where
-    go : (a b : Bool) → bytes_eq (identity_of m.message) (identity_of n.message) ≡ a → (leaf_in m.signature == leaf_in n.signature) ≡ b → (not a && b) ≡ false
+    go : (a b : Bool) → bytes_eq (identity_of m.message) (identity_of n.message) ≡ a → (leaf_named me.session m == leaf_named me.session n) ≡ b → (not a && b) ≡ false
     go true b e f = refl
     go false false e f = refl
     go false true e f =
-        let one : m ≡ n = named-once me log m n is.session h (was-said log m p) (was-said log n q) (eqb-true (leaf_in m.signature) (leaf_in n.signature) f) in
+        let one : m ≡ n = named-once me log m n is.session h (was-said log m p) (was-said log n q) (eqb-true (leaf_named me.session m) (leaf_named me.session n) f) in
         let same : bytes_eq (identity_of m.message) (identity_of n.message) ≡ true = subst (λ (c : Datagram). bytes_eq (identity_of m.message) (identity_of c.message) ≡ true) one (same_bytes_refl (identity_of m.message)) in
         absurd (both_ways _ e same)
 

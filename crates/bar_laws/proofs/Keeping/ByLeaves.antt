@@ -5,7 +5,6 @@ use Rattle.std.specs.List.{AllByRecursion, list_all}
 use Rattle.std.specs.Option.{option_or, option_map_or}
 use Rattle.std.proofs.Common.{◌≡◌, ◌≢◌, ℕ, ◌+◌, ◌-◌, Bool, true, false, cond, List, [], ◌∷◌, refl, sym, ap, ◌∙◌, subst, inl, inr, eqb, arith}
 use Rattle.std.proofs.lemmas.Bool.{and_parts, and_from, both_ways, eqb-true, eq-eqb, ne_eqb}
-use Rattle.bar_seal.specs.Leaves.{leaf_in}
 use Rattle.bar_terms.specs.Table.{Table}
 use Rattle.bar_window.specs.Exchange.{other_role, same_exchange, party_on}
 use Rattle.bar_window.specs.declared.exchange.Exchange.{Exchange}
@@ -22,7 +21,7 @@ use Rattle.bar_wire.specs.Grammar.{MaySend}
 use Rattle.bar_wire.specs.declared.shape.Shape.{Shape}
 use Rattle.bar_wire.proofs.Signed.{peer_kind_signed}
 use Rattle.bar_rules.specs.Member.{Session, Member}
-use Rattle.bar_rules.specs.Values.{datagram_bytes, datagram_of, is_signed_by}
+use Rattle.bar_rules.specs.Values.{datagram_bytes, datagram_of, is_signed_by, leaf_named}
 use Rattle.bar_rules.specs.Judge.Verdict.{LeafTwice, all_read, are_of_one_peer, fault_of_two, judged, verdict_on}
 use Rattle.bar_rules.specs.Peer.Admission.{has_valid_signature}
 use Rattle.bar_rules.proofs.Shared.{AreParties, IsShared, shared_are}
@@ -136,9 +135,9 @@ leaf-pair me k t d e x b w =
     (and_from _ _ (and_from _ _ b.peer (eq-eqb d.message.from e.message.from (sym w.apart.from))) refl)
     in
     let signed : list_all (is_signed_by s) (e ∷ d ∷ []) ≡ true = and_from _ _ w.accepted (and_from _ _ b.accepted refl) in
-    let shows : fault_of_two s t e d ≡ then_some (eqb (leaf_in e.signature) (leaf_in d.signature)) LeafTwice = apart-shows s t e d w.apart in
-    let names : accuses d.message.from (verdict_on s t (Some (e ∷ d ∷ []))) ≡ eqb (leaf_in e.signature) (leaf_in d.signature) =
-    rw (one, signed, shows) (accuses-leaf s t d e (eqb (leaf_in e.signature) (leaf_in d.signature)) w.apart.from)
+    let shows : fault_of_two s t e d ≡ then_some (eqb (leaf_named s e) (leaf_named s d)) LeafTwice = apart-shows s t e d w.apart in
+    let names : accuses d.message.from (verdict_on s t (Some (e ∷ d ∷ []))) ≡ eqb (leaf_named s e) (leaf_named s d) =
+    rw (one, signed, shows) (accuses-leaf s t d e (eqb (leaf_named s e) (leaf_named s d)) w.apart.from)
     in
     ap (λ z. then_some z (datagram_bytes s e ∷ datagram_bytes s d ∷ []))
     (ap (λ o. accuses d.message.from (verdict_on s t o)) read ∙ names)

@@ -12,7 +12,8 @@ pub use Rattle.bar_seeds.proofs.Lengths.{length-chain_back, length-nonce_of, len
 -- of bar_seal: leaves_are_few, leaves_name_messages, identities_name_messages; LmsScheme's law signed_is_accepted, and the length of what is signed
 pub use Rattle.bar_seal.proofs.Slots.{leaves_few, peers_named, caster_named}
 pub use Rattle.bar_seal.proofs.Named.{same_names}
-pub use Rattle.bar_seal.specs.LmsLaws.{lms_signed_is_accepted, lms_signed_has_its_length}
+pub use Rattle.bar_lms.proofs.SchemeLemmas.{signed_accepted, signed_long, signed_names}
+pub use Rattle.bar_roster.proofs.Levels.{session_short}
 -- of bar_wire: the_datagram_is_spelled, the_test_tells_a_datagram, bytes_spell_one
 pub use Rattle.bar_wire.proofs.Told.{only_told, is_told}
 pub use Rattle.bar_wire.proofs.RangeTests.{datagram_tells}

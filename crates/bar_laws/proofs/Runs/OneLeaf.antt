@@ -2,7 +2,7 @@
 use Rattle.bar_wire.specs.Limits.{leaves_a_round, seats_a_round}
 use Rattle.bar_wire.specs.declared.kind.Kind.TheVariants as kinds
 use Rattle.bar_wire.specs.Kinds.{code_of}
-use Rattle.bar_lms.specs.Params.{levels}
+use Rattle.bar_lms.specs.Schemes.{leaves_by}
 use Rattle.bar_roster.specs.Sessions.{IsSession}
 use Rattle.bar_rules.specs.Peer.Admission.{is_row_met}
 use Rattle.bar_rules.specs.Peer.Exchanges.{seat, seat_in, request_kind, answer_kind, opening_kind}
@@ -333,10 +333,10 @@ one-leaf me log d e h v w leaf = unique me log d e h (said-in log d v) (said-in 
         ∙ sym (named-by e.message.body p e.message.from e.message.to y.signed part)
 
 -- each leaf is below the number of leaves
-pub leaf-below : (me : Member) (log : Log) (d : Datagram) → IsSession me.session → IsObedient me log → WasSaid log d → leaf_for (known me log) d.message < 2 ^ levels me.session.params.height
+pub leaf-below : (me : Member) (log : Log) (d : Datagram) → IsSession me.session → IsObedient me log → WasSaid log d → leaf_for (known me log) d.message < leaves_by me.session.top me.session.params
 leaf-below me log d s h w =
     let al = allowed-at me log w.before (Said d) w.place h in
     let x = placed me w.before d.message al.1 al.0.rule in
     let few : leaf_for (known me log) d.message < leaves_a_round * me.session.shape.rounds = leaves_few d.message.body (seat_by (known me log) (place_of d.message)) me.session.shape.rounds x.signed al.0.rule.low al.0.rule.high (seat_by-below me log (place_of d.message) h) in
-    let all : leaves_a_round * me.session.shape.rounds ≤ 2 ^ levels me.session.params.height = s.leaves in
+    let all : leaves_a_round * me.session.shape.rounds ≤ leaves_by me.session.top me.session.params = s.leaves in
     omega (arith, few, all)

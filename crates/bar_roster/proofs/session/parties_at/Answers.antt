@@ -1,4 +1,4 @@
-use Rattle.std.proofs.Common.{◌≡◌, ◌∙◌, inr, sym, ap, arith, Ok}
+use Rattle.std.proofs.Common.{◌≡◌, ◌∙◌, inr, sym, ap, arith, Ok, None}
 use Rattle.bar_lms.specs.declared.params.Params.{Params}
 use Rattle.bar_roster.specs.Shapes.{height_of, params_of}
 use Rattle.bar_roster.specs.SessionText.{enough_leaves}
@@ -32,6 +32,7 @@ returns-clause-ok c =
       fanout = c.in_ok-fanout.field-0;
       port = c.args.numbers.now.port;
       tick_ms = c.args.numbers.now.tick_ms;
+      top = None;
       params = types i;
       keys = c.in_ok-keys.keys.items;
       anchors = c.in_ok-keys.anchors.items;

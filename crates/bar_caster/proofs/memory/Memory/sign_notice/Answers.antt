@@ -1,7 +1,7 @@
 -- The notice of this round names those that are evicted, and is the first of its round.
 use Rattle.std.proofs.Common.{◌≡◌, ◌≤◌, ℕ, List, length, ap, arith}
 use Rattle.std.proofs.lemmas.List.{length-take}
-use Rattle.bar_lms.proofs.DigitLemmas.{signature_short}
+use Rattle.bar_roster.proofs.Levels.{session_short}
 use Rattle.bar_caster.specs.declared.memory.Memory.{Memory}
 use Rattle.bar_caster.proofs.memory.Memory.sign_notice.Goals as goal
 
@@ -65,7 +65,7 @@ sign_behind-len-requires-clause-room g c =
       c.requires.room,
       c.requires.signs.length_is,
       m.is_broadcaster.session.signatures,
-      signature_short m.session.params,
+      session_short m.session m.is_broadcaster.session,
     )
 
 pub keep-requires : goal.keep-requires

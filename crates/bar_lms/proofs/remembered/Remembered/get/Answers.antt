@@ -1,4 +1,4 @@
-use Rattle.std.proofs.Common.{rules, ◌≡◌, ◌<◌, length}
+use Rattle.std.proofs.Common.{rules, ◌<◌, length}
 use Rattle.std.proofs.lemmas.Option.{IfSome_then}
 use Rattle.bar_lms.specs.Remembered.{AreValuesOf}
 use Rattle.bar_lms.proofs.RememberedLemmas.{values_at}
@@ -6,9 +6,9 @@ use Rattle.bar_lms.proofs.remembered.Remembered.get.Goals as goal
 
 pub returns : goal.returns
 returns c =
-    let same : c.self.inside.key ≡ c.args.key.now = search rules in
     let inside : c.in_ok-place.place < length c.self.inside.places.items = search rules in
-    let are : AreValuesOf c.self.inside.key c.index.result.now =
-    values_at c.self.inside.key c.self.inside.places.items c.in_ok-place.place c.index.result.now c.index.ensures inside c.self.invariant
+    let are : AreValuesOf c.self.inside.ots c.index.result.now =
+    values_at c.self.inside.ots c.self.inside.places.items c.in_ok-place.place c.index.result.now c.index.ensures inside c.self.invariant
     in
-    IfSome_then c.get.result c.get.ensures.only (λ values only. rw (← same, ← only.0, ← only.1) (are.kept values.now only.2))
+    IfSome_then c.get.result c.get.ensures
+    (λ values only. rw (← only.0, ← only.1, ← only.2) (are.kept values.now only.3))

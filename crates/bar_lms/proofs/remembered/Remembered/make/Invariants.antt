@@ -3,4 +3,4 @@ use Rattle.bar_lms.specs.Remembered.{AreValuesOf}
 use Rattle.bar_lms.proofs.remembered.Remembered.make.Given as goal
 
 abbrev pub invariant-places : goal.invariant-places
-invariant-places l = All (AreValuesOf l.key) l.all.items
+invariant-places l = All (AreValuesOf l.ots) l.all.items

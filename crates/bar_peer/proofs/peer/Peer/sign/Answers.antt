@@ -8,7 +8,7 @@ use Rattle.bar_rules.specs.Values.{message_bytes}
 use Rattle.bar_rules.specs.Peer.Signing.{leaf_for}
 use Rattle.bar_peer.specs.Giving.{IsSignedFor}
 use Rattle.bar_peer.specs.Memory.{member_of}
-use Rattle.bar_lms.proofs.DigitLemmas.{signature_short}
+use Rattle.bar_roster.proofs.Levels.{session_short}
 use Rattle.bar_peer.proofs.Behind.{behind}
 use Rattle.bar_peer.proofs.peer.Peer.sign.Goals as goal
 
@@ -48,6 +48,6 @@ returns g c k d h due is =
         ap g.S.Verifier.signature_len c.verifier-scheme.ensures,
         p.signs.length_is,
         p.memory.who.is_member.session.signatures,
-        signature_short me.session.params,
+        session_short me.session p.memory.who.is_member.session,
       ),
     )

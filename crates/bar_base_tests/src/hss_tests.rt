@@ -1,0 +1,150 @@
+//! Signatures of two levels: outside vectors, and each public call once.
+
+mod vectors;
+
+ghost use Rattle.std.specs.Prelude.{◌≡◌, ◌<◌, length};
+ghost use Rattle.bar_hss.specs.Pairs.{IsPair};
+
+use bar_bytes::Steps;
+use bar_hss::{HssKey, HssScheme, HssVerifier, SessionScheme, SessionVerifier};
+use bar_lms::{Height, Ots, Params};
+use bar_seal::{Scheme, Verifier};
+use sha2::{Digest, Sha256};
+use std::alloc::{AllocError, Global};
+use std::marker::Brand;
+use std::process::Abort;
+use std::sync::ledger::{Blank, Ledger};
+use std::test::Fail;
+use vectors::OF_WIDTH_8;
+
+const LOW: Params = Params {
+    height: Height::H5,
+    ots: Ots::W8,
+};
+
+const ID: [u8; 8] = [0xce, 0xc7, 0x97, 0x85, 0x07, 0xff, 0x0b, 0xdc];
+
+fn is_counted<V: Verifier, L: Ledger>(
+    verifier: &V,
+    key: &[u8],
+    message: &[u8],
+    sig: &[u8],
+    blank: Blank,
+) -> bool
+    requires name { blank.name ≡ L.name }
+    requires parts { blank.parts ≡ L.parts }
+    requires some { 0 < L.parts }
+{
+    verifier.accepts(key, message, sig, &mut Steps::<L>::new(blank))
+}
+
+/// Whether a signature is accepted.
+fn accepts<V: Verifier>(verifier: &V, key: &[u8], message: &[u8], sig: &[u8]) -> bool {
+    is_counted::<V, Brand>(verifier, key, message, sig, Blank::new(1))
+}
+
+/// The leaf that a signature names.
+fn leaf_of<V: Verifier>(rt: &impl Abort, verifier: &V, sig: &[u8]) -> u32 {
+    let len = verifier.sig_len();
+    assert!(rt; sig.len() == len);
+    verifier.leaf_in(sig)
+}
+
+#[test]
+fn others_signatures_are_accepted(rt: HostRuntime) -> Result<(), Fail> {
+    let alloc = rt.alloc();
+    let vector = OF_WIDTH_8;
+    let key = hex::decode(alloc, vector.key)?;
+    let message = hex::decode(alloc, vector.message)?;
+    let mut sig = hex::decode(alloc, vector.signature)?;
+    let verifier = SessionVerifier::Double(HssVerifier::new(LOW, LOW));
+    assert!(rt; accepts(&verifier, &key, &message, &sig));
+    assert_eq!(rt; leaf_of(&rt, &verifier, &sig), vector.leaf);
+    assert!(rt; !accepts(&verifier, &key, b"another message", &sig));
+    // the number of keys, and in both parts the leaf, the randomizer and the path, and the key between them
+    for place in [3, 7, 12, 1_295, 1_300, 1_320, 1_355, 1_360, 2_643] {
+        assert!(rt; place < sig.len());
+        sig[place] ^= 1;
+        assert!(rt; !accepts(&verifier, &key, &message, &sig), "{place}");
+        sig[place] ^= 1;
+    }
+    Ok(())
+}
+
+/// A key of two levels.
+fn key_of(alloc: Global, top: Height, secret: &[u8; 32]) -> Result<HssKey, AllocError> {
+    let top = Params {
+        height: top,
+        ots: Ots::W8,
+    };
+    HssKey::make(alloc, top, LOW, &ID, secret)
+}
+
+/// The signature of a message under a leaf.
+fn signed<S: Scheme>(
+    rt: &impl Abort,
+    alloc: Global,
+    scheme: &S,
+    leaf: u32,
+    message: &[u8],
+) -> Result<Vec<u8>, AllocError> {
+    let leaves = scheme.leaves();
+    assert!(rt; leaf < leaves);
+    let mut sig = vec![in alloc; 0; scheme.sig_len()]?;
+    scheme.sign(leaf, message, &mut sig);
+    Ok(sig)
+}
+
+// The key, the message and the hash of its signature are by another program.
+#[test]
+fn a_secret_gives_its_key_and_signatures(rt: HostRuntime) -> Result<(), Fail> {
+    let alloc = rt.alloc();
+    let mut secret = [0u8; 32];
+    hex::decode_to_slice(
+        "a395f5a16802dca59fa7a4d144ebda1d1cf85005ca2961673346126d7d5db3e3",
+        &mut secret,
+    )?;
+    let message = hex::decode(
+        alloc,
+        "ba470103cec7978507ff0bdc0001000200000003e2ed23b1426eb34c1049122ba70aeed0aba6919a\
+        384735c0a047b3a180233ba1a2f1b6755a420afe9d2764c91fde4c04d44c49e517da3d96e09106ec\
+        ae878e35",
+    )?;
+    let mut remembers = key_of(alloc, Height::H5, &secret)?;
+    remembers.remember(alloc, 32)?;
+    let key = remembers.public();
+    assert_eq!(rt;
+        hex::encode(alloc, key)?.as_str(),
+        "00000002000000050000000475c0fb3a123115b11702c6b6950cbd3b365c39d6aef5022de242573d\
+        cb56569b7adb86ba235912fd74aeec4399bc6b87"
+    );
+    let plain = HssScheme::new(key_of(alloc, Height::H5, &secret)?);
+    let scheme = SessionScheme::Double(HssScheme::new(remembers));
+    let sig = signed(&rt, alloc, &plain, 36, &message)?;
+    assert_eq!(rt;
+        hex::encode(alloc, Sha256::digest(sig.as_slice()))?.as_str(),
+        "760be46d9a7532d0d19dd39cf7ec7a1efc3a7b9b4f6ed14b161edb292ab6ec8b"
+    );
+    // two leaves of one tree, one of another tree in its place, and the first again
+    for leaf in [36, 36, 37, 132, 36] {
+        let wanted = signed(&rt, alloc, &plain, leaf, &message)?;
+        let found = signed(&rt, alloc, &scheme, leaf, &message)?;
+        assert_eq!(rt; found.as_slice(), wanted.as_slice());
+        assert_eq!(rt; leaf_of(&rt, &scheme, &found), leaf);
+        assert!(rt; accepts(&scheme, &key, &message, &found));
+    }
+    Ok(())
+}
+
+#[test]
+fn the_parts_of_a_signature_have_their_places(rt: HostRuntime) -> Result<(), Fail> {
+    let alloc = rt.alloc();
+    let scheme = HssScheme::new(key_of(alloc, Height::H10, &[7; 32])?);
+    assert_eq!(rt; scheme.leaves(), 32_768);
+    let sig = signed(&rt, alloc, &scheme, 33, b"a message")?;
+    assert_eq!(rt; sig.len(), 2_804);
+    assert_eq!(rt; sig.get(..8), Some([0, 0, 0, 1, 0, 0, 0, 1].as_slice()));
+    assert_eq!(rt; sig.get(1_512..1_516), Some([0, 0, 0, 1].as_slice()));
+    assert_eq!(rt; leaf_of(&rt, &scheme, &sig), 33);
+    Ok(())
+}
