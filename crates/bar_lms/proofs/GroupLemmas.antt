@@ -52,6 +52,42 @@ most_above f first (suc n) j below =
       | inr not_less ↦ let e : j ≡ n = omega (arith, below, not_less) in rw e (omega arith)
     ]
 
+-- the same numbers
+groups_same : (f g : ℕ → ℕ) (n : ℕ) → ((j : ℕ) → j < 8 * n → f j ≡ g j) → in_groups f n ≡ in_groups g n
+unfolding in_groups
+groups_same f g zero same = refl
+groups_same f g (suc n) same =
+    let rest = groups_same f g n (λ j below. same j (omega (arith, below))) in
+    rw (rest, most_same f g (8 * n) (8 * n) 8 (λ j below. same (8 * n + j) (omega (arith, below)))) refl
+
+from_same : (f g : ℕ → ℕ) (first n : ℕ) → ((j : ℕ) → j < first + n → f j ≡ g j) → total_from f first n ≡ total_from g first n
+unfolding total_from
+from_same f g first zero same = refl
+from_same f g first (suc n) same =
+    let rest = from_same f g first n (λ j below. same j (omega (arith, below))) in
+    rw (rest, same (first + n) (omega arith)) refl
+
+pub eights_same : (f g : ℕ → ℕ) (n : ℕ) → ((j : ℕ) → j < n → f j ≡ g j) → by_eights f n ≡ by_eights g n
+unfolding by_eights
+eights_same f g n same =
+    let groups = groups_same f g (n / 8) (λ j below. same j (omega (arith, below))) in
+    rw (groups, from_same f g (8 * (n / 8)) (n % 8) (λ j below. same j (omega (arith, below)))) refl
+
+groups_ones : (n : ℕ) → in_groups (λ j. 1) n ≡ 8 * n
+unfolding in_groups most_of
+groups_ones zero = refl
+groups_ones (suc n) = omega (arith, groups_ones n)
+
+from_ones : (first n : ℕ) → total_from (λ j. 1) first n ≡ n
+unfolding total_from
+from_ones first zero = refl
+from_ones first (suc n) = omega (arith, from_ones first n)
+
+-- the hashes of n chains of one step
+pub eights_ones : (n : ℕ) → by_eights (λ j. 1) n ≡ n
+unfolding by_eights
+eights_ones n = omega (arith, groups_ones (n / 8), from_ones (8 * (n / 8)) (n % 8))
+
 groups_within : (f : ℕ → ℕ) (most g : ℕ) → ((i : ℕ) → f i ≤ most) → in_groups f g ≤ 8 * g * most
 unfolding in_groups
 groups_within f most zero each = omega arith

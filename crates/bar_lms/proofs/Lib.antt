@@ -11,4 +11,5 @@ pub mod Decided
 pub mod HssLemmas
 pub mod SchemeLemmas
 pub mod StepLemmas
+pub mod OrderLemmas
 pub mod RememberedLemmas

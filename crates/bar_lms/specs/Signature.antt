@@ -4,8 +4,9 @@ use Rattle.std.specs.Int.{w32, to_be_bytes, from_be_bytes}
 use Rattle.bar_lms.specs.declared.params.Ots.{Ots}
 use Rattle.bar_lms.specs.declared.params.Params.{Params}
 use Rattle.bar_lms.specs.declared.private.Private.{Private}
-use Rattle.bar_lms.specs.Params.{chains, levels, lms_type, ots_type}
-use Rattle.bar_lms.specs.Chains.{place, chain, joined, by_eights, digit, steps_left, message_hash, one_time_key}
+use Rattle.bar_lms.specs.Params.{chains, last, levels, lms_type, ots_type}
+use Rattle.bar_lms.specs.Chains.{place, chain, joined, digit, steps_left, message_hash, one_time_key}
+use Rattle.bar_lms.specs.Order.{longest_by_eights}
 use Rattle.bar_lms.specs.Tree.{value, node, root, sibling, leaf_node, climb}
 
 -- a public key
@@ -68,8 +69,8 @@ candidate k q message sig =
     let r = 2 ^ levels k.params.height + q in
     climb k.ident (hash_at (drop (44 + 32 * chains k.params.ots) sig)) r (leaf_node k.ident r key) (levels k.params.height)
 
--- how many hashes lead to it: the message, the steps left of the chains by eights, the one-time key, the leaf and a node at each level
+-- how many hashes lead to it: the message, the steps left of the chains, the one-time key, the leaf and a node at each level
 unfoldable pub candidate_steps : Public → ℕ → List ℕ → List ℕ → ℕ
 candidate_steps k q message sig =
     let hash = message_hash k.ident q (take 32 (drop 8 sig)) message in
-    1 + by_eights (steps_left k.params.ots hash) (chains k.params.ots) + 1 + 1 + levels k.params.height
+    1 + longest_by_eights (steps_left k.params.ots hash) (chains k.params.ots) (last k.params.ots) + 1 + 1 + levels k.params.height

@@ -3,16 +3,17 @@
 ghost use Rattle.std.specs.Prelude.{◌≡◌, ℕ, ◌+◌, ◌-◌, ◌*◌, ◌/◌, ◌%◌, ◌^◌, ◌≤◌, ◌<◌, ◌++◌, ◌↔◌, ◌∷◌, [], List, IsTrue, length, take, drop, slice_index, slice_index_or};
 ghost use Rattle.std.specs.Int.{w16, w32, to_be_bytes};
 ghost use Rattle.sha2.specs.Hashers.{Holds256};
-ghost use Rattle.bar_lms.specs.Params.{chains, levels, signature_len, most_steps};
-ghost use Rattle.bar_lms.specs.Chains.{place, chain, joined, left_in, most_of, in_groups, total_from, by_eights, steps_left, message_hash, one_time_key};
+ghost use Rattle.bar_lms.specs.Params.{chains, last, levels, signature_len, most_steps};
+ghost use Rattle.bar_lms.specs.Chains.{joined, steps_left, message_hash, one_time_key};
+ghost use Rattle.bar_lms.specs.Order.{longest_by_eights};
 ghost use Rattle.bar_lms.specs.Tree.{leaf_node, parent, climb};
 ghost use Rattle.bar_lms.specs.Signature.{Public, hash_at, number_at, end_at, candidate, candidate_steps};
 ghost use Rattle.bar_lms.specs.Acceptance.{Accepts, is_well_formed, is_accepted, steps_taken};
 
-use crate::chains::chain;
-use crate::digits::{coef, with_checksum};
-use crate::groups::{add_eight, digits_of_eight, eight_chains};
+use crate::all_chains::all_chains;
+use crate::digits::digits_of;
 use crate::key::PublicKey;
+use crate::legs::{Legs, Row};
 use crate::params::{Height, Ots, Params};
 use bar_bytes::Steps;
 use sha2::{Digest, Sha256};
@@ -134,76 +135,40 @@ fn hash_copy(row: &[u8], i: usize) -> [u8; 32]
     hash
 }
 
-// The ends of chains `first` to `first + 7`, from the values in a signature and their digits on.
-fn ends_of_eight<L: Ledger>(
-    ident: &[u8; 16],
-    q: u32,
-    first: usize,
-    values: &[u8],
-    from: &[u8; 8],
-    last: u8,
-    steps: &mut Steps<L>,
-) -> [[u8; 32]; 8]
-    requires rows { 32 * (first + 8) ≤ length values.now }
-    requires places { first + 8 ≤ 2 ^ 16 }
-    requires digits { (j : ℕ) → j < 8 → slice_index from.now j ≤ last }
-    ensures value { (j : ℕ) → j < 8 → slice_index_or result j []
-        ≡ chain (place ident.now q (first + j)) (slice_index from.now j) (last - slice_index from.now j) (hash_at values.now (first + j)) }
-    ensures cost { steps.new ≡ steps.old + 8 * most_of (left_in from.now last) 0 8 }
-{
-    let mut starts = [[0u8; 32]; 8];
-    let mut counts = [0u8; 8];
-    'starts: for j in 0..8 {
-        starts[j] = hash_copy(values, first + j);
-        counts[j] = last - from[j];
-    }
-    eight_chains(ident, q, first, &starts, from, &counts, steps)
-}
-
-// Adds the ends of all chains that stand in groups of eight.
-fn add_groups<L: Ledger>(
+// The ends of the chains, from the values in a signature on.
+fn ends<L: Ledger>(
     ident: &[u8; 16],
     q: u32,
     hash: &[u8; 32],
     values: &[u8],
     ots: Ots,
-    hasher: &mut Sha256,
     steps: &mut Steps<L>,
-)
-    requires whole { 32 * chains ots ≤ length values.now }
-    ensures held { (m : List ℕ) → Holds256 hasher.old m
-        → Holds256 hasher.new (m ++ joined (end_at ident.now q ots hash.now values.now) (8 * (chains ots / 8))) }
-    ensures cost { steps.new ≡ steps.old + in_groups (steps_left ots hash.now) (chains ots / 8) }
+) -> Row
+    requires { 32 * chains ots ≤ length values.now }
+    ensures value { (i : ℕ) → i < chains ots → slice_index_or result i [] ≡ end_at ident.now q ots hash.now values.now i }
+    ensures cost { steps.new ≡ steps.old + longest_by_eights (steps_left ots hash.now) (chains ots) (last ots) }
 {
-    let digits = with_checksum(hash, ots);
-    'groups: for g in 0..ots.chains() / 8 {
-        let from = digits_of_eight(&digits, 8 * g, ots);
-        let ends = ends_of_eight(ident, q, 8 * g, values, &from, ots.last() as u8, steps);
-        add_eight(hasher, &ends);
+    let last = ots.last() as u8;
+    let mut legs = Legs {
+        starts: [[0; 32]; 265],
+        from: digits_of(hash, ots),
+        counts: [0; 265],
+    };
+    'starts: for i in 0..ots.chains() {
+        legs.starts[i] = hash_copy(values, i);
+        legs.counts[i] = last - legs.from[i];
     }
+    all_chains(ident, q, &legs, ots.chains(), last, steps)
 }
 
-// Adds the ends of the last chains, which fill no group of eight.
-fn add_singles<L: Ledger>(
-    ident: &[u8; 16],
-    q: u32,
-    hash: &[u8; 32],
-    values: &[u8],
-    ots: Ots,
-    hasher: &mut Sha256,
-    steps: &mut Steps<L>,
-)
-    requires whole { 32 * chains ots ≤ length values.now }
-    ensures held { (m : List ℕ) → Holds256 hasher.old (m ++ joined (end_at ident.now q ots hash.now values.now) (8 * (chains ots / 8)))
-        → Holds256 hasher.new (m ++ joined (end_at ident.now q ots hash.now values.now) (chains ots)) }
-    ensures cost { steps.new ≡ steps.old + total_from (steps_left ots hash.now) (8 * (chains ots / 8)) (chains ots % 8) }
+// Adds the first n hashes of a row to a message.
+fn add_row(hasher: &mut Sha256, row: &Row, n: usize)
+    requires { n ≤ 265 }
+    ensures { (m : List ℕ) (f : ℕ → List ℕ) → Holds256 hasher.old m → ((i : ℕ) → i < n → slice_index_or row.now i [] ≡ f i)
+        → Holds256 hasher.new (m ++ joined f n) }
 {
-    let digits = with_checksum(hash, ots);
-    let last = ots.last();
-    'singles: for i in 8 * (ots.chains() / 8)..ots.chains() {
-        let digit = coef(&digits, i, ots);
-        let end = chain(ident, q, i as u16, hash_at(values, i), digit, last, steps);
-        hasher.update(end.as_slice());
+    'hashes: for i in 0..n {
+        hasher.update(row[i].as_slice());
     }
 }
 
@@ -218,11 +183,11 @@ fn key_of_ends<L: Ledger>(
 ) -> [u8; 32]
     requires whole { 32 * chains ots ≤ length values.now }
     ensures value { result ≡ one_time_key ident.now q (joined (end_at ident.now q ots hash.now values.now) (chains ots)) }
-    ensures cost { steps.new ≡ steps.old + (by_eights (steps_left ots hash.now) (chains ots) + 1) }
+    ensures cost { steps.new ≡ steps.old + (longest_by_eights (steps_left ots hash.now) (chains ots) (last ots) + 1) }
 {
+    let ends = ends(ident, q, hash, values, ots, steps);
     let mut hasher = head(ident, q, 0x8080, steps);
-    add_groups(ident, q, hash, values, ots, &mut hasher, steps);
-    add_singles(ident, q, hash, values, ots, &mut hasher, steps);
+    add_row(&mut hasher, &ends, ots.chains());
     hasher.finalize()
 }
 

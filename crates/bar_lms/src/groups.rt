@@ -2,12 +2,9 @@
 
 ghost use Rattle.std.specs.Prelude.{◌≡◌, ℕ, ◌+◌, ◌*◌, ◌%◌, ◌^◌, ◌≤◌, ◌<◌, ◌++◌, ◌∷◌, [], List, length, take, drop, slice_index, slice_index_or, if◌then◌else◌, nat_lt};
 ghost use Rattle.sha2.specs.Hashers.{Holds256};
-ghost use Rattle.bar_lms.specs.Params.{digit_bits, chains, last};
-ghost use Rattle.bar_lms.specs.Chains.{place, chain, chain_buffer, coef, most_of};
+ghost use Rattle.bar_lms.specs.Chains.{place, chain, chain_buffer, most_of};
 
 use crate::chains::{Buffer, buffer};
-use crate::digits::coef;
-use crate::params::Ots;
 use bar_bytes::Steps;
 use bar_lanes::sha_eight;
 use sha2::{Digest, Sha256};
@@ -20,22 +17,21 @@ fn first_buffer(ident: &[u8; 16], q: u32, i: u16, number: u8, value: &[u8; 32]) 
     buffer(ident, q, i, number, value)
 }
 
-// The buffers of chains `first` to `first + 7` of leaf q, each before the step with its own number.
+// The buffers of the chains with these numbers of leaf q, each before a step of its own.
 fn first_buffers(
     ident: &[u8; 16],
     q: u32,
-    first: usize,
-    numbers: &[u8; 8],
+    numbers: &[u16; 8],
+    from: &[u8; 8],
     values: &[[u8; 32]; 8],
 ) -> [Buffer; 8]
-    requires { first + 8 ≤ 2 ^ 16 }
     ensures { (j : ℕ) → j < 8 → slice_index_or result j []
-        ≡ place ident.now q (first + j) ++ slice_index numbers.now j ∷ slice_index_or values.now j [] }
+        ≡ place ident.now q (slice_index numbers.now j) ++ slice_index from.now j ∷ slice_index_or values.now j [] }
 {
     let mut buffers = [[0u8; 55]; 8];
     'fill: for j in 0..8 {
         let value = values[j];
-        buffers[j] = first_buffer(ident, q, (first + j) as u16, numbers[j], &value);
+        buffers[j] = first_buffer(ident, q, numbers[j], from[j], &value);
     }
     buffers
 }
@@ -106,25 +102,24 @@ fn most(numbers: &[u8; 8]) -> u8
     most
 }
 
-/// The values of chains `first` to `first + 7` of leaf q, chain `first + j` after `counts[j]` steps from number `from[j]` on.
+/// The values of the chains with these numbers of leaf q, the one with `numbers[j]` after `counts[j]` steps from number `from[j]` on.
 ///
 /// A chain at its end keeps its value while the others go on, so eight steps are counted for each of the longest.
 pub(crate) fn eight_chains<L: Ledger>(
     ident: &[u8; 16],
     q: u32,
-    first: usize,
+    numbers: &[u16; 8],
     values: &[[u8; 32]; 8],
     from: &[u8; 8],
     counts: &[u8; 8],
     steps: &mut Steps<L>,
 ) -> [[u8; 32]; 8]
-    requires places { first + 8 ≤ 2 ^ 16 }
-    requires bytes { (j : ℕ) → j < 8 → slice_index from.now j + slice_index counts.now j ≤ 256 }
-    ensures value { (j : ℕ) → j < 8 → slice_index_or result j []
-        ≡ chain (place ident.now q (first + j)) (slice_index from.now j) (slice_index counts.now j) (slice_index_or values.now j []) }
+    requires { (j : ℕ) → j < 8 → slice_index from.now j + slice_index counts.now j ≤ 256 }
+    ensures value { (j : ℕ) → j < 8 → slice_index_or result j [] ≡ chain (place ident.now q (slice_index numbers.now j))
+        (slice_index from.now j) (slice_index counts.now j) (slice_index_or values.now j []) }
     ensures cost { steps.new ≡ steps.old + 8 * most_of (slice_index counts.now) 0 8 }
 {
-    let mut buffers = first_buffers(ident, q, first, from, values);
+    let mut buffers = first_buffers(ident, q, numbers, from, values);
     let mut hashes = [[0u8; 32]; 8];
     'steps: for n in 0..most(counts) {
         sha_eight(&buffers, &mut hashes);
@@ -134,17 +129,16 @@ pub(crate) fn eight_chains<L: Ledger>(
     values_in(&buffers)
 }
 
-/// Digits `first` to `first + 7` of a hash and its checksum.
-pub(crate) fn digits_of_eight(digits: &[u8; 34], first: usize, ots: Ots) -> [u8; 8]
-    requires { first + 8 ≤ chains ots }
-    ensures value { (j : ℕ) → j < 8 → slice_index result j ≡ coef digits.now (first + j) (digit_bits ots) }
-    ensures bound { (j : ℕ) → j < 8 → slice_index result j ≤ last ots }
+/// The numbers `first` to `first + 7`.
+pub(crate) fn in_row(first: usize) -> [u16; 8]
+    requires { first + 8 ≤ 2 ^ 16 }
+    ensures { (j : ℕ) → j < 8 → slice_index result j ≡ first + j }
 {
-    let mut all = [0u8; 8];
-    'digits: for j in 0..8 {
-        all[j] = coef(digits, first + j, ots) as u8;
+    let mut numbers = [0u16; 8];
+    'fill: for j in 0..8 {
+        numbers[j] = (first + j) as u16;
     }
-    all
+    numbers
 }
 
 /// Adds eight hashes to a message.

@@ -14,6 +14,7 @@ pub use secret::SecretKey;
 pub use trees::{fill_tree, public_key, sign_tree, sign_tree_at};
 
 mod acceptance;
+mod all_chains;
 mod bytes;
 mod chain_values;
 mod chains;
@@ -21,6 +22,8 @@ mod digits;
 mod groups;
 mod key;
 mod laws;
+mod legs;
+mod order;
 mod params;
 mod place;
 mod private;

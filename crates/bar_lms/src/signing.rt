@@ -3,83 +3,64 @@
 ghost use Rattle.std.specs.Prelude.{◌≡◌, ℕ, ◌+◌, ◌*◌, ◌^◌, ◌≤◌, ◌<◌, ◌++◌, ◌/◌, ◌%◌, [], List, length, take, drop, slice_index, slice_index_or};
 ghost use Rattle.std.specs.Int.{w32, to_be_bytes};
 ghost use Rattle.bar_lms.specs.Params.{chains, levels, signature_len};
-ghost use Rattle.bar_lms.specs.Chains.{joined, in_groups, total_from, by_eights, signed_steps, hash_in};
-ghost use Rattle.bar_lms.specs.Tree.{HoldsTree, sibling};
+ghost use Rattle.bar_lms.specs.Chains.{joined};
+ghost use Rattle.bar_lms.specs.Order.{signed_steps};
+ghost use Rattle.bar_lms.specs.Tree.{HoldsTree, value, sibling};
 ghost use Rattle.bar_lms.specs.Signature.{signed_value, sibling_at, signature, public_of};
 ghost use Rattle.bar_lms.specs.Acceptance.{Accepts};
 ghost use Rattle.bar_lms.specs.Remembered.{chain_values};
 
 use crate::acceptance::message_hash;
+use crate::all_chains::all_chains;
 use crate::bytes::put;
-use crate::digits::{coef, with_checksum};
-use crate::groups::digits_of_eight;
+use crate::digits::digits_of;
+use crate::legs::{Legs, Row};
 use crate::params::Params;
 use crate::place::Place;
 use crate::private::Private;
-use crate::tree::{value, values_of_eight};
 use bar_bytes::Steps;
 use std::marker::Brand;
 use std::sync::ledger::{Blank, Ledger};
 
-// Writes eight hashes at a place, one after another.
-fn put_eight(out: &mut [u8], at: usize, hashes: &[[u8; 32]; 8])
-    requires { at + 256 ≤ length out.old }
-    ensures grown { take (at + 256) out.new ≡ take at out.old ++ joined (hash_in hashes.now) 8 }
-    ensures rest { drop (at + 256) out.new ≡ drop (at + 256) out.old }
+// Writes the first n hashes of a row from byte 40 on.
+fn put_row(out: &mut [u8], row: &Row, n: usize)
+    requires few { n ≤ 265 }
+    requires room { 40 + 32 * n ≤ length out.old }
+    ensures grown { (f : ℕ → List ℕ) → ((i : ℕ) → i < n → slice_index_or row.now i [] ≡ f i)
+        → take (40 + 32 * n) out.new ≡ take 40 out.old ++ joined f n }
+    ensures rest { drop (40 + 32 * n) out.new ≡ drop (40 + 32 * n) out.old }
 {
-    'hashes: for j in 0..8 {
-        let hash = hashes[j];
-        put_hash(out, at + 32 * j, &hash);
+    'hashes: for i in 0..n {
+        let hash = row[i];
+        put_hash(out, 40 + 32 * i, &hash);
     }
 }
 
-// Writes the values of all chains that stand in groups of eight, from byte 40 on.
-fn put_groups<L: Ledger>(
-    key: &Private,
-    q: u32,
-    hash: &[u8; 32],
-    out: &mut [u8],
-    steps: &mut Steps<L>,
-)
-    requires { 40 + 32 * chains key.now.params.ots ≤ length out.old }
-    ensures grown { take (40 + 32 * (8 * (chains key.now.params.ots / 8))) out.new
-        ≡ take 40 out.old ++ joined (signed_value key.now q hash.now) (8 * (chains key.now.params.ots / 8)) }
-    ensures rest { drop (40 + 32 * chains key.now.params.ots) out.new ≡ drop (40 + 32 * chains key.now.params.ots) out.old }
-    ensures cost { steps.new ≡ steps.old + in_groups (signed_steps key.now.params.ots hash.now) (chains key.now.params.ots / 8) }
+// The values of all chains of leaf q after their first step, which begins with the seed.
+fn starts<L: Ledger>(key: &Private, q: u32, steps: &mut Steps<L>) -> Row
+    ensures value { (i : ℕ) → i < chains key.now.params.ots → slice_index_or result i [] ≡ value key.now q 0 i }
+    ensures cost { steps.new ≡ steps.old + chains key.now.params.ots }
 {
-    let ots = key.params.ots;
-    let digits = with_checksum(hash, ots);
-    'groups: for g in 0..ots.chains() / 8 {
-        let counts = digits_of_eight(&digits, 8 * g, ots);
-        let values = values_of_eight(key, q, 8 * g, &counts, steps);
-        put_eight(out, 40 + 32 * (8 * g), &values);
-    }
+    let legs = Legs {
+        starts: [key.seed; 265],
+        from: [255; 265],
+        counts: [1; 265],
+    };
+    all_chains(&key.ident, q, &legs, key.params.ots.chains(), 1, steps)
 }
 
-// Writes the values of the last chains, which fill no group of eight.
-fn put_singles<L: Ledger>(
-    key: &Private,
-    q: u32,
-    hash: &[u8; 32],
-    out: &mut [u8],
-    steps: &mut Steps<L>,
-)
-    requires { 40 + 32 * chains key.now.params.ots ≤ length out.old }
-    ensures grown { (front : List ℕ) → take (40 + 32 * (8 * (chains key.now.params.ots / 8))) out.old
-        ≡ front ++ joined (signed_value key.now q hash.now) (8 * (chains key.now.params.ots / 8))
-        → take (40 + 32 * chains key.now.params.ots) out.new
-        ≡ front ++ joined (signed_value key.now q hash.now) (chains key.now.params.ots) }
-    ensures rest { drop (40 + 32 * chains key.now.params.ots) out.new ≡ drop (40 + 32 * chains key.now.params.ots) out.old }
-    ensures cost { steps.new ≡ steps.old
-        + total_from (signed_steps key.now.params.ots hash.now) (8 * (chains key.now.params.ots / 8)) (chains key.now.params.ots % 8) }
+// The values of the chains in a signature: each from its start on, so many steps as its digit says.
+fn values<L: Ledger>(key: &Private, q: u32, hash: &[u8; 32], steps: &mut Steps<L>) -> Row
+    ensures value { (i : ℕ) → i < chains key.now.params.ots → slice_index_or result i [] ≡ signed_value key.now q hash.now i }
+    ensures cost { steps.new ≡ steps.old + signed_steps key.now.params.ots hash.now }
 {
     let ots = key.params.ots;
-    let digits = with_checksum(hash, ots);
-    'singles: for i in 8 * (ots.chains() / 8)..ots.chains() {
-        let digit = coef(&digits, i, ots);
-        let value = value(key, q, i as u16, digit, steps);
-        put_hash(out, 40 + 32 * i, &value);
-    }
+    let legs = Legs {
+        starts: starts(key, q, steps),
+        from: [0; 265],
+        counts: digits_of(hash, ots),
+    };
+    all_chains(&key.ident, q, &legs, ots.chains(), ots.last() as u8, steps)
 }
 
 /// Writes the values of the chains, from byte 40 on.
@@ -94,10 +75,10 @@ pub(crate) fn put_values<L: Ledger>(
     ensures grown { take (40 + 32 * chains key.now.params.ots) out.new
         ≡ take 40 out.old ++ joined (signed_value key.now q hash.now) (chains key.now.params.ots) }
     ensures rest { drop (40 + 32 * chains key.now.params.ots) out.new ≡ drop (40 + 32 * chains key.now.params.ots) out.old }
-    ensures cost { steps.new ≡ steps.old + by_eights (signed_steps key.now.params.ots hash.now) (chains key.now.params.ots) }
+    ensures cost { steps.new ≡ steps.old + signed_steps key.now.params.ots hash.now }
 {
-    put_groups(key, q, hash, out, steps);
-    put_singles(key, q, hash, out, steps);
+    let values = values(key, q, hash, steps);
+    put_row(out, &values, key.params.ots.chains());
 }
 
 // Writes the same by what is remembered, where that isn't in use.

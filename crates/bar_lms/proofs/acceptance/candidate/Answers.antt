@@ -1,7 +1,8 @@
 use Rattle.std.proofs.Common.{◌≡◌, ◌+◌, ◌*◌, ◌^◌, ◌%◌, take, drop, arith}
 use Rattle.std.proofs.lemmas.List.{take_rest}
-use Rattle.bar_lms.specs.Params.{levels, chains}
-use Rattle.bar_lms.specs.Chains.{joined, by_eights, steps_left, message_hash, one_time_key}
+use Rattle.bar_lms.specs.Params.{levels, chains, last}
+use Rattle.bar_lms.specs.Chains.{joined, steps_left, message_hash, one_time_key}
+use Rattle.bar_lms.specs.Order.{longest_by_eights}
 use Rattle.bar_lms.specs.Tree.{climb, leaf_node}
 use Rattle.bar_lms.specs.Signature.{candidate, candidate_steps, hash_at, end_at}
 use Rattle.bar_lms.proofs.DigitLemmas.{level_facts}
@@ -12,7 +13,7 @@ unfolding candidate_steps
 returns-clause-cost g c =
     let height = c.key.inside.params.height in
     let ots = c.key.inside.params.ots in
-    let left = by_eights (steps_left ots c.message_hash-hash.result) (chains ots) in
+    let left = longest_by_eights (steps_left ots c.message_hash-hash.result) (chains ots) (last ots) in
     let all : c.top.new.steps ≡ c.args.steps.now + (1 + left + 1 + 1 + levels height) = omega arith in
     rw (← c.key.view_is) (rw c.message_hash-hash.ensures.value at all)
 

@@ -6,5 +6,5 @@ abbrev pub invariant-fill : goal.invariant-fill
 invariant-fill l = record {
   long : length l.buffers ≡ 8;
   filled : (j : ℕ) → j < l.j → slice_index_or l.buffers j []
-      ≡ place l.ident l.q (l.first + j) ++ slice_index l.numbers j ∷ slice_index_or l.values j [];
+      ≡ place l.ident l.q (slice_index l.numbers j) ++ slice_index l.from j ∷ slice_index_or l.values j [];
 }

@@ -13,8 +13,8 @@ returns-clause-value g c = λ j below.
     let seed : slice_index_or (replicate 8 c.args.key.now.seed) j [] ≡ c.args.key.now.seed = get_or-replicate 8 j _ [] below in
     let none : slice_index (replicate 8 0) j ≡ 0 = get_or-replicate 8 j 0 0 below in
     let start : slice_index_or c.eight_chains-starts.result j [] ≡ chain_step at 255 c.args.key.now.seed =
-    rw (number, count, seed) at (c.eight_chains-starts.ensures.value j below) in
-    rw (none, start) at (c.eight_chains.ensures.value j below)
+    rw (c.in_row-numbers.ensures j below, number, count, seed) at (c.eight_chains-starts.ensures.value j below) in
+    rw (c.in_row-numbers.ensures j below, none, start) at (c.eight_chains.ensures.value j below)
 
 pub returns-clause-cost : goal.returns-clause-cost
 unfolding most_of

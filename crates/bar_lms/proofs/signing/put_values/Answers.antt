@@ -1,7 +1,0 @@
-use Rattle.std.proofs.Common.{arith}
-use Rattle.bar_lms.specs.Chains.{by_eights}
-use Rattle.bar_lms.proofs.signing.put_values.Goals as goal
-
-pub returns-clause-cost : goal.returns-clause-cost
-unfolding by_eights
-returns-clause-cost g c = omega (arith, c.put_groups.ensures.cost, c.put_singles.ensures.cost)
