@@ -1,6 +1,7 @@
 -- Keys that belong to a session.
 use Rattle.std.proofs.Common.{◌≡◌, ℕ, zero, suc, ◌-◌, ◌≤◌, ◌==◌, ◌&&◌, not, cond, Bool, true, false, List, Option, Some, None, Result, Ok, Err, refl, sym, ap, subst, arith, slice_get, true≢false}
 use Rattle.std.proofs.lemmas.Option.{none-some}
+use Rattle.std.specs.Prelude.{is_some}
 use Rattle.std.specs.Option.{option_map_or}
 use Rattle.std.proofs.lemmas.Bool.Decides.{nat_tests}
 use Rattle.std.specs.Bool.{Decides, one_answer, MatchBool}
@@ -15,12 +16,10 @@ use Rattle.bar_seeds.specs.declared.secrets.Secrets.{Secrets}
 use Rattle.bar_roster.specs.declared.key_fields.KeyData.{KeyData}
 use Rattle.bar_roster.specs.declared.key_file.KeyFile.{KeyFile}
 use Rattle.bar_roster.specs.SessionText.{SessionData}
-use Rattle.bar_roster.specs.KeyFile.{Fits, fits, is_at, is_of_session, key_in, secrets_in, signing_secret, checked_key, checked_table, key_file_of, IsHeldBy, IsMadeFor, IsKeyFileOf}
-use Rattle.bar_roster.specs.Fields.{document}
-use Rattle.bar_roster.specs.KeyText.{key_fields}
+use Rattle.bar_roster.specs.KeyFile.{Fits, fits, is_at, is_of_session, key_in, secrets_in, signing_secret, named_key, session_key_of, checked_key, key_file_of, IsHeldBy, IsMadeFor, IsKeyFileOf}
+use Rattle.bar_roster.specs.KeyText.{key_read}
 use Rattle.bar_roster.specs.declared.key_fault.KeyFileFault.{KeyFileFault}
 use Rattle.bar_roster.specs.declared.key_fault.KeyFileFault.TheVariants.{NotInRoster, Spent}
-use Rattle.toml.specs.Data.{Members}
 
 at_test : (o : Option (List ℕ)) (row : List ℕ) → Decides (option_map_or (λ held. bytes_eq held row) o false) (o ≡ Some row)
 at_test None row = (λ h. absurd (true≢false (sym h)), λ e. absurd (none-some row e))
@@ -65,11 +64,57 @@ of_session s false k h =
     let parts = and_parts _ _ (and_parts _ _ h).1 in
     (leb-true _ _ parts.0, leb-true _ _ parts.1)
 
+-- ---- what is read
+
+-- what is read of a key of the session is its
+pub named_ours : (s : SessionData) (caster : Bool) (r : Result KeyData KeyFileFault) (k : KeyData) → named_key s caster r ≡ Ok k
+    → (r ≡ Ok k) × (is_of_session s caster k ≡ true)
+named_ours s caster (Err e) k h = cc
+named_ours s caster (Ok d) k h = by_test (is_of_session s caster d) refl h
+  where
+    by_test : (b : Bool) → is_of_session s caster d ≡ b → ◌≡◌ {A = Result KeyData KeyFileFault} (cond b (Ok d) (Err NotInRoster)) (Ok k)
+        → ◌≡◌ {A = Result KeyData KeyFileFault} (Ok d) (Ok k) × (is_of_session s caster k ≡ true)
+    by_test true is e =
+        let same : d ≡ k = cc in
+        (ap (λ (x : KeyData). Ok x) same, subst (λ (x : KeyData). is_of_session s caster x ≡ true) same is)
+    by_test false is e = cc
+
+-- an accepted key fits the session
+pub record IsChecked (s : SessionData) (r : Result KeyData KeyFileFault) (k : Secrets) (d : KeyData) : Type 0 where
+  pub read : r ≡ Ok d
+  pub held : fits s d.party d.secret ≡ true
+  pub is : secrets_in s d.party d.secret ≡ k
+
+pub checked_fits : (s : SessionData) (fresh : Bool) (r : Result KeyData KeyFileFault) (k : Secrets) → checked_key s fresh r ≡ Ok k
+    → (d : KeyData) × IsChecked s r k d
+checked_fits s fresh (Err e) k h = cc
+checked_fits s fresh (Ok d) k h = by_tests (fits s d.party d.secret) (d.spent && fresh) refl h
+  where
+    by_tests : (ours used : Bool) → fits s d.party d.secret ≡ ours
+        → ◌≡◌ {A = Result Secrets KeyFileFault} (cond (not ours) (Err NotInRoster) (cond used (Err Spent) (Ok (secrets_in s d.party d.secret)))) (Ok k)
+        → (x : KeyData) × IsChecked s (Ok d) k x
+    by_tests false used is e = cc
+    by_tests true true is e = cc
+    by_tests true false is e = (d, record { read = refl; held = is; is = cc })
+
+-- the session holds the secret of a key that is its own and fits
+pub held_of : (s : SessionData) (caster : Bool) (bytes : List ℕ) (d : KeyData) → session_key_of s caster bytes ≡ Ok d
+    → fits s d.party d.secret ≡ true → IsHeldBy s caster (secrets_in s d.party d.secret)
+held_of s caster bytes d named held =
+    let role = of_session s caster d (named_ours s caster (key_read (is_some s.top) bytes) d named).1 in
+    record { id = refl; party = role.1; role = role.0; fits = (fits_test s d.party d.secret).0 held }
+
+-- an accepted key text has a secret that the session holds
+pub held_where_accepted : (s : SessionData) (caster fresh : Bool) (bytes : List ℕ) (k : Secrets) → key_file_of s caster fresh bytes ≡ Ok k → IsHeldBy s caster k
+held_where_accepted s caster fresh bytes k h =
+    let p = checked_fits s fresh (session_key_of s caster bytes) k h in
+    subst (IsHeldBy s caster) p.1.is (held_of s caster bytes p.0 p.1.read p.1.held)
+
 -- what is made of a key of the session, where its public key and its anchor are the session's
-pub key_file_of_session : (s : SessionData) (caster : Bool) (k : KeyData) (file : KeyFile) → is_of_session s caster k ≡ true → IsMadeFor s k.party k.secret file
-    → fits s file.secrets.party file.secrets.secret ≡ true → IsKeyFileOf s caster file
-key_file_of_session s caster k file ours made held =
-    let role = of_session s caster k ours in
+pub key_file_of_session : (s : SessionData) (caster : Bool) (bytes : List ℕ) (k : KeyData) (file : KeyFile) → session_key_of s caster bytes ≡ Ok k
+    → IsMadeFor s k.party k.secret file → fits s file.secrets.party file.secrets.secret ≡ true → IsKeyFileOf s caster file
+key_file_of_session s caster bytes k file named made held =
+    let role = of_session s caster k (named_ours s caster (key_read (is_some s.top) bytes) k named).1 in
     let party : file.secrets.party ≡ k.party = ap (λ (x : Secrets). x.party) made.secrets in
     let secret : file.secrets.secret ≡ k.secret = ap (λ (x : Secrets). x.secret) made.secrets in
     let of_party : ℕ → Type 0 = λ p. IsMadeFor s p k.secret file in
@@ -80,25 +125,3 @@ key_file_of_session s caster k file ours made held =
       made = subst of_secret (sym secret) (subst of_party (sym party) made);
       fits = (fits_test s file.secrets.party file.secrets.secret).0 held;
     }
-
--- an accepted key text has a secret that the session holds
-held_key : (s : SessionData) (caster fresh : Bool) (o : Option KeyData) (k : Secrets) → checked_key s caster fresh o ≡ Ok k → IsHeldBy s caster k
-held_key s caster fresh None k h = cc
-held_key s caster fresh (Some d) k h = by_tests (is_of_session s caster d && fits s d.party d.secret) (d.spent && fresh) refl h
-  where
-    by_tests : (ours used : Bool) → (is_of_session s caster d && fits s d.party d.secret) ≡ ours →
-        ◌≡◌ {A = Result Secrets KeyFileFault} (cond (not ours) (Err NotInRoster) (cond used (Err Spent) (Ok (secrets_in s d.party d.secret)))) (Ok k) → IsHeldBy s caster k
-    by_tests false used is e = cc
-    by_tests true true is e = cc
-    by_tests true false is e =
-        let parts = and_parts _ _ is in
-        let role = of_session s caster d parts.0 in
-        let same : secrets_in s d.party d.secret ≡ k = cc in
-        subst (IsHeldBy s caster) same (record { id = refl; party = role.1; role = role.0; fits = (fits_test s d.party d.secret).0 parts.1 })
-
-pub held_where_accepted : (s : SessionData) (caster fresh : Bool) (bytes : List ℕ) (k : Secrets) → key_file_of s caster fresh bytes ≡ Ok k → IsHeldBy s caster k
-held_where_accepted s caster fresh bytes k h = by_table (document bytes) h
-  where
-    by_table : (o : Option Members) → checked_table s caster fresh o ≡ Ok k → IsHeldBy s caster k
-    by_table None e = cc
-    by_table (Some ms) e = held_key s caster fresh (key_fields ms) k e

@@ -1,5 +1,4 @@
 pub mod FieldLemmas
-pub mod PartiesLemmas
 pub mod ShapeLemmas
 pub mod PlainText
 pub mod KeyReadBack

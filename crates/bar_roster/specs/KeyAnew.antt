@@ -1,15 +1,16 @@
 -- The text of a key that was accepted, written anew.
-use Rattle.std.specs.Prelude.{ℕ, Bool, List}
+use Rattle.std.specs.Prelude.{ℕ, Bool, List, option_map}
 use Rattle.bar_lms.specs.Params.{lms_type, ots_type}
 use Rattle.bar_seeds.specs.declared.secrets.Secrets.{Secrets}
-use Rattle.bar_roster.specs.KeyText.{key_data, key_text_of}
+use Rattle.bar_roster.specs.KeyText.{any_key_data, key_text_of}
 use Rattle.bar_roster.specs.SessionText.{SessionData}
 
 -- the text of a party's secret in a session, spent or not
 abbrev pub text_of : SessionData → Secrets → Bool → List ℕ
 text_of s k spent =
-    key_text_of (key_data k.party s.shape.id s.shape.rounds (lms_type s.params.height) (ots_type s.params.ots) k.secret spent)
+    key_text_of (any_key_data k.party s.shape.id s.shape.rounds (lms_type s.params.height) (ots_type s.params.ots)
+    (option_map lms_type s.top) k.secret spent)
 
 -- no text of a key has more bytes
 abbrev pub longest_text : ℕ
-longest_text = 240
+longest_text = 248

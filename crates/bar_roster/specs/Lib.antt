@@ -9,3 +9,4 @@ pub mod KeyFile
 pub mod KeyFaultText
 pub mod KeyAnew
 pub mod Points
+pub mod Held

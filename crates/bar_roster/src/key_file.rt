@@ -1,20 +1,16 @@
 //! Key files.
 
-ghost use Rattle.std.specs.Prelude.{◌≡◌, ◌-◌, ◌≤◌, ◌⊎◌, Some, None, Ok, Err, IfOk, IfErr};
-ghost use Rattle.toml.specs.View.{table_view};
-ghost use Rattle.bar_roster.specs.Fields.{document};
-ghost use Rattle.bar_roster.specs.KeyFile.{fits, is_at, is_of_session, key_file_of, key_in};
+ghost use Rattle.std.specs.Prelude.{◌≡◌, ◌≤◌, ◌⊎◌, None, Ok, Err, IfOk, IfErr};
+ghost use Rattle.bar_roster.specs.KeyFile.{fits, key_file_of, key_in};
 
-use crate::fields::document_table;
-use crate::key_fields::{KeyData, key_fields_at};
-use crate::{KeyFileFault, Session, SessionFault};
+use crate::key_reading::read_key;
+use crate::{KeyData, KeyFileFault, Session};
 use bar_lms::SecretKey;
 use bar_seeds::{Secrets, SeedChain};
 use bar_wire::Shape;
 use std::alloc::{AllocError, Global};
-use toml::Table;
 
-/// What a party of a session holds: its secret, its signing key and its seeds.
+/// What a party of a session whose signatures have one level holds: its secret, its signing key and its seeds.
 #[derive(Drop)]
 pub struct KeyFile {
     pub secrets: Secrets,
@@ -22,73 +18,18 @@ pub struct KeyFile {
     pub chain: SeedChain,
 }
 
-// The table that the bytes write.
-fn key_table(alloc: Global, bytes: &[u8]) -> Result<Table, KeyFileFault>
-    ensures ok { IfOk result (λ t. document bytes.now ≡ Some (table_view t)) }
-    ensures err { IfErr result (λ e. (e ≡ KeyFileFault.NoMemory) ⊎ ((e ≡ KeyFileFault.NotToml) × (document bytes.now ≡ None))) }
-{
-    match document_table(alloc, bytes) {
-        Ok(table) => Ok(table),
-        Err(SessionFault::NoMemory) => Err(KeyFileFault::NoMemory),
-        Err(_) => Err(KeyFileFault::NotToml),
-    }
-}
-
-// Whether the numbers are the session's, and the party has the role that is asked for.
-fn is_of_session(key: &KeyData, session: &Session, caster: bool) -> bool
-    ensures { result ≡ is_of_session session.now caster key.now }
-{
-    let shape = session.shape();
-    let params = session.params();
-    key.id == shape.id
-        && key.rounds == shape.rounds
-        && key.lms == params.lms()
-        && key.ots == params.ots()
-        && (if caster {
-            key.party == 0
-        } else {
-            1 <= key.party
-        })
-        && key.party <= shape.peers
-}
-
-// Whether the session holds a public key for a party.
-fn holds_key(session: &Session, party: u16, key: &[u8; 56]) -> bool
-    requires { party ≤ session.now.shape.peers }
-    ensures { result ≡ is_at session.now.keys party key.now }
-{
-    session.key(party) == key.as_slice()
-}
-
-// Whether the session holds an anchor for a peer.
-fn holds_anchor(session: &Session, peer: u16, anchor: &[u8; 32]) -> bool
-    requires low { 1 ≤ peer }
-    requires high { peer ≤ session.now.shape.peers }
-    ensures { result ≡ is_at session.now.anchors (peer - 1) anchor.now }
-{
-    session.anchor(peer).as_slice() == anchor.as_slice()
-}
-
 impl KeyFile {
     ghost use Rattle.bar_roster.specs.KeyFile.{IsMadeFor, IsKeyFileOf};
 
     // The keys of a party's secret in the session, made anew.
-    fn make(
-        alloc: Global,
-        session: &Session,
-        party: u16,
-        secret: &[u8; 32],
-    ) -> Result<KeyFile, AllocError>
-        ensures { IfOk result (λ k. IsMadeFor session.now party secret.now k) }
+    fn make(alloc: Global, session: &Session, key: &KeyData) -> Result<KeyFile, AllocError>
+        ensures { IfOk result (λ k. IsMadeFor session.now key.now.party key.now.secret k) }
     {
         let Shape { id, rounds, .. } = session.shape();
-        let signer = SecretKey::make(alloc, session.params(), &id, secret)?;
-        let chain = SeedChain::make(alloc, &id, party, rounds, secret)?;
-        let secrets = Secrets {
-            id,
-            party,
-            secret: *secret,
-        };
+        let KeyData { party, secret, .. } = *key;
+        let signer = SecretKey::make(alloc, session.params(), &id, &secret)?;
+        let chain = SeedChain::make(alloc, &id, party, rounds, &secret)?;
+        let secrets = Secrets { id, party, secret };
         Ok(KeyFile {
             secrets,
             signer,
@@ -113,13 +54,12 @@ impl KeyFile {
         requires single { session.now.top ≡ None }
         ensures { result ≡ fits session.now self.now.secrets.party self.now.secrets.secret }
     {
-        let party = self.secrets.party;
-        holds_key(session, party, &self.public_in(session))
-            && (party == 0 || holds_anchor(session, party, &self.chain.anchor()))
+        let public = self.public_in(session);
+        session.holds(self.secrets.party, &public, &self.chain.anchor())
     }
 
-    /// Reads the key text of a party of the session: the broadcaster's or a peer's, as asked for, and a fresh one where one is asked for.
-    /// It tells the first fault.
+    /// Reads the key text of a party of the session, whose signatures have one level: the broadcaster's or a peer's, as asked for, and a fresh
+    /// one where one is asked for. It tells the first fault.
     pub fn read(
         alloc: Global,
         bytes: &[u8],
@@ -127,17 +67,13 @@ impl KeyFile {
         caster: bool,
         fresh: bool,
     ) -> Result<KeyFile, KeyFileFault>
+        requires single { session.now.top ≡ None }
         ensures ok { IfOk result (λ k. key_file_of session.now caster fresh bytes.now ≡ Ok k.secrets) }
         ensures err { IfErr result (λ e. (e ≡ KeyFileFault.NoMemory) ⊎ (key_file_of session.now caster fresh bytes.now ≡ Err e)) }
         ensures fits { IfOk result (IsKeyFileOf session.now caster) }
     {
-        let _ = session.top();
-        let table = key_table(alloc, bytes)?;
-        let key = key_fields_at(&table).ok_or(KeyFileFault::BadValue)?;
-        if !is_of_session(&key, session, caster) {
-            return Err(KeyFileFault::NotInRoster);
-        }
-        let file = KeyFile::make(alloc, session, key.party, &key.secret)?;
+        let key = read_key(alloc, bytes, session, caster)?;
+        let file = KeyFile::make(alloc, session, &key)?;
         if !file.fits(session) {
             return Err(KeyFileFault::NotInRoster);
         }

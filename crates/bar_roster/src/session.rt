@@ -1,18 +1,19 @@
 //! A session: what its text says.
-ghost use Rattle.std.specs.Prelude.{◌≡◌, ◌≤◌, ◌<◌, ◌⊎◌, ◌-◌, ◌*◌, ◌^◌, Some, None, Err, Ok, IfOk, IfErr, OnOk, length, slice_get};
+ghost use Rattle.std.specs.Prelude.{◌≡◌, ◌≤◌, ◌⊎◌, ◌-◌, Some, Err, Ok, IfOk, IfErr, length, option_map, slice_get};
 ghost use Rattle.toml.specs.View.{table_view};
-ghost use Rattle.bar_lms.specs.Params.{levels};
-ghost use Rattle.bar_wire.specs.Limits.{leaves_a_round};
-ghost use Rattle.bar_roster.specs.NumberRanges.{AreInRange, most_rounds};
-ghost use Rattle.bar_roster.specs.SessionText.{enough_leaves, parties_of, session_of};
-ghost use Rattle.bar_roster.specs.Shapes.{params_of, shape_of};
+ghost use Rattle.bar_lms.specs.Params.{lms_type};
+ghost use Rattle.bar_lms.specs.Schemes.{upper_types};
+ghost use Rattle.bar_roster.specs.NumberRanges.{AreInRange};
+ghost use Rattle.bar_roster.specs.SessionText.{parties_of, session_of};
 
 use crate::fields::{document_table, number_at};
+use crate::keys::Keys;
 use crate::numbers::{Numbers, numbers_at};
-use crate::parties::{caster_key, entries_at, peers};
+use crate::parties::keys_at;
+use crate::types::{check_leaves, leaves_of, params_of, shape_of, top_of, upper_types};
 use crate::{Key, SessionFault};
-use bar_lms::{Height, Ots, Params};
-use bar_wire::{LEAVES_A_ROUND, Shape};
+use bar_lms::{Height, Params};
+use bar_wire::Shape;
 use std::alloc::{AllocError, Global};
 use std::marker::Model;
 use toml::Table;
@@ -25,13 +26,14 @@ pub struct Session {
     fanout: u16,
     port: u16,
     tick_ms: u32,
+    top: Option<Height>,
     params: Params,
-    keys: Vec<[u8; 56]>,
+    keys: Keys,
     anchors: Vec<[u8; 32]>,
 }
 
 impl Model for Session {
-    ghost use Rattle.std.specs.Prelude.{None};
+    ghost use Rattle.bar_roster.specs.Held.{rows_of};
     ghost use Rattle.bar_roster.specs.SessionText.{SessionData};
 
     ghost Value = { SessionData };
@@ -42,9 +44,9 @@ impl Model for Session {
       fanout = s.fanout;
       port = s.port;
       tick_ms = s.tick_ms;
-      top = None;
+      top = s.top;
       params = s.params;
-      keys = s.keys.items;
+      keys = rows_of s.keys;
       anchors = s.anchors.items;
     } };
 
@@ -56,62 +58,11 @@ impl Model for Session {
       fanout = s.fanout;
       port = s.port;
       tick_ms = s.tick_ms;
-      top = None;
+      top = s.top;
       params = s.params;
-      keys = s.keys.items;
+      keys = rows_of s.keys;
       anchors = s.anchors.items;
     }) };
-}
-
-/// The types that two numbers in range name.
-fn params_of(numbers: &Numbers) -> Params
-    requires { AreInRange numbers.now }
-    ensures { result ≡ params_of numbers.now.lms numbers.now.ots }
-{
-    let height = match numbers.lms {
-        5 => Height::H5,
-        6 => Height::H10,
-        _ => Height::H15,
-    };
-    let ots = match numbers.ots {
-        1 => Ots::W1,
-        2 => Ots::W2,
-        3 => Ots::W4,
-        _ => Ots::W8,
-    };
-    Params { height, ots }
-}
-
-/// The numbers of the session's datagrams.
-fn shape_of(numbers: &Numbers, params: Params, peers: u16) -> Shape
-    requires range { AreInRange numbers.now }
-    requires params { params ≡ params_of numbers.now.lms numbers.now.ots }
-    ensures value { shape_of numbers.now peers ≡ Some result }
-{
-    Shape {
-        version: numbers.version,
-        id: numbers.id,
-        peers,
-        rounds: numbers.rounds,
-        life: numbers.life,
-        per_round: numbers.per_round,
-        sig_len: params.sig_len(),
-    }
-}
-
-/// Whether there is a leaf for each message of the rounds, of which there are at most `MOST_ROUNDS`; else `TooFewLeaves` with both numbers.
-pub fn check_leaves(rounds: u32, height: Height) -> Result<(), SessionFault>
-    requires rounds { rounds ≤ most_rounds }
-    ensures value { result ≡ enough_leaves rounds height }
-    ensures enough { OnOk result (leaves_a_round * rounds ≤ 2 ^ levels height) }
-{
-    let need = LEAVES_A_ROUND * rounds;
-    let have = height.leaves() as u32;
-    if need <= have {
-        Ok(())
-    } else {
-        Err(SessionFault::TooFewLeaves { need, have })
-    }
 }
 
 /// Reads the keys, anchors and fan-out of a session whose numbers are read.
@@ -120,32 +71,22 @@ fn parties_at(alloc: Global, table: &Table, numbers: &Numbers) -> Result<Session
     ensures ok { IfOk result (λ s. parties_of (table_view table.now) numbers.now ≡ Ok s) }
     ensures err { IfErr result (λ e. (e ≡ SessionFault.NoMemory) ⊎ (parties_of (table_view table.now) numbers.now ≡ Err e)) }
 {
-    let Numbers { lms, ots, .. } = *numbers;
-    let caster = caster_key(table, lms, ots)?;
-    let entries = entries_at(table)?;
-    let (keys, anchors) = peers(alloc, caster, lms, ots, entries)?;
-    let count = entries.len();
-    let fanout = number_at(table, Key::Fanout, "fanout", 1, count as u64)? as u16;
+    let (keys, anchors, count) = keys_at(alloc, table, numbers)?;
+    let fanout = number_at(table, Key::Fanout, "fanout", 1, u64::from(count))? as u16;
+    let top = top_of(numbers);
     let params = params_of(numbers);
-    check_leaves(numbers.rounds, params.height)?;
+    check_leaves(numbers.rounds, leaves_of(top, params))?;
     Ok(Session {
-        shape: shape_of(numbers, params, count as u16),
+        shape: shape_of(numbers, top, params, count),
         cap: numbers.cap,
         fanout,
         port: numbers.port,
         tick_ms: numbers.tick_ms,
+        top,
         params,
         keys,
         anchors,
     })
-}
-
-/// A public key as bytes.
-fn key_bytes(key: &[u8; 56]) -> &[u8]
-    ensures value { result.now ≡ key.now }
-    ensures long { length result.now ≡ 56 }
-{
-    key.as_slice()
 }
 
 impl Session {
@@ -183,8 +124,9 @@ impl Session {
             fanout,
             port,
             tick_ms,
+            top: None,
             params,
-            keys,
+            keys: Keys::Single(keys),
             anchors,
         }
     }
@@ -193,8 +135,7 @@ impl Session {
     pub fn copied(&self, alloc: Global) -> Result<Session, AllocError>
         ensures { IfOk result (λ s. s ≡ self.now) }
     {
-        let mut keys = vec![in alloc; [0u8; 56]; self.keys.len()]?;
-        keys.copy_from_slice(&self.keys);
+        let keys = self.keys.copied(alloc)?;
         let mut anchors = vec![in alloc; [0u8; 32]; self.anchors.len()]?;
         anchors.copy_from_slice(&self.anchors);
         Ok(Session {
@@ -203,6 +144,7 @@ impl Session {
             fanout: self.fanout,
             port: self.port,
             tick_ms: self.tick_ms,
+            top: self.top,
             params: self.params,
             keys,
             anchors,
@@ -245,15 +187,28 @@ impl Session {
         self.tick_ms
     }
 
-    /// The LMS type of the upper tree, where signatures have two levels: `None` in every session.
+    /// The LMS type of the upper tree, where signatures have two levels.
     pub fn top(&self) -> Option<u32>
-        ensures { self.now.top ≡ None }
+        ensures { result ≡ option_map lms_type self.now.top }
     {
-        let _ = &self.shape;
-        None
+        match self.top {
+            Some(height) => Some(height.number()),
+            None => None,
+        }
     }
 
-    /// The types of the session's signatures.
+    /// The types of the upper tree, where signatures have two levels.
+    pub fn upper(&self) -> Option<Params>
+        ensures value { result ≡ option_map (λ height. upper_types height self.now.params) self.now.top }
+        ensures session { IsSession self.now }
+    {
+        match self.top {
+            Some(height) => Some(upper_types(height, self.params)),
+            None => None,
+        }
+    }
+
+    /// The types of the trees that sign messages.
     pub fn params(&self) -> Params
         ensures { result ≡ self.now.params }
     {
@@ -264,9 +219,9 @@ impl Session {
     pub fn key(&self, party: u16) -> &[u8]
         requires { party ≤ self.now.shape.peers }
         ensures value { slice_get self.now.keys party ≡ Some result.now }
-        ensures long { length result.now ≡ 56 }
+        ensures short { length result.now ≤ 60 }
     {
-        key_bytes(&self.keys[usize::from(party)])
+        self.keys.get(usize::from(party))
     }
 
     /// The anchor of a peer, from 1.
