@@ -1,6 +1,6 @@
-//! The broadcaster of a key file.
+//! The broadcaster of a party's key.
 ghost use Rattle.std.specs.Prelude.{◌≡◌, ◌*◌, ◌<◌, ◌≤◌, [], true, Err, IfErr, IfOk, length};
-ghost use Rattle.bar_roster.specs.KeyFile.{IsKeyFileOf};
+ghost use Rattle.bar_hss.specs.Files.{IsPartyKeyOf};
 ghost use Rattle.bar_store.specs.Orders.{left_in};
 ghost use Rattle.bar_wire.specs.Limits.{largest_content};
 ghost use Rattle.bar_rules.specs.Members.{member_by};
@@ -10,23 +10,23 @@ ghost use Rattle.bar_caster.specs.declared.fault.CasterFault.TheVariants as faul
 
 use crate::caster::Caster;
 use crate::fault::CasterFault;
-use bar_roster::{KeyFile, Session};
-use bar_seal::LmsScheme;
+use bar_hss::{PartyKey, SessionScheme};
+use bar_roster::Session;
 use std::alloc::Global;
 
-impl Caster<LmsScheme> {
-    /// The broadcaster of a session that a key file is of, with its stream. It took no input yet.
+impl Caster<SessionScheme> {
+    /// The broadcaster of a session that a key is of, with its stream. It took no input yet.
     ///
     /// # Errors
     ///
     /// Those of a start.
-    pub fn of_key_file(
+    pub fn of_key(
         alloc: Global,
         session: Session,
-        key: KeyFile,
+        key: PartyKey,
         stream: Vec<u8>,
-    ) -> Result<Caster<LmsScheme>, CasterFault>
-        requires { IsKeyFileOf session true key }
+    ) -> Result<Caster<SessionScheme>, CasterFault>
+        requires { IsPartyKeyOf session true key }
         ensures stands { IfOk result (λ c. StandsFor c.memory []) }
         ensures sends { IfOk result (λ c. left_in c.orders ≡ []) }
         ensures member { IfOk result (λ c. member_of c.memory ≡ member_by session key.secrets) }
@@ -37,13 +37,6 @@ impl Caster<LmsScheme> {
             → IfErr result (λ e. e ≡ faults.NoMemory) }
     {
         let _shape = session.shape();
-        let _top = session.top();
-        Caster::start(
-            alloc,
-            session,
-            key.secrets,
-            LmsScheme::new(key.signer),
-            stream,
-        )
+        Caster::start(alloc, session, key.secrets, key.scheme, stream)
     }
 }

@@ -1,20 +1,18 @@
 //! What a table file and an evidence file say, and the verdict on them, with a count of steps that nobody reads.
 ghost use Rattle.std.specs.Prelude.{◌≡◌, ◌⊎◌, ◌<◌, Err, IfOk, IfErr, option_map};
-ghost use Rattle.bar_lms.specs.Acceptance.{is_accepted_under};
-ghost use Rattle.bar_lms.specs.Params.{signature_len};
-ghost use Rattle.bar_seal.specs.Leaves.{leaf_in};
 ghost use Rattle.bar_terms.specs.Table.{digests_of};
 ghost use Rattle.bar_wire.specs.Evidence.{datagrams_of};
 ghost use Rattle.bar_rules.specs.Judge.Verdict.{verdict};
 ghost use Rattle.bar_rules.specs.Verifiers.{IsVerifierOf, NamesLeavesOf};
+ghost use Rattle.bar_hss.specs.Chosen.{accepted_with, leaf_with, length_with};
 ghost use Rattle.bar_judge.specs.TableFile.{HasLists, table_of};
 ghost use Rattle.bar_judge.specs.Verdicts.{plain_verdict};
 ghost use Rattle.bar_cli.specs.Judging.{IsTableOf, evidence_of, lists_of, place_of};
 
 use bar_bytes::Steps;
+use bar_hss::SessionVerifier;
 use bar_judge::{TableFault, Verdict, read_table, verdict};
 use bar_roster::Session;
-use bar_seal::LmsVerifier;
 use bar_terms::Table;
 use bar_wire::{EvidenceView, split_evidence};
 use std::alloc::Global;
@@ -60,13 +58,12 @@ pub fn read_evidence(bytes: &[u8]) -> Option<EvidenceView<'_>>
 }
 
 /// The verifier of a session's signatures.
-fn verifier_of(session: &Session) -> LmsVerifier
-    ensures verifies { IsVerifierOf session.now (λ key message sig. is_accepted_under result.params key message sig) }
-    ensures names { NamesLeavesOf session.now leaf_in (signature_len result.params) }
+fn verifier_of(session: &Session) -> SessionVerifier
+    ensures verifies { IsVerifierOf session.now (accepted_with result) }
+    ensures names { NamesLeavesOf session.now (leaf_with result) (length_with result) }
 {
     let _ = session.shape();
-    let _ = session.top();
-    LmsVerifier::new(session.params())
+    SessionVerifier::of(session)
 }
 
 fn judge_counted<L: Ledger>(

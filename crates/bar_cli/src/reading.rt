@@ -2,28 +2,29 @@
 ghost use Rattle.std.specs.Prelude.{◌≡◌, ◌≤◌, ◌⊎◌, Ok, Err, IfOk, IfErr, false};
 ghost use Rattle.bar_record.specs.Inputs.{inputs_left};
 ghost use Rattle.bar_record.specs.Pacing.{paced};
-ghost use Rattle.bar_roster.specs.KeyFile.{IsKeyFileOf};
+ghost use Rattle.bar_hss.specs.Files.{IsPartyKeyOf};
 ghost use Rattle.bar_rules.specs.Member.{last_tick};
 ghost use Rattle.bar_cli.specs.Replay.{recording_of, secrets_of_key};
 
+use bar_hss::PartyKey;
 use bar_record::{Items, RecordFault, read};
-use bar_roster::{KeyFile, KeyFileFault, Session};
+use bar_roster::{KeyFileFault, Session};
 use std::alloc::Global;
 
-/// The key file of a peer of the session, spent or not.
+/// The key of a peer of the session, spent or not.
 #[tactic(auto, unfolding(crate::specs::Replay::secrets_of_key))]
-pub fn read_key(alloc: Global, bytes: &[u8], session: &Session) -> Result<KeyFile, KeyFileFault>
+pub fn read_key(alloc: Global, bytes: &[u8], session: &Session) -> Result<PartyKey, KeyFileFault>
     ensures ok { IfOk result (λ key. secrets_of_key session.now bytes.now ≡ Ok key.secrets) }
     ensures err { IfErr result (λ fault. (fault ≡ KeyFileFault.NoMemory) ⊎ (secrets_of_key session.now bytes.now ≡ Err fault)) }
-    ensures fits { IfOk result (IsKeyFileOf session.now false) }
+    ensures fits { IfOk result (IsPartyKeyOf session.now false) }
 {
-    KeyFile::read(alloc, bytes, session, false, false)
+    PartyKey::read(alloc, bytes, session, false, false)
 }
 
 /// The last tick of a session.
 fn last_tick(session: &Session) -> u32
     ensures value { result ≡ last_tick session.now }
-    ensures few { result ≤ 14696 }
+    ensures few { result ≤ 57736 }
 {
     let shape = session.shape();
     8 * (shape.rounds + u32::from(shape.life) + 1)

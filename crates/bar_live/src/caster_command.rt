@@ -6,7 +6,7 @@ ghost use Rattle.bar_outside.specs.MemTaken.{bound_in};
 ghost use Rattle.bar_wire.specs.Inputs.{Input};
 ghost use Rattle.bar_seeds.specs.declared.secrets.Secrets.{Secrets as Held};
 ghost use Rattle.bar_store.specs.Orders.{left_in};
-ghost use Rattle.bar_roster.specs.KeyFile.{IsKeyFileOf};
+ghost use Rattle.bar_hss.specs.Files.{IsPartyKeyOf};
 ghost use Rattle.bar_roster.specs.SessionText.{SessionData};
 ghost use Rattle.bar_rules.specs.Members.{member_by};
 ghost use Rattle.bar_caster.specs.Core.{caster_rules};
@@ -24,10 +24,10 @@ use crate::reading::{read_fresh_key, read_session};
 use crate::spending::{bind_place, spent_text, write_anew};
 use crate::summaries::{caster_line, show_parties};
 use bar_caster::{Caster, CasterFault};
+use bar_hss::{PartyKey, SessionScheme};
 use bar_node::{Summary, run_caster};
 use bar_outside::{Fault, Files, Link, Place, Sink, read_file, show_bytes};
-use bar_roster::{KeyFile, KeyFileFault, Session, SessionFault};
-use bar_seal::LmsScheme;
+use bar_roster::{KeyFileFault, Session, SessionFault};
 use std::alloc::Global;
 
 /// Reads the session and goes on, if it is accepted.
@@ -77,13 +77,13 @@ fn cast_in_session<F: Files, L: Link, K: Sink>(
 fn cast_stream<F: Files, L: Link, K: Sink>(
     alloc: Global,
     session: Session,
-    key: KeyFile,
+    key: PartyKey,
     names: &CasterNames<'_>,
     files: &mut F,
     link: &mut L,
     out: &mut K,
 ) -> Result<Ended, Fault>
-    requires { IsKeyFileOf session true key }
+    requires { IsPartyKeyOf session true key }
     ensures ends { RunEndsWith (λ given. caster_stream_plan (caster_view names.now) session given key.secrets)
         (outside (F.disk files.old) (K.stream out.old) (L.wire link.old))
         (outside (F.disk files.new) (K.stream out.new) (L.wire link.new)) (code_of_run result) (said_by_run result) }
@@ -97,7 +97,7 @@ fn cast_stream<F: Files, L: Link, K: Sink>(
         begin_ms: names.begin_ms,
         tick_ms: session.tick_ms(),
     };
-    match Caster::of_key_file(alloc, session, key, stream) {
+    match Caster::of_key(alloc, session, key, stream) {
         Ok(mut caster) => {
             cast(alloc, &mut caster, &text, &place, names, files, link, out)?;
             Ok(Ended::Done)
@@ -110,7 +110,7 @@ fn cast_stream<F: Files, L: Link, K: Sink>(
 /// Spends the key, binds the link, runs over it, and prints the summary.
 fn cast<F: Files, L: Link, K: Sink>(
     alloc: Global,
-    caster: &mut Caster<LmsScheme>,
+    caster: &mut Caster<SessionScheme>,
     text: &[u8],
     place: &Place,
     names: &CasterNames<'_>,
@@ -139,7 +139,7 @@ fn cast<F: Files, L: Link, K: Sink>(
 fn show_summary<K: Sink>(
     alloc: Global,
     summary: &Summary,
-    caster: &Caster<LmsScheme>,
+    caster: &Caster<SessionScheme>,
     out: &mut K,
 ) -> Result<(), Fault>
     ensures { (inputs : List Input) → StandsFor caster.now.memory inputs →

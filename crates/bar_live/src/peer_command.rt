@@ -4,7 +4,7 @@ ghost use Rattle.bar_outside.specs.Plan.{Outside, outside, with_files, with_out}
 ghost use Rattle.bar_outside.specs.Plan.Action.{append, create};
 ghost use Rattle.bar_outside.specs.Follows.{Follows};
 ghost use Rattle.bar_wire.specs.Inputs.{Input};
-ghost use Rattle.bar_roster.specs.KeyFile.{IsKeyFileOf};
+ghost use Rattle.bar_hss.specs.Files.{IsPartyKeyOf};
 ghost use Rattle.bar_peer.specs.Memory.{member_of};
 ghost use Rattle.bar_peer.specs.Core.{peer_rules};
 ghost use Rattle.bar_peer.specs.StandsFor.{StandsFor};
@@ -19,12 +19,12 @@ use crate::peer_names::PeerNames;
 use crate::reading::{read_fresh_key, read_session};
 use crate::spending::{bind_place, spent_text, write_anew};
 use crate::summaries::{peer_line, show_parties};
+use bar_hss::{PartyKey, SessionScheme};
 use bar_node::{Paths, Summary, run_peer};
 use bar_outside::{Fault, Files, Link, Place, Sink, create_file, read_file, show_bytes};
 use bar_peer::Peer;
 use bar_record::head;
-use bar_roster::{KeyFile, KeyFileFault, Session, SessionFault};
-use bar_seal::LmsScheme;
+use bar_roster::{KeyFileFault, Session, SessionFault};
 use std::alloc::Global;
 
 /// Reads the session and goes on, if it is accepted.
@@ -79,13 +79,13 @@ fn peer_of_session<F: Files, L: Link, K: Sink>(
 fn peer_of_key<F: Files, L: Link, K: Sink>(
     alloc: Global,
     session: Session,
-    key: KeyFile,
+    key: PartyKey,
     names: &PeerNames<'_>,
     files: &mut F,
     link: &mut L,
     out: &mut K,
 ) -> Result<(), Fault>
-    requires { IsKeyFileOf session false key }
+    requires { IsPartyKeyOf session false key }
     ensures follows { RunFollows (peer_actions (peer_view names.now) session key.secrets) (rules_by session key.secrets)
         (outside (F.disk files.old) (K.stream out.old) (L.wire link.old))
         (outside (F.disk files.new) (K.stream out.new) (L.wire link.new)) result }
@@ -100,7 +100,7 @@ fn peer_of_key<F: Files, L: Link, K: Sink>(
     };
     let text = spent_text(alloc, &session, &key.secrets)?;
     let head = head(&session.shape().id, key.secrets.party);
-    let mut peer = Peer::of_key_file(alloc, session, key)?;
+    let mut peer = Peer::of_key(alloc, session, key)?;
     write_anew(files, names.key, &text)?;
     begin_files(names, &head, files)?;
     bind_place(link, &place)?;
@@ -127,7 +127,7 @@ fn begin_files<F: Files>(names: &PeerNames<'_>, head: &[u8], files: &mut F) -> R
 fn show_summary<K: Sink>(
     alloc: Global,
     summary: &Summary,
-    peer: &Peer<LmsScheme>,
+    peer: &Peer<SessionScheme>,
     out: &mut K,
 ) -> Result<(), Fault>
     ensures { (inputs : List Input) → StandsFor peer.now.memory inputs →

@@ -1,9 +1,10 @@
 //! Reading the files of a command.
 ghost use Rattle.std.specs.Prelude.{◌≡◌, ◌⊎◌, Ok, Err, IfOk, IfErr};
-ghost use Rattle.bar_roster.specs.KeyFile.{IsKeyFileOf};
+ghost use Rattle.bar_hss.specs.Files.{IsPartyKeyOf};
 ghost use Rattle.bar_live.specs.Accepting.{fresh_key_of, session_of};
 
-use bar_roster::{KeyFile, KeyFileFault, Session, SessionFault};
+use bar_hss::PartyKey;
+use bar_roster::{KeyFileFault, Session, SessionFault};
 use std::alloc::Global;
 
 /// The session that a text spells.
@@ -15,17 +16,17 @@ pub fn read_session(alloc: Global, text: &[u8]) -> Result<Session, SessionFault>
     Session::read(alloc, text)
 }
 
-/// The fresh key file of the session's broadcaster, or of one of its peers.
+/// The fresh key of the session's broadcaster, or of one of its peers.
 #[tactic(auto, unfolding(crate::specs::Accepting::fresh_key_of))]
 pub fn read_fresh_key(
     alloc: Global,
     bytes: &[u8],
     session: &Session,
     caster: bool,
-) -> Result<KeyFile, KeyFileFault>
+) -> Result<PartyKey, KeyFileFault>
     ensures ok { IfOk result (λ key. fresh_key_of caster session.now bytes.now ≡ Ok key.secrets) }
     ensures err { IfErr result (λ fault. (fault ≡ KeyFileFault.NoMemory) ⊎ (fresh_key_of caster session.now bytes.now ≡ Err fault)) }
-    ensures fits { IfOk result (IsKeyFileOf session.now caster) }
+    ensures fits { IfOk result (IsPartyKeyOf session.now caster) }
 {
-    KeyFile::read(alloc, bytes, session, caster, true)
+    PartyKey::read(alloc, bytes, session, caster, true)
 }

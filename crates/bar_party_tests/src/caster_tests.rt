@@ -4,6 +4,7 @@ mod casters;
 mod sessions;
 
 use bar_caster::{Caster, CasterFault};
+use bar_hss::SessionScheme;
 use bar_seal::LmsScheme;
 use casters::{
     ID, Sent, caster_by, caster_of, count, counts, scheme_of, signed, start, tell, ticks,
@@ -38,7 +39,7 @@ fn check_counts(rt: &impl Abort, sends: &[Sent], kind: u8, len: usize, expected:
 fn check_ticks(
     rt: &impl Abort,
     alloc: Global,
-    caster: &mut Caster<LmsScheme>,
+    caster: &mut Caster<SessionScheme>,
     lens: &[usize],
 ) -> Result<(), AllocError> {
     for len in lens {
@@ -51,7 +52,7 @@ fn check_ticks(
 fn check_stream(
     rt: &impl Abort,
     alloc: Global,
-    caster: &mut Caster<LmsScheme>,
+    caster: &mut Caster<SessionScheme>,
 ) -> Result<(), AllocError> {
     let sends = ticks(rt, alloc, caster, 8)?;
     check_counts(rt, &sends, MANIFEST, 1_537, [2, 2]);
@@ -107,7 +108,7 @@ fn evidence(alloc: Global, datagrams: [&[u8]; 2]) -> Result<Vec<u8>, AllocError>
 /// Checks whom a broadcaster has evicted, and the evidence that it keeps against peer 1.
 fn check_evicted(
     rt: &impl Abort,
-    caster: &Caster<LmsScheme>,
+    caster: &Caster<SessionScheme>,
     evicted: &[u16],
     kept: Option<&[u8]>,
 ) {
@@ -131,7 +132,7 @@ fn evidence_of_two(rt: &impl Abort, alloc: Global) -> Result<[Vec<u8>; 2], Fail>
 fn check_evidence(
     rt: &impl Abort,
     alloc: Global,
-    caster: &mut Caster<LmsScheme>,
+    caster: &mut Caster<SessionScheme>,
     evidence: &[Vec<u8>; 2],
 ) -> Result<(), AllocError> {
     let [first, second] = evidence;

@@ -6,6 +6,7 @@ mod pair;
 mod peers;
 mod sessions;
 
+use bar_hss::SessionScheme;
 use bar_peer::Peer;
 use bar_seal::LmsScheme;
 use bar_window::{Exchange, XKind};
@@ -36,7 +37,7 @@ fn first_manifest(
 }
 
 /// Checks which manifest of round 1 is held.
-fn check_manifest(rt: &impl Abort, peer: &Peer<LmsScheme>, held: Option<&[u8]>) {
+fn check_manifest(rt: &impl Abort, peer: &Peer<SessionScheme>, held: Option<&[u8]>) {
     assert_eq!(rt; peer.manifest(1), held);
 }
 
@@ -44,7 +45,7 @@ fn check_manifest(rt: &impl Abort, peer: &Peer<LmsScheme>, held: Option<&[u8]>) 
 fn tell_changed(
     rt: &impl Abort,
     alloc: Global,
-    peer: &mut Peer<LmsScheme>,
+    peer: &mut Peer<SessionScheme>,
     manifest: &[u8],
 ) -> Result<(), AllocError> {
     let mut changed = manifest.to_vec(alloc)?;
@@ -60,7 +61,7 @@ fn tell_changed(
 fn tell_manifest(
     rt: &impl Abort,
     alloc: Global,
-    peer: &mut Peer<LmsScheme>,
+    peer: &mut Peer<SessionScheme>,
     manifest: &[u8],
     held: &[u8],
 ) -> Result<(), AllocError> {
@@ -82,7 +83,7 @@ fn tell_manifests(rt: &impl Abort, alloc: Global, pair: &mut Pair) -> Result<(),
 fn tell_first_blocks(
     rt: &impl Abort,
     alloc: Global,
-    peer: &mut Peer<LmsScheme>,
+    peer: &mut Peer<SessionScheme>,
 ) -> Result<(), AllocError> {
     for (index, len, content) in [
         (0, 2, *b"ho"),
@@ -113,7 +114,7 @@ fn check_first_history(
 fn check_sent_alone(
     rt: &impl Abort,
     alloc: Global,
-    peer: &mut Peer<LmsScheme>,
+    peer: &mut Peer<SessionScheme>,
     front: &[u8],
 ) -> Result<(), AllocError> {
     let sends = ticks(rt, alloc, peer, 1)?.sends;
@@ -165,7 +166,7 @@ fn check_same_histories(rt: &impl Abort, alloc: Global, pair: &mut Pair) -> Resu
 fn check_repeats(
     rt: &impl Abort,
     alloc: Global,
-    peer: &mut Peer<LmsScheme>,
+    peer: &mut Peer<SessionScheme>,
     front: &[u8],
     request: &[u8],
 ) -> Result<(), AllocError> {
@@ -180,7 +181,7 @@ fn check_repeats(
 fn check_late(
     rt: &impl Abort,
     alloc: Global,
-    peer: &mut Peer<LmsScheme>,
+    peer: &mut Peer<SessionScheme>,
     front: &[u8],
 ) -> Result<(), AllocError> {
     let late = ticks(rt, alloc, peer, 1)?.sends;
@@ -192,7 +193,7 @@ fn check_late(
 fn check_no_answer(
     rt: &impl Abort,
     alloc: Global,
-    peer: &mut Peer<LmsScheme>,
+    peer: &mut Peer<SessionScheme>,
     request: &[u8],
 ) -> Result<(), AllocError> {
     let front = request.get(..20).unwrap_or(b"");
@@ -449,7 +450,7 @@ fn stray_request(rt: &impl Abort, alloc: Global) -> Result<Vec<u8>, Fail> {
 fn check_responses(
     rt: &impl Abort,
     alloc: Global,
-    peer: &mut Peer<LmsScheme>,
+    peer: &mut Peer<SessionScheme>,
     party: u8,
     request: &[u8],
     count: usize,
@@ -464,7 +465,7 @@ fn check_responses(
 fn check_request(
     rt: &impl Abort,
     alloc: Global,
-    peer: &mut Peer<LmsScheme>,
+    peer: &mut Peer<SessionScheme>,
     party: u8,
     secret: u8,
     count: usize,
@@ -477,7 +478,7 @@ fn check_request(
 fn check_shown(
     rt: &impl Abort,
     alloc: Global,
-    peer: &mut Peer<LmsScheme>,
+    peer: &mut Peer<SessionScheme>,
     shown: &[u8],
     evidence: &Evidence,
 ) -> Result<(), AllocError> {
@@ -488,7 +489,7 @@ fn check_shown(
 }
 
 /// The REQUEST of peer 4 to another than its partner is evidence against peer 4. It is reported at once and at the last slot of a round.
-fn check_stray(rt: &impl Abort, alloc: Global, peer: &mut Peer<LmsScheme>) -> Result<(), Fail> {
+fn check_stray(rt: &impl Abort, alloc: Global, peer: &mut Peer<SessionScheme>) -> Result<(), Fail> {
     let stray = stray_request(rt, alloc)?;
     let evidence = evidence_of(alloc, 5, 4, &[&stray])?;
     check_shown(rt, alloc, peer, &stray, &evidence)?;
@@ -499,7 +500,11 @@ fn check_stray(rt: &impl Abort, alloc: Global, peer: &mut Peer<LmsScheme>) -> Re
     Ok(tell(rt, alloc, peer, &evidence.report)?)
 }
 
-fn check_requests(rt: &impl Abort, alloc: Global, peer: &mut Peer<LmsScheme>) -> Result<(), Fail> {
+fn check_requests(
+    rt: &impl Abort,
+    alloc: Global,
+    peer: &mut Peer<SessionScheme>,
+) -> Result<(), Fail> {
     for (party, secret, count) in [(1, 8, 1), (2, 9, 1), (3, 14, 0)] {
         check_request(rt, alloc, peer, party, secret, count)?;
     }
@@ -547,7 +552,7 @@ fn check_bad_key(rt: &impl Abort, alloc: Global, pair: &mut Pair) -> Result<(), 
 fn next_request(
     rt: &impl Abort,
     alloc: Global,
-    peer: &mut Peer<LmsScheme>,
+    peer: &mut Peer<SessionScheme>,
     round: u8,
 ) -> Result<Vec<u8>, AllocError> {
     sent_at_tick(rt, alloc, peer, &front(Kind::Request, 2, 1, round))
@@ -557,7 +562,7 @@ fn next_request(
 fn request_by_leaf_0(
     rt: &impl Abort,
     alloc: Global,
-    peer: &mut Peer<LmsScheme>,
+    peer: &mut Peer<SessionScheme>,
     round: u8,
 ) -> Result<Vec<u8>, Fail> {
     let mut message = next_request(rt, alloc, peer, round)?;
@@ -570,7 +575,7 @@ fn request_by_leaf_0(
 fn check_reported(
     rt: &impl Abort,
     alloc: Global,
-    peer: &mut Peer<LmsScheme>,
+    peer: &mut Peer<SessionScheme>,
     datagram: &[u8],
     evidence: &Evidence,
     reports: usize,
@@ -618,7 +623,7 @@ fn eviction_of(
 fn check_asking(
     rt: &impl Abort,
     alloc: Global,
-    peer: &mut Peer<LmsScheme>,
+    peer: &mut Peer<SessionScheme>,
 ) -> Result<(), AllocError> {
     let front = front(Kind::Request, 1, 2, 1);
     for _ in 0..8 {
@@ -631,7 +636,7 @@ fn check_asking(
 fn check_silence(
     rt: &impl Abort,
     alloc: Global,
-    peer: &mut Peer<LmsScheme>,
+    peer: &mut Peer<SessionScheme>,
 ) -> Result<(), AllocError> {
     let sends = ticks(rt, alloc, peer, 8)?.sends;
     check_count(rt, &sends, b"", 0);
@@ -884,7 +889,7 @@ enum FifthCheck {
 fn check_fifth(
     rt: &impl Abort,
     alloc: Global,
-    peer: &mut Peer<LmsScheme>,
+    peer: &mut Peer<SessionScheme>,
     check: FifthCheck,
 ) -> Result<(), Fail> {
     ticks(rt, alloc, peer, 1)?;

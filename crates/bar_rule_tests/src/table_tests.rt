@@ -5,7 +5,7 @@ use bar_bytes::Steps;
 use bar_judge::{TableFault, add_entry, read_table};
 use bar_lms::SecretKey;
 use bar_roster::Session;
-use bar_seal::{LmsScheme, LmsVerifier, Scheme, Verifier};
+use bar_seal::{LmsScheme, Scheme, Verifier};
 use bar_terms::{Digest, Table};
 use bar_window::UpdateId;
 use std::alloc::{AllocError, Global};
@@ -124,8 +124,7 @@ fn read_with<L: Ledger>(
     requires parts { blank.parts ≡ L.parts }
     requires some { 0 < L.parts }
 {
-    let _ = session.top();
-    let verifier = LmsVerifier::new(session.params());
+    let verifier = SessionVerifier::of(session);
     read_table(
         alloc,
         bytes,

@@ -5,7 +5,7 @@ use bar_bytes::Steps;
 use bar_judge::verdict;
 use bar_lms::SecretKey;
 use bar_roster::Session;
-use bar_seal::{LmsScheme, LmsVerifier, Scheme, Verifier};
+use bar_seal::{LmsScheme, Scheme, Verifier};
 use bar_seeds::SeedChain;
 use bar_terms::Table;
 use bar_wire::EvidenceView;
@@ -132,8 +132,7 @@ fn line_with<L: Ledger>(
     requires some { 0 < L.parts }
 {
     let _ = session.shape();
-    let _ = session.top();
-    let verifier = LmsVerifier::new(session.params());
+    let verifier = SessionVerifier::of(session);
     let verdict = verdict(
         session,
         &verifier,

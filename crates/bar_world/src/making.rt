@@ -1,5 +1,5 @@
 //! The start of a world.
-ghost use Rattle.std.specs.Prelude.{◌≡◌, ◌*◌, ◌≤◌, ℕ, [], true, false, List, length, replicate, slice_get, Some, IfOk};
+ghost use Rattle.std.specs.Prelude.{◌≡◌, ◌*◌, ◌≤◌, ℕ, [], true, false, List, length, replicate, slice_get, Some, None, IfOk};
 ghost use Rattle.bar_wire.specs.Limits.{largest_content};
 ghost use Rattle.bar_roster.specs.declared.key_file.KeyFile.{KeyFile as Key};
 ghost use Rattle.bar_roster.specs.KeyFile.{IsKeyFileOf};
@@ -18,9 +18,9 @@ ghost use Rattle.bar_world.specs.Texts.{texts};
 use crate::keys::keys_of;
 use crate::world::World;
 use bar_caster::Caster;
+use bar_hss::{PartyKey, SessionScheme};
 use bar_peer::Peer;
 use bar_roster::{KeyFile, Session};
-use bar_seal::LmsScheme;
 use bar_seeds::Secrets;
 use bar_wire::LARGEST_DATAGRAM;
 use std::alloc::{AllocError, Global};
@@ -31,22 +31,29 @@ fn start_caster(
     session: &Session,
     key: KeyFile,
     stream: Vec<u8>,
-) -> Result<Caster<LmsScheme>, AllocError>
+) -> Result<Caster<SessionScheme>, AllocError>
+    requires single { session.now.top ≡ None }
     requires key { IsKeyFileOf session.now true key }
     requires room { length stream.items ≤ session.now.shape.rounds * session.now.shape.per_round * largest_content }
     ensures { IfOk result (λ caster. IsNewCore (caster_rules (member_by session.now key.secrets) stream.items) (CasterTook caster.memory)
         (caster_face caster.memory caster.orders)) }
 {
-    Caster::of_key_file(alloc, session.copied(alloc)?, key, stream).map_err(|_| AllocError)
+    let key = PartyKey::of_file(key);
+    Caster::of_key(alloc, session.copied(alloc)?, key, stream).map_err(|_| AllocError)
 }
 
 /// A peer of a session, which took nothing yet.
-fn start_peer(alloc: Global, session: &Session, key: KeyFile) -> Result<Peer<LmsScheme>, AllocError>
-    requires { IsKeyFileOf session.now false key }
+fn start_peer(
+    alloc: Global,
+    session: &Session,
+    key: KeyFile,
+) -> Result<Peer<SessionScheme>, AllocError>
+    requires single { session.now.top ≡ None }
+    requires key { IsKeyFileOf session.now false key }
     ensures { IfOk result (λ peer. IsNewCore (peer_rules (member_by session.now key.secrets)) (PeerTook peer.memory)
         (peer_face peer.memory peer.orders peer.playing)) }
 {
-    Peer::of_key_file(alloc, session.copied(alloc)?, key)
+    Peer::of_key(alloc, session.copied(alloc)?, PartyKey::of_file(key))
 }
 
 /// The peers of a session, in the order of their key files.
@@ -54,8 +61,9 @@ fn start_peers(
     alloc: Global,
     session: &Session,
     keys: Vec<KeyFile>,
-) -> Result<Vec<Peer<LmsScheme>>, AllocError>
-    requires { (i : ℕ) (key : Key) → slice_get keys.items i ≡ Some key → IsKeyFileOf session.now false key }
+) -> Result<Vec<Peer<SessionScheme>>, AllocError>
+    requires single { session.now.top ≡ None }
+    requires keys { (i : ℕ) (key : Key) → slice_get keys.items i ≡ Some key → IsKeyFileOf session.now false key }
     ensures count { IfOk result (λ peers. length peers.items ≡ length keys.items) }
     ensures peers { IfOk result (λ peers. (i : ℕ) (peer : _) (key : Key) → slice_get peers.items i ≡ Some peer →
         slice_get keys.items i ≡ Some key → IsNewCore (peer_rules (member_by session.now key.secrets)) (PeerTook peer.memory)
@@ -80,7 +88,7 @@ fn empty_texts(alloc: Global, count: usize) -> Result<Vec<Vec<u8>>, AllocError>
 }
 
 impl World {
-    /// The world of a session before the first move: the parties of these secrets, the broadcaster's first, and its stream. All their
+    /// The world of a session whose signatures have one level, before the first move: the parties of these secrets, the broadcaster's first, and its stream. All their
     /// memory is taken here.
     pub fn make(
         alloc: Global,
@@ -88,6 +96,7 @@ impl World {
         secrets: &[Secrets],
         stream: Vec<u8>,
     ) -> Result<World, AllocError>
+        requires single { session.now.top ≡ None }
         requires setup { IsSetup (setup_of session.now secrets.now stream.items) }
         requires parties { AreOfParties session.now secrets.now }
         requires room { length stream.items ≤ session.now.shape.rounds * session.now.shape.per_round * largest_content }
@@ -98,13 +107,14 @@ impl World {
         World::of_keys(alloc, session, keys, stream)
     }
 
-    /// The world of a session before the first move, where the parties' key files are made, the broadcaster's first.
+    /// The same world, where the parties' key files are made, the broadcaster's first.
     pub(crate) fn of_keys(
         alloc: Global,
         session: &Session,
         mut keys: Vec<KeyFile>,
         stream: Vec<u8>,
     ) -> Result<World, AllocError>
+        requires single { session.now.top ≡ None }
         requires made { AreMade session.now.params session.now.shape.rounds keys.items }
         requires setup { IsSetup (setup_of session.now (held_in keys.items) stream.items) }
         requires parties { AreOfParties session.now (held_in keys.items) }

@@ -4,8 +4,9 @@ ghost use Rattle.bar_store.specs.Orders.{left_in};
 
 use bar_bytes::Steps;
 use bar_caster::{Caster, CasterFault};
+use bar_hss::{PartyKey, SessionScheme};
 use bar_lms::SecretKey;
-use bar_roster::{KeyFile, Session, key_text};
+use bar_roster::{Session, key_text};
 use bar_seal::{LmsScheme, Scheme, Verifier};
 use bar_wire::{Input, LARGEST_DATAGRAM};
 use std::alloc::{AllocError, Global};
@@ -29,15 +30,15 @@ fn start_by(
     session: &str,
     secret: &[u8; 32],
     len: usize,
-) -> Result<Result<Caster<LmsScheme>, CasterFault>, Fail> {
+) -> Result<Result<Caster<SessionScheme>, CasterFault>, Fail> {
     let session = Session::read(alloc, session.as_bytes())?;
     let rounds = session.shape().rounds;
     let params = session.params();
     let (lms, ots) = (params.lms(), params.ots());
     let text = key_text(alloc, 0, &ID, rounds, lms, ots, secret, false)?;
-    let key = KeyFile::read(alloc, &text, &session, true, false)?;
+    let key = PartyKey::read(alloc, &text, &session, true, false)?;
     let stream = vec![in alloc; 7; len]?;
-    Ok(Caster::of_key_file(alloc, session, key, stream))
+    Ok(Caster::of_key(alloc, session, key, stream))
 }
 
 /// The same of one whose secret is 32 times 7.
@@ -45,7 +46,7 @@ pub fn start(
     alloc: Global,
     session: &str,
     len: usize,
-) -> Result<Result<Caster<LmsScheme>, CasterFault>, Fail> {
+) -> Result<Result<Caster<SessionScheme>, CasterFault>, Fail> {
     start_by(alloc, session, &[7; 32], len)
 }
 
@@ -56,7 +57,7 @@ pub fn caster_by(
     session: &str,
     secret: &[u8; 32],
     len: usize,
-) -> Result<Caster<LmsScheme>, Fail> {
+) -> Result<Caster<SessionScheme>, Fail> {
     match start_by(alloc, session, secret, len)? {
         Ok(caster) => Ok(caster),
         Err(_) => panic!(rt; "it was not started"),
@@ -69,7 +70,7 @@ pub fn caster_of(
     alloc: Global,
     session: &str,
     len: usize,
-) -> Result<Caster<LmsScheme>, Fail> {
+) -> Result<Caster<SessionScheme>, Fail> {
     caster_by(rt, alloc, session, &[7; 32], len)
 }
 
@@ -95,7 +96,7 @@ pub fn scheme_of(alloc: Global, session: &str, secret: u8) -> Result<LmsScheme, 
     Ok(LmsScheme::new(signer))
 }
 
-fn step_with<L: Ledger>(caster: &mut Caster<LmsScheme>, input: Input<'_>, blank: Blank)
+fn step_with<L: Ledger>(caster: &mut Caster<SessionScheme>, input: Input<'_>, blank: Blank)
     requires name { blank.name ≡ L.name }
     requires parts { blank.parts ≡ L.parts }
     requires some { 0 < L.parts }
@@ -104,7 +105,7 @@ fn step_with<L: Ledger>(caster: &mut Caster<LmsScheme>, input: Input<'_>, blank:
     caster.step(input, &mut Steps::<L>::new(blank));
 }
 
-fn step(rt: &impl Abort, caster: &mut Caster<LmsScheme>, input: Input<'_>) {
+fn step(rt: &impl Abort, caster: &mut Caster<SessionScheme>, input: Input<'_>) {
     let idle = caster.idle();
     assert!(rt; idle);
     step_with::<Brand>(caster, input, Blank::new(1));
@@ -117,7 +118,7 @@ const MANY: usize = 200;
 fn take(
     rt: &impl Abort,
     alloc: Global,
-    caster: &mut Caster<LmsScheme>,
+    caster: &mut Caster<SessionScheme>,
     input: Input<'_>,
     sends: &mut Vec<Sent>,
 ) -> Result<(), AllocError> {
@@ -137,7 +138,7 @@ fn take(
 pub fn ticks(
     rt: &impl Abort,
     alloc: Global,
-    caster: &mut Caster<LmsScheme>,
+    caster: &mut Caster<SessionScheme>,
     count: u8,
 ) -> Result<Vec<Sent>, AllocError> {
     let mut sends = Vec::new(alloc);
@@ -151,7 +152,7 @@ pub fn ticks(
 pub fn tell(
     rt: &impl Abort,
     alloc: Global,
-    caster: &mut Caster<LmsScheme>,
+    caster: &mut Caster<SessionScheme>,
     datagram: &[u8],
 ) -> Result<(), AllocError> {
     let mut sends = Vec::new(alloc);

@@ -1,6 +1,7 @@
 //! Datagrams of the broadcaster, and fronts of the others.
 
 use super::peers::tell;
+use bar_hss::SessionScheme;
 use bar_peer::Peer;
 use bar_seal::{LmsScheme, Scheme, Verifier};
 use bar_wire::Kind;
@@ -107,7 +108,7 @@ pub fn block_message(
 pub fn tell_block(
     rt: &impl Abort,
     alloc: Global,
-    peer: &mut Peer<LmsScheme>,
+    peer: &mut Peer<SessionScheme>,
     to: u8,
     update: (u8, u8),
     block: &[u8; 1024],
@@ -120,7 +121,7 @@ pub fn tell_block(
 pub fn tell_blocks(
     rt: &impl Abort,
     alloc: Global,
-    peer: &mut Peer<LmsScheme>,
+    peer: &mut Peer<SessionScheme>,
     to: u8,
     updates: &[(u8, u8)],
 ) -> Result<(), AllocError> {

@@ -2,8 +2,8 @@
 
 use super::datagrams::front;
 use super::peers::{Sent, check_count, ticks};
+use bar_hss::SessionScheme;
 use bar_peer::Peer;
-use bar_seal::LmsScheme;
 use bar_wire::Kind;
 use std::alloc::{AllocError, Global};
 use std::process::Abort;
@@ -40,7 +40,7 @@ pub fn evidence_of(
 }
 
 /// Checks that this evidence is kept.
-pub fn check_evidence(rt: &impl Abort, peer: &Peer<LmsScheme>, evidence: &Evidence) {
+pub fn check_evidence(rt: &impl Abort, peer: &Peer<SessionScheme>, evidence: &Evidence) {
     let kept = peer.evidence(evidence.against);
     assert_eq!(rt; kept, Some(evidence.body.as_slice()));
 }
@@ -56,7 +56,7 @@ pub fn check_report(rt: &impl Abort, sends: &[Sent], evidence: &Evidence) {
 pub fn check_reports(
     rt: &impl Abort,
     alloc: Global,
-    peer: &mut Peer<LmsScheme>,
+    peer: &mut Peer<SessionScheme>,
     count: u8,
     evidence: &Evidence,
     reports: usize,

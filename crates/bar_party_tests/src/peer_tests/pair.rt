@@ -1,6 +1,7 @@
 //! Two peers, what is said between them, and what both are told.
 use super::datagrams::{blocks_of, front, manifest};
 use super::peers::{Sent, answers, peer_of, scheme_of, sent_at_tick, tell, tell_fronts, ticks};
+use bar_hss::SessionScheme;
 use bar_ledger::Totals;
 use bar_peer::Peer;
 use bar_seal::LmsScheme;
@@ -16,8 +17,8 @@ pub struct Pair {
     /// Whether each datagram that is given in turn comes cut at each length before it comes whole.
     pub cuts: bool,
     pub caster: LmsScheme,
-    pub one: Peer<LmsScheme>,
-    pub two: Peer<LmsScheme>,
+    pub one: Peer<SessionScheme>,
+    pub two: Peer<SessionScheme>,
 }
 
 pub fn pair_of(alloc: Global, session: &str) -> Result<Pair, Fail> {

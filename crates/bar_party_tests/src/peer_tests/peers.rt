@@ -5,9 +5,10 @@ ghost use Rattle.bar_peer.specs.StandsFor.{contents_left};
 
 use super::sessions::ID;
 use bar_bytes::Steps;
+use bar_hss::{PartyKey, SessionScheme};
 use bar_lms::SecretKey;
 use bar_peer::Peer;
-use bar_roster::{KeyFile, Session, key_text};
+use bar_roster::{Session, key_text};
 use bar_seal::LmsScheme;
 use bar_wire::{Input, LARGEST_DATAGRAM};
 use std::alloc::{AllocError, Global};
@@ -36,7 +37,7 @@ pub fn peer_of(
     session: &str,
     party: u8,
     secret: u8,
-) -> Result<Peer<LmsScheme>, Fail> {
+) -> Result<Peer<SessionScheme>, Fail> {
     let session = Session::read(alloc, session.as_bytes())?;
     let rounds = session.shape().rounds;
     let params = session.params();
@@ -52,8 +53,8 @@ pub fn peer_of(
         &secret,
         false,
     )?;
-    let key = KeyFile::read(alloc, &text, &session, false, false)?;
-    Ok(Peer::of_key_file(alloc, session, key)?)
+    let key = PartyKey::read(alloc, &text, &session, false, false)?;
+    Ok(Peer::of_key(alloc, session, key)?)
 }
 
 /// What signs with a secret of 32 times one byte.
@@ -63,7 +64,7 @@ pub fn scheme_of(alloc: Global, session: &str, secret: u8) -> Result<LmsScheme, 
     Ok(LmsScheme::new(signer))
 }
 
-fn step_with<L: Ledger>(peer: &mut Peer<LmsScheme>, input: Input<'_>, blank: Blank)
+fn step_with<L: Ledger>(peer: &mut Peer<SessionScheme>, input: Input<'_>, blank: Blank)
     requires name { blank.name ≡ L.name }
     requires parts { blank.parts ≡ L.parts }
     requires some { 0 < L.parts }
@@ -73,7 +74,7 @@ fn step_with<L: Ledger>(peer: &mut Peer<LmsScheme>, input: Input<'_>, blank: Bla
     peer.step(input, &mut Steps::<L>::new(blank));
 }
 
-fn step(rt: &impl Abort, peer: &mut Peer<LmsScheme>, input: Input<'_>) {
+fn step(rt: &impl Abort, peer: &mut Peer<SessionScheme>, input: Input<'_>) {
     let idle = peer.idle();
     assert!(rt; idle);
     step_with::<Brand>(peer, input, Blank::new(1));
@@ -82,7 +83,7 @@ fn step(rt: &impl Abort, peer: &mut Peer<LmsScheme>, input: Input<'_>) {
 /// More than any input gives out.
 const MANY: usize = 200;
 
-fn add_played(peer: &mut Peer<LmsScheme>, played: &mut Vec<u8>) -> Result<(), AllocError> {
+fn add_played(peer: &mut Peer<SessionScheme>, played: &mut Vec<u8>) -> Result<(), AllocError> {
     for _ in 0..MANY {
         let Some(content) = peer.next_played() else {
             return Ok(());
@@ -94,7 +95,7 @@ fn add_played(peer: &mut Peer<LmsScheme>, played: &mut Vec<u8>) -> Result<(), Al
 
 fn add_sends(
     alloc: Global,
-    peer: &mut Peer<LmsScheme>,
+    peer: &mut Peer<SessionScheme>,
     sends: &mut Vec<Sent>,
 ) -> Result<(), AllocError> {
     let mut buf = vec![in alloc; 0; usize::from(LARGEST_DATAGRAM)]?;
@@ -112,7 +113,7 @@ fn add_sends(
 fn take(
     rt: &impl Abort,
     alloc: Global,
-    peer: &mut Peer<LmsScheme>,
+    peer: &mut Peer<SessionScheme>,
     input: Input<'_>,
     count: u8,
 ) -> Result<Given, AllocError> {
@@ -132,7 +133,7 @@ fn take(
 pub fn ticks(
     rt: &impl Abort,
     alloc: Global,
-    peer: &mut Peer<LmsScheme>,
+    peer: &mut Peer<SessionScheme>,
     count: u8,
 ) -> Result<Given, AllocError> {
     take(rt, alloc, peer, Input::Tick, count)
@@ -142,7 +143,7 @@ pub fn ticks(
 pub fn answers(
     rt: &impl Abort,
     alloc: Global,
-    peer: &mut Peer<LmsScheme>,
+    peer: &mut Peer<SessionScheme>,
     datagram: &[u8],
 ) -> Result<Vec<Sent>, AllocError> {
     let given = take(rt, alloc, peer, Input::Datagram(datagram), 1)?;
@@ -154,7 +155,7 @@ pub fn answers(
 pub fn tell(
     rt: &impl Abort,
     alloc: Global,
-    peer: &mut Peer<LmsScheme>,
+    peer: &mut Peer<SessionScheme>,
     datagram: &[u8],
 ) -> Result<(), AllocError> {
     assert!(rt; answers(rt, alloc, peer, datagram)?.is_empty());
@@ -165,7 +166,7 @@ pub fn tell(
 pub fn tell_fronts(
     rt: &impl Abort,
     alloc: Global,
-    peer: &mut Peer<LmsScheme>,
+    peer: &mut Peer<SessionScheme>,
     datagram: &[u8],
 ) -> Result<(), AllocError> {
     for len in 0..datagram.len() {
@@ -178,7 +179,7 @@ pub fn tell_fronts(
 pub fn check_played(
     rt: &impl Abort,
     alloc: Global,
-    peer: &mut Peer<LmsScheme>,
+    peer: &mut Peer<SessionScheme>,
     count: u8,
     played: &[u8],
 ) -> Result<(), AllocError> {
@@ -204,7 +205,7 @@ pub fn check_count(rt: &impl Abort, sends: &[Sent], front: &[u8], count: usize) 
 pub fn sent_at_tick(
     rt: &impl Abort,
     alloc: Global,
-    peer: &mut Peer<LmsScheme>,
+    peer: &mut Peer<SessionScheme>,
     front: &[u8],
 ) -> Result<Vec<u8>, AllocError> {
     let sends = ticks(rt, alloc, peer, 1)?.sends;
