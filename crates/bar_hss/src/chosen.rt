@@ -1,8 +1,13 @@
 //! The scheme of a session, of one level or of two.
 
+ghost use Rattle.std.specs.Prelude.{◌≡◌};
+ghost use Rattle.bar_hss.specs.Files.{VerifiesFor};
+
 use crate::schemes::{HssScheme, HssVerifier};
 use bar_bytes::Steps;
+use bar_roster::Session;
 use bar_seal::{LmsScheme, LmsVerifier, Scheme, Verifier};
+use std::alloc::{AllocError, Global};
 use std::sync::ledger::Ledger;
 
 /// Acceptance of a session's signatures.
@@ -17,6 +22,34 @@ pub enum SessionVerifier {
 pub enum SessionScheme {
     Single(LmsScheme),
     Double(HssScheme),
+}
+
+impl SessionVerifier {
+    /// The verifier of a session's signatures.
+    pub fn of(session: &Session) -> SessionVerifier
+        ensures { VerifiesFor session.now result }
+    {
+        let params = session.params();
+        match session.upper() {
+            None => SessionVerifier::Single(LmsVerifier::new(params)),
+            Some(top) => SessionVerifier::Double(HssVerifier::new(top, params)),
+        }
+    }
+}
+
+impl SessionScheme {
+    /// Remembers what signs under so many leaves that follow one another, in place of what was remembered.
+    ///
+    /// A message under one of these leaves is then signed without a lower tree, and the same message again without a step in a chain. All
+    /// memory is taken here.
+    pub fn remember(&mut self, alloc: Global, leaves: u16) -> Result<(), AllocError>
+        ensures { self.new ≡ self.old }
+    {
+        match self {
+            SessionScheme::Single(s) => s.signer.remember(alloc, leaves),
+            SessionScheme::Double(s) => s.remember(alloc, leaves),
+        }
+    }
 }
 
 impl Verifier for SessionVerifier {

@@ -8,6 +8,7 @@ use crate::key::HssKey;
 use bar_bytes::Steps;
 use bar_lms::Params;
 use bar_seal::{Scheme, Verifier};
+use std::alloc::{AllocError, Global};
 use std::sync::ledger::Ledger;
 
 /// Acceptance of signatures of two levels under public keys of these types. Under any other key nothing is accepted.
@@ -76,6 +77,13 @@ impl HssScheme {
     {
         key.low();
         HssScheme { key }
+    }
+
+    /// Remembers the trees of so many leaves that follow one another and the chain values of their last signatures (`HssKey::remember`).
+    pub fn remember(&mut self, alloc: Global, leaves: u16) -> Result<(), AllocError>
+        ensures { self.new ≡ self.old }
+    {
+        self.key.remember(alloc, leaves)
     }
 }
 

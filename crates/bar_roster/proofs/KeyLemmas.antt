@@ -125,3 +125,7 @@ key_file_of_session s caster bytes k file named made held =
       made = subst of_secret (sym secret) (subst of_party (sym party) made);
       fits = (fits_test s file.secrets.party file.secrets.secret).0 held;
     }
+
+-- the session holds the secret of a key file of its own
+pub file_held : (s : SessionData) (caster : Bool) (file : KeyFile) → IsKeyFileOf s caster file → IsHeldBy s caster file.secrets
+file_held s caster file is = record { id = ap (λ (x : Secrets). x.id) is.made.secrets; party = is.party; role = is.role; fits = is.fits }
