@@ -37,6 +37,10 @@ pub some_top : {B : Type 0} (f : Height → B) (top : Option Height) (x : B) →
 some_top f None x e = absurd (none-some x e)
 some_top f (Some height) x e = (height, refl, cc)
 
+pub is_there : {B : Type 0} (f : Height → B) (top : Option Height) (x : B) → option_map f top ≡ Some x → IsSome top
+is_there f None x e = absurd (none-some x e)
+is_there f (Some height) x e = search
+
 pub there_top : (top : Option Height) → IsSome top → (height : Height) × (top ≡ Some height)
 there_top None is = cc
 there_top (Some height) is = (height, refl)

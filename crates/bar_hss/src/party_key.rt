@@ -1,11 +1,8 @@
 //! The key file of a party, of one level or of two.
 
-ghost use Rattle.std.specs.Prelude.{◌≡◌, ◌⊎◌, ℕ, List, None, Some, Ok, Err, IfOk, IfErr};
-ghost use Rattle.bar_lms.specs.declared.params.Height.{Height};
-ghost use Rattle.bar_lms.specs.Schemes.{two_levels};
-ghost use Rattle.bar_roster.specs.KeyFile.{key_file_of, signing_secret};
+ghost use Rattle.std.specs.Prelude.{◌≡◌, ◌⊎◌, Bool, None, Ok, Err, IfOk, IfErr, IsSome};
+ghost use Rattle.bar_roster.specs.KeyFile.{IsKeyFileOf, key_file_of};
 ghost use Rattle.bar_roster.specs.SessionText.{SessionData};
-ghost use Rattle.bar_hss.specs.Files.{SignsFor};
 
 use crate::chosen::SessionScheme;
 use crate::key_file::HssKeyFile;
@@ -24,14 +21,12 @@ pub struct PartyKey {
 }
 
 impl PartyKey {
-    ghost use Rattle.bar_hss.specs.Files.{IsPartyKeyOf};
+    ghost use Rattle.bar_hss.specs.Files.{IsHssKeyFileOf, IsPartyKeyOf};
 
-    // That of a key file of one level.
-    fn single(file: KeyFile) -> PartyKey
+    /// That of a key file of one level.
+    pub fn single(file: KeyFile) -> PartyKey
         ensures secrets { result.secrets ≡ file.secrets }
-        ensures chain { result.chain ≡ file.chain }
-        ensures scheme { (s : SessionData) (secret : List ℕ) → s.top ≡ None → file.signer ≡ signing_secret s secret →
-            SignsFor s secret result.scheme }
+        ensures fits { (s : SessionData) (caster : Bool) → s.top ≡ None → IsKeyFileOf s caster file → IsPartyKeyOf s caster result }
     {
         let KeyFile {
             secrets,
@@ -45,12 +40,10 @@ impl PartyKey {
         }
     }
 
-    // That of a key file of two.
-    fn double(file: HssKeyFile) -> PartyKey
+    /// That of a key file of two.
+    pub fn double(file: HssKeyFile) -> PartyKey
         ensures secrets { result.secrets ≡ file.secrets }
-        ensures chain { result.chain ≡ file.chain }
-        ensures scheme { (s : SessionData) (secret : List ℕ) (height : Height) → s.top ≡ Some height →
-            file.signer ≡ two_levels height s.params s.shape.id secret → SignsFor s secret result.scheme }
+        ensures fits { (s : SessionData) (caster : Bool) → IsSome s.top → IsHssKeyFileOf s caster file → IsPartyKeyOf s caster result }
     {
         let HssKeyFile {
             secrets,

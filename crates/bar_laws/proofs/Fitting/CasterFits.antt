@@ -1,5 +1,5 @@
 -- What the broadcaster sends is in the grammar.
-use Rattle.bar_roster.specs.NumberRanges.{most_rounds}
+use Rattle.bar_roster.specs.NumberRanges.{most_long_rounds}
 use Rattle.bar_rules.specs.Broadcaster.Sending.{evicted, served, caster_message, caster_signed}
 use Rattle.bar_rules.specs.Broadcaster.Stream.{block_bytes, piece_of, round_blocks, manifest_list, peers_of}
 use Rattle.bar_lms.specs.Schemes.{leaves_by}
@@ -108,7 +108,7 @@ small-parties peers (p ∷ ps) few a = (omega (arith, few, a.0.1), small-parties
 pub manifest-fits : (me : Member) (stream : List ℕ) (m : ℕ) → IsSession me.session → 1 ≤ m → m ≤ me.session.shape.rounds
     → IsDatagram me.session.shape (caster_signed me (2 * (m - 1)) (Manifest m (manifest_list me.session stream m)))
 manifest-fits me stream m s low high =
-    let rounds : me.session.shape.rounds ≤ most_rounds = s.shape.rounds_high in
+    let rounds : me.session.shape.rounds ≤ most_long_rounds = s.shape.rounds_high in
     let few : length (round_blocks me.session stream m) ≤ me.session.shape.per_round = blocks-are-few me.session stream m in
     let each : length (manifest_list me.session stream m) ≡ length (round_blocks me.session stream m) = length-map (round_blocks me.session stream m) sha256 in
     record {
@@ -123,7 +123,7 @@ manifest-fits me stream m s low high =
 pub evict-fits : (me : Member) (log : Log) (m : ℕ) → IsSession me.session → 1 ≤ m → m ≤ me.session.shape.rounds → 0 < length (evicted me.session log)
     → IsDatagram me.session.shape (caster_signed me (2 * (m - 1) + 1) (Evict m (evicted me.session log)))
 evict-fits me log m s low high some =
-    let rounds : me.session.shape.rounds ≤ most_rounds = s.shape.rounds_high in
+    let rounds : me.session.shape.rounds ≤ most_long_rounds = s.shape.rounds_high in
     let is_out : ℕ → Bool = λ q. is_some (kept log q) in
     record {
       from_fits = omega arith;
@@ -137,7 +137,7 @@ evict-fits me log m s low high some =
 pub block-fits : (s : Session) (u : UpdateId) (block : List ℕ) (p : ℕ) → IsSession s → 1 ≤ u.round → u.round ≤ s.shape.rounds → u.index < s.shape.per_round → length block ≡ 1024 → 1 ≤ p → p ≤ s.shape.peers
     → IsDatagram s.shape (unsigned (record { from = 0; to = p; body = Block u block }))
 block-fits s u block p is low high index whole from to =
-    let rounds : s.shape.rounds ≤ most_rounds = is.shape.rounds_high in
+    let rounds : s.shape.rounds ≤ most_long_rounds = is.shape.rounds_high in
     let peers : s.shape.peers ≤ 200 = is.shape.peers_high in
     record {
       from_fits = omega arith;

@@ -1,5 +1,5 @@
 -- Each message that a member may sign is as the grammar has it, where all that was said or heard before is.
-use Rattle.bar_roster.specs.NumberRanges.{most_rounds}
+use Rattle.bar_roster.specs.NumberRanges.{most_long_rounds}
 use Rattle.bar_wire.specs.Bodies.{briefcase_in, history_in, offer_in, reply_in}
 use Rattle.bar_wire.specs.declared.kind.Kind.{Kind}
 use Rattle.bar_case.specs.Sealed.{IsTold}
@@ -45,7 +45,7 @@ record IsSaidWell (me : Member) (to : ℕ) (b : Body) : Type 0 where
 -- ---- numbers
 
 pub round-small : (me : Member) (r : ℕ) → IsMember me → IsRound me.session.shape r → r < 2 ^ 32
-round-small me r is round = let high : me.session.shape.rounds ≤ most_rounds = is.session.shape.rounds_high in omega (arith, high, round.1)
+round-small me r is round = let high : me.session.shape.rounds ≤ most_long_rounds = is.session.shape.rounds_high in omega (arith, high, round.1)
 
 seed-long : (me : Member) (round : ℕ) (seed : List ℕ) → seed ≡ seed_of me round → length seed ≡ 32
 seed-long me round seed e = ap length e ∙ length-chain_back (secrets_of me) me.session.shape.rounds (me.session.shape.rounds - round)
