@@ -1,5 +1,5 @@
 //! A session that is made from its parties' key files.
-ghost use Rattle.std.specs.Prelude.{◌≡◌, ◌+◌, ℕ, List, length, map, IfOk};
+ghost use Rattle.std.specs.Prelude.{◌≡◌, ◌+◌, ℕ, List, length, map, None, IfOk};
 ghost use Rattle.bar_rules.specs.World.World.{IsSetup};
 ghost use Rattle.bar_world.specs.Keys.{AreMade, anchor_in, held_in, public_in};
 ghost use Rattle.bar_world.specs.Made.{AreNumbers, session_by};
@@ -44,6 +44,7 @@ pub(crate) fn session(
     requires made { AreMade numbers.params shape.rounds keys.now }
     requires parties { AreOfParties (session_by shape numbers (held_in keys.now)) (held_in keys.now) }
     ensures value { IfOk result (λ s. s ≡ session_by shape numbers (held_in keys.now)) }
+    ensures single { IfOk result (λ s. s.top ≡ None) }
     ensures setup { IfOk result (λ s. (stream : List ℕ) → IsSetup (setup_of s (held_in keys.now) stream)) }
 {
     let public = public_keys(alloc, keys)?;

@@ -1,5 +1,5 @@
 //! The session of a simulation.
-ghost use Rattle.std.specs.Prelude.{◌≡◌, IfOk};
+ghost use Rattle.std.specs.Prelude.{◌≡◌, None, IfOk};
 ghost use Rattle.bar_world.specs.Held.{all_held};
 ghost use Rattle.bar_world.specs.Keys.{keys_by};
 ghost use Rattle.bar_world.specs.Sim.{numbers, setup, shape};
@@ -56,7 +56,8 @@ pub(crate) fn sim_keys(alloc: Global, seed: u64) -> Result<Vec<KeyFile>, AllocEr
 /// The session, made from the key files of its parties.
 pub(crate) fn sim_session(alloc: Global, seed: u64, keys: &[KeyFile]) -> Result<Session, AllocError>
     requires { keys.now ≡ keys_by numbers.params (shape seed).rounds (all_held seed) }
-    ensures { IfOk result (λ s. s ≡ (setup seed).session) }
+    ensures value { IfOk result (λ s. s ≡ (setup seed).session) }
+    ensures single { IfOk result (λ s. s.top ≡ None) }
 {
     session(alloc, shape(seed), NUMBERS, keys)
 }

@@ -10,21 +10,21 @@ use Rattle.bar_world.proofs.simulation.begin.Goals as goal
 
 pub of_keys-requires-clause-setup : goal.of_keys-requires-clause-setup
 of_keys-requires-clause-setup c =
-    subst IsSetup (sym (setup-is c.args.seed _ _ _ c.in_ok-session.ensures (ap held_in c.in_ok-keys.ensures) c.in_ok-stream.ensures))
+    subst IsSetup (sym (setup-is c.args.seed _ _ _ c.in_ok-session.ensures.value (ap held_in c.in_ok-keys.ensures) c.in_ok-stream.ensures))
     (c.simulations_are_fair.ensures.setup c.args.seed)
 
 pub of_keys-requires-clause-room : goal.of_keys-requires-clause-room
 of_keys-requires-clause-room c =
-    stream-fits c.args.seed c.in_ok-session.session _ c.keystreams_have_their_length.ensures.length c.in_ok-session.ensures
+    stream-fits c.args.seed c.in_ok-session.session _ c.keystreams_have_their_length.ensures.length c.in_ok-session.ensures.value
     c.in_ok-stream.ensures
 
 pub returns-clause-plays : goal.returns-clause-plays
 returns-clause-plays c =
     begun-playing c.args.seed _
     (subst (λ setup. StandsFor setup [] c.in_ok-world.world)
-    (setup-is c.args.seed _ _ _ c.in_ok-session.ensures (ap held_in c.in_ok-keys.ensures) c.in_ok-stream.ensures)
+    (setup-is c.args.seed _ _ _ c.in_ok-session.ensures.value (ap held_in c.in_ok-keys.ensures) c.in_ok-stream.ensures)
     c.in_ok-world.ensures.stands)
-    (liar-is c.args.seed c.in_ok-session.session _ _ c.params.result c.in_ok-session.ensures
+    (liar-is c.args.seed c.in_ok-session.session _ _ c.params.result c.in_ok-session.ensures.value
     (ap (λ (key : KeyFile). key.secrets)
     (c.index.ensures ∙ ap (λ (list : List KeyFile). slice_index_or list 5 c.index.result.now) c.in_ok-keys.ensures)) refl
     c.shape.ensures.value c.params.ensures c.in_ok-signer.ensures)

@@ -18,10 +18,10 @@ start_caster-requires-clause-key c =
     caster-key _ _ _ c.requires.made c.requires.setup c.requires.parties _
     (ap (λ xs. slice_get xs 0) (split (goal.at.start_caster-requires-clause-key c).After-remove))
 
-pub start_peers-requires : goal.start_peers-requires
-start_peers-requires c = λ i key at.
+pub start_peers-requires-clause-keys : goal.start_peers-requires-clause-keys
+start_peers-requires-clause-keys c = λ i key at.
     peer-key _ _ _ c.requires.made c.requires.setup c.requires.parties i key
-    (ap (λ xs. slice_get xs (suc i)) (split (goal.at.start_peers-requires c).After-remove) ∙ at)
+    (ap (λ xs. slice_get xs (suc i)) (split (goal.at.start_peers-requires-clause-keys c).After-remove) ∙ at)
 
 pub returns-clause-ready : goal.returns-clause-ready
 returns-clause-ready c =
