@@ -10,9 +10,8 @@ use Rattle.bar_outside.proofs.Unlinked.{IsUnlinked, unlinked-accepting, unlinked
 use Rattle.bar_outside.proofs.Untouched.{untouched-reached}
 use Rattle.bar_roster.specs.declared.fault.SessionFault.{SessionFault}
 use Rattle.bar_roster.specs.KeyText.{key_text_of}
-use Rattle.bar_roster.specs.SessionText.{enough_leaves}
 use Rattle.bar_cli.specs.Refusals.{session_refused, secret_refused}
-use Rattle.bar_cli.specs.KeygenPlan.{Keygen, KeygenAccepted, KeyMade, HasEnoughLeaves, HasFewLeaves, IsKeygenCall, secret_of, key_made, lines_of, keygen_actions, making_plan, secret_plan, keygen_plan, SecretRefused}
+use Rattle.bar_cli.specs.KeygenPlan.{Keygen, KeygenAccepted, KeyMade, HasEnoughLeaves, HasFewLeaves, IsKeygenCall, secret_of, key_made, lines_of, keygen_actions, making_plan, secret_plan, keygen_plan, SecretRefused, leaves_for}
 use Rattle.bar_cli.proofs.EndLemmas.{differ, go-on}
 
 -- what comes behind the count of leaves, and behind the read
@@ -29,7 +28,7 @@ by-leaves asked leaves = accepting leaves (λ _. secret_plan asked) (λ fault. e
 -- nothing is done over the link
 pub unlinked-plan : (asked : Keygen) (content : Content) → IsUnlinked (keygen_plan asked content).actions
 unlinked-plan asked content =
-    unlinked-accepting (enough_leaves asked.rounds asked.params.height) (λ _. secret_plan asked) _ content
+    unlinked-accepting (leaves_for asked) (λ _. secret_plan asked) _ content
     (λ enough. unlinked-reading asked.secret (with-secret asked) content
     (λ bytes. unlinked-accepting (secret_of bytes) (making_plan asked) _ content (λ secret. tt) (λ len. tt))) (λ fault. tt)
 
@@ -87,7 +86,7 @@ module _ (reads : ReadsFirst) (ends : EndsThere) (asked : Keygen) (old new : Out
             (λ k. inr (k, (bytes, record { leaves = e; read = r; other_length = other })))
       ]
 
-  outcome-leaves : (r : Result (Unit {0}) SessionFault) → enough_leaves asked.rounds asked.params.height ≡ r →
+  outcome-leaves : (r : Result (Unit {0}) SessionFault) → leaves_for asked ≡ r →
       Went (by-leaves asked r old.files.content) old new status → Outcome asked old new status
   outcome-leaves (Err fault) e w = refused 4 (session_refused fault) w (λ k. inl (k, (fault, e)))
   outcome-leaves (Ok tt) e w =
@@ -97,7 +96,7 @@ module _ (reads : ReadsFirst) (ends : EndsThere) (asked : Keygen) (old new : Out
       ]
 
   pub outcome : Went (keygen_plan asked old.files.content) old new status → Outcome asked old new status
-  outcome w = outcome-leaves (enough_leaves asked.rounds asked.params.height) refl w
+  outcome w = outcome-leaves (leaves_for asked) refl w
 
 -- ---- the rows
 
@@ -173,5 +172,5 @@ module _ (first : NamesFirst) (asked : Keygen) (content : Content) (call : Failu
 
 pub named-some : (first : NamesFirst) (asked : Keygen) (content : Content) (o : Option Failure) →
     IsSomeAnd o (Names (keygen_plan asked content).actions) → IsSomeAnd o (IsKeygenCall asked)
-named-some first asked content (Some call) h = call-leaves first asked content call (enough_leaves asked.rounds asked.params.height) h
+named-some first asked content (Some call) h = call-leaves first asked content call (leaves_for asked) h
 named-some first asked content None h = h

@@ -7,7 +7,7 @@ use Rattle.bar_outside.specs.Stream.{Stream}
 use Rattle.bar_outside.specs.Wire.{Arrival, Wire}
 use Rattle.bar_outside.proofs.Ending.{EndsWith-memory, Ends-or_memory, said, said-fixed}
 use Rattle.bar_seeds.specs.declared.secrets.Secrets.{Secrets}
-use Rattle.bar_roster.specs.SessionText.{SessionData, enough_leaves}
+use Rattle.bar_roster.specs.SessionText.{SessionData}
 use Rattle.bar_live.specs.Accepting.{fresh_key_of, room_of, session_of, stream_in}
 use Rattle.bar_live.specs.CasterPlan.{CasterNames, caster_key_plan, caster_plan, caster_run_plan, caster_stream_plan}
 use Rattle.bar_live.specs.PeerPlan.{PeerNames, peer_key_plan, peer_plan, peer_run_plan}
@@ -19,7 +19,7 @@ use Rattle.bar_node.proofs.Doing.{none-more}
 use Rattle.bar_live.proofs.Reaching.{nothing-reached, reached-unlinked}
 use Rattle.bar_live.proofs.RunFollowing.{heard-nothing}
 use Rattle.bar_cli.specs.Line.{Line, peer, broadcaster, replay, keygen, judge, session_run, simulate, plan_of, reads_nothing, usage}
-use Rattle.bar_cli.specs.KeygenPlan.{secret_plan}
+use Rattle.bar_cli.specs.KeygenPlan.{secret_plan, leaves_for}
 
 -- ---- which plan it was
 
@@ -172,7 +172,7 @@ plan-fixed (Some (peer names)) given content h = absurd (true≢false (sym h))
 plan-fixed (Some (broadcaster names)) given content h = absurd (true≢false (sym h))
 plan-fixed (Some (replay names)) given content h = absurd (true≢false (sym h))
 plan-fixed (Some (keygen asked)) given content h =
-    refused-fixed (enough_leaves asked.rounds asked.params.height) (λ _. secret_plan asked) session_refused content h
+    refused-fixed (leaves_for asked) (λ _. secret_plan asked) session_refused content h
 plan-fixed (Some (judge names)) given content h = absurd (true≢false (sym h))
 plan-fixed (Some (session_run names)) given content h = absurd (true≢false (sym h))
 plan-fixed (Some (simulate seed)) given content h = record { same = λ other. refl; unread = tt }

@@ -4,14 +4,13 @@ use Rattle.std.proofs.lemmas.Slice.Eq.{bytes_eq-Decides}
 use Rattle.std.specs.Str.{bytes_eq}
 use Rattle.std.specs.Borrow.{Bor}
 use Rattle.std.specs.Option.{ok_or, option_and_then, option_map}
+use Rattle.bar_lms.specs.declared.params.Height.{Height}
 use Rattle.bar_lms.specs.declared.params.Params.{Params}
-use Rattle.bar_roster.specs.NumberRanges.{most_rounds}
 use Rattle.bar_words.specs.Numbers.{id_of, number_in}
 use Rattle.bar_words.specs.Options.{texts}
 use Rattle.bar_words.specs.declared.options.WordsFault.{WordsFault}
 use Rattle.bar_words.specs.declared.options.WordsFault.TheVariants.{Usage}
-use Rattle.bar_cli.specs.Line.{Line, broadcaster_line, judge_line, keygen, keygen_line, keygen_values, line_of, peer_line, replay_line, session_line, simulate_line}
-use Rattle.bar_cli.specs.Words.{types_of}
+use Rattle.bar_cli.specs.Line.{Line, asked_by, broadcaster_line, hsskeygen_line, hsskeygen_values, judge_line, keygen, keygen_line, keygen_values, line_of, peer_line, replay_line, session_line, simulate_line}
 
 -- the values are found, and say what is asked for
 pub line-found : {A : Type 0} (view : A → Line) (meant : List (List ℕ) → Option Line) (values : List (List ℕ))
@@ -41,23 +40,24 @@ differs a b h = by_test (bytes_eq a b) refl
     by_test true e = absurd (h ((bytes_eq-Decides a b).0 e))
     by_test false e = e
 
-none-of : (p b r k j s m : Bool) (P B R K J S M : Option Line) → p ≡ false → b ≡ false → r ≡ false → k ≡ false → j ≡ false → s ≡ false →
-    m ≡ false →
-    (if p then P else if b then B else if r then R else if k then K else if j then J else if s then S else if m then M else None)
+none-of : (p b r k t j s m : Bool) (P B R K T J S M : Option Line) → p ≡ false → b ≡ false → r ≡ false → k ≡ false → t ≡ false → j ≡ false →
+    s ≡ false → m ≡ false →
+    (if p then P else if b then B else if r then R else if k then K else if t then T else if j then J else if s then S else if m then M
+    else None)
     ≡ None
-none-of p b r k j s m P B R K J S M e f g h i l n = rw (e, f, g, h, i, l, n) refl
+none-of p b r k t j s m P B R K T J S M e f g h o i l n = rw (e, f, g, h, o, i, l, n) refl
 
 -- another name is none of a command
 pub no-command : (name : List ℕ) (options : List (List ℕ)) → (name ≡ codes "peer" → ⊥) → (name ≡ codes "broadcaster" → ⊥) →
-    (name ≡ codes "replay" → ⊥) → (name ≡ codes "keygen" → ⊥) → (name ≡ codes "judge" → ⊥) → (name ≡ codes "session" → ⊥) →
-    (name ≡ codes "simulate" → ⊥) → line_of (name ∷ options) ≡ None
-no-command name options p b r k j s m =
+    (name ≡ codes "replay" → ⊥) → (name ≡ codes "keygen" → ⊥) → (name ≡ codes "hsskeygen" → ⊥) → (name ≡ codes "judge" → ⊥) →
+    (name ≡ codes "session" → ⊥) → (name ≡ codes "simulate" → ⊥) → line_of (name ∷ options) ≡ None
+no-command name options p b r k t j s m =
     none-of (bytes_eq name (codes "peer")) (bytes_eq name (codes "broadcaster")) (bytes_eq name (codes "replay"))
-    (bytes_eq name (codes "keygen")) (bytes_eq name (codes "judge")) (bytes_eq name (codes "session"))
+    (bytes_eq name (codes "keygen")) (bytes_eq name (codes "hsskeygen")) (bytes_eq name (codes "judge")) (bytes_eq name (codes "session"))
     (bytes_eq name (codes "simulate")) (peer_line options)
-    (broadcaster_line options) (replay_line options) (keygen_line options) (judge_line options) (session_line options)
+    (broadcaster_line options) (replay_line options) (keygen_line options) (hsskeygen_line options) (judge_line options) (session_line options)
     (simulate_line options) (differs name (codes "peer") p) (differs name (codes "broadcaster") b)
-    (differs name (codes "replay") r) (differs name (codes "keygen") k) (differs name (codes "judge") j)
+    (differs name (codes "replay") r) (differs name (codes "keygen") k) (differs name (codes "hsskeygen") t) (differs name (codes "judge") j)
     (differs name (codes "session") s) (differs name (codes "simulate") m)
 
 -- ---- the values of `keygen`
@@ -89,18 +89,30 @@ not-seven (p ∷ i ∷ r ∷ l ∷ o ∷ s ∷ []) h = refl
 not-seven (p ∷ i ∷ r ∷ l ∷ o ∷ s ∷ k ∷ []) h = absurd (h refl)
 not-seven (p ∷ i ∷ r ∷ l ∷ o ∷ s ∷ k ∷ x ∷ xs) h = refl
 
+-- of `hsskeygen`, as many
+pub not-seven-levels : (xs : List (Bor (List ℕ))) → (length xs ≡ 7 → ⊥) → None ≡ hsskeygen_values (texts xs)
+not-seven-levels [] h = refl
+not-seven-levels (p ∷ []) h = refl
+not-seven-levels (p ∷ i ∷ []) h = refl
+not-seven-levels (p ∷ i ∷ r ∷ []) h = refl
+not-seven-levels (p ∷ i ∷ r ∷ l ∷ []) h = refl
+not-seven-levels (p ∷ i ∷ r ∷ l ∷ o ∷ []) h = refl
+not-seven-levels (p ∷ i ∷ r ∷ l ∷ o ∷ s ∷ []) h = refl
+not-seven-levels (p ∷ i ∷ r ∷ l ∷ o ∷ s ∷ k ∷ []) h = absurd (h refl)
+not-seven-levels (p ∷ i ∷ r ∷ l ∷ o ∷ s ∷ k ∷ x ∷ xs) h = refl
+
 -- what they ask for, where each is in its range
-pub keygen-asked : (party_word id_word rounds_word lms ots secret key : List ℕ) (party : ℕ) (id : List ℕ) (rounds : ℕ) (params : Params) →
-    Some party ≡ number_in 0 200 party_word → Some id ≡ id_of id_word → Some rounds ≡ number_in 1 most_rounds rounds_word →
-    Some params ≡ types_of lms ots →
-    Some (keygen (record { party = party; id = id; rounds = rounds; params = params; secret = secret; key = key }))
-    ≡ keygen_values (party_word ∷ id_word ∷ rounds_word ∷ lms ∷ ots ∷ secret ∷ key ∷ [])
-keygen-asked party_word id_word rounds_word lms ots secret key party id rounds params p i r t =
-    let asked : ℕ → List ℕ → ℕ → Params → Line = λ q j n m.
-    keygen (record { party = q; id = j; rounds = n; params = m; secret = secret; key = key }) in
+pub keygen-asked : (most : ℕ) (types : Option (Option Height × Params)) (party_word id_word rounds_word secret key : List ℕ)
+    (party : ℕ) (id : List ℕ) (rounds : ℕ) (levels : Option Height × Params) →
+    Some party ≡ number_in 0 200 party_word → Some id ≡ id_of id_word → Some rounds ≡ number_in 1 most rounds_word → Some levels ≡ types →
+    Some (keygen (record { party = party; id = id; rounds = rounds; top = levels.0; params = levels.1; secret = secret; key = key }))
+    ≡ asked_by most types party_word id_word rounds_word secret key
+keygen-asked most types party_word id_word rounds_word secret key party id rounds levels p i r t =
+    let asked : ℕ → List ℕ → ℕ → Option Height × Params → Line = λ q j n m.
+    keygen (record { party = q; id = j; rounds = n; top = m.0; params = m.1; secret = secret; key = key }) in
     ap (option_and_then (λ m. Some (asked party id rounds m))) t
-    ∙ ap (option_and_then (λ n. option_and_then (λ m. Some (asked party id n m)) (types_of lms ots))) r
-    ∙ ap (option_and_then (λ j. option_and_then (λ n. option_and_then (λ m. Some (asked party j n m)) (types_of lms ots))
-    (number_in 1 most_rounds rounds_word))) i
-    ∙ ap (option_and_then (λ q. option_and_then (λ j. option_and_then (λ n. option_and_then (λ m. Some (asked q j n m)) (types_of lms ots))
-    (number_in 1 most_rounds rounds_word)) (id_of id_word))) p
+    ∙ ap (option_and_then (λ n. option_and_then (λ m. Some (asked party id n m)) types)) r
+    ∙ ap (option_and_then (λ j. option_and_then (λ n. option_and_then (λ m. Some (asked party j n m)) types)
+    (number_in 1 most rounds_word))) i
+    ∙ ap (option_and_then (λ q. option_and_then (λ j. option_and_then (λ n. option_and_then (λ m. Some (asked q j n m)) types)
+    (number_in 1 most rounds_word)) (id_of id_word))) p

@@ -1,13 +1,14 @@
 -- What `keygen` does.
-use Rattle.std.specs.Prelude.{◌≡◌, ◌≢◌, ◌⊎◌, ◌==◌, ℕ, false, List, [], ◌∷◌, ◌++◌, Some, Ok, Err, Result, take, length, codes, if◌then◌else◌, IsTrue}
+use Rattle.std.specs.Prelude.{◌≡◌, ◌≢◌, ◌⊎◌, ◌==◌, ℕ, false, List, [], ◌∷◌, ◌++◌, Option, Some, option_map, Ok, Err, Result, take, length, codes, if◌then◌else◌, IsTrue, Unit}
 use Rattle.hex.specs.Hex.{encode_lower}
+use Rattle.bar_lms.specs.declared.params.Height.{Height}
 use Rattle.bar_lms.specs.declared.params.Params.{Params}
 use Rattle.bar_lms.specs.Params.{lms_type, ots_type}
-use Rattle.bar_lms.specs.Secret.{public_key}
+use Rattle.bar_lms.specs.Schemes.{leaves_by, public_by}
 use Rattle.bar_seeds.specs.Seeds.{anchor_of}
 use Rattle.bar_roster.specs.declared.key_fields.KeyData.{KeyData}
 use Rattle.bar_roster.specs.declared.fault.SessionFault.{SessionFault}
-use Rattle.bar_roster.specs.KeyText.{key_data, key_text_of}
+use Rattle.bar_roster.specs.KeyText.{any_key_data, key_text_of}
 use Rattle.bar_roster.specs.SessionText.{enough_leaves}
 use Rattle.bar_outside.specs.Disk.{Content, Failure, readable}
 use Rattle.bar_outside.specs.declared.files.CallKind.TheVariants.{Read, Create, Append}
@@ -15,12 +16,13 @@ use Rattle.bar_outside.specs.Plan.{Outside, Action, Plan, reading, accepting, en
 use Rattle.bar_outside.specs.Plan.Action.{create, append, show}
 use Rattle.bar_cli.specs.Refusals.{session_refused, secret_refused}
 
--- what is asked for: the key of a party in a session with this id, of so many rounds, with signatures of these types;
--- the file that holds the secret, and the key file
+-- what is asked for: the key of a party in a session with this id, of so many rounds, with signatures of these types, and of two levels where
+-- there is a height of the upper tree; the file that holds the secret, and the key file
 pub record Keygen : Type 0 where
   pub party : ℕ
   pub id : List ℕ
   pub rounds : ℕ
+  pub top : Option Height
   pub params : Params
   pub secret : List ℕ
   pub key : List ℕ
@@ -31,11 +33,13 @@ secret_of bytes = if length bytes == 32 then Ok bytes else Err (length bytes)
 
 -- what the key file says of a secret, fresh
 abbrev pub key_made : Keygen → List ℕ → KeyData
-key_made asked secret = key_data asked.party asked.id asked.rounds (lms_type asked.params.height) (ots_type asked.params.ots) secret false
+key_made asked secret =
+    any_key_data asked.party asked.id asked.rounds (lms_type asked.params.height) (ots_type asked.params.ots) (option_map lms_type asked.top)
+    secret false
 
 -- the public key of a secret, and the end of its chain of seeds
 unfoldable pub public_of : Keygen → List ℕ → List ℕ
-public_of asked secret = public_key (record { params = asked.params; id = asked.id; secret = secret })
+public_of asked secret = public_by asked.top asked.params asked.id secret
 
 unfoldable pub anchor_for : Keygen → List ℕ → List ℕ
 anchor_for asked secret = anchor_of (record { id = asked.id; party = asked.party; secret = secret }) asked.rounds
@@ -57,6 +61,10 @@ keygen_actions asked secret = create asked.key ∷ append asked.key (key_text_of
 abbrev pub making_plan : Keygen → List ℕ → Content → Plan
 making_plan asked secret = doing (keygen_actions asked secret) 0 []
 
+-- whether there are enough leaves
+abbrev pub leaves_for : Keygen → Result (Unit {0}) SessionFault
+leaves_for asked = enough_leaves asked.rounds (leaves_by asked.top asked.params)
+
 -- the secret is read, and accepted or refused
 abbrev pub secret_plan : Keygen → Content → Plan
 secret_plan asked = reading asked.secret (λ bytes. accepting (secret_of bytes) (making_plan asked) (λ len. ending 8 (secret_refused len)))
@@ -64,12 +72,12 @@ secret_plan asked = reading asked.secret (λ bytes. accepting (secret_of bytes) 
 -- too few leaves are refused before anything is read
 abbrev pub keygen_plan : Keygen → Content → Plan
 keygen_plan asked =
-    accepting (enough_leaves asked.rounds asked.params.height) (λ _. secret_plan asked) (λ fault. ending 4 (session_refused fault))
+    accepting (leaves_for asked) (λ _. secret_plan asked) (λ fault. ending 4 (session_refused fault))
 
 -- there is a leaf for each message, and the secret is there and has 32 bytes
 pub record KeygenAccepted (asked : Keygen) (content : Content) : Type 0 where
   pub secret : List ℕ
-  pub leaves : enough_leaves asked.rounds asked.params.height ≡ Ok tt
+  pub leaves : leaves_for asked ≡ Ok tt
   pub read : readable content asked.secret ≡ Some secret
   pub long : length secret ≡ 32
 
@@ -82,7 +90,7 @@ pub record KeyMade (asked : Keygen) (old new : Outside) : Type 0 where
 
 -- there are enough leaves
 abbrev pub HasEnoughLeaves : Keygen → Type 0
-HasEnoughLeaves asked = enough_leaves asked.rounds asked.params.height ≡ Ok tt
+HasEnoughLeaves asked = leaves_for asked ≡ Ok tt
 
 -- so it is, and the secret is there with another length than 32 bytes
 pub record SecretRefused (asked : Keygen) (content : Content) (bytes : List ℕ) : Type 0 where
@@ -92,7 +100,7 @@ pub record SecretRefused (asked : Keygen) (content : Content) (bytes : List ℕ)
 
 -- there are too few leaves
 abbrev pub HasFewLeaves : Keygen → Type 0
-HasFewLeaves asked = (fault : SessionFault) × (enough_leaves asked.rounds asked.params.height ≡ Err fault)
+HasFewLeaves asked = (fault : SessionFault) × (leaves_for asked ≡ Err fault)
 
 -- both were accepted, the key file has exactly the text of the fresh key, and a front of its lines was printed
 pub record KeyWritten (asked : Keygen) (old new : Outside) : Type 0 where

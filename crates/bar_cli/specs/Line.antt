@@ -5,16 +5,17 @@ use Rattle.std.specs.Str.{bytes_eq}
 use Rattle.bar_outside.specs.Disk.{Content}
 use Rattle.bar_outside.specs.Plan.{Plan, ending}
 use Rattle.bar_outside.specs.Wire.{Arrival}
-use Rattle.bar_roster.specs.NumberRanges.{most_rounds}
-use Rattle.bar_roster.specs.SessionText.{enough_leaves}
+use Rattle.bar_lms.specs.declared.params.Height.{Height}
+use Rattle.bar_lms.specs.declared.params.Params.{Params}
+use Rattle.bar_roster.specs.NumberRanges.{most_long_rounds, most_rounds}
 use Rattle.bar_words.specs.Numbers.{id_of, number_in}
 use Rattle.bar_words.specs.Options.{values_of}
 use Rattle.bar_children.specs.Names.{SessionNames}
 use Rattle.bar_live.specs.CasterPlan.{CasterNames, caster_plan}
 use Rattle.bar_live.specs.PeerPlan.{PeerNames, peer_plan}
-use Rattle.bar_cli.specs.Words.{types_of}
+use Rattle.bar_cli.specs.Words.{levels_of, types_of}
 use Rattle.bar_cli.specs.ReplayPlan.{ReplayFiles, replay_plan}
-use Rattle.bar_cli.specs.KeygenPlan.{Keygen, keygen_plan}
+use Rattle.bar_cli.specs.KeygenPlan.{Keygen, keygen_plan, leaves_for}
 use Rattle.bar_cli.specs.JudgePlan.{JudgeFiles, judge_plan}
 use Rattle.bar_cli.specs.SessionPlan.{session_plan}
 use Rattle.bar_cli.specs.SimulatePlan.{simulate_plan}
@@ -78,18 +79,33 @@ replay_line words = option_and_then replay_files (values_of replay_options words
 abbrev pub keygen_options : List (List ℕ)
 keygen_options = codes "party" ∷ codes "id" ∷ codes "rounds" ∷ codes "lms" ∷ codes "ots" ∷ codes "secret" ∷ codes "key" ∷ []
 
--- the numbers are in their ranges, and an id has sixteen hex digits
-abbrev pub keygen_values : List (List ℕ) → Option Line
-keygen_values (party_word ∷ id_word ∷ rounds_word ∷ lms ∷ ots ∷ secret ∷ key ∷ []) = do
+-- the numbers are in their ranges, with so many rounds at the most, and an id has sixteen hex digits
+abbrev pub asked_by : ℕ → Option (Option Height × Params) → List ℕ → List ℕ → List ℕ → List ℕ → List ℕ → Option Line
+asked_by most types party_word id_word rounds_word secret key = do
   party ← number_in 0 200 party_word
   id ← id_of id_word
-  rounds ← number_in 1 most_rounds rounds_word
-  params ← types_of lms ots
-  Some (keygen (record { party = party; id = id; rounds = rounds; params = params; secret = secret; key = key }))
+  rounds ← number_in 1 most rounds_word
+  levels ← types
+  Some (keygen (record { party = party; id = id; rounds = rounds; top = levels.0; params = levels.1; secret = secret; key = key }))
+
+abbrev pub keygen_values : List (List ℕ) → Option Line
+keygen_values (party ∷ id ∷ rounds ∷ lms ∷ ots ∷ secret ∷ key ∷ []) = asked_by most_rounds (types_of lms ots) party id rounds secret key
 keygen_values _ = None
 
 abbrev pub keygen_line : List (List ℕ) → Option Line
 keygen_line words = option_and_then keygen_values (values_of keygen_options words)
+
+-- a key of two levels
+abbrev pub hsskeygen_options : List (List ℕ)
+hsskeygen_options = codes "party" ∷ codes "id" ∷ codes "rounds" ∷ codes "top" ∷ codes "ots" ∷ codes "secret" ∷ codes "key" ∷ []
+
+abbrev pub hsskeygen_values : List (List ℕ) → Option Line
+hsskeygen_values (party ∷ id ∷ rounds ∷ top ∷ ots ∷ secret ∷ key ∷ []) =
+    asked_by most_long_rounds (levels_of top ots) party id rounds secret key
+hsskeygen_values _ = None
+
+abbrev pub hsskeygen_line : List (List ℕ) → Option Line
+hsskeygen_line words = option_and_then hsskeygen_values (values_of hsskeygen_options words)
 
 abbrev pub judge_options : List (List ℕ)
 judge_options = codes "session" ∷ codes "table" ∷ codes "evidence" ∷ []
@@ -134,6 +150,7 @@ line_of (name ∷ options) =
     else if bytes_eq name (codes "broadcaster") then broadcaster_line options
     else if bytes_eq name (codes "replay") then replay_line options
     else if bytes_eq name (codes "keygen") then keygen_line options
+    else if bytes_eq name (codes "hsskeygen") then hsskeygen_line options
     else if bytes_eq name (codes "judge") then judge_line options
     else if bytes_eq name (codes "session") then session_line options
     else if bytes_eq name (codes "simulate") then simulate_line options
@@ -219,7 +236,7 @@ reads_nothing None = true
 reads_nothing (Some (peer names)) = false
 reads_nothing (Some (broadcaster names)) = false
 reads_nothing (Some (replay names)) = false
-reads_nothing (Some (keygen asked)) = is_err (enough_leaves asked.rounds asked.params.height)
+reads_nothing (Some (keygen asked)) = is_err (leaves_for asked)
 reads_nothing (Some (judge names)) = false
 reads_nothing (Some (session_run names)) = false
 reads_nothing (Some (simulate seed)) = true

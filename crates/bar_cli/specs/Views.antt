@@ -31,7 +31,8 @@ keygen_view asked =
       party = asked.party;
       id = asked.id;
       rounds = asked.rounds;
-      params = asked.params;
+      top = asked.types.top;
+      params = asked.types.params;
       secret = asked.secret.now;
       key = asked.key.now;
     }

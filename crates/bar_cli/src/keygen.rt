@@ -1,9 +1,10 @@
-//! The command `keygen`.
-ghost use Rattle.std.specs.Prelude.{◌≡◌, ◌≢◌, ◌↔◌, ◌++◌, ◌∷◌, ℕ, List, Ok, Err, [], None, false, length, IfOk, IfSome, IsTrue, string_bytes};
+//! The commands `keygen` and `hsskeygen`.
+ghost use Rattle.std.specs.Prelude.{◌≡◌, ◌≢◌, ◌↔◌, ◌++◌, ◌∷◌, ℕ, List, Ok, Err, [], Some, None, false, length, IfOk, IfSome, IsTrue, option_map, string_bytes};
 ghost use Rattle.bar_outside.specs.Plan.{Outside, with_files, with_out};
 ghost use Rattle.bar_outside.specs.Plan.Action.{create, append, show};
 ghost use Rattle.bar_outside.specs.Follows.{Follows};
 ghost use Rattle.bar_outside.specs.Ends.{EndsWith};
+ghost use Rattle.bar_lms.specs.Params.{lms_type};
 ghost use Rattle.bar_roster.specs.KeyText.{key_text_of};
 ghost use Rattle.bar_cli.specs.KeygenPlan.{HasFewLeaves, anchor_for, anchor_line, key_line, key_made, keygen_plan, lines_of, public_of, secret_of, secret_plan};
 ghost use Rattle.bar_cli.specs.Printing.{keygen_may_print};
@@ -12,9 +13,10 @@ ghost use Rattle.bar_cli.specs.Views.{keygen_view};
 
 use crate::keygen_words::KeygenWords;
 use crate::status::Status;
-use bar_lms::SecretKey;
+use bar_hss::HssKey;
+use bar_lms::{Height, Params, SecretKey};
 use bar_outside::{Fault, Files, Sink, append_file, create_file, read_file, show_bytes};
-use bar_roster::{check_leaves, key_text};
+use bar_roster::{KeyData, check_leaves, leaves_of};
 use bar_seeds::SeedChain;
 use std::alloc::{AllocError, Global};
 
@@ -42,7 +44,8 @@ pub fn keygen<F: Files, K: Sink>(
     ensures unread { HasFewLeaves (keygen_view asked.now) → F.disk files.new ≡ F.disk files.old }
     ensures unprinted { keygen_may_print (code_of_run result) ≡ false → K.stream out.new ≡ K.stream out.old }
 {
-    match check_leaves(asked.rounds, asked.params.height) {
+    let leaves = leaves_of(asked.types.top, asked.types.params);
+    match check_leaves(asked.rounds, leaves) {
         Ok(()) => keygen_by_secret(alloc, asked, files, out),
         Err(fault) => Ok(Status::SessionRefused(fault)),
     }
@@ -97,6 +100,33 @@ fn write_key<F: Files, K: Sink>(
     show_bytes(out, made.lines.as_bytes())
 }
 
+// The LMS type of the upper tree, where there is one.
+fn top_number(asked: &KeygenWords<'_>) -> Option<u32>
+    ensures { result ≡ option_map lms_type asked.now.types.top }
+{
+    match asked.types.top {
+        Some(height) => Some(height.number()),
+        None => None,
+    }
+}
+
+// What the key file says of a secret, fresh.
+fn key_made(asked: &KeygenWords<'_>, secret: &[u8; 32]) -> KeyData
+    ensures { result ≡ key_made (keygen_view asked.now) secret.now }
+{
+    let params = asked.types.params;
+    KeyData {
+        party: asked.party,
+        id: asked.id,
+        rounds: asked.rounds,
+        lms: params.lms(),
+        ots: params.ots(),
+        top: top_number(asked),
+        secret: *secret,
+        spent: false,
+    }
+}
+
 // The key of a secret.
 fn made_key(
     alloc: Global,
@@ -106,16 +136,7 @@ fn made_key(
     ensures text { IfOk result (λ made. made.text.items ≡ key_text_of (key_made (keygen_view asked.now) secret.now)) }
     ensures lines { IfOk result (λ made. string_bytes made.lines ≡ lines_of (keygen_view asked.now) secret.now) }
 {
-    let text = key_text(
-        alloc,
-        asked.party,
-        &asked.id,
-        asked.rounds,
-        asked.params.lms(),
-        asked.params.ots(),
-        secret,
-        false,
-    )?;
+    let text = key_made(asked, secret).text(alloc)?;
     let lines = lines_of(alloc, asked, secret)?;
     Ok(MadeKey { text, lines })
 }
@@ -124,23 +145,56 @@ fn made_key(
 fn lines_of(alloc: Global, asked: &KeygenWords<'_>, secret: &[u8; 32]) -> Result<String, AllocError>
     ensures { IfOk result (λ lines. string_bytes lines ≡ lines_of (keygen_view asked.now) secret.now) }
 {
-    let mut lines = key_line(alloc, &public_of(alloc, asked, secret)?)?;
+    let mut lines = public_line(alloc, asked, secret)?;
     if asked.party != 0 {
         lines.push_str(anchor_line(alloc, &anchor_for(alloc, asked, secret)?)?.as_str())?;
     }
     Ok(lines)
 }
 
-// The public key of a secret (RFC 8554, 5.3).
-#[tactic(auto, unfolding(crate::specs::KeygenPlan::public_of))]
-fn public_of(
+// The line of the public key.
+fn public_line(
+    alloc: Global,
+    asked: &KeygenWords<'_>,
+    secret: &[u8; 32],
+) -> Result<String, AllocError>
+    ensures { IfOk result (λ line. string_bytes line ≡ key_line (public_of (keygen_view asked.now) secret.now)) }
+{
+    match asked.types.top {
+        None => key_line(alloc, &single_key(alloc, asked, secret)?),
+        Some(height) => key_line(alloc, &double_key(alloc, asked, height, secret)?),
+    }
+}
+
+// The public key of a secret, of one level (RFC 8554, 5.3).
+fn single_key(
     alloc: Global,
     asked: &KeygenWords<'_>,
     secret: &[u8; 32],
 ) -> Result<[u8; 56], AllocError>
+    requires { asked.now.types.top ≡ None }
     ensures { IfOk result (λ key. key ≡ public_of (keygen_view asked.now) secret.now) }
 {
-    let key = SecretKey::make(alloc, asked.params, &asked.id, secret)?;
+    let key = SecretKey::make(alloc, asked.types.params, &asked.id, secret)?;
+    Ok(key.public())
+}
+
+// The public key of a secret, of two levels (RFC 8554, 6.1).
+fn double_key(
+    alloc: Global,
+    asked: &KeygenWords<'_>,
+    height: Height,
+    secret: &[u8; 32],
+) -> Result<[u8; 60], AllocError>
+    requires { asked.now.types.top ≡ Some height }
+    ensures { IfOk result (λ key. key ≡ public_of (keygen_view asked.now) secret.now) }
+{
+    let low = asked.types.params;
+    let top = Params {
+        height,
+        ots: low.ots,
+    };
+    let key = HssKey::make(alloc, top, low, &asked.id, secret)?;
     Ok(key.public())
 }
 
@@ -157,10 +211,10 @@ fn anchor_for(
     Ok(chain.anchor())
 }
 
-fn key_line(alloc: Global, key: &[u8; 56]) -> Result<String, AllocError>
+fn key_line(alloc: Global, key: &[u8]) -> Result<String, AllocError>
     ensures { IfOk result (λ line. string_bytes line ≡ key_line key.now) }
 {
-    let key = hex::encode(alloc, key.as_slice())?;
+    let key = hex::encode(alloc, key)?;
     format!(in alloc; "key = \"{key}\"\n")
 }
 

@@ -6,9 +6,8 @@ ghost use Rattle.bar_outside.specs.Follows.{IsReliable};
 ghost use Rattle.bar_outside.specs.Plan.{Outside, is_stop, line_at};
 ghost use Rattle.bar_outside.specs.Ends.{Ends, OfEachEnd, AtEnd, UnlessStopped, SameFiles, NothingPrinted};
 ghost use Rattle.bar_roster.specs.declared.fault.SessionFault.{SessionFault};
-ghost use Rattle.bar_roster.specs.SessionText.{enough_leaves};
 ghost use Rattle.bar_cli.specs.Refusals.{session_refused, secret_refused};
-ghost use Rattle.bar_cli.specs.KeygenPlan.{Keygen, KeygenAccepted, KeyMade, KeyWritten, KeyBegun, HasEnoughLeaves, HasFewLeaves, SecretRefused, IsKeygenCall, keygen_plan};
+ghost use Rattle.bar_cli.specs.KeygenPlan.{Keygen, KeygenAccepted, KeyMade, KeyWritten, KeyBegun, HasEnoughLeaves, HasFewLeaves, SecretRefused, IsKeygenCall, keygen_plan, leaves_for};
 
 use bar_outside::plans_go_in_order;
 
@@ -57,7 +56,7 @@ pub fn leaves_refused_exactly()
     ensures then { (asked : Keygen) (old new : Outside) (status : ℕ) → Ends (keygen_plan asked) old new status → HasFewLeaves asked →
         UnlessStopped 4 status }
     ensures line { (asked : Keygen) (content : Content) (fault : SessionFault) →
-        enough_leaves asked.rounds asked.params.height ≡ Err fault → line_at (keygen_plan asked content) 4 ≡ session_refused fault }
+        leaves_for asked ≡ Err fault → line_at (keygen_plan asked content) 4 ≡ session_refused fault }
 {
     plans_go_in_order();
 }

@@ -5,6 +5,7 @@ mod judge;
 mod judge_laws;
 mod judge_names;
 mod judging;
+mod key_types;
 mod keygen;
 mod keygen_laws;
 mod keygen_words;

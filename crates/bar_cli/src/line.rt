@@ -3,16 +3,19 @@ ghost use Rattle.std.specs.Prelude.{◌≡◌, Some, None, Err, IfOk, map, strin
 ghost use Rattle.std.specs.Option.{option_map};
 ghost use Rattle.bar_words.specs.Options.{texts};
 ghost use Rattle.bar_words.specs.declared.options.WordsFault.TheVariants.{Usage};
-ghost use Rattle.bar_cli.specs.Line.{broadcaster_line, broadcaster_values, judge_files, judge_line, keygen_line, keygen_values, line_of, peer_line, peer_values, replay_files, replay_line, session_line, session_values, simulate_line, simulate_values};
+ghost use Rattle.bar_cli.specs.Line.{broadcaster_line, broadcaster_values, asked_by, hsskeygen_line, hsskeygen_values, judge_files, judge_line, keygen_line, keygen_values, line_of, peer_line, peer_values, replay_files, replay_line, session_line, session_values, simulate_line, simulate_values};
+ghost use Rattle.bar_cli.specs.Words.{types_view};
+ghost use Rattle.bar_roster.specs.NumberRanges.{most_long_rounds};
 ghost use Rattle.bar_cli.specs.Views.{asked_view, broadcaster_view, command_view, judged_view, peer_view, replay_view, seed_view, session_view};
 
 use crate::judge_names::JudgeNames;
+use crate::key_types::KeyTypes;
 use crate::keygen_words::KeygenWords;
 use crate::replay_names::ReplayNames;
-use crate::words::types_of;
+use crate::words::{levels_of, types_of};
 use bar_children::SessionNames;
 use bar_live::{CasterNames, PeerNames};
-use bar_roster::MOST_ROUNDS;
+use bar_roster::{MOST_LONG_ROUNDS, MOST_ROUNDS};
 use bar_words::{WordsFault, id_of, number_in, option_values};
 use std::alloc::Global;
 
@@ -22,6 +25,7 @@ pub enum Command<'a> {
     Peer(PeerNames<'a>),
     Broadcaster(CasterNames<'a>),
     Replay(ReplayNames<'a>),
+    /// The key of a party, of one level or of two.
     Keygen(KeygenWords<'a>),
     Judge(JudgeNames<'a>),
     Session(SessionNames<'a>),
@@ -36,6 +40,8 @@ const BROADCASTER_OPTIONS: [&str; 5] = ["session", "key", "begin", "stream", "fo
 const REPLAY_OPTIONS: [&str; 5] = ["session", "key", "recording", "played", "found"];
 
 const KEYGEN_OPTIONS: [&str; 7] = ["party", "id", "rounds", "lms", "ots", "secret", "key"];
+
+const HSSKEYGEN_OPTIONS: [&str; 7] = ["party", "id", "rounds", "top", "ots", "secret", "key"];
 
 const JUDGE_OPTIONS: [&str; 3] = ["session", "table", "evidence"];
 
@@ -60,6 +66,7 @@ pub fn command_of(alloc: Global, words: &[String]) -> Result<Command<'_>, WordsF
         "broadcaster" => Ok(Command::Broadcaster(broadcaster_words(alloc, options)?)),
         "replay" => Ok(Command::Replay(replay_words(alloc, options)?)),
         "keygen" => Ok(Command::Keygen(keygen_words(alloc, options)?)),
+        "hsskeygen" => Ok(Command::Keygen(hsskeygen_words(alloc, options)?)),
         "judge" => Ok(Command::Judge(judge_words(alloc, options)?)),
         "session" => Ok(Command::Session(session_words(alloc, options)?)),
         "simulate" => Ok(Command::Simulate(simulate_words(alloc, options)?)),
@@ -140,6 +147,29 @@ fn replay_words(alloc: Global, words: &[String]) -> Result<ReplayNames<'_>, Word
     replay_of(&values).ok_or(WordsFault::Usage)
 }
 
+/// The key that is asked for, of signatures of these types and of so many rounds at the most.
+fn asked_of<'a>(
+    most: u64,
+    types: Option<KeyTypes>,
+    party: &str,
+    id: &str,
+    rounds: &str,
+    secret: &'a str,
+    key: &'a str,
+) -> Option<KeygenWords<'a>>
+    requires { most ≤ most_long_rounds }
+    ensures { option_map asked_view result ≡ asked_by most (option_map types_view types) party.now id.now rounds.now secret.now key.now }
+{
+    Some(KeygenWords {
+        party: number_in(party, 0, 200)? as u16,
+        id: id_of(id)?,
+        rounds: number_in(rounds, 1, most)? as u32,
+        types: types?,
+        secret,
+        key,
+    })
+}
+
 /// The key that is asked for, from the values of the options of `keygen`.
 fn keygen_of<'a>(values: &[&'a str]) -> Option<KeygenWords<'a>>
     ensures { option_map asked_view result ≡ keygen_values (texts values.now) }
@@ -147,18 +177,15 @@ fn keygen_of<'a>(values: &[&'a str]) -> Option<KeygenWords<'a>>
     let [party, id, rounds, lms, ots, secret, key] = *values else {
         return None;
     };
-    let party = number_in(party, 0, 200)? as u16;
-    let id = id_of(id)?;
-    let rounds = number_in(rounds, 1, MOST_ROUNDS)? as u32;
-    let params = types_of(lms, ots)?;
-    Some(KeygenWords {
+    asked_of(
+        MOST_ROUNDS,
+        types_of(lms, ots),
         party,
         id,
         rounds,
-        params,
         secret,
         key,
-    })
+    )
 }
 
 fn keygen_words(alloc: Global, words: &[String]) -> Result<KeygenWords<'_>, WordsFault>
@@ -167,6 +194,32 @@ fn keygen_words(alloc: Global, words: &[String]) -> Result<KeygenWords<'_>, Word
 {
     let values = option_values(alloc, &KEYGEN_OPTIONS, words)?;
     keygen_of(&values).ok_or(WordsFault::Usage)
+}
+
+/// The key that is asked for, from the values of the options of `hsskeygen`.
+fn hsskeygen_of<'a>(values: &[&'a str]) -> Option<KeygenWords<'a>>
+    ensures { option_map asked_view result ≡ hsskeygen_values (texts values.now) }
+{
+    let [party, id, rounds, top, ots, secret, key] = *values else {
+        return None;
+    };
+    asked_of(
+        MOST_LONG_ROUNDS,
+        levels_of(top, ots),
+        party,
+        id,
+        rounds,
+        secret,
+        key,
+    )
+}
+
+fn hsskeygen_words(alloc: Global, words: &[String]) -> Result<KeygenWords<'_>, WordsFault>
+    ensures line { IfOk result (λ asked. hsskeygen_line (map string_bytes words.now) ≡ Some (asked_view asked)) }
+    ensures usage { result ≡ Err Usage → hsskeygen_line (map string_bytes words.now) ≡ None }
+{
+    let values = option_values(alloc, &HSSKEYGEN_OPTIONS, words)?;
+    hsskeygen_of(&values).ok_or(WordsFault::Usage)
 }
 
 /// The files of a judge, from the values of its options.

@@ -1,8 +1,10 @@
-use Rattle.std.proofs.Common.{◌∙◌, ap, sym, arith, rules, tests, slice_index_or, [], List, ℕ}
+use Rattle.std.proofs.Common.{◌∙◌, ap, sym, arith, rules, tests, slice_index_or, [], List, ℕ, Option}
 use Rattle.std.specs.Borrow.{Bor}
 use Rattle.std.proofs.lemmas.Bool.Decides.{nat_tests}
-use Rattle.bar_cli.specs.Line.{keygen_values}
-use Rattle.bar_cli.proofs.WordLemmas.{keygen-asked, not-seven, seven-are}
+use Rattle.bar_lms.specs.declared.params.Height.{Height}
+use Rattle.bar_lms.specs.declared.params.Params.{Params}
+use Rattle.bar_cli.specs.Line.{asked_by, keygen_values}
+use Rattle.bar_cli.proofs.WordLemmas.{not-seven, seven-are}
 use Rattle.bar_cli.proofs.line.keygen_of.Goals as goal
 use Rattle.bar_cli.proofs.line.keygen_of.Goals.{in_default-via-then-values-lt7, in_default-via-else-values-lt7+else-values-lt8}
 
@@ -18,7 +20,6 @@ pub returns : goal.returns
 returns c =
     let d : Bor (List ℕ) = record { ref_ptr = (0, 0); now = [] } in
     let value : ℕ → List ℕ = λ i. (slice_index_or c.args.values.now i d).now in
-    keygen-asked (value 0) (value 1) (value 2) (value 3) (value 4) (value 5)
-    (value 6) c.in_ok-party.field-0 c.in_ok-id.id c.in_ok-rounds.field-0
-    c.in_ok-params.params c.in_ok-party.ensures.value c.in_ok-id.ensures c.in_ok-rounds.ensures.value c.in_ok-params.ensures
+    c.asked_of.ensures
+    ∙ ap (λ (types : Option (Option Height × Params)). asked_by _ types (value 0) (value 1) (value 2) (value 5) (value 6)) c.types_of.ensures
     ∙ sym (ap keygen_values (seven-are c.args.values.now d (omega arith)))
