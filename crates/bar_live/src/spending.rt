@@ -8,7 +8,7 @@ ghost use Rattle.bar_outside.specs.Follows.{Follows};
 ghost use Rattle.bar_live.specs.Running.{spent_text};
 
 use bar_outside::{Fault, Files, Link, Place, append_file, bind_link, create_file};
-use bar_roster::{Session, key_text};
+use bar_roster::{KeyData, Session};
 use bar_seeds::Secrets;
 use std::alloc::{AllocError, Global};
 
@@ -22,16 +22,18 @@ pub fn spent_text(
 {
     let shape = session.shape();
     let params = session.params();
-    key_text(
-        alloc,
-        secrets.party,
-        &shape.id,
-        shape.rounds,
-        params.lms(),
-        params.ots(),
-        &secrets.secret,
-        true,
-    )
+    let (id, secret) = (shape.id, secrets.secret);
+    let key = KeyData {
+        party: secrets.party,
+        id,
+        rounds: shape.rounds,
+        lms: params.lms(),
+        ots: params.ots(),
+        top: session.top(),
+        secret,
+        spent: true,
+    };
+    key.text(alloc)
 }
 
 /// Writes a file anew.

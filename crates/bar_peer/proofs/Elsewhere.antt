@@ -19,6 +19,7 @@ use Rattle.bar_wire.specs.Kinds.{is_signed_kind}
 use Rattle.bar_wire.specs.declared.shape.Shape.{Shape}
 use Rattle.bar_wire.specs.declared.kind.Kind.{Kind}
 use Rattle.bar_wire.specs.declared.kind.Kind.TheVariants as kinds
+use Rattle.bar_roster.specs.NumberRanges.{most_long_rounds}
 use Rattle.bar_rules.specs.Member.{Session, Member, IsMember}
 use Rattle.bar_rules.specs.Values.{datagram_bytes, leaf_named, message_bytes}
 use Rattle.bar_rules.specs.Verifiers.{NamesLeavesOf}
@@ -177,7 +178,7 @@ few_rounds me k l d h member tried fits =
     leb-true (this_round k) (round_of d.message.body + me.session.shape.life) last.1
     in
     let high : round_of d.message.body ≤ me.session.shape.rounds = round_high me.session.shape d.message.body fits.range peer in
-    let most : me.session.shape.rounds ≤ 1820 = member.session.shape.rounds_high in
+    let most : me.session.shape.rounds ≤ most_long_rounds = member.session.shape.rounds_high in
     let few : me.session.shape.life ≤ 16 = me.session.shape.shaped.few in
     let round : l.round ≡ this_round k = h.round in
     omega (arith, soon, high, most, few, round)

@@ -38,7 +38,7 @@ fn start_caster(
     ensures { IfOk result (λ caster. IsNewCore (caster_rules (member_by session.now key.secrets) stream.items) (CasterTook caster.memory)
         (caster_face caster.memory caster.orders)) }
 {
-    let key = PartyKey::of_file(key);
+    let key = PartyKey::single(key);
     Caster::of_key(alloc, session.copied(alloc)?, key, stream).map_err(|_| AllocError)
 }
 
@@ -53,7 +53,7 @@ fn start_peer(
     ensures { IfOk result (λ peer. IsNewCore (peer_rules (member_by session.now key.secrets)) (PeerTook peer.memory)
         (peer_face peer.memory peer.orders peer.playing)) }
 {
-    Peer::of_key(alloc, session.copied(alloc)?, PartyKey::of_file(key))
+    Peer::of_key(alloc, session.copied(alloc)?, PartyKey::single(key))
 }
 
 /// The peers of a session, in the order of their key files.

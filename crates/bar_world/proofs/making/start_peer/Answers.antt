@@ -1,0 +1,9 @@
+use Rattle.std.proofs.Common.{sym, subst, true, false}
+use Rattle.bar_hss.specs.Files.{IsPartyKeyOf}
+use Rattle.bar_roster.specs.SessionText.{SessionData}
+use Rattle.bar_world.proofs.making.start_peer.Goals as goal
+
+pub of_key-requires : goal.of_key-requires
+of_key-requires c =
+    subst (λ (s : SessionData). IsPartyKeyOf s false c.single.result) (sym c.in_ok-copied.ensures)
+    (c.single.ensures.fits c.args.session.now false c.requires.single c.requires.key)
