@@ -8,8 +8,8 @@ pub(crate) type Row = [[u8; 32]; 265];
 /// A byte of each chain, by its number.
 pub(crate) type Bytes = [u8; 265];
 
-/// What is taken of each chain: chain i from the value at place i of `starts` on, as many steps as `counts` says, the first of which has the
-/// number that `from` says.
+/// What is taken of each chain: from the value at its place of `starts` on, as many steps as `counts` says there, the first of which has
+/// the number that `from` says there.
 #[derive(Drop)]
 pub(crate) struct Legs {
     pub starts: Row,
