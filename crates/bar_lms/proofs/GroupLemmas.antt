@@ -36,12 +36,6 @@ unfolding most_of
 most_within f most first zero each = omega arith
 most_within f most first (suc n) each = omega (arith, each (first + n), most_within f most first n each)
 
--- the greatest, once each number is one greater
-pub most_after : (f : ℕ → ℕ) (first n : ℕ) → most_of (λ i. 1 + f i) first (suc n) ≡ 1 + most_of f first (suc n)
-unfolding most_of
-most_after f first zero = omega arith
-most_after f first (suc n) = let rest = most_after f first n in omega (arith, rest)
-
 -- none of the first n numbers is greater than the greatest of them
 pub most_above : (f : ℕ → ℕ) (first n j : ℕ) → j < n → f (first + j) ≤ most_of f first n
 unfolding most_of

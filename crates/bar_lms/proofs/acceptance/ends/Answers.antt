@@ -1,4 +1,4 @@
-use Rattle.std.proofs.Common.{◌≡◌, ◌+◌, slice_index, arith}
+use Rattle.std.proofs.Common.{◌≡◌, slice_index, arith}
 use Rattle.bar_lms.specs.Params.{chains, last}
 use Rattle.bar_lms.specs.Chains.{steps_left}
 use Rattle.bar_lms.specs.Order.{reached, longest_by_eights}

@@ -1,4 +1,4 @@
-use Rattle.std.proofs.Common.{◌≡◌, ℕ, ◌<◌, List, [], length, slice_index, slice_index_or, refl, arith, ◌∙◌, inl, inr}
+use Rattle.std.proofs.Common.{◌<◌, [], length, slice_index, slice_index_or, arith, ◌∙◌, inl, inr}
 use Rattle.std.proofs.lemmas.Bool.{cases_eq}
 use Rattle.std.proofs.lemmas.List.{length-set}
 use Rattle.bar_lms.proofs.OrderLemmas.{set_right, set_there}

@@ -1,4 +1,4 @@
-use Rattle.std.proofs.Common.{◌≡◌, ℕ, ◌+◌, ◌<◌, ◌++◌, ◌∷◌, [], length, slice_index, slice_index_or}
+use Rattle.std.proofs.Common.{◌≡◌, ℕ, ◌<◌, ◌++◌, ◌∷◌, [], length, slice_index, slice_index_or}
 use Rattle.bar_lms.specs.Chains.{place}
 use Rattle.bar_lms.proofs.groups.first_buffers.Given as goal
 

@@ -1,4 +1,4 @@
-use Rattle.std.proofs.Common.{◌≡◌, ◌+◌, ◌<◌, ℕ, [], replicate, slice_index, slice_index_or, arith}
+use Rattle.std.proofs.Common.{◌≡◌, ◌<◌, replicate, slice_index, arith}
 use Rattle.std.proofs.lemmas.List.{get_or-replicate}
 use Rattle.bar_lms.specs.Params.{chains, last}
 use Rattle.bar_lms.specs.Chains.{chain, digit}
