@@ -241,7 +241,7 @@ fn sessions_of_many_peers_are_read(rt: HostRuntime) -> Result<(), Fail> {
     Ok(())
 }
 
-/// The text of a session whose signatures have two levels: the public keys have the upper types `key_top` and the parties' numbers.
+/// The text of a session whose signatures have two levels: public keys begin with `key_front` and end with the party's number.
 fn long_text(
     alloc: Global,
     top: &str,
