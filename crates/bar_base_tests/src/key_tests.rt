@@ -133,6 +133,7 @@ fn key_texts_are_eight_lines(rt: HostRuntime) -> Result<(), Fail> {
 fn a_peers_key_file_has_its_key_and_anchor(rt: HostRuntime) -> Result<(), Fail> {
     let alloc = rt.alloc();
     let session = session(alloc, KEY, ANCHOR)?;
+    assert!(rt; session.top().is_none());
     let file = KeyFile::read(
         alloc,
         &text(alloc, 2, SECRET, 1, false)?,
@@ -155,6 +156,7 @@ fn the_broadcasters_key_file_has_its_key(rt: HostRuntime) -> Result<(), Fail> {
     let alloc = rt.alloc();
     let session = session(alloc, KEY, ANCHOR)?;
     let text = text(alloc, 0, CASTER_SECRET, 1, false)?;
+    assert!(rt; session.top().is_none());
     let file = KeyFile::read(alloc, &text, &session, true, true)?;
     assert_eq!(rt; file.signer.public().as_slice(), session.key(0));
     Ok(())
@@ -169,6 +171,7 @@ fn check_fault(
     caster: bool,
     wanted: KeyFileFault,
 ) {
+    assert!(rt; session.top().is_none());
     match KeyFile::read(alloc, bytes, session, caster, true) {
         Ok(_) => assert!(rt; false),
         Err(fault) => assert_eq!(rt; fault, wanted),

@@ -8,6 +8,8 @@ mod bytes_tests;
 #[cfg(test)]
 mod case_tests;
 #[cfg(test)]
+mod hss_key_tests;
+#[cfg(test)]
 mod hss_tests;
 #[cfg(test)]
 mod key_tests;

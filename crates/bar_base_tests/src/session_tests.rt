@@ -240,3 +240,84 @@ fn sessions_of_many_peers_are_read(rt: HostRuntime) -> Result<(), Fail> {
     }
     Ok(())
 }
+
+/// The text of a session whose signatures have two levels: public keys begin with `key_front` and end with the party's number.
+fn long_text(
+    alloc: Global,
+    top: &str,
+    rounds: u32,
+    lms: u8,
+    ots: u8,
+    key_front: &str,
+) -> Result<String, AllocError> {
+    let mut text = format!(in alloc;
+        "version = 1\nid = \"00112233445566ab\"\ntop = {top}\nrounds = {rounds}\nlife = 2\ncap = 3\nper_round = 4\nport = 1024\ntick_ms = 5\nlms = {lms}\nots = {ots}\nfanout = 1\nkey = \"{key_front}{:096x}\"\n",
+        0
+    )?;
+    for peer in 1..=2 {
+        let entry = format!(in alloc;
+            "[[peer]]\nkey = \"{key_front}{peer:096x}\"\nanchor = \"{peer:064x}\"\n"
+        )?;
+        text.push_str(entry.as_str())?;
+    }
+    Ok(text)
+}
+
+#[test]
+fn a_session_of_two_levels_is_read_and_copied(rt: HostRuntime) -> Result<(), Fail> {
+    let alloc = rt.alloc();
+    for (top, rounds, ots, front, sig_len) in [
+        (6, 1820, 4, "000000020000000600000004", 2804),
+        (7, 7200, 3, "000000020000000700000003", 5076),
+    ] {
+        let number = format!(in alloc; "{top}")?;
+        let text = long_text(alloc, number.as_str(), rounds, 5, ots, front)?;
+        let session = Session::read(alloc, text.as_bytes())?.copied(alloc)?;
+        assert_eq!(rt; session.shape().rounds, rounds);
+        assert_eq!(rt; session.shape().sig_len, sig_len);
+        assert_eq!(rt; session.top(), Some(top));
+        assert_eq!(rt;
+            (session.params().lms(), session.params().ots()),
+            (5, u32::from(ots))
+        );
+        assert_eq!(rt; session.upper().map(|types| types.lms()), Some(top));
+        assert!(rt; 2 <= session.shape().peers);
+        let mut key = [0; 60];
+        hex::decode_to_slice(front, &mut key[..12])?;
+        key[59] = 2;
+        assert_eq!(rt; session.key(2), key.as_slice());
+    }
+    Ok(())
+}
+
+#[test]
+fn refused_texts_of_two_levels_have_their_faults(rt: HostRuntime) -> Result<(), Fail> {
+    let alloc = rt.alloc();
+    let front = "000000020000000600000004";
+    for (top, rounds, lms, ots, front, shown) in [
+        ("6", 1821, 5, 4, front, "TooFewLeaves need 32778 have 32768"),
+        (
+            "5",
+            57,
+            5,
+            4,
+            "000000020000000500000004",
+            "TooFewLeaves need 1026 have 1024",
+        ),
+        ("7", 7201, 5, 4, front, "BadValue rounds"),
+        ("4", 0, 5, 4, front, "BadValue top"),
+        ("8", 1, 5, 4, front, "BadValue top"),
+        ("\"6\"", 1, 5, 4, front, "BadValue top"),
+        ("6", 1, 6, 4, front, "BadValue lms"),
+        ("6", 1, 5, 2, front, "BadValue ots"),
+        ("6", 1, 5, 5, front, "BadValue ots"),
+        ("7", 1, 5, 4, front, "BadValue key"),
+        ("6", 1, 5, 3, front, "BadValue key"),
+        ("6", 1, 5, 4, "000000010000000600000004", "BadValue key"),
+        ("6", 1, 5, 4, "0000000600000004", "BadValue key"),
+    ] {
+        let text = long_text(alloc, top, rounds, lms, ots, front)?;
+        check_refused(&rt, alloc, text.as_str(), "\n", "\n", shown)?;
+    }
+    Ok(())
+}

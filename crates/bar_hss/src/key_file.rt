@@ -71,8 +71,8 @@ impl HssKeyFile {
         session.holds(self.secrets.party, &public, &self.chain.anchor())
     }
 
-    /// Reads the key text of a party of the session, whose signatures have two levels: the broadcaster's or a peer's, as asked for, and a fresh
-    /// one where one is asked for. It tells the first fault.
+    /// Reads the key text of a party of the session, whose signatures have two levels: the broadcaster's or a peer's, as asked for, and a
+    /// fresh one where one is asked for. It tells the first fault.
     pub fn read(
         alloc: Global,
         bytes: &[u8],

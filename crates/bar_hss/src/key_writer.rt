@@ -6,8 +6,8 @@ ghost use Rattle.bar_roster.specs.KeyText.{IsInRange, hss_key_data, key_read, ke
 use bar_roster::KeyData;
 use std::alloc::{AllocError, Global};
 
-/// The text of a party's key in the session with this id, whose signatures have two levels: nine lines of TOML. The trees that sign messages
-/// have LMS type 5.
+/// The text of a party's key in the session with this id, whose signatures have two levels: nine lines of TOML. The trees that sign
+/// messages have LMS type 5.
 ///
 /// It is read back as what it was written from, where the numbers are in the ranges of such a text.
 #[allow(clippy::too_many_arguments)]

@@ -1,5 +1,5 @@
-//! HSS of two levels (RFC 8554, 6): the leaves of one tree sign the public keys of trees of 32 leaves, which sign messages. And the scheme and
-//! the key file of a session, of one level or of two.
+//! HSS of two levels (RFC 8554, 6): the leaves of one tree sign the public keys of trees of 32 leaves, which sign messages; and the scheme
+//! and the key file of a session, of one level or of two.
 #![tactic(auto)]
 
 pub use chosen::{SessionScheme, SessionVerifier};

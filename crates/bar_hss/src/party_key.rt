@@ -57,8 +57,8 @@ impl PartyKey {
         }
     }
 
-    /// Reads the key text of a party of the session, by the levels of its signatures: the broadcaster's or a peer's, as asked for, and a fresh
-    /// one where one is asked for. It tells the first fault.
+    /// Reads the key text of a party of the session, by the levels of its signatures: the broadcaster's or a peer's, as asked for, and a
+    /// fresh one where one is asked for. It tells the first fault.
     pub fn read(
         alloc: Global,
         bytes: &[u8],

@@ -83,7 +83,8 @@ fn peers<const N: usize>(
     requires front { length front.now + 48 ≡ N }
     requires few { length entries.now ≤ 200 }
     ensures ok { IfOk result (λ p. peers_from front.now (caster.entry ∷ []) [] (items_view entries.now) ≡ Ok (p.0.items, p.1.items)) }
-    ensures err { IfErr result (λ e. (e ≡ SessionFault.NoMemory) ⊎ (peers_from front.now (caster.entry ∷ []) [] (items_view entries.now) ≡ Err e)) }
+    ensures err { IfErr result (λ e. (e ≡ SessionFault.NoMemory)
+        ⊎ (peers_from front.now (caster.entry ∷ []) [] (items_view entries.now) ≡ Err e)) }
     ensures counts { IfOk result (λ p. (length p.0.items ≡ length entries.now + 1) × (length p.1.items ≡ length entries.now)) }
 {
     let mut keys = vec![in alloc; caster]?;
@@ -138,7 +139,8 @@ fn rows_at<const N: usize>(
     requires { length front.now + 48 ≡ N }
     ensures ok { IfOk result (λ rows. listed_in front.now (table_view table.now) ≡ Ok (rows.0.items, rows.1.items, rows.2)) }
     ensures err { IfErr result (λ e. (e ≡ SessionFault.NoMemory) ⊎ (listed_in front.now (table_view table.now) ≡ Err e)) }
-    ensures counts { IfOk result (λ rows. (length rows.0.items ≡ rows.2 + 1) × (length rows.1.items ≡ rows.2) × (2 ≤ rows.2) × (rows.2 ≤ 200)) }
+    ensures counts { IfOk result (λ rows. (length rows.0.items ≡ rows.2 + 1) × (length rows.1.items ≡ rows.2)
+        × (2 ≤ rows.2) × (rows.2 ≤ 200)) }
 {
     let caster = caster_key::<N>(table, front)?;
     let entries = entries_at(table)?;
@@ -155,7 +157,8 @@ pub(crate) fn keys_at(
     requires { AreInRange numbers.now }
     ensures ok { IfOk result (λ rows. listed_in (front_of numbers.now) (table_view table.now) ≡ Ok (rows_of rows.0, rows.1.items, rows.2)) }
     ensures err { IfErr result (λ e. (e ≡ SessionFault.NoMemory) ⊎ (listed_in (front_of numbers.now) (table_view table.now) ≡ Err e)) }
-    ensures counts { IfOk result (λ rows. (length (rows_of rows.0) ≡ rows.2 + 1) × (length rows.1.items ≡ rows.2) × (2 ≤ rows.2) × (rows.2 ≤ 200)) }
+    ensures counts { IfOk result (λ rows. (length (rows_of rows.0) ≡ rows.2 + 1) × (length rows.1.items ≡ rows.2)
+        × (2 ≤ rows.2) × (rows.2 ≤ 200)) }
 {
     match numbers.top {
         None => {
