@@ -6,9 +6,9 @@ use Rattle.bar_world.specs.Cores.{IsNewCore}
 use Rattle.bar_world.proofs.Started.{next-at, started-more}
 use Rattle.bar_world.proofs.making.start_peers.Goals as goal
 
-pub start_peer-requires : goal.start_peer-requires
-start_peer-requires c =
-    c.requires (length c.loop-key.yielded) c.in-Some.key
+pub start_peer-requires-clause-key : goal.start_peer-requires-clause-key
+start_peer-requires-clause-key c =
+    c.requires.keys (length c.loop-key.yielded) c.in-Some.key
     (next-at c.args.keys.items c.loop-key.yielded _ _ c.in-Some.key c.loop-key.invariant.split c.in-Some.ensures.steps.0)
 
 pub loop-key-preserved : goal.loop-key-preserved
