@@ -1,0 +1,3 @@
+pub mod Needs
+pub mod ProofFile
+pub mod Laws
