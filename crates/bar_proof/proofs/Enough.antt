@@ -1,25 +1,23 @@
 -- What evidence needs of a table is enough to show it.
-use Rattle.std.proofs.Common.{◌≡◌, ℕ, zero, suc, ◌+◌, min, Bool, true, false, List, [], ◌∷◌, ◌++◌, length, take, drop, map, refl, sym, ap, ◌∙◌, subst, inl, inr, arith, ◌&&◌, ◌||◌, not, cond, nat_lt}
-use Rattle.std.specs.Prelude.{Option, Some, None, ◌⊎◌, filter, is_some, option_map, option_and_then, slice_get, position, if◌then◌else◌, ◌==◌, ◌<◌, eqb}
-use Rattle.std.specs.List.{list_all, list_any, position_or_len, prefix_len, AllByRecursion}
+use Rattle.std.proofs.Common.{◌≡◌, ℕ, suc, ◌+◌, min, Bool, true, false, List, [], ◌∷◌, ◌++◌, length, take, drop, map, refl, sym, ap, ◌∙◌, subst, inl, inr, arith, ◌&&◌, ◌||◌, not, cond, nat_lt}
+use Rattle.std.specs.Prelude.{Option, Some, None, ◌⊎◌, filter, option_map, option_and_then, slice_get, position, if◌then◌else◌, ◌<◌}
+use Rattle.std.specs.List.{list_all, list_any, position_or_len, AllByRecursion}
 use Rattle.std.specs.Bool.{then_some}
 use Rattle.std.specs.Option.{option_or, option_map_or}
-use Rattle.std.proofs.lemmas.Bool.{and_parts, and_from, both_ways, not-true, not_from_false, eq-eqb, ltb-true, lt-ltb, false_from_ne_true, cases_Bool}
+use Rattle.std.proofs.lemmas.Bool.{and_parts, and_from, both_ways, not-true, eq-eqb, ltb-true, lt-ltb, false_from_ne_true, cases_Bool}
 use Rattle.bar_window.specs.declared.update.UpdateId.{UpdateId}
 use Rattle.bar_window.specs.declared.exchange.Exchange.{Exchange}
-use Rattle.bar_window.specs.declared.exchange.Role.{Role}
 use Rattle.bar_window.specs.Terms.{Terms}
 use Rattle.bar_window.specs.Terms as forms
 use Rattle.bar_terms.specs.declared.items.Item.{Item}
 use Rattle.bar_terms.specs.declared.items.Item.TheVariants.{Update, Junk}
-use Rattle.bar_terms.specs.Table.{Table, Extends, no_lists, digest_of, digest_in, is_past_end, none_past_end}
+use Rattle.bar_terms.specs.Table.{Table, Extends, no_lists, digest_of, is_past_end, none_past_end}
 use Rattle.bar_terms.specs.Terms.{promise}
 use Rattle.bar_wire.specs.Bodies.{briefcase_in, choice_in, key_in}
 use Rattle.bar_wire.specs.Datagram.{Message, Datagram, Body, Case, Key, Briefcase, KeyGiven, exchange_by}
 use Rattle.bar_case.specs.declared.findings.Finding.{Finding}
 use Rattle.bar_case.specs.declared.findings.Finding.TheVariants.{Sound, Broken, Untold}
-use Rattle.bar_case.specs.declared.findings.Opening.{Opening}
-use Rattle.bar_case.specs.declared.findings.Opening.TheVariants.{Good, Bad, Unknown}
+use Rattle.bar_case.specs.declared.findings.Opening.TheVariants.{Bad}
 use Rattle.bar_case.specs.Items.{item_len, junk_key}
 use Rattle.bar_case.specs.Opened.{digest_finding, item_finding, findings, is_broken, is_untold, opening_by, opened, is_bad}
 use Rattle.bar_case.specs.Opened as opening
@@ -27,7 +25,7 @@ use Rattle.bar_rules.specs.Member.{Session}
 use Rattle.bar_rules.specs.Values.{terms_ok, counts_ok, opening_of, is_signed_by}
 use Rattle.bar_rules.specs.Judge.Verdict.{Fault, LeafTwice, BadOpening, BadTerms, WrongPartner, Verdict, Shown, NotShown, Malformed, NotSigned, bad_terms, wrong_partner, key_fits, pair_opening, bad_opening, fault_by_words, fault_in_order, fault_of_one, is_leaf_twice, fault_of_messages, fault_of_two, fault_of, judged, verdict_on, verdict, all_read, are_of_one_peer}
 use Rattle.bar_laws.specs.Verdicts.{ShownStaysShown}
-use Rattle.bar_proof.specs.Needs.{round_of_item, bad_item, bad_round, listed_updates, least, rounds_past_end, past_round, round_for, is_shown, needs, only, needed}
+use Rattle.bar_proof.specs.Needs.{round_of_item, bad_item, bad_round, listed_updates, least, rounds_past_end, past_round, round_for, is_shown, only, needed}
 use Rattle.bar_proof.specs.Laws.{NeededIsEnough}
 
 -- the list of one round alone says of an update of it what the table says

@@ -1,21 +1,20 @@
 -- What is packed has the one list that is needed.
-use Rattle.std.proofs.Common.{◌≡◌, ℕ, ◌+◌, ◌<◌, ◌≤◌, Bool, true, false, List, [], ◌∷◌, length, refl, sym, ap, ◌∙◌, subst, arith, cond, eqb}
-use Rattle.std.specs.Prelude.{Option, Some, None, filter, option_map, option_and_then, ◌==◌, nat_lt, if◌then◌else◌}
-use Rattle.std.specs.List.{AllByRecursion}
+use Rattle.std.proofs.Common.{◌≡◌, ℕ, ◌<◌, ◌≤◌, Bool, true, false, List, [], ◌∷◌, length, refl, sym, ap, ◌∙◌, subst, arith, cond}
+use Rattle.std.specs.Prelude.{Option, Some, None, filter, option_map, option_and_then, ◌==◌, nat_lt}
 use Rattle.std.specs.Option.{option_map_or}
 use Rattle.std.proofs.lemmas.Bool.{both_ways, eq-eqb, eqb-true, ltb-true, lt-ltb}
 use Rattle.std.proofs.lemmas.Option.{option_and_then_some, same_Some}
-use Rattle.bar_terms.specs.Table.{Table, Lists, Extends, no_lists, digests_of}
+use Rattle.bar_terms.specs.Table.{Table, Lists, no_lists, digests_of}
 use Rattle.bar_wire.specs.Bodies.{is_manifest_of}
 use Rattle.bar_wire.specs.Datagram.{Datagram, Body, Manifest}
 use Rattle.bar_rules.specs.Member.{Session}
 use Rattle.bar_rules.specs.Values.{datagram_of, is_signed_by}
-use Rattle.bar_rules.specs.Judge.Verdict.{Fault, Shown, verdict}
+use Rattle.bar_rules.specs.Judge.Verdict.{Shown, verdict}
 use Rattle.bar_laws.specs.Verdicts.{ShownStaysShown}
 use Rattle.bar_judge.specs.TableFile.{RoundList, list_in, list_of_signed, if_after, list_after, lists_of}
 use Rattle.bar_proof.specs.Needs.{is_shown, needs, only, needed}
 use Rattle.bar_proof.specs.ProofFile.{is_of_round, manifests_for}
-use Rattle.bar_proof.specs.Laws.{NeededIsEnough, Carry, PackedIsShown}
+use Rattle.bar_proof.specs.Laws.{NeededIsEnough, PackedIsShown}
 
 -- ---- a manifest and its list
 

@@ -10,6 +10,7 @@ use Rattle.bar_wire.specs.Places.{entries}
 use Rattle.bar_wire.specs.Ranges.{are_datagrams_in_range}
 use Rattle.bar_rules.specs.Member.{Session}
 use Rattle.bar_rules.specs.Values.{datagram_of}
+use Rattle.bar_rules.specs.Judge.Verdict.{Verdict, verdict}
 use Rattle.bar_judge.specs.TableFile.{First, NoByte, Entry, NoEntry, RoundList, first_of, list_after, lists_of, table_bytes}
 use Rattle.bar_proof.specs.declared.proof_fault.ProofFault.{ProofFault}
 use Rattle.bar_proof.specs.declared.proof_fault.ProofFault.TheVariants.{BadHead, BadManifest, BadEvidence}
@@ -69,11 +70,14 @@ unfoldable pub counted_lists : ℕ → Session → ℕ → ℕ → List ℕ → 
 counted_lists zero s last at bytes = Ok ([], bytes)
 counted_lists (suc count) s last at bytes = lists_by (λ round at rest. counted_lists count s round at rest) s last at (first_of bytes)
 
--- the one or two datagrams that the bytes are as evidence
+-- as many datagrams as the first byte says, by the lengths that stand before them
+abbrev pub datagrams_at : List ℕ → List (List ℕ)
+datagrams_at bytes = entries (slice_index bytes 0) (drop 1 bytes)
+
+-- The one or two datagrams that bytes are as evidence: those that stand there, where they spell these bytes again.
 abbrev pub evidence_of : List ℕ → Option (List (List ℕ))
 evidence_of bytes =
-    let datagrams = entries (slice_index bytes 0) (drop 1 bytes) in
-    then_some (are_datagrams_in_range datagrams && bytes_eq (evidence_bytes datagrams) bytes) datagrams
+    then_some (are_datagrams_in_range (datagrams_at bytes) && bytes_eq (evidence_bytes (datagrams_at bytes)) bytes) (datagrams_at bytes)
 
 abbrev pub with_evidence : Lists → Option (List (List ℕ)) → Result Proof ProofFault
 with_evidence lists (Some evidence) = Ok (record { lists = lists; evidence = evidence })
@@ -89,3 +93,11 @@ has_head bytes = nat_lt 5 (length bytes) && bytes_eq (take 5 bytes) letters && n
 -- what a proof file has, or its first fault from the left
 abbrev pub proof_of : Session → List ℕ → Result Proof ProofFault
 proof_of s bytes = if has_head bytes then proof_behind (counted_lists (slice_index bytes 5) s 0 6 (drop 6 bytes)) else Err BadHead
+
+-- the verdict on a proof file's evidence under the table of its manifests
+abbrev pub verdict_on : Session → Result Proof ProofFault → Result Verdict ProofFault
+verdict_on s (Ok proof) = Ok (verdict s (digests_of proof.lists) proof.evidence)
+verdict_on s (Err fault) = Err fault
+
+abbrev pub proof_verdict : Session → List ℕ → Result Verdict ProofFault
+proof_verdict s bytes = verdict_on s (proof_of s bytes)
