@@ -286,7 +286,7 @@ one-enough s table d f none some =
         (r.0, r.1, rw r.2 (ap Some (sym e)))
 
 -- what two datagrams show by a list alone: one of them is a briefcase that opens badly by the other
-two-by : (a a0 b b0 : Bool) (v w : Option Fault) (f : Fault)
+pub two-by : (a a0 b b0 : Bool) (v w : Option Fault) (f : Fault)
     → option_or (option_or (then_some a0 BadOpening) v) (option_or (then_some b0 BadOpening) w) ≡ None
     → option_or (option_or (then_some a BadOpening) v) (option_or (then_some b BadOpening) w) ≡ Some f
     → (a0 ≡ false) × (b0 ≡ false) × (v ≡ None) × (w ≡ None) × (f ≡ BadOpening) × ((a ≡ true) ⊎ ((a ≡ false) × (b ≡ true)))
@@ -304,7 +304,7 @@ no-case (Key g) k e = refl
 no-case (Case c) k e = cc
 no-case b k e = refl
 
-other-way : (s : Session) (table : Table) (m n : Message) → bad_opening s table n m (briefcase_in n.body) (key_in m.body) ≡ true → briefcase_in m.body ≡ None
+pub other-way : (s : Session) (table : Table) (m n : Message) → bad_opening s table n m (briefcase_in n.body) (key_in m.body) ≡ true → briefcase_in m.body ≡ None
 other-way s table m n e = go (briefcase_in n.body) (key_in m.body) refl e
   where
     go : (oc : Option Briefcase) (ok : Option KeyGiven) → key_in m.body ≡ ok → bad_opening s table n m oc ok ≡ true → briefcase_in m.body ≡ None
