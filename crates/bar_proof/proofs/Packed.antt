@@ -152,7 +152,7 @@ none-before s round last (manifest ∷ manifests) lists below are =
     go true named clash rest = absurd (clash refl)
     go false named clash rest = rw named rest
 
-few-of : (s : Session) (round last : ℕ) (manifests : List (List ℕ)) (lists : Lists) → lists_of s last manifests ≡ Some lists
+pub few-of : (s : Session) (round last : ℕ) (manifests : List (List ℕ)) (lists : Lists) → lists_of s last manifests ≡ Some lists
     → length (filter (is_of_round s round) manifests) ≤ 1
 few-of s round last [] lists are = omega arith
 few-of s round last (manifest ∷ manifests) lists are =

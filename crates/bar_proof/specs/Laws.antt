@@ -1,13 +1,12 @@
 -- What is needed is enough, and what is packed is shown.
-use Rattle.std.specs.Prelude.{◌≡◌, ℕ, ◌≤◌, ◌<◌, ◌^◌, true, List, [], length, Some, Ok}
-use Rattle.std.specs.List.{AllByRecursion}
+use Rattle.std.specs.Prelude.{◌≡◌, ℕ, ◌≤◌, true, List, [], length, Some, Ok}
 use Rattle.bar_terms.specs.Table.{Table, Lists, Extends, no_lists, digests_of}
 use Rattle.bar_wire.specs.Grammar.{AreDatagramsInRange}
 use Rattle.bar_rules.specs.Member.{Session}
 use Rattle.bar_rules.specs.Judge.Verdict.{Fault, Shown, verdict}
 use Rattle.bar_judge.specs.TableFile.{lists_of}
 use Rattle.bar_proof.specs.Needs.{is_shown, needs, needed}
-use Rattle.bar_proof.specs.ProofFile.{manifests_for, most_manifests, proof_bytes, proof_of}
+use Rattle.bar_proof.specs.ProofFile.{AreShort, manifests_for, most_manifests, proof_bytes, proof_of}
 
 -- Evidence that is shown under a table is shown, of the same party and fault, under the one list that it needs.
 abbrev pub NeededIsEnough : Type 0
@@ -35,5 +34,5 @@ PackedIsShown =
 abbrev pub ProofsReadBack : Type 0
 ProofsReadBack =
     (s : Session) (manifests evidence : List (List ℕ)) (lists : Lists) → lists_of s 0 manifests ≡ Some lists → length manifests ≤ most_manifests
-    → AllByRecursion (λ m. length m < 2 ^ 16) manifests → AreDatagramsInRange evidence
+    → AreShort manifests → AreDatagramsInRange evidence
     → proof_of s (proof_bytes manifests evidence) ≡ Ok (record { lists = lists; evidence = evidence })

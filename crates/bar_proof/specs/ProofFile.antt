@@ -1,6 +1,7 @@
 -- Proof files: evidence, behind the manifest that it needs.
-use Rattle.std.specs.Prelude.{◌≡◌, ℕ, zero, suc, ◌+◌, ◌&&◌, nat_le, nat_lt, Bool, false, List, [], ◌∷◌, ◌++◌, codes, length, take, drop, filter, slice_index, bytes_eq, Option, Some, None, Result, Ok, Err, if◌then◌else◌}
+use Rattle.std.specs.Prelude.{◌<◌, ◌^◌, ℕ, zero, suc, ◌+◌, ◌&&◌, nat_le, nat_lt, Bool, false, List, [], ◌∷◌, ◌++◌, codes, length, take, drop, filter, slice_index, bytes_eq, Option, Some, None, Result, Ok, Err, if◌then◌else◌}
 use Rattle.std.specs.Bool.{then_some}
+use Rattle.std.specs.List.{AllByRecursion}
 use Rattle.std.specs.Option.{option_map_or}
 use Rattle.bar_terms.specs.Table.{Lists, digests_of}
 use Rattle.bar_wire.specs.Bodies.{is_manifest_of}
@@ -11,10 +12,9 @@ use Rattle.bar_wire.specs.Ranges.{are_datagrams_in_range}
 use Rattle.bar_rules.specs.Member.{Session}
 use Rattle.bar_rules.specs.Values.{datagram_of}
 use Rattle.bar_rules.specs.Judge.Verdict.{Verdict, verdict}
-use Rattle.bar_judge.specs.TableFile.{First, NoByte, Entry, NoEntry, RoundList, first_of, list_after, lists_of, table_bytes}
+use Rattle.bar_judge.specs.TableFile.{First, NoByte, Entry, NoEntry, RoundList, first_of, list_after, table_bytes}
 use Rattle.bar_proof.specs.declared.proof_fault.ProofFault.{ProofFault}
 use Rattle.bar_proof.specs.declared.proof_fault.ProofFault.TheVariants.{BadHead, BadManifest, BadEvidence}
-use Rattle.bar_proof.specs.Needs.{needs}
 
 -- the lists of the manifests, and the datagrams of the evidence
 pub record Proof : Type 0 where
@@ -29,25 +29,25 @@ letters = codes "BARP" ++ 1 ∷ []
 abbrev pub most_manifests : ℕ
 most_manifests = 16
 
--- the letters BARP, the version, how many manifests there are, each with its length before it, and the evidence
+-- the letters BARP, the version, how many manifests there are, each with its length before it, and the bytes of the evidence
+abbrev pub file_bytes : List (List ℕ) → List ℕ → List ℕ
+file_bytes manifests evidence = letters ++ length manifests ∷ table_bytes manifests ++ evidence
+
 abbrev pub proof_bytes : List (List ℕ) → List (List ℕ) → List ℕ
-proof_bytes manifests evidence = letters ++ length manifests ∷ table_bytes manifests ++ evidence_bytes evidence
+proof_bytes manifests datagrams = file_bytes manifests (evidence_bytes datagrams)
+
+-- each length fits the two bytes before it
+abbrev pub AreShort : List (List ℕ) → Type 0
+AreShort manifests = AllByRecursion (λ m. length m < 2 ^ 16) manifests
 
 -- the manifest of the round, among those of a table file
 abbrev pub is_of_round : Session → ℕ → List ℕ → Bool
 is_of_round s round manifest = option_map_or (λ d. is_manifest_of round d.message.body) (datagram_of s manifest) false
 
+-- what is packed of a table file's manifests where a round is needed, or none
 abbrev pub manifests_for : Session → Option ℕ → List (List ℕ) → List (List ℕ)
 manifests_for s None manifests = []
 manifests_for s (Some round) manifests = filter (is_of_round s round) manifests
-
--- The bytes are evidence packed with what it needs of the manifests of a table file.
-pub record IsPacked (s : Session) (table : List ℕ) (evidence : List (List ℕ)) (bytes : List ℕ) : Type 0 where
-  pub manifests : List (List ℕ)
-  pub lists : Lists
-  pub table_is : table ≡ table_bytes manifests
-  pub lists_are : lists_of s 0 manifests ≡ Some lists
-  pub is : bytes ≡ proof_bytes (manifests_for s (needs s (digests_of lists) evidence) manifests) evidence
 
 -- ---- reading
 
