@@ -33,6 +33,6 @@ PackedIsShown =
 -- What is written of manifests and evidence as a proof file is read back as their lists and the evidence.
 abbrev pub ProofsReadBack : Type 0
 ProofsReadBack =
-    (s : Session) (manifests evidence : List (List ℕ)) (lists : Lists) → lists_of s 0 manifests ≡ Some lists → length manifests ≤ most_manifests
-    → AreShort manifests → AreDatagramsInRange evidence
+    (s : Session) (manifests evidence : List (List ℕ)) (lists : Lists) → lists_of s 0 manifests ≡ Some lists
+    → length manifests ≤ most_manifests → AreShort manifests → AreDatagramsInRange evidence
     → proof_of s (proof_bytes manifests evidence) ≡ Ok (record { lists = lists; evidence = evidence })

@@ -42,7 +42,8 @@ fn bad_round_by(
 ) -> Option<u32>
     requires windows { AreWindowsOf session.now.shape.life case.now.round case.now.terms }
     requires whole { length case.now.cipher.now ≡ 1024 * case.now.updates + 1280 * case.now.junk }
-    requires valid { (terms_ok session.now no_lists x (plain_terms case.now.terms) && counts_ok session.now (plain_briefcase case.now)) ≡ true }
+    requires valid { (terms_ok session.now no_lists x (plain_terms case.now.terms)
+        && counts_ok session.now (plain_briefcase case.now)) ≡ true }
     ensures { result ≡ option_and_then round_of_item
         (bad_item (opening_of session.now (digests_of table.now.lists) x (plain_briefcase case.now) key.now)
         (promise session.now.cap (plain_terms case.now.terms) case.now.role)) }

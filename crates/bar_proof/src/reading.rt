@@ -29,8 +29,8 @@ pub(crate) fn has_head(bytes: &[u8]) -> bool
     bytes.len() >= HEAD_LEN && bytes[..5] == LETTERS[..] && bytes[5] <= MOST
 }
 
-/// The table of a proof file's manifests, and what follows them, or the first fault of a manifest. It counts each hash: each manifest has one
-/// verification at most.
+/// The table of a proof file's manifests, and what follows them, or the first fault of a manifest. It counts each hash: each manifest has
+/// one verification at most.
 pub(crate) fn read_manifests<'a, V: Verifier, L: Ledger>(
     alloc: Global,
     session: &Session,
