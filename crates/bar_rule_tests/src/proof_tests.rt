@@ -4,7 +4,9 @@ ghost use Rattle.std.specs.Prelude.{◌≡◌, ◌<◌};
 
 mod vectors;
 
-use crate::verdict_tests::{ID, case_of, changed, front, key_of, scheme_of, session, session_of, sign};
+use crate::verdict_tests::{
+    ID, case_of, changed, front, key_of, scheme_of, session, session_of, sign,
+};
 use bar_bytes::Steps;
 use bar_judge::{Verdict, Why};
 use bar_proof::{PackFault, ProofFault, judge_proof, pack};
@@ -34,7 +36,12 @@ fn packed_with<L: Ledger>(
     pack(alloc, session, &verifier, table, evidence, &mut steps)
 }
 
-fn packed(alloc: Global, session: &Session, table: &[u8], evidence: &[u8]) -> Result<Vec<u8>, PackFault> {
+fn packed(
+    alloc: Global,
+    session: &Session,
+    table: &[u8],
+    evidence: &[u8],
+) -> Result<Vec<u8>, PackFault> {
     packed_with::<Brand>(alloc, session, table, evidence, Blank::new(1))
 }
 
@@ -50,7 +57,13 @@ fn judged_with<L: Ledger>(
 {
     let _ = session.shape();
     let verifier = LmsVerifier::new(session.params());
-    judge_proof(alloc, session, &verifier, bytes, &mut Steps::<L>::new(blank))
+    judge_proof(
+        alloc,
+        session,
+        &verifier,
+        bytes,
+        &mut Steps::<L>::new(blank),
+    )
 }
 
 fn judged(alloc: Global, session: &Session, bytes: &[u8]) -> Result<Verdict, ProofFault> {
@@ -75,8 +88,21 @@ fn joined(alloc: Global, parts: &[&[u8]]) -> Result<Vec<u8>, AllocError> {
 }
 
 /// The entry of the manifest of a round with eight digests of zeros.
-fn entry_of(rt: &impl Abort, alloc: Global, caster: &LmsScheme, round: u8) -> Result<Vec<u8>, AllocError> {
-    let mut bytes = joined(alloc, &[&[0xba, 0x47, 1, 1], &ID, &[0, 0, 0xff, 0xff, 0, 0, 0, round, 8], &[0; 256]])?;
+fn entry_of(
+    rt: &impl Abort,
+    alloc: Global,
+    caster: &LmsScheme,
+    round: u8,
+) -> Result<Vec<u8>, AllocError> {
+    let mut bytes = joined(
+        alloc,
+        &[
+            &[0xba, 0x47, 1, 1],
+            &ID,
+            &[0, 0, 0xff, 0xff, 0, 0, 0, round, 8],
+            &[0; 256],
+        ],
+    )?;
     sign(rt, alloc, caster, u32::from(round), &mut bytes)?;
     let len = (bytes.len() % 65_536) as u16;
     joined(alloc, &[&len.to_be_bytes(), &bytes])
@@ -98,10 +124,12 @@ fn evidence_is_packed_with_the_manifest_that_it_needs(rt: HostRuntime) -> Result
     let table = joined(alloc, &[&first, &needed, &last])?;
     let proof = packed(alloc, &session, &table, &evidence)?;
     assert_eq!(rt; proof.len(), 5_844);
-    assert_eq!(rt; proof, joined(alloc, &[b"BARP\x01\x01", &needed, &evidence])?);
+    let expected = joined(alloc, &[b"BARP\x01\x01", &needed, &evidence])?;
+    assert_eq!(rt; proof, expected);
     assert_eq!(rt; line(alloc, &session, &proof)?.as_str(), "party 1 fault F1");
     let twice = joined(alloc, &[b"BARP\x01\x02", &needed, &needed, &evidence])?;
-    let unsigned = joined(alloc, &[b"BARP\x01\x01", &changed(alloc, &needed)?, &evidence])?;
+    let other = changed(alloc, &needed)?;
+    let unsigned = joined(alloc, &[b"BARP\x01\x01", &other, &evidence])?;
     let bare = joined(alloc, &[b"BARP\x01\x00", &evidence])?;
     let behind = joined(alloc, &[&proof, &[0]])?;
     for (bytes, expected) in [
@@ -118,7 +146,10 @@ fn evidence_is_packed_with_the_manifest_that_it_needs(rt: HostRuntime) -> Result
         (&table, &proof, PackFault::Evidence),
         (&first, &evidence, PackFault::NotShown(Why::UnknownUpdate)),
     ] {
-        assert_eq!(rt; packed(alloc, &session, table, evidence).err(), Some(expected));
+        assert_eq!(rt;
+            packed(alloc, &session, table, evidence).err(),
+            Some(expected)
+        );
     }
     Ok(())
 }
@@ -129,15 +160,21 @@ fn evidence_that_needs_no_manifest_has_none(rt: HostRuntime) -> Result<(), Fail>
     let session = session_of(alloc, session())?;
     let scheme = scheme_of(alloc, &session, 8)?;
     let caster = scheme_of(alloc, &session, 7)?;
-    let mut request = joined(alloc, &[&front(alloc, 3, 1, 2, 1)?, &[0; 64]])?;
+    let mut request = front(alloc, 3, 1, 2, 1)?;
+    request.extend_from_slice(&[0; 64])?;
     sign(&rt, alloc, &scheme, 0, &mut request)?;
     let evidence = joined(alloc, &[&[1, 0x06, 0x00], &request])?;
-    let proof = packed(alloc, &session, &entry_of(&rt, alloc, &caster, 4)?, &evidence)?;
+    let table = entry_of(&rt, alloc, &caster, 4)?;
+    let proof = packed(alloc, &session, &table, &evidence)?;
     assert_eq!(rt; proof.len(), 1_545);
-    assert_eq!(rt; proof, joined(alloc, &[b"BARP\x01\x00", &evidence])?);
+    let expected = joined(alloc, &[b"BARP\x01\x00", &evidence])?;
+    assert_eq!(rt; proof, expected);
     assert_eq!(rt; line(alloc, &session, &proof)?.as_str(), "party 1 fault F3");
     let cut = proof.get(..1_544).unwrap_or(b"");
-    assert_eq!(rt; judged(alloc, &session, cut).err(), Some(ProofFault::BadEvidence));
+    assert_eq!(rt;
+        judged(alloc, &session, cut).err(),
+        Some(ProofFault::BadEvidence)
+    );
     Ok(())
 }
 

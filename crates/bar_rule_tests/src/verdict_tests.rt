@@ -51,13 +51,23 @@ pub(crate) fn session_of(alloc: Global, text: &str) -> Result<Session, Fail> {
 }
 
 /// What signs with a secret of 32 times one byte.
-pub(crate) fn scheme_of(alloc: Global, session: &Session, secret: u8) -> Result<LmsScheme, AllocError> {
+pub(crate) fn scheme_of(
+    alloc: Global,
+    session: &Session,
+    secret: u8,
+) -> Result<LmsScheme, AllocError> {
     let signer = SecretKey::make(alloc, session.params(), &ID, &[secret; 32])?;
     Ok(LmsScheme::new(signer))
 }
 
 /// What a datagram begins with, up to its round.
-pub(crate) fn front(alloc: Global, kind: u8, from: u8, to: u8, round: u8) -> Result<Vec<u8>, AllocError> {
+pub(crate) fn front(
+    alloc: Global,
+    kind: u8,
+    from: u8,
+    to: u8,
+    round: u8,
+) -> Result<Vec<u8>, AllocError> {
     let mut bytes = [0xba, 0x47, 1, kind].to_vec(alloc)?;
     bytes.extend_from_slice(&ID)?;
     bytes.extend_from_slice(&[0, from, 0, to, 0, 0, 0, round])?;
