@@ -1,9 +1,12 @@
 //! What a table file and an evidence file say, and the verdict on them, with a count of steps that nobody reads.
 ghost use Rattle.std.specs.Prelude.{◌≡◌, ◌⊎◌, ◌<◌, Err, IfOk, IfErr, option_map};
+ghost use Rattle.bar_lms.specs.Acceptance.{is_accepted_under};
 ghost use Rattle.bar_lms.specs.Params.{signature_len};
+ghost use Rattle.bar_seal.specs.Leaves.{leaf_in};
 ghost use Rattle.bar_terms.specs.Table.{digests_of};
 ghost use Rattle.bar_wire.specs.Evidence.{datagrams_of};
 ghost use Rattle.bar_rules.specs.Judge.Verdict.{verdict};
+ghost use Rattle.bar_rules.specs.Verifiers.{IsVerifierOf, NamesLeavesOf};
 ghost use Rattle.bar_judge.specs.TableFile.{HasLists, table_of};
 ghost use Rattle.bar_judge.specs.Verdicts.{plain_verdict};
 ghost use Rattle.bar_cli.specs.Judging.{IsTableOf, evidence_of, lists_of, place_of};
@@ -30,7 +33,7 @@ fn read_counted<L: Ledger>(
     ensures ok { IfOk result (λ table. HasLists (table_of session.now bytes.now) (digests_of table.lists)) }
     ensures err { IfErr result (λ fault. (fault ≡ TableFault.NoMemory) ⊎ (table_of session.now bytes.now ≡ Err fault)) }
 {
-    let verifier = LmsVerifier::new(session.params());
+    let verifier = verifier_of(session);
     read_table(
         alloc,
         bytes,
@@ -56,12 +59,13 @@ pub fn read_evidence(bytes: &[u8]) -> Option<EvidenceView<'_>>
     split_evidence(bytes).ok()
 }
 
-/// The verifier of a session's signatures, which have the length that its shape says.
+/// The verifier of a session's signatures.
 fn verifier_of(session: &Session) -> LmsVerifier
-    ensures params { result.params ≡ session.now.params }
-    ensures long { signature_len result.params ≡ session.now.shape.sig_len }
+    ensures verifies { IsVerifierOf session.now (λ key message sig. is_accepted_under result.params key message sig) }
+    ensures names { NamesLeavesOf session.now leaf_in (signature_len result.params) }
 {
     let _ = session.shape();
+    let _ = session.top();
     LmsVerifier::new(session.params())
 }
 

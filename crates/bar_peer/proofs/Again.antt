@@ -1,17 +1,21 @@
 -- What was admitted under the name of a datagram.
-use Rattle.std.proofs.Common.{◌≡◌, ℕ, ◌∙◌, Bool, true, false, List, Option, Some, None, sym, ap, refl, subst}
-use Rattle.std.specs.Prelude.{option_map, IfSome, if◌then◌else◌}
+use Rattle.std.proofs.Common.{◌≡◌, ℕ, ◌∙◌, Bool, true, false, List, Option, Some, None, sym, ap, refl, subst, Bor}
+use Rattle.std.specs.Prelude.{option_copied, option_map, is_some, IfSome, if◌then◌else◌}
 use Rattle.std.proofs.lemmas.Slice.Eq.{bytes_eq-Decides}
 use Rattle.std.specs.Bool.{then_some}
 use Rattle.std.specs.Str.{bytes_eq}
 use Rattle.bar_wire.specs.Datagram.{Message, Datagram, Body, Place, place_of, kind_of}
 use Rattle.bar_wire.specs.Grammar.{IsDatagram, SpellsDatagram}
+use Rattle.bar_wire.specs.Views.{plain}
 use Rattle.bar_wire.specs.declared.shape.Shape.{Shape}
+use Rattle.bar_wire.specs.declared.view.Body.{Body as RawBody}
+use Rattle.bar_wire.specs.declared.view.Body.TheVariants as raw
 use Rattle.bar_ledger.specs.declared.ledger.Ledger.{Ledger}
 use Rattle.bar_ledger.specs.Lookups.{heard_in}
 use Rattle.bar_ledger.specs.Recalls.{Recalls}
 use Rattle.bar_rules.specs.Member.{Session, Member}
 use Rattle.bar_rules.specs.Values.{datagram_bytes}
+use Rattle.bar_rules.specs.Peer.Admission.{is_named_again}
 use Rattle.bar_rules.specs.Peer.Agreement.{IsRecent}
 use Rattle.bar_rules.specs.Peer.Knowledge.{Knowledge}
 use Rattle.bar_rules.specs.Peer.Replies.{heard_like, if_same, repeated}
@@ -30,6 +34,33 @@ like_in me k l m p h is in_time =
 pub like_none : (s : Session) (k : Knowledge) (m : Message) → place_of m ≡ None
     → option_map (datagram_bytes s) (heard_like k m.body (place_of m)) ≡ None
 like_none s k m is = λ i. option_map (datagram_bytes s) (heard_like k m.body (is i))
+
+is_some_mapped : {A B : Type 0} (f : A → B) (o : Option A) → is_some (option_map f o) ≡ is_some o
+is_some_mapped f (Some a) = refl
+is_some_mapped f None = refl
+
+pub is_some_copied : {A : Type 0} (o : Option (Bor A)) → is_some (option_copied o) ≡ is_some o
+is_some_copied (Some a) = refl
+is_some_copied None = refl
+
+-- a name of an exchange is that of what was admitted at its place
+pub named_like : (s : Session) (k : Knowledge) (from to : ℕ) (b : RawBody)
+    → ((round count : ℕ) (digests : Bor (List ℕ)) → b ≡ raw.Manifest round count digests → ⊥)
+    → ((round count : ℕ) (parties : Bor (List ℕ)) → b ≡ raw.Evict round count parties → ⊥)
+    → is_some (option_map (datagram_bytes s) (heard_like k (plain b) (place_of (record { from = from; to = to; body = plain b }))))
+    ≡ is_named_again k (place_of (record { from = from; to = to; body = plain b })) (plain b)
+named_like s k from to (raw.Manifest round count digests) other neither = absurd (other round count digests refl)
+named_like s k from to (raw.Evict round count parties) other neither = absurd (neither round count parties refl)
+named_like s k from to (raw.Block round index block) other neither = refl
+named_like s k from to (raw.Evidence count datagrams) other neither = refl
+named_like s k from to (raw.Request round seed commitment) other neither = is_some_mapped (datagram_bytes s) _
+named_like s k from to (raw.Response round hb) other neither = is_some_mapped (datagram_bytes s) _
+named_like s k from to (raw.Divulge round nonce ha) other neither = is_some_mapped (datagram_bytes s) _
+named_like s k from to (raw.Query round seed young aged) other neither = is_some_mapped (datagram_bytes s) _
+named_like s k from to (raw.Reply round want give junk) other neither = is_some_mapped (datagram_bytes s) _
+named_like s k from to (raw.Case round xkind role updates junk terms cipher) other neither = is_some_mapped (datagram_bytes s) _
+named_like s k from to (raw.KeyReq round xkind role) other neither = is_some_mapped (datagram_bytes s) _
+named_like s k from to (raw.Key round xkind role key) other neither = is_some_mapped (datagram_bytes s) _
 
 -- ---- repeats
 

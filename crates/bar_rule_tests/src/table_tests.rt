@@ -124,6 +124,7 @@ fn read_with<L: Ledger>(
     requires parts { blank.parts ≡ L.parts }
     requires some { 0 < L.parts }
 {
+    let _ = session.top();
     let verifier = LmsVerifier::new(session.params());
     read_table(
         alloc,

@@ -142,6 +142,7 @@ fn line_with<L: Ledger>(
     requires some { 0 < L.parts }
 {
     let _ = session.shape();
+    let _ = session.top();
     let verifier = LmsVerifier::new(session.params());
     let verdict = verdict(
         session,

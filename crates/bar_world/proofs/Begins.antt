@@ -1,5 +1,5 @@
 -- What a simulation begins with.
-use Rattle.std.proofs.Common.{◌≡◌, ◌≤◌, ◌∙◌, ℕ, ◌*◌, List, length, sym, ap, subst, arith}
+use Rattle.std.proofs.Common.{◌≡◌, ◌≤◌, ◌∙◌, ℕ, ◌*◌, List, length, refl, sym, ap, subst, arith}
 use Rattle.bar_case.specs.Keystream.{keystream}
 use Rattle.bar_lms.specs.declared.params.Params.{Params}
 use Rattle.bar_wire.specs.Limits.{largest_content}
@@ -44,6 +44,7 @@ pub liar-is : (seed : ℕ) (session : Session) (k : Secrets) (liar : Liar) (para
 liar-is seed session k liar params a b party shape same signer = record {
   party_is = sym (party ∙ ap (λ (s : Secrets). s.party) b);
   shape_is = sym (shape ∙ ap (λ (s : Session). s.shape) a);
+  single_is = refl;
   signer_is =
       sym (signer ∙ (λ i. record { params = (same ∙ ap (λ (s : Session). s.params) a) i; id = (b i).id; secret = (b i).secret }));
 }

@@ -1,9 +1,11 @@
 -- A session that is made from secrets fits each of them.
 use Rattle.bar_lms.specs.declared.params.Params.{Params}
+use Rattle.bar_lms.specs.Schemes.{public_by}
 use Rattle.bar_lms.specs.Secret.{public_key}
 use Rattle.bar_seeds.specs.Seeds.{anchor_of}
 use Rattle.bar_wire.specs.declared.shape.Shape.{Shape}
 use Rattle.bar_roster.specs.KeyFile.{Fits}
+use Rattle.bar_roster.proofs.Levels.{one_level}
 use Rattle.bar_roster.specs.Sessions.{IsSession}
 use Rattle.bar_rules.specs.World.World.{IsSetup}
 use Rattle.bar_world.specs.declared.numbers.Numbers.{Numbers}
@@ -58,6 +60,7 @@ made-is-session : (shape : Shape) (n : Numbers) (secrets : List (List ℕ)) → 
 made-is-session shape n secrets are all = record {
   shape = are.shape_is;
   signatures = are.signatures;
+  levels = one_level n.params;
   cap_low = are.cap_low;
   cap_high = are.cap_high;
   fanout_low = are.fanout_low;
@@ -69,6 +72,7 @@ made-is-session shape n secrets are all = record {
 
 made-fits : (shape : Shape) (n : Numbers) (secrets : List (List ℕ)) (p : ℕ) → p < length secrets
     → Fits (made_session shape n secrets) p (secret-at secrets p)
+unfolding public_by
 made-fits shape n secrets p h = record {
   key = key-at n.params shape.id secrets p h;
   anchor = λ low. peer-anchor shape.id shape.rounds secrets p h low;

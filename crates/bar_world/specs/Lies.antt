@@ -1,5 +1,5 @@
 -- Who lies, and what is asked of the datagrams that it lies about.
-use Rattle.std.specs.Prelude.{◌≡◌, ℕ, ◌^◌, ◌<◌, ◌≤◌, List, length, true, Some}
+use Rattle.std.specs.Prelude.{◌≡◌, ℕ, ◌^◌, ◌<◌, ◌≤◌, List, length, true, Some, None}
 use Rattle.bar_lms.specs.Params.{levels}
 use Rattle.bar_lms.specs.Signature.{number_at}
 use Rattle.bar_wire.specs.Datagram.{Datagram, Body, Key, is_signed}
@@ -8,10 +8,11 @@ use Rattle.bar_rules.specs.Member.{Session, Member}
 use Rattle.bar_rules.specs.Values.{datagram_of, is_signed_by}
 use Rattle.bar_world.specs.declared.lies.Liar.{Liar}
 
--- The liar is this member.
+-- The liar is this member, whose signatures have one level.
 pub record IsLiar (me : Member) (liar : Liar) : Type 0 where
   pub party_is : me.party ≡ liar.party
   pub shape_is : me.session.shape ≡ liar.shape
+  pub single_is : me.session.top ≡ None
   pub signer_is : signing_secret me.session me.secret ≡ liar.signer
 
 -- what the bytes spell, if it is signed, is accepted under its sender's key

@@ -77,6 +77,7 @@ impl Liar {
 
     /// What is delivered in place of a KEY of the liar, and of nothing else. A signature that names no leaf is passed over: no core sends
     /// one.
+    #[tactic(auto, using(crate::proofs::Leaves::liar_signs))]
     fn lie_about(&self, alloc: Global, view: &View<'_>) -> Result<Option<Vec<u8>>, AllocError>
         requires { IsBody self.now.shape view.now.body }
         ensures { IfOk result (λ lie. (me : Member) → IsLiar me self.now → HasLeafIfSigned me.session (datagram me.session.shape view.now) →
