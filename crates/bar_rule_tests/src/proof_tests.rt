@@ -31,6 +31,7 @@ fn packed_with<L: Ledger>(
     requires some { 0 < L.parts }
 {
     let _ = session.shape();
+    let _ = session.top();
     let verifier = LmsVerifier::new(session.params());
     let mut steps = Steps::<L>::new(blank);
     pack(alloc, session, &verifier, table, evidence, &mut steps)
@@ -56,6 +57,7 @@ fn judged_with<L: Ledger>(
     requires some { 0 < L.parts }
 {
     let _ = session.shape();
+    let _ = session.top();
     let verifier = LmsVerifier::new(session.params());
     judge_proof(
         alloc,
