@@ -1,12 +1,12 @@
 -- What is needed is enough, and what is packed is shown.
-use Rattle.std.specs.Prelude.{◌≡◌, ℕ, ◌≤◌, true, List, [], length, Some, Ok}
+use Rattle.std.specs.Prelude.{◌≡◌, ℕ, ◌≤◌, ◌<◌, slice_index, true, List, [], length, Some, Ok}
 use Rattle.bar_terms.specs.Table.{Table, Lists, Extends, no_lists, digests_of}
 use Rattle.bar_wire.specs.Grammar.{AreDatagramsInRange}
 use Rattle.bar_rules.specs.Member.{Session}
 use Rattle.bar_rules.specs.Judge.Verdict.{Fault, Shown, verdict}
 use Rattle.bar_judge.specs.TableFile.{lists_of}
 use Rattle.bar_proof.specs.Needs.{is_shown, needs, needed}
-use Rattle.bar_proof.specs.ProofFile.{AreShort, manifests_for, most_manifests, proof_bytes, proof_of}
+use Rattle.bar_proof.specs.ProofFile.{Proof, AreShort, manifests_for, most_manifests, proof_bytes, proof_of}
 
 -- Evidence that is shown under a table is shown, of the same party and fault, under the one list that it needs.
 abbrev pub NeededIsEnough : Type 0
@@ -36,3 +36,16 @@ ProofsReadBack =
     (s : Session) (manifests evidence : List (List ℕ)) (lists : Lists) → lists_of s 0 manifests ≡ Some lists
     → length manifests ≤ most_manifests → AreShort manifests → AreDatagramsInRange evidence
     → proof_of s (proof_bytes manifests evidence) ≡ Ok (record { lists = lists; evidence = evidence })
+
+-- The bytes are the proof file of some manifests, which have the lists, and of the evidence.
+pub record IsProofFile (s : Session) (bytes : List ℕ) (proof : Proof) : Type 0 where
+  pub manifests : List (List ℕ)
+  pub few : length manifests ≤ most_manifests
+  pub lists_are : lists_of s 0 manifests ≡ Some proof.lists
+  pub is : bytes ≡ proof_bytes manifests proof.evidence
+
+-- What is read as a proof file is written so.
+abbrev pub ProofsAreSpelled : Type 0
+ProofsAreSpelled =
+    (s : Session) (bytes : List ℕ) (proof : Proof) → ((i : ℕ) → slice_index bytes i < 256) → proof_of s bytes ≡ Ok proof
+    → IsProofFile s bytes proof
