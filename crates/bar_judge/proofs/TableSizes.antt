@@ -39,7 +39,7 @@ is_short s (Evidence ds) entry form range is = absurd cc
 is_short s (Evict r ps) entry form range is = absurd cc
 
 -- what is signed and has a list has the list of its body
-list_signed : (s : Session) (d : Datagram) (entry : RoundList) → list_of_signed s d ≡ Some entry → list_in d.message.body ≡ Some entry
+pub list_signed : (s : Session) (d : Datagram) (entry : RoundList) → list_of_signed s d ≡ Some entry → list_in d.message.body ≡ Some entry
 list_signed s d entry is = elim (cases_Bool (is_signed_by s d)) [
   | inl signed ↦ rw signed at is
   | inr unsigned ↦ let none : None ≡ Some entry = rw unsigned at is in absurd (none-some entry none)

@@ -27,7 +27,7 @@ sized_whole manifest rest =
     let all : nat_le (length manifest) (length (manifest ++ rest)) ≡ true = le-leb (length manifest) (length (manifest ++ rest)) long in
     rw (all, take-append_seam manifest rest, drop-append_seam manifest rest) refl
 
-first_written : (manifest rest : List ℕ) → length manifest < 2 ^ 16 → first_of (entry_bytes manifest ++ rest) ≡ Entry manifest rest
+pub first_written : (manifest rest : List ℕ) → length manifest < 2 ^ 16 → first_of (entry_bytes manifest ++ rest) ≡ Entry manifest rest
 first_written manifest rest fits =
     ap first_of (append_assoc (u16_bytes (length manifest)) manifest rest)
     ∙ (first_sized (u16_bytes (length manifest)) (manifest ++ rest) (length_u16 (length manifest))

@@ -10,6 +10,8 @@ mod findings_tests;
 #[cfg(test)]
 mod ledger_tests;
 #[cfg(test)]
+mod proof_tests;
+#[cfg(test)]
 mod push_tests;
 #[cfg(test)]
 mod store_tests;

@@ -15,10 +15,10 @@ use std::process::Abort;
 use std::sync::ledger::{Blank, Ledger};
 use std::test::Fail;
 
-const ID: [u8; 8] = [0x00, 0x11, 0x22, 0x33, 0x44, 0x55, 0x66, 0x77];
+pub(crate) const ID: [u8; 8] = [0x00, 0x11, 0x22, 0x33, 0x44, 0x55, 0x66, 0x77];
 
 /// A session of two peers and ten rounds, whose secrets are 32 times 8 and 9. That of its broadcaster is 32 times 7.
-fn session() -> &'static str {
+pub(crate) fn session() -> &'static str {
     "version = 1\nid = \"0011223344556677\"\nrounds = 10\nlife = 4\ncap = 4\n\
     per_round = 8\nfanout = 1\nport = 20000\ntick_ms = 20\nlms = 6\nots = 4\n\
     key = \"00000006000000048d1e3644fdcc75d960cb49ec94696848dd05823833a56f5ac63061df7770db1bfbc282df417853c4907357eccb7c925f\"\n\n[[peer]]\n\
@@ -46,18 +46,28 @@ fn session_of_five() -> &'static str {
     anchor = \"090956e79e435db6da92683eaf81afb9551fa3218473541a142fd7abd5d6a2b3\"\n"
 }
 
-fn session_of(alloc: Global, text: &str) -> Result<Session, Fail> {
+pub(crate) fn session_of(alloc: Global, text: &str) -> Result<Session, Fail> {
     Ok(Session::read(alloc, text.as_bytes())?)
 }
 
 /// What signs with a secret of 32 times one byte.
-fn scheme_of(alloc: Global, session: &Session, secret: u8) -> Result<LmsScheme, AllocError> {
+pub(crate) fn scheme_of(
+    alloc: Global,
+    session: &Session,
+    secret: u8,
+) -> Result<LmsScheme, AllocError> {
     let signer = SecretKey::make(alloc, session.params(), &ID, &[secret; 32])?;
     Ok(LmsScheme::new(signer))
 }
 
 /// What a datagram begins with, up to its round.
-fn front(alloc: Global, kind: u8, from: u8, to: u8, round: u8) -> Result<Vec<u8>, AllocError> {
+pub(crate) fn front(
+    alloc: Global,
+    kind: u8,
+    from: u8,
+    to: u8,
+    round: u8,
+) -> Result<Vec<u8>, AllocError> {
     let mut bytes = [0xba, 0x47, 1, kind].to_vec(alloc)?;
     bytes.extend_from_slice(&ID)?;
     bytes.extend_from_slice(&[0, from, 0, to, 0, 0, 0, round])?;
@@ -65,7 +75,7 @@ fn front(alloc: Global, kind: u8, from: u8, to: u8, round: u8) -> Result<Vec<u8>
 }
 
 /// Adds the signature of a message to it.
-fn sign(
+pub(crate) fn sign(
     rt: &impl Abort,
     alloc: Global,
     scheme: &LmsScheme,
@@ -88,7 +98,7 @@ fn add_window(bytes: &mut Vec<u8>, rows: [u8; 4]) -> Result<(), AllocError> {
 }
 
 /// The CASE that peer 1 as responder sends peer 2 in round 6, signed with a leaf. It promises update (4, 7), and its cipher is all zeros.
-fn case_of(
+pub(crate) fn case_of(
     rt: &impl Abort,
     alloc: Global,
     scheme: &LmsScheme,
@@ -105,7 +115,7 @@ fn case_of(
 }
 
 /// A KEY of peer 1 to peer 2 for a side of that exchange, signed with a leaf.
-fn key_of(
+pub(crate) fn key_of(
     rt: &impl Abort,
     alloc: Global,
     scheme: &LmsScheme,
@@ -155,7 +165,7 @@ fn line(
 }
 
 /// A datagram with its last byte changed.
-fn changed(alloc: Global, datagram: &[u8]) -> Result<Vec<u8>, AllocError> {
+pub(crate) fn changed(alloc: Global, datagram: &[u8]) -> Result<Vec<u8>, AllocError> {
     let mut bytes = datagram.to_vec(alloc)?;
     if let Some(byte) = bytes.last_mut() {
         *byte ^= 1;

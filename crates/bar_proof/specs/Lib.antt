@@ -1,0 +1,4 @@
+pub mod Needs
+pub mod ProofFile
+pub mod Laws
+pub mod Packing

@@ -1,0 +1,50 @@
+-- What packing writes, and why it is refused.
+use Rattle.std.specs.Prelude.{◌≡◌, ℕ, List, Some, None, Ok, Err}
+use Rattle.bar_terms.specs.Table.{Lists, digests_of}
+use Rattle.bar_rules.specs.Member.{Session}
+use Rattle.bar_rules.specs.Judge.Verdict.{Fault, Shown, NotShown as NothingShown, verdict}
+use Rattle.bar_judge.specs.TableFile.{lists_of, table_bytes, table_of}
+use Rattle.bar_judge.specs.Verdicts.{plain_why}
+use Rattle.bar_judge.specs.declared.table_fault.TableFault.{TableFault}
+use Rattle.bar_judge.specs.declared.table_fault.TableFault.TheVariants as tables
+use Rattle.bar_proof.specs.declared.pack_fault.PackFault.{PackFault}
+use Rattle.bar_proof.specs.declared.pack_fault.PackFault.TheVariants.{Table, Evidence, NotShown, NoMemory}
+use Rattle.bar_proof.specs.Needs.{needs}
+use Rattle.bar_proof.specs.ProofFile.{evidence_of, manifests_for, proof_bytes, proof_verdict}
+use Rattle.bar_proof.specs.Laws.{Carry}
+
+-- The manifests of a table file that evidence needs.
+abbrev pub needed_manifests : Session → Lists → List (List ℕ) → List (List ℕ) → List (List ℕ)
+needed_manifests s lists manifests datagrams = manifests_for s (needs s (digests_of lists) datagrams) manifests
+
+-- The bytes are a proof file of evidence, which a table file shows, and of what it needs of that file's manifests.
+pub record IsPacked (s : Session) (table evidence bytes : List ℕ) : Type 0 where
+  -- the table file is that of some manifests, and the evidence that of some datagrams, which show a fault under it
+  pub manifests : List (List ℕ)
+  pub lists : Lists
+  pub table_is : table ≡ table_bytes manifests
+  pub lists_are : lists_of s 0 manifests ≡ Some lists
+  pub datagrams : List (List ℕ)
+  pub evidence_is : evidence_of evidence ≡ Some datagrams
+  pub party : ℕ
+  pub fault : Fault
+  pub shown : verdict s (digests_of lists) datagrams ≡ Shown party fault
+  -- the file has the evidence and what it needs: one manifest at most, and none where the evidence is shown without
+  pub is : bytes ≡ proof_bytes (needed_manifests s lists manifests datagrams) datagrams
+  pub carried : Carry s datagrams party fault (needed_manifests s lists manifests datagrams)
+  -- it is judged alike
+  pub judged : proof_verdict s bytes ≡ Ok (Shown party fault)
+
+-- This is the first cause why nothing is packed.
+abbrev pub IsRefused : Session → List ℕ → List ℕ → PackFault → Type 0
+IsRefused s table evidence (Table at) = table_of s table ≡ Err (tables.BadEntry at)
+IsRefused s table evidence Evidence = (lists : Lists) × (table_of s table ≡ Ok lists) × (evidence_of evidence ≡ None)
+IsRefused s table evidence (NotShown why) =
+    (lists : Lists) × (datagrams : List (List ℕ)) × (table_of s table ≡ Ok lists) × (evidence_of evidence ≡ Some datagrams)
+    × (verdict s (digests_of lists) datagrams ≡ NothingShown (plain_why why))
+IsRefused s table evidence NoMemory = Unit {0}
+
+-- what a fault of a table file is to packing
+abbrev pub fault_of_table : TableFault → PackFault
+fault_of_table (tables.BadEntry at) = Table at
+fault_of_table tables.NoMemory = NoMemory
