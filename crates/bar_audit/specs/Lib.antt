@@ -1,0 +1,9 @@
+pub mod Recordings
+pub mod Found
+pub mod Exchanges
+pub mod Runs
+pub mod Laws
+pub mod Sides
+pub mod Findings
+pub mod Shown
+pub mod Given
