@@ -5,5 +5,6 @@ pub mod Runs
 pub mod Laws
 pub mod Sides
 pub mod Findings
+pub mod Balance
 pub mod Shown
 pub mod Given

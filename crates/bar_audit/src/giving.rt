@@ -1,10 +1,12 @@
 //! What the bytes of a datagram in a party's recording add.
-ghost use Rattle.std.specs.Prelude.{◌≡◌, ◌+◌, ◌≤◌, Some, OnOk, IfSome, option_map};
+ghost use Rattle.std.specs.Prelude.{◌≡◌, ◌+◌, ◌≤◌, false, Some, OnOk, IfSome, option_map, if◌then◌else◌};
+ghost use Rattle.std.specs.Option.{option_map_or};
 ghost use Rattle.bar_wire.specs.Places.{datagram_of};
 ghost use Rattle.bar_wire.specs.Views.{datagram};
 ghost use Rattle.bar_rules.specs.Verifiers.{IsVerifierOf};
 ghost use Rattle.bar_judge.specs.Parts.{IsRead};
-ghost use Rattle.bar_audit.specs.Given.{GivesKey, GivesTerms};
+ghost use Rattle.bar_audit.specs.Findings.{AreKeptWindows, KeepsExchanges};
+ghost use Rattle.bar_audit.specs.Given.{GivesCase, GivesKey, is_told};
 
 use crate::findings::{Findings, NoMemory};
 use crate::side::Side;
@@ -37,9 +39,14 @@ fn give_view<V: Verifier, L: Ledger>(
 ) -> Result<(), NoMemory>
     requires verifier { IsVerifierOf session.now (V.is_accepted verifier.now) }
     requires read { IsRead session.now.shape view.now }
-    ensures terms { OnOk result (GivesTerms session.now party (Some (datagram session.now.shape view.now)) found.old.cases.entries found.new.cases.entries) }
-    ensures keys { OnOk result (GivesKey session.now party (Some (datagram session.now.shape view.now)) found.old.keys.keys found.new.keys.keys) }
-    ensures cost { steps.new ≤ steps.old + V.most_steps verifier.now }
+    ensures cases { OnOk result (GivesCase session.now party (Some (datagram session.now.shape view.now)) found.old.cases.entries
+        found.new.cases.entries) }
+    ensures keys { OnOk result (GivesKey session.now party (Some (datagram session.now.shape view.now)) found.old.keys.keys
+        found.new.keys.keys) }
+    ensures windows { OnOk result (AreKeptWindows session.now found.old.cases.entries → AreKeptWindows session.now found.new.cases.entries) }
+    ensures exchanges { OnOk result (KeepsExchanges found.old → KeepsExchanges found.new) }
+    ensures cost { steps.new ≤ steps.old
+        + (if is_told party (datagram session.now.shape view.now) then V.most_steps verifier.now else 0) }
 {
     if view.to != party {
         return Ok(());
@@ -59,6 +66,7 @@ fn give_view<V: Verifier, L: Ledger>(
 }
 
 /// Keeps what the bytes of a datagram in the recording of a party show of the side that sent it, if they spell a datagram for this party.
+/// A CASE or a KEY has one verification at most, whose hashes are counted.
 pub(crate) fn give<V: Verifier, L: Ledger>(
     found: &mut Findings,
     session: &Session,
@@ -68,9 +76,14 @@ pub(crate) fn give<V: Verifier, L: Ledger>(
     steps: &mut Steps<L>,
 ) -> Result<(), NoMemory>
     requires verifier { IsVerifierOf session.now (V.is_accepted verifier.now) }
-    ensures terms { OnOk result (GivesTerms session.now party (datagram_of session.now.shape bytes.now) found.old.cases.entries found.new.cases.entries) }
-    ensures keys { OnOk result (GivesKey session.now party (datagram_of session.now.shape bytes.now) found.old.keys.keys found.new.keys.keys) }
-    ensures cost { steps.new ≤ steps.old + V.most_steps verifier.now }
+    ensures cases { OnOk result (GivesCase session.now party (datagram_of session.now.shape bytes.now) found.old.cases.entries
+        found.new.cases.entries) }
+    ensures keys { OnOk result (GivesKey session.now party (datagram_of session.now.shape bytes.now) found.old.keys.keys
+        found.new.keys.keys) }
+    ensures windows { OnOk result (AreKeptWindows session.now found.old.cases.entries → AreKeptWindows session.now found.new.cases.entries) }
+    ensures exchanges { OnOk result (KeepsExchanges found.old → KeepsExchanges found.new) }
+    ensures cost { steps.new ≤ steps.old
+        + (if option_map_or (is_told party) (datagram_of session.now.shape bytes.now) false then V.most_steps verifier.now else 0) }
 {
     match read(bytes, &session.shape()) {
         Some(view) => give_view(found, session, verifier, party, &view, steps),
