@@ -8,3 +8,4 @@ pub mod Findings
 pub mod Balance
 pub mod Shown
 pub mod Given
+pub mod Audits

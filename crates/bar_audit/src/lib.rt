@@ -1,6 +1,8 @@
 //! The auditor: which exchanges of recorded parties are balanced.
 #![tactic(auto)]
 
+mod adding;
+mod audit;
 mod balance;
 mod fault;
 mod findings;
@@ -12,6 +14,8 @@ mod recorded;
 mod recording;
 mod side;
 mod taking;
+mod telling;
 
+pub use audit::Audit;
 pub use fault::AuditFault;
 pub use line::Line;

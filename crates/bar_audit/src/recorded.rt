@@ -1,8 +1,10 @@
 //! Which exchanges are recorded.
 ghost use Rattle.std.specs.Prelude.{◌≡◌, ◌<◌, ◌^◌, filter, OnOk, vec_len};
+ghost use Rattle.bar_audit.specs.Exchanges.{IsRising};
 ghost use Rattle.bar_audit.specs.Findings.{are_given, has_number};
 
 use crate::findings::NoMemory;
+use crate::side::exchanges_are_in_order;
 use bar_window::Exchange;
 use std::alloc::AllocError;
 use std::collections::BTreeSet;
@@ -21,8 +23,10 @@ pub(crate) fn list_recorded(
     parties: &BTreeSet<u16>,
 ) -> Result<(), NoMemory>
     ensures listed { OnOk result (recorded.new.items ≡ filter (are_given parties.now.keys) exchanges.now.keys) }
+    ensures rising { OnOk result (IsRising recorded.new.items) }
     ensures few { OnOk result (vec_len recorded.new < 2 ^ 32) }
 {
+    exchanges_are_in_order();
     recorded.clear();
     for x in exchanges {
         if has_party(parties, x.initiator) && has_party(parties, x.responder) {
