@@ -17,7 +17,7 @@ use Rattle.bar_wire.specs.Inputs.{Input}
 use Rattle.bar_rules.specs.Member.{Session}
 use Rattle.bar_audit.specs.declared.audit.Audit.{Audit}
 use Rattle.bar_audit.specs.declared.fault.AuditFault.{AuditFault}
-use Rattle.bar_audit.specs.declared.fault.AuditFault.TheVariants.{Twice, NoMemory}
+use Rattle.bar_audit.specs.declared.fault.AuditFault.TheVariants.{Twice}
 use Rattle.bar_audit.specs.Audits.{Audits}
 use Rattle.bar_audit.specs.Exchanges.{IsRising, AreRecorded, is_found, is_recorded}
 use Rattle.bar_audit.specs.Findings.{case_at, has_side, has_exchange, has_number, are_given, is_kept, AreKeptWindows, KeepsExchanges}
@@ -151,12 +151,13 @@ are-recorded s recordings ps xs ys is listed rising = record {
   rising = rising;
   exactly = λ x. (
     (λ c.
-    let p = contains-filter (are_given ps) ys x (subst (λ zs. Contains zs x) listed c) in
-    sym (is x) ∙ and_from _ _ p.0 (contains-any (same_exchange x) ys x p.1 (exchange-refl x))),
+        let p = contains-filter (are_given ps) ys x (subst (λ zs. Contains zs x) listed c) in
+        sym (is x) ∙ and_from _ _ p.0 (contains-any (same_exchange x) ys x p.1 (exchange-refl x))),
     (λ t.
-    let p = and_parts (are_given ps x) (has_exchange ys x) (is x ∙ t) in
-    subst (λ zs. Contains zs x) (sym listed)
-    (filter-contains (are_given ps) ys x (Contains-from_any same_exchange-is x ys p.1) p.0)));
+        let p = and_parts (are_given ps x) (has_exchange ys x) (is x ∙ t) in
+        subst (λ zs. Contains zs x) (sym listed)
+        (filter-contains (are_given ps) ys x (Contains-from_any same_exchange-is x ys p.1) p.0)),
+  );
 }
 
 pub audits-more : (s : Session) (recordings : List Recording) (a b : Audit) (party : ℕ) (inputs : List Input) → Audits s recordings a

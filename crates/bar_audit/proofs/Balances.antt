@@ -1,13 +1,13 @@
 -- Whether a side is paid, by what is kept of both.
-use Rattle.std.proofs.Common.{◌≡◌, Bool, true, false, List, refl, sym, ap, ◌∙◌, subst, not, ◌||◌}
-use Rattle.std.specs.Prelude.{Option, Some, None, option_map, IfSome}
+use Rattle.std.proofs.Common.{◌≡◌, Bool, true, false, List, sym, ap, ◌∙◌, subst, not, ◌||◌}
+use Rattle.std.specs.Prelude.{Option, Some, option_map, IfSome}
 use Rattle.std.specs.Borrow.{Bor}
 use Rattle.std.specs.Map.{lookup}
 use Rattle.std.specs.Option.{option_map_or, option_copied}
 use Rattle.bar_window.specs.declared.exchange.Exchange.{Exchange}
 use Rattle.bar_window.specs.declared.exchange.Role.{Role}
 use Rattle.bar_window.specs.Exchange.{other_role}
-use Rattle.bar_window.specs.Terms.{Terms, plain_terms}
+use Rattle.bar_window.specs.Terms.{plain_terms}
 use Rattle.bar_wire.specs.Views.{AreTermWindows}
 use Rattle.bar_rules.specs.Member.{Session}
 use Rattle.bar_rules.specs.Peer.Admission.{same_terms}
@@ -15,7 +15,7 @@ use Rattle.bar_audit.specs.declared.findings.Findings.{Findings}
 use Rattle.bar_audit.specs.declared.kept.KeptCase.{KeptCase}
 use Rattle.bar_audit.specs.declared.side.Side.{Side}
 use Rattle.bar_audit.specs.Balance.{has_those, is_paid_by}
-use Rattle.bar_audit.specs.Findings.{plain_case, case_at, has_side, AreKeptWindows}
+use Rattle.bar_audit.specs.Findings.{plain_case, has_side, AreKeptWindows}
 use Rattle.bar_audit.specs.Found.{Promised}
 use Rattle.bar_audit.specs.Sides.{is_side, side_at}
 

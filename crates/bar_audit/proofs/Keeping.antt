@@ -1,6 +1,6 @@
 -- What stays known of the exchanges of which something is kept, once one side more is kept.
 use Rattle.std.proofs.Common.{◌≡◌, Bool, true, false, List, refl, sym, ap, ◌∙◌, cond, ◌||◌, ◌&&◌}
-use Rattle.std.specs.Prelude.{Option, Some, None, option_map, is_some}
+use Rattle.std.specs.Prelude.{Option, Some, option_map, is_some}
 use Rattle.std.specs.Map.{lookup}
 use Rattle.bar_window.specs.declared.exchange.Exchange.{Exchange}
 use Rattle.bar_window.specs.declared.exchange.Role.{Role}

@@ -1,5 +1,5 @@
 -- Windows of the same rounds are told apart by their words.
-use Rattle.std.proofs.Common.{◌≡◌, ℕ, ◌*◌, Bool, true, false, List, refl, sym, ap, ◌∙◌}
+use Rattle.std.proofs.Common.{◌≡◌, ◌*◌, Bool, true, false, refl, sym, ap, ◌∙◌}
 use Rattle.std.specs.Prelude.{IsTrue, ◌↔◌, map}
 use Rattle.bar_window.specs.declared.window.Window.{Window}
 use Rattle.bar_window.specs.Places.{set_places, update_at, words_in}

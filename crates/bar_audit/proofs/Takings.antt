@@ -1,5 +1,5 @@
 -- What a recording adds, input by input.
-use Rattle.std.proofs.Common.{◌≡◌, ℕ, ◌+◌, ◌*◌, ◌≤◌, Bool, true, false, List, [], ◌∷◌, refl, sym, ap, ◌∙◌, subst, cond, suc, ◌||◌, ◌&&◌, eqb, arith}
+use Rattle.std.proofs.Common.{◌≡◌, ℕ, ◌+◌, ◌*◌, ◌≤◌, Bool, true, false, List, [], ◌∷◌, refl, sym, ap, ◌∙◌, subst, cond, suc, ◌||◌, eqb, arith}
 use Rattle.std.specs.Prelude.{Option, Some, None, option_map, option_and_then, find, filter, length, if◌then◌else◌}
 use Rattle.std.specs.List.{list_any, cons_option}
 use Rattle.std.specs.Option.{option_map_or, option_or}
@@ -60,7 +60,7 @@ taken-tick s party all left rest old now before after most e t =
 shown-first : (s : Session) (side : Side) (d : Datagram) (ds : List Datagram)
     → option_map (promised_by s) (option_and_then (λ (d : Datagram). briefcase_in d.message.body) (find (is_case s side.x side.role) (d ∷ ds)))
     ≡ option_or (case_shown s side d)
-        (option_map (promised_by s) (option_and_then (λ (d : Datagram). briefcase_in d.message.body) (find (is_case s side.x side.role) ds)))
+    (option_map (promised_by s) (option_and_then (λ (d : Datagram). briefcase_in d.message.body) (find (is_case s side.x side.role) ds)))
 shown-first s side d ds = go (is_case s side.x side.role d) refl
   where
     whole : (o : Option Briefcase) (rest : Option Promised) → option_map_or (can_be_opened s side.x) o false ≡ true
@@ -79,7 +79,7 @@ shown-first s side d ds = go (is_case s side.x side.role d) refl
 shown-more : (s : Session) (side : Side) (o : Option Datagram) (ds : List Datagram)
     → option_map (promised_by s) (option_and_then (λ (d : Datagram). briefcase_in d.message.body) (find (is_case s side.x side.role) (cons_option o ds)))
     ≡ option_or (option_and_then (case_shown s side) o)
-        (option_map (promised_by s) (option_and_then (λ (d : Datagram). briefcase_in d.message.body) (find (is_case s side.x side.role) ds)))
+    (option_map (promised_by s) (option_and_then (λ (d : Datagram). briefcase_in d.message.body) (find (is_case s side.x side.role) ds)))
 shown-more s side None ds = refl
 shown-more s side (Some d) ds = shown-first s side d ds
 

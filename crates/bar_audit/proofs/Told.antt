@@ -1,5 +1,5 @@
 -- Whether exchanges are balanced, by what an auditor keeps.
-use Rattle.std.proofs.Common.{◌≡◌, Bool, true, false, List, refl, sym, ap, ◌∙◌, not, ◌&&◌, ◌||◌}
+use Rattle.std.proofs.Common.{◌≡◌, false, List, refl, ap, ◌∙◌, not, ◌&&◌, ◌||◌}
 use Rattle.std.specs.Prelude.{Option, Some, None, option_map, find}
 use Rattle.std.specs.Option.{option_map_or}
 use Rattle.bar_window.specs.declared.exchange.Exchange.{Exchange}
@@ -11,7 +11,7 @@ use Rattle.bar_rules.specs.Member.{Session}
 use Rattle.bar_audit.specs.declared.audit.Audit.{Audit}
 use Rattle.bar_audit.specs.Audits.{Audits}
 use Rattle.bar_audit.specs.Balance.{has_those, is_paid_by, is_balanced_by}
-use Rattle.bar_audit.specs.Exchanges.{has_terms, is_paid, is_balanced, unbalanced}
+use Rattle.bar_audit.specs.Exchanges.{has_terms, is_paid, unbalanced}
 use Rattle.bar_audit.specs.Found.{Promised, promised_by, case_from, has_key_from}
 use Rattle.bar_audit.specs.Recordings.{Recording}
 

@@ -19,7 +19,7 @@ abbrev pub is_paid_by : Findings → Exchange → Role → Bool
 is_paid_by f x role =
     not (has_side f.keys.keys (side_at x role))
     || option_map_or (λ (p : Promised). has_those p.terms (case_at f.cases.entries (side_at x role)))
-        (case_at f.cases.entries (side_at x (other_role role))) false
+    (case_at f.cases.entries (side_at x (other_role role))) false
 
 abbrev pub is_balanced_by : Findings → Exchange → Bool
 is_balanced_by f x = is_paid_by f x Initiator && is_paid_by f x Responder

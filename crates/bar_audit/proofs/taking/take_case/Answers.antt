@@ -1,7 +1,5 @@
-use Rattle.std.proofs.Common.{rules, ◌≡◌, ◌∙◌, ap, sym, Some}
+use Rattle.std.proofs.Common.{rules, ◌≡◌, ◌∙◌, sym}
 use Rattle.bar_judge.specs.Parts.{plain_briefcase}
-use Rattle.bar_wire.specs.Datagram.{Datagram, Briefcase}
-use Rattle.bar_wire.specs.Bodies.{briefcase_in}
 use Rattle.bar_wire.specs.Views.{datagram}
 use Rattle.bar_audit.specs.Found.{can_be_opened, promised_by}
 use Rattle.bar_audit.proofs.Taken.{nothing-kept, on-ok, case-unopened, case-unsigned, case-taken, none-opens, some-opens, case-put, windows-put}
@@ -25,7 +23,7 @@ returns-then-not-is_accepted-clause-kept g c =
 pub returns-clause-kept : goal.returns-clause-kept
 returns-clause-kept g c =
     let opened = some-opens c.kept_of.result c.in-Some-kept_of.kept
-        (can_be_opened c.args.session.now c.args.side.x (plain_briefcase c.in-Some.case)) _ c.kept_of.ensures.value c.in-Some-kept_of.is in
+    (can_be_opened c.args.session.now c.args.side.x (plain_briefcase c.in-Some.case)) _ c.kept_of.ensures.value c.in-Some-kept_of.is in
     on-ok c.put_case.result _ _ (λ kept.
     case-taken c.args.session.now (datagram c.args.session.now.shape c.args.view.now) c.args.side (plain_briefcase c.in-Some.case)
     c.args.found.now.cases.entries c.put_case.new.self.cases.entries c.requires.kind c.requires.place (sym c.in-Some.ensures.told)

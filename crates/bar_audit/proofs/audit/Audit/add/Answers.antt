@@ -1,4 +1,4 @@
-use Rattle.std.proofs.Common.{rules, ◌≡◌, ◌∙◌, ◌||◌, ℕ, sym, ap, eqb, true, false, Err}
+use Rattle.std.proofs.Common.{rules, ◌≡◌, ◌∙◌, ◌||◌, ℕ, sym, ap, eqb, false, Err}
 use Rattle.std.proofs.lemmas.Result.{err_from_is_err_and}
 use Rattle.bar_record.specs.Inputs.{inputs_left}
 use Rattle.bar_audit.specs.declared.fault.AuditFault.TheVariants.{Twice, NoMemory}
@@ -34,7 +34,7 @@ pub returns-clause-added : goal.returns-clause-added
 returns-clause-added g c = λ recordings at.
     let fresh : has_number c.args.self.parties.keys c.args.party ≡ false = search rules in
     let added : (p : ℕ) → has_number c.insert.new.self.keys p ≡ (eqb c.args.party p || has_number c.args.self.parties.keys p) =
-        (λ p. kept-key _ eqb nat-tells c.args.self.parties.keys c.insert.new.self.keys c.args.party p (c.in_ok-insert.ensures.updates.0 p)) in
+    (λ p. kept-key _ eqb nat-tells c.args.self.parties.keys c.insert.new.self.keys c.args.party p (c.in_ok-insert.ensures.updates.0 p)) in
     audits-more c.args.session.now recordings c.args.self _ c.args.party (inputs_left c.args.items) at (sym (at.parties c.args.party) ∙ fresh)
     added c.in_ok-give_all.ensures.cases c.in_ok-give_all.ensures.keys c.in_ok-give_all.ensures.windows c.in_ok-give_all.ensures.exchanges
     c.in_ok-list_recorded.ensures.listed c.in_ok-list_recorded.ensures.rising

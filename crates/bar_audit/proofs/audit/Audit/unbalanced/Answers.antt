@@ -1,8 +1,6 @@
-use Rattle.std.proofs.Common.{◌≡◌, ◌∙◌, ◌+◌, sym, ap, not, suc, arith, false, Some, None}
-use Rattle.std.specs.Prelude.{find, drop, slice_index_or}
-use Rattle.std.proofs.Math.ListN.{drop_of_length-le}
+use Rattle.std.proofs.Common.{◌∙◌, sym, ap, not}
+use Rattle.std.specs.Prelude.{find}
 use Rattle.bar_audit.specs.Balance.{is_balanced_by}
-use Rattle.bar_audit.specs.Exchanges.{unbalanced}
 use Rattle.bar_audit.proofs.Lists.{find-past, find-here, find-none}
 use Rattle.bar_audit.proofs.Told.{unbalanced-is}
 use Rattle.bar_audit.proofs.audit.Audit.unbalanced.Goals as goal
