@@ -1,0 +1,11 @@
+pub mod Recordings
+pub mod Found
+pub mod Exchanges
+pub mod Runs
+pub mod Laws
+pub mod Sides
+pub mod Findings
+pub mod Balance
+pub mod Shown
+pub mod Given
+pub mod Audits

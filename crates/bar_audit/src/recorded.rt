@@ -1,0 +1,40 @@
+//! Which exchanges are recorded.
+ghost use Rattle.std.specs.Prelude.{◌≡◌, ◌<◌, ◌^◌, filter, OnOk, vec_len};
+ghost use Rattle.bar_audit.specs.Exchanges.{IsRising};
+ghost use Rattle.bar_audit.specs.Findings.{are_given, has_number};
+
+use crate::findings::NoMemory;
+use crate::side::exchanges_are_in_order;
+use bar_window::Exchange;
+use std::alloc::AllocError;
+use std::collections::BTreeSet;
+
+/// Whether a party is among some.
+fn has_party(parties: &BTreeSet<u16>, party: u16) -> bool
+    ensures { result ≡ has_number parties.now.keys party }
+{
+    parties.contains(&party)
+}
+
+/// Lists those of some exchanges, in order, whose parties are both given: at most 2 to the 32 of them but one.
+pub(crate) fn list_recorded(
+    recorded: &mut Vec<Exchange>,
+    exchanges: &BTreeSet<Exchange>,
+    parties: &BTreeSet<u16>,
+) -> Result<(), NoMemory>
+    ensures listed { OnOk result (recorded.new.items ≡ filter (are_given parties.now.keys) exchanges.now.keys) }
+    ensures rising { OnOk result (IsRising recorded.new.items) }
+    ensures few { OnOk result (vec_len recorded.new < 2 ^ 32) }
+{
+    exchanges_are_in_order();
+    recorded.clear();
+    for x in exchanges {
+        if has_party(parties, x.initiator) && has_party(parties, x.responder) {
+            if recorded.len() >= u32::MAX as usize {
+                return Err(AllocError);
+            }
+            recorded.push(*x)?;
+        }
+    }
+    Ok(())
+}

@@ -1,0 +1,229 @@
+//! What an auditor tells of one exchange, by the recordings of both its parties. The keys are by a Python program written from RFC 8554.
+ghost use Rattle.std.specs.Prelude.{◌≡◌, ◌<◌};
+
+use bar_audit::{Audit, AuditFault, Line};
+use bar_bytes::Steps;
+use bar_lms::SecretKey;
+use bar_record::{Items, head, read};
+use bar_roster::Session;
+use bar_seal::{LmsScheme, LmsVerifier, Scheme, Verifier};
+use bar_window::{Exchange, XKind};
+use std::alloc::{AllocError, Global};
+use std::marker::Brand;
+use std::process::Abort;
+use std::sync::ledger::{Blank, Ledger};
+use std::test::Fail;
+
+const ID: [u8; 8] = [0x00, 0x11, 0x22, 0x33, 0x44, 0x55, 0x66, 0x77];
+
+/// A session of two peers and ten rounds, whose secrets are 32 times 8 and 9. That of its broadcaster is 32 times 7.
+const SESSION: &str = "version = 1\nid = \"0011223344556677\"\nrounds = 10\nlife = 4\ncap = 4\n\
+    per_round = 8\nfanout = 1\nport = 20000\ntick_ms = 20\nlms = 6\nots = 1\n\
+    key = \"00000006000000018d1e3644fdcc75d960cb49ec946968481554a91f1289fa02a0336e795ad4b25490e95e447533fc4da8ff8806af933922\"\n\n[[peer]]\n\
+    key = \"00000006000000012ef17295b2b2463d8d9beef9c2b84a1588e44acc6e2efaa4ccc770a8e5c237a6264b1ba299000f8607cc9b43de9271c5\"\n\
+    anchor = \"0f6658ab7e90dda684f49951ffa7345a50488289b1681527c9b1fba610ef4502\"\n\n[[peer]]\n\
+    key = \"0000000600000001d87398929b1937843f54974546a2b8d69290230c2d8089b9aee1c81336271d5c67dd566098385c583070d2ad05ddd8b1\"\n\
+    anchor = \"22d984a93475a329dd35bccd254007ee8d81f582aaf64ee95e3bfea93bfbea63\"\n";
+
+/// The number of the session's last tick.
+const LAST: u32 = 120;
+
+/// The balanced exchange of round 6, which peer 1 initiates with peer 2.
+const X: Exchange = Exchange {
+    round: 6,
+    kind: XKind::Balanced,
+    initiator: 1,
+    responder: 2,
+};
+
+/// What signs with a secret of 32 times one byte.
+fn scheme_of(alloc: Global, session: &Session, secret: u8) -> Result<LmsScheme, AllocError> {
+    let signer = SecretKey::make(alloc, session.params(), &ID, &[secret; 32])?;
+    Ok(LmsScheme::new(signer))
+}
+
+/// What a datagram begins with, up to its round.
+fn front(alloc: Global, kind: u8, from: u8, to: u8, round: u8) -> Result<Vec<u8>, AllocError> {
+    let mut bytes = [0xba, 0x47, 1, kind].to_vec(alloc)?;
+    bytes.extend_from_slice(&ID)?;
+    bytes.extend_from_slice(&[0, from, 0, to, 0, 0, 0, round])?;
+    Ok(bytes)
+}
+
+/// Adds the signature of a message to it.
+fn sign(
+    rt: &impl Abort,
+    alloc: Global,
+    scheme: &LmsScheme,
+    leaf: u32,
+    message: &mut Vec<u8>,
+) -> Result<(), AllocError> {
+    let leaves = scheme.leaves();
+    assert!(rt; leaf < leaves);
+    let mut sig = vec![in alloc; 0; scheme.sig_len()]?;
+    scheme.sign(leaf, message, &mut sig);
+    message.extend_from_slice(&sig)
+}
+
+/// The bytes of a window of four rounds by the lowest byte of each word.
+fn add_window(bytes: &mut Vec<u8>, rows: [u8; 4]) -> Result<(), AllocError> {
+    for row in rows {
+        bytes.extend_from_slice(&[0, 0, 0, 0, 0, 0, 0, row])?;
+    }
+    Ok(())
+}
+
+/// A datagram with its last byte changed.
+fn changed(alloc: Global, datagram: &[u8]) -> Result<Vec<u8>, AllocError> {
+    let mut bytes = datagram.to_vec(alloc)?;
+    if let Some(byte) = bytes.last_mut() {
+        *byte ^= 1;
+    }
+    Ok(bytes)
+}
+
+/// The CASE of a peer, the initiator for role 0, to the other one. It promises one update, and its cipher is all zeros.
+fn case_of(
+    rt: &impl Abort,
+    alloc: Global,
+    scheme: &LmsScheme,
+    from: u8,
+) -> Result<Vec<u8>, AllocError> {
+    let (to, role) = if from == 1 { (2, 0) } else { (1, 1) };
+    let mut bytes = front(alloc, 8, from, to, 6)?;
+    bytes.extend_from_slice(&[0, role, 1, 0])?;
+    bytes.extend_from_slice(&[0; 32])?;
+    add_window(&mut bytes, [5, 0, 10, 0])?;
+    add_window(&mut bytes, [4, 0x80, 0, 0])?;
+    bytes.extend_from_slice(&[0; 1024])?;
+    sign(rt, alloc, scheme, 1, &mut bytes)?;
+    Ok(bytes)
+}
+
+/// The KEY of a peer for its side.
+fn key_of(
+    rt: &impl Abort,
+    alloc: Global,
+    scheme: &LmsScheme,
+    from: u8,
+) -> Result<Vec<u8>, AllocError> {
+    let (to, role) = if from == 1 { (2, 0) } else { (1, 1) };
+    let mut bytes = front(alloc, 10, from, to, 6)?;
+    bytes.extend_from_slice(&[0, role])?;
+    bytes.extend_from_slice(&[0; 32])?;
+    sign(rt, alloc, scheme, 2, &mut bytes)?;
+    Ok(bytes)
+}
+
+/// The recording of a party that took some datagrams and one tick.
+fn recording_of(alloc: Global, party: u16, datagrams: &[&Vec<u8>]) -> Result<Vec<u8>, AllocError> {
+    let mut bytes = head(&ID, party).to_vec(alloc)?;
+    bytes.push(1)?;
+    for datagram in datagrams {
+        let len = datagram.len();
+        bytes.extend_from_slice(&[2, (len / 256 % 256) as u8, (len % 256) as u8])?;
+        bytes.extend_from_slice(datagram)?;
+    }
+    bytes.push(0)?;
+    Ok(bytes)
+}
+
+/// An auditor that is given one recording more.
+fn add<L: Ledger>(
+    audit: Audit,
+    session: &Session,
+    party: u16,
+    items: Items<'_>,
+    steps: &mut Steps<L>,
+) -> Result<Audit, AuditFault> {
+    let _top = session.top();
+    let verifier = LmsVerifier::new(session.params());
+    audit.add(session, &verifier, party, items, steps)
+}
+
+/// An auditor that is given recordings in turn.
+fn audit_with<L: Ledger>(
+    alloc: Global,
+    session: &Session,
+    recordings: &[(u16, Items<'_>)],
+    blank: Blank,
+) -> Result<Audit, AuditFault>
+    requires name { blank.name ≡ L.name }
+    requires parts { blank.parts ≡ L.parts }
+    requires some { 0 < L.parts }
+{
+    let mut steps = Steps::<L>::new(blank);
+    let mut audit = Audit::make(alloc);
+    for (party, items) in recordings {
+        audit = add(audit, session, *party, *items, &mut steps)?;
+    }
+    Ok(audit)
+}
+
+fn audit_of(
+    alloc: Global,
+    session: &Session,
+    recordings: &[(u16, Items<'_>)],
+) -> Result<Audit, AuditFault> {
+    audit_with::<Brand>(alloc, session, recordings, Blank::new(1))
+}
+
+/// Compares what is told of the recordings of both parties with a line of the exchange, and with whether it is balanced.
+fn expect(
+    rt: &impl Abort,
+    alloc: Global,
+    session: &Session,
+    datagrams: ([&Vec<u8>; 2], [&Vec<u8>; 2]),
+    line: ([u8; 2], [bool; 2]),
+    balanced: bool,
+) -> Result<(), Fail> {
+    let (by_one, by_two) = datagrams;
+    let by_one = recording_of(alloc, 1, &by_one)?;
+    let by_two = recording_of(alloc, 2, &by_two)?;
+    let by_one = read(&by_one, &ID, 1, LAST)?;
+    let by_two = read(&by_two, &ID, 2, LAST)?;
+    let audit = audit_of(alloc, session, &[(1, by_one), (2, by_two)])?;
+    let (cases, keys) = line;
+    assert_eq!(rt; audit.line(0), Some(Line { x: X, cases, keys }));
+    assert_eq!(rt; (audit.len(), audit.line(1)), (1, None));
+    let expected = if balanced { None } else { Some(X) };
+    assert_eq!(rt; audit.unbalanced(), expected);
+    Ok(())
+}
+
+#[test]
+fn what_was_received_is_told(rt: HostRuntime) -> Result<(), Fail> {
+    let alloc = rt.alloc();
+    let session = Session::read(alloc, SESSION.as_bytes())?;
+    let one = scheme_of(alloc, &session, 8)?;
+    let two = scheme_of(alloc, &session, 9)?;
+    let case = case_of(&rt, alloc, &one, 1)?;
+    let key = key_of(&rt, alloc, &one, 1)?;
+    let answer = case_of(&rt, alloc, &two, 2)?;
+    let back = key_of(&rt, alloc, &two, 2)?;
+    let forged = changed(alloc, &back)?;
+    let both = ([&answer, &back], [&case, &key]);
+    expect(&rt, alloc, &session, both, ([1, 1], [true, true]), true)?;
+    let kept_back = ([&forged, &forged], [&case, &key]);
+    let line = ([1, 0], [true, false]);
+    expect(&rt, alloc, &session, kept_back, line, false)?;
+    let for_others = ([&case, &key], [&answer, &key]);
+    let line = ([0, 0], [true, false]);
+    expect(&rt, alloc, &session, for_others, line, false)?;
+    Ok(())
+}
+
+#[test]
+fn an_exchange_of_one_recording_is_not_told(rt: HostRuntime) -> Result<(), Fail> {
+    let alloc = rt.alloc();
+    let session = Session::read(alloc, SESSION.as_bytes())?;
+    let one = scheme_of(alloc, &session, 8)?;
+    let case = case_of(&rt, alloc, &one, 1)?;
+    let bytes = recording_of(alloc, 2, &[&case])?;
+    let items = read(&bytes, &ID, 2, LAST)?;
+    let audit = audit_of(alloc, &session, &[(2, items)])?;
+    assert_eq!(rt; (audit.len(), audit.unbalanced()), (0, None));
+    let twice = audit_of(alloc, &session, &[(2, items), (2, items)]);
+    assert!(rt; matches!(twice, Err(AuditFault::Twice)));
+    Ok(())
+}
