@@ -3,10 +3,11 @@ ghost use Rattle.std.specs.Prelude.{◌≡◌, ◌<◌};
 
 use bar_audit::{Audit, AuditFault, Line};
 use bar_bytes::Steps;
+use bar_hss::SessionVerifier;
 use bar_lms::SecretKey;
 use bar_record::{Items, head, read};
 use bar_roster::Session;
-use bar_seal::{LmsScheme, LmsVerifier, Scheme, Verifier};
+use bar_seal::{LmsScheme, Scheme, Verifier};
 use bar_window::{Exchange, XKind};
 use std::alloc::{AllocError, Global};
 use std::marker::Brand;
@@ -136,8 +137,7 @@ fn add<L: Ledger>(
     items: Items<'_>,
     steps: &mut Steps<L>,
 ) -> Result<Audit, AuditFault> {
-    let _top = session.top();
-    let verifier = LmsVerifier::new(session.params());
+    let verifier = SessionVerifier::of(session);
     audit.add(session, &verifier, party, items, steps)
 }
 

@@ -8,10 +8,11 @@ use crate::verdict_tests::{
     ID, case_of, changed, front, key_of, scheme_of, session, session_of, sign,
 };
 use bar_bytes::Steps;
+use bar_hss::SessionVerifier;
 use bar_judge::{Verdict, Why};
 use bar_proof::{PackFault, ProofFault, judge_proof, pack};
 use bar_roster::Session;
-use bar_seal::{LmsScheme, LmsVerifier};
+use bar_seal::LmsScheme;
 use std::alloc::{AllocError, Global};
 use std::marker::Brand;
 use std::process::Abort;
@@ -31,8 +32,7 @@ fn packed_with<L: Ledger>(
     requires some { 0 < L.parts }
 {
     let _ = session.shape();
-    let _ = session.top();
-    let verifier = LmsVerifier::new(session.params());
+    let verifier = SessionVerifier::of(session);
     let mut steps = Steps::<L>::new(blank);
     pack(alloc, session, &verifier, table, evidence, &mut steps)
 }
@@ -57,8 +57,7 @@ fn judged_with<L: Ledger>(
     requires some { 0 < L.parts }
 {
     let _ = session.shape();
-    let _ = session.top();
-    let verifier = LmsVerifier::new(session.params());
+    let verifier = SessionVerifier::of(session);
     judge_proof(
         alloc,
         session,

@@ -2,6 +2,7 @@
 ghost use Rattle.std.specs.Prelude.{◌≡◌, ◌<◌};
 
 use bar_bytes::Steps;
+use bar_hss::SessionVerifier;
 use bar_judge::{TableFault, add_entry, read_table};
 use bar_lms::SecretKey;
 use bar_roster::Session;
