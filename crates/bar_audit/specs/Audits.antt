@@ -13,7 +13,9 @@ use Rattle.bar_audit.specs.Sides.{side_at}
 -- It knows whose recordings are given, what is found of each side of an exchange, and which exchanges are recorded.
 pub record Audits (s : Session) (recordings : List Recording) (a : Audit) : Type 0 where
   pub parties : (party : ℕ) → has_number a.parties.keys party ≡ is_given recordings party
-  pub cases : (x : Exchange) (role : Role) → case_at a.found.cases.entries (side_at x role) ≡ option_map (promised_by s) (case_from s recordings x role)
+  pub cases :
+      (x : Exchange) (role : Role) → case_at a.found.cases.entries (side_at x role)
+      ≡ option_map (promised_by s) (case_from s recordings x role)
   pub keys : (x : Exchange) (role : Role) → has_side a.found.keys.keys (side_at x role) ≡ has_key_from s recordings x role
   pub windows : AreKeptWindows s a.found.cases.entries
   pub exchanges : KeepsExchanges a.found

@@ -36,8 +36,8 @@ impl Audit {
         }
     }
 
-    /// Adds the recording of a party, whose session is that of the others. Each CASE and KEY to the party has one verification at most, whose
-    /// hashes are counted.
+    /// Adds the recording of a party, whose session is that of the others. Each CASE and KEY to the party has one verification at most,
+    /// whose hashes are counted.
     ///
     /// # Errors
     ///

@@ -43,7 +43,8 @@ fn give_view<V: Verifier, L: Ledger>(
         found.new.cases.entries) }
     ensures keys { OnOk result (GivesKey session.now party (Some (datagram session.now.shape view.now)) found.old.keys.keys
         found.new.keys.keys) }
-    ensures windows { OnOk result (AreKeptWindows session.now found.old.cases.entries → AreKeptWindows session.now found.new.cases.entries) }
+    ensures windows { OnOk result (AreKeptWindows session.now found.old.cases.entries →
+        AreKeptWindows session.now found.new.cases.entries) }
     ensures exchanges { OnOk result (KeepsExchanges found.old → KeepsExchanges found.new) }
     ensures cost { steps.new ≤ steps.old
         + (if is_told party (datagram session.now.shape view.now) then V.most_steps verifier.now else 0) }
@@ -80,7 +81,8 @@ pub(crate) fn give<V: Verifier, L: Ledger>(
         found.new.cases.entries) }
     ensures keys { OnOk result (GivesKey session.now party (datagram_of session.now.shape bytes.now) found.old.keys.keys
         found.new.keys.keys) }
-    ensures windows { OnOk result (AreKeptWindows session.now found.old.cases.entries → AreKeptWindows session.now found.new.cases.entries) }
+    ensures windows { OnOk result (AreKeptWindows session.now found.old.cases.entries →
+        AreKeptWindows session.now found.new.cases.entries) }
     ensures exchanges { OnOk result (KeepsExchanges found.old → KeepsExchanges found.new) }
     ensures cost { steps.new ≤ steps.old
         + (if option_map_or (is_told party) (datagram_of session.now.shape bytes.now) false then V.most_steps verifier.now else 0) }

@@ -2,8 +2,8 @@
 
 use bar_window::Exchange;
 
-/// What an auditor tells of an exchange, by role, the initiator's first: how many items each side's CASE promises, 0 where none was received,
-/// and whether each side's KEY was received.
+/// What an auditor tells of an exchange, by role, the initiator's first: how many items each side's CASE promises, 0 where none was
+/// received, and whether each side's KEY was received.
 #[derive(Clone, Copy, Debug, PartialEq, Eq)]
 pub struct Line {
     pub x: Exchange,

@@ -27,7 +27,8 @@ pub(crate) fn give_all<V: Verifier, L: Ledger>(
     requires verifier { IsVerifierOf session.now (V.is_accepted verifier.now) }
     ensures cases { OnOk result (GivesCases session.now party (inputs_left items.entry) found.old.cases.entries found.new.cases.entries) }
     ensures keys { OnOk result (GivesKeys session.now party (inputs_left items.entry) found.old.keys.keys found.new.keys.keys) }
-    ensures windows { OnOk result (AreKeptWindows session.now found.old.cases.entries → AreKeptWindows session.now found.new.cases.entries) }
+    ensures windows { OnOk result (AreKeptWindows session.now found.old.cases.entries →
+        AreKeptWindows session.now found.new.cases.entries) }
     ensures exchanges { OnOk result (KeepsExchanges found.old → KeepsExchanges found.new) }
     ensures cost { steps.new ≤ steps.old + told session.now party (inputs_left items.entry) * V.most_steps verifier.now }
 {

@@ -84,9 +84,11 @@ pub(crate) fn take_case<V: Verifier, L: Ledger>(
     requires read { IsRead session.now.shape view.now }
     requires kind { kind_of (plain view.now.body) ≡ kinds.Case }
     requires place { place_of (datagram session.now.shape view.now).message ≡ Some (place_at side) }
-    ensures kept { OnOk result (AddsCase session.now (datagram session.now.shape view.now) found.old.cases.entries found.new.cases.entries) }
+    ensures kept { OnOk result (AddsCase session.now (datagram session.now.shape view.now) found.old.cases.entries
+        found.new.cases.entries) }
     ensures keys { found.new.keys ≡ found.old.keys }
-    ensures windows { OnOk result (AreKeptWindows session.now found.old.cases.entries → AreKeptWindows session.now found.new.cases.entries) }
+    ensures windows { OnOk result (AreKeptWindows session.now found.old.cases.entries →
+        AreKeptWindows session.now found.new.cases.entries) }
     ensures exchanges { OnOk result (KeepsExchanges found.old → KeepsExchanges found.new) }
     ensures cost { steps.new ≤ steps.old + V.most_steps verifier.now }
 {

@@ -47,9 +47,10 @@ impl Audit {
 
     /// The first of the recorded exchanges that isn't balanced; `None` exactly where all are.
     ///
-    /// Where it is `None`, each party whose key was received in a recorded exchange holds its partner's briefcase, by whose terms both sides
-    /// promise equally many items, and which has the terms of its own one, if that was received. And it is `None` where each recording lists
-    /// the inputs of a run of its party, and what stands in the recordings as signed by these parties is what they signed.
+    /// Where it is `None`, each party whose key was received in a recorded exchange holds its partner's briefcase, by whose terms both
+    /// sides promise equally many items, and which has the terms of its own one, if that was received. And it is `None` where each
+    /// recording lists the inputs of a run of its party, and what stands in the recordings as signed by these parties is what they
+    /// signed.
     pub fn unbalanced(&self) -> Option<Exchange>
         ensures first { (s : Session) (recordings : List Recording) → Audits s recordings self.now
             → result ≡ unbalanced s recordings self.now.recorded.items }
