@@ -1,5 +1,5 @@
 -- What `keygen` does.
-use Rattle.std.specs.Prelude.{◌≡◌, ◌≢◌, ◌⊎◌, ◌==◌, ℕ, false, List, [], ◌∷◌, ◌++◌, Option, Some, option_map, Ok, Err, Result, take, length, codes, if◌then◌else◌, IsTrue, Unit}
+use Rattle.std.specs.Prelude.{◌≡◌, ◌≢◌, ◌⊎◌, ◌==◌, ℕ, false, List, [], ◌∷◌, ◌++◌, Option, Some, option_map, Ok, Err, Result, take, length, codes, if◌then◌else◌, IsTrue}
 use Rattle.hex.specs.Hex.{encode_lower}
 use Rattle.bar_lms.specs.declared.params.Height.{Height}
 use Rattle.bar_lms.specs.declared.params.Params.{Params}

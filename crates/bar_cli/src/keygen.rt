@@ -6,7 +6,7 @@ ghost use Rattle.bar_outside.specs.Follows.{Follows};
 ghost use Rattle.bar_outside.specs.Ends.{EndsWith};
 ghost use Rattle.bar_lms.specs.Params.{lms_type};
 ghost use Rattle.bar_roster.specs.KeyText.{key_text_of};
-ghost use Rattle.bar_cli.specs.KeygenPlan.{HasFewLeaves, anchor_for, anchor_line, key_line, key_made, keygen_plan, lines_of, public_of, secret_of, secret_plan};
+ghost use Rattle.bar_cli.specs.KeygenPlan.{HasFewLeaves, anchor_for, anchor_line, key_line, key_made, keygen_plan, leaves_for, lines_of, public_of, secret_of, secret_plan};
 ghost use Rattle.bar_cli.specs.Printing.{keygen_may_print};
 ghost use Rattle.bar_cli.specs.Status.{code_of_run, said_by_run, is_keygen_end};
 ghost use Rattle.bar_cli.specs.Views.{keygen_view};
@@ -16,7 +16,7 @@ use crate::status::Status;
 use bar_hss::HssKey;
 use bar_lms::{Height, Params, SecretKey};
 use bar_outside::{Fault, Files, Sink, append_file, create_file, read_file, show_bytes};
-use bar_roster::{KeyData, check_leaves, leaves_of};
+use bar_roster::{KeyData, SessionFault, check_leaves, leaves_of};
 use bar_seeds::SeedChain;
 use std::alloc::{AllocError, Global};
 
@@ -44,11 +44,18 @@ pub fn keygen<F: Files, K: Sink>(
     ensures unread { HasFewLeaves (keygen_view asked.now) → F.disk files.new ≡ F.disk files.old }
     ensures unprinted { keygen_may_print (code_of_run result) ≡ false → K.stream out.new ≡ K.stream out.old }
 {
-    let leaves = leaves_of(asked.types.top, asked.types.params);
-    match check_leaves(asked.rounds, leaves) {
+    match enough_leaves(asked) {
         Ok(()) => keygen_by_secret(alloc, asked, files, out),
         Err(fault) => Ok(Status::SessionRefused(fault)),
     }
+}
+
+// Whether there are enough leaves, or else the fault with both numbers.
+fn enough_leaves(asked: &KeygenWords<'_>) -> Result<(), SessionFault>
+    ensures value { result ≡ leaves_for (keygen_view asked.now) }
+{
+    let types = asked.types;
+    check_leaves(asked.rounds, leaves_of(types.top, types.params))
 }
 
 // Reads the secret and goes on, if it has its length.

@@ -1,5 +1,5 @@
 //! The words of the command line.
-ghost use Rattle.std.specs.Prelude.{◌≡◌, Some, None, Err, IfOk, map, string_bytes};
+ghost use Rattle.std.specs.Prelude.{◌≡◌, ◌≤◌, Some, None, Err, IfOk, map, string_bytes};
 ghost use Rattle.std.specs.Option.{option_map};
 ghost use Rattle.bar_words.specs.Options.{texts};
 ghost use Rattle.bar_words.specs.declared.options.WordsFault.TheVariants.{Usage};
@@ -160,11 +160,15 @@ fn asked_of<'a>(
     requires { most ≤ most_long_rounds }
     ensures { option_map asked_view result ≡ asked_by most (option_map types_view types) party.now id.now rounds.now secret.now key.now }
 {
+    let party = number_in(party, 0, 200)? as u16;
+    let id = id_of(id)?;
+    let rounds = number_in(rounds, 1, most)? as u32;
+    let types = types?;
     Some(KeygenWords {
-        party: number_in(party, 0, 200)? as u16,
-        id: id_of(id)?,
-        rounds: number_in(rounds, 1, most)? as u32,
-        types: types?,
+        party,
+        id,
+        rounds,
+        types,
         secret,
         key,
     })

@@ -3,6 +3,7 @@ use Rattle.std.specs.Borrow.{Bor}
 use Rattle.std.proofs.lemmas.Bool.Decides.{nat_tests}
 use Rattle.bar_lms.specs.declared.params.Height.{Height}
 use Rattle.bar_lms.specs.declared.params.Params.{Params}
+use Rattle.bar_roster.specs.NumberRanges.{most_rounds}
 use Rattle.bar_cli.specs.Line.{asked_by, keygen_values}
 use Rattle.bar_cli.proofs.WordLemmas.{not-seven, seven-are}
 use Rattle.bar_cli.proofs.line.keygen_of.Goals as goal
@@ -21,5 +22,5 @@ returns c =
     let d : Bor (List ℕ) = record { ref_ptr = (0, 0); now = [] } in
     let value : ℕ → List ℕ = λ i. (slice_index_or c.args.values.now i d).now in
     c.asked_of.ensures
-    ∙ ap (λ (types : Option (Option Height × Params)). asked_by _ types (value 0) (value 1) (value 2) (value 5) (value 6)) c.types_of.ensures
+    ∙ ap (λ (types : Option (Option Height × Params)). asked_by most_rounds types (value 0) (value 1) (value 2) (value 5) (value 6)) c.types_of.ensures
     ∙ sym (ap keygen_values (seven-are c.args.values.now d (omega arith)))
