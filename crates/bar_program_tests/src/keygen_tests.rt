@@ -57,16 +57,33 @@ const TEN_ROUNDS_KEY: &str =
     "version = 1\nid = \"0011223344556677\"\nparty = 1\nrounds = 10\nlms = 6\nots = 4\n\
     secret = \"0808080808080808080808080808080808080808080808080808080808080808\"\nspent = false\n";
 
+// A key of two levels, of which both trees have 32 leaves.
+const DOUBLE_SECRET: &str = "a395f5a16802dca59fa7a4d144ebda1d1cf85005ca2961673346126d7d5db3e3";
+
+const DOUBLE: &str =
+    "hsskeygen --party 1 --id cec7978507ff0bdc --rounds 12 --top 5 --ots 4 --secret s --key k";
+
+const DOUBLE_OUT: &str =
+    "key = \"00000002000000050000000475c0fb3a123115b11702c6b6950cbd3b365c39d6aef5022de242573dcb56569b7adb86ba235912fd74aeec4399bc6b87\"\n\
+    anchor = \"18ca5046f09339244042130a73974747e1a473cde04b55e074cd6ac499e87f3b\"\n";
+
+const DOUBLE_KEY: &str =
+    "version = 1\nid = \"cec7978507ff0bdc\"\nparty = 1\nrounds = 12\nlms = 5\nots = 4\ntop = 5\n\
+    secret = \"a395f5a16802dca59fa7a4d144ebda1d1cf85005ca2961673346126d7d5db3e3\"\nspent = false\n";
+
 #[test]
 fn keys_are_made(rt: HostRuntime) -> Result<(), Fail> {
     let alloc = rt.alloc();
     let mut secret = [0u8; 32];
     hex::decode_to_slice(SECRET, &mut secret)?;
+    let mut double_secret = [0u8; 32];
+    hex::decode_to_slice(DOUBLE_SECRET, &mut double_secret)?;
     for (line, secret, out, key) in [
         (PEER, secret, PEER_OUT, PEER_KEY),
         (CASTER, [7; 32], CASTER_OUT, CASTER_KEY),
         (ZEROS, [7; 32], CASTER_OUT, CASTER_KEY),
         (TEN_ROUNDS, [8; 32], TEN_ROUNDS_OUT, TEN_ROUNDS_KEY),
+        (DOUBLE, double_secret, DOUBLE_OUT, DOUBLE_KEY),
     ] {
         let left = run_keygen(alloc, line, &secret, &[], &[])?;
         assert_eq!(rt; left.status, 0);
@@ -168,7 +185,23 @@ fn statuses_and_lines_of_keys(rt: HostRuntime) -> Result<(), Fail> {
     Ok(())
 }
 
-const NO_LINES: [&str; 30] = [
+#[test]
+fn a_key_of_two_levels_needs_leaves(rt: HostRuntime) -> Result<(), Fail> {
+    let alloc = rt.alloc();
+    let line =
+        "hsskeygen --party 1 --id 0011223344556677 --rounds 1821 --top 6 --ots 4 --secret s --key k";
+    let left = run_keygen(alloc, line, &[7; 32], &[], &[])?;
+    assert_eq!(rt; left.status, 4);
+    let said = "bar: session refused: TooFewLeaves need 32778 have 32768\n";
+    assert_eq!(rt; left.outside.err.bytes(), said.as_bytes());
+    assert_eq!(rt;
+        left.outside.files.get("k").unwrap_or(NONE.as_bytes()),
+        NONE.as_bytes()
+    );
+    Ok(())
+}
+
+const NO_LINES: [&str; 35] = [
     "",
     "judges --session s --table t --evidence e",
     "judge --session s --table t",
@@ -203,6 +236,12 @@ const NO_LINES: [&str; 30] = [
     "keygen --party 1 --id 0011223344556677 --rounds 1 --lms 4 --ots 1 --secret s --key k",
     "keygen --party 1 --id 0011223344556677 --rounds 1 --lms 8 --ots 1 --secret s --key k",
     "keygen --party 1 --id 0011223344556677 --rounds 1 --lms 5 --ots 5 --secret s --key k",
+    // of one level with an upper tree, and of two with too many rounds or types out of their ranges
+    "keygen --party 1 --id 0011223344556677 --rounds 1 --top 5 --ots 4 --secret s --key k",
+    "hsskeygen --party 1 --id 0011223344556677 --rounds 1 --lms 5 --ots 4 --secret s --key k",
+    "hsskeygen --party 1 --id 0011223344556677 --rounds 7201 --top 7 --ots 4 --secret s --key k",
+    "hsskeygen --party 1 --id 0011223344556677 --rounds 1 --top 8 --ots 4 --secret s --key k",
+    "hsskeygen --party 1 --id 0011223344556677 --rounds 1 --top 5 --ots 2 --secret s --key k",
 ];
 
 #[test]
