@@ -58,11 +58,15 @@ class Number:
         return f"{numbers}{self.why}"
 
 
+# the ranges of numbers that have others where signatures have two levels
+RANGES_WITH_TOP = {"rounds": (1, 7200), "lms": (LOWER, LOWER), "ots": (3, 4)}
+LONGEST = RANGES_WITH_TOP["rounds"][1]
+
 NUMBERS = {
     "version": Number(min(UPDATES), max(UPDATES), f"the version; by it a round has up to {listed(UPDATES.values(), 'or')} updates"),
     "peers": Number(2, 200, "how many peers there are"),
     "top": Number(5, 7, "the LMS type of the upper tree, where signatures have two levels"),
-    "rounds": Number(1, 1820, "for how many rounds the stream is sent"),
+    "rounds": Number(1, 1820, "for how many rounds the stream is sent", f", or to {LONGEST:,} with top"),
     "life": Number(2, 16, "how many rounds an update lives"),
     "cap": Number(1, 16, "how many items an exchange trades at most"),
     "per_round": Number(1, max(UPDATES.values()), "how many updates a round has at most"),
@@ -73,10 +77,6 @@ NUMBERS = {
     "ots": Number(1, 4, "the LM-OTS type"),
     "party": Number(0, 200, "the party"),
 }
-
-
-# the ranges of numbers that have others where signatures have two levels
-RANGES_WITH_TOP = {"rounds": (1, 7200), "lms": (LOWER, LOWER), "ots": (3, 4)}
 
 
 def range_of(name, numbers):
@@ -162,14 +162,14 @@ def larger_rooms(length, version, rounds, per_round, lms, top):
 
     More rounds than a key of one level has leaves for are told where nothing else has room.
     """
-    pieces, longest, most_updates = -(-length // CONTENT), RANGES_WITH_TOP["rounds"][1], NUMBERS["per_round"].most
+    pieces, most_updates = -(-length // CONTENT), NUMBERS["per_round"].most
     fullest = [(-(-pieces // updates), updates) for updates in sorted({UPDATES[version], most_updates})]
     ways = [*dict.fromkeys([(-(-pieces // per_round), per_round), (rounds, -(-pieces // rounds)), *fullest])]
-    for most_rounds in (most_rounds_of(top), longest):
+    for most_rounds in (most_rounds_of(top), LONGEST):
         having = [way for way in ways if way[0] <= most_rounds and way[1] <= most_updates]
         if having:
             return f"take {' or '.join(told_of_room(*way, version, lms, top) for way in having[:2])}"
-    return f"take a stream of at most {room_of(longest, most_updates):,} bytes, the room of the longest session"
+    return f"take a stream of at most {room_of(LONGEST, most_updates):,} bytes, the room of the longest session"
 
 
 def faults_of_length(length, version, rounds, per_round, lms, top=None):

@@ -61,6 +61,9 @@ class Refusals(RoomCase):
         self.assertEqual((self.faults(**two, rounds=57), self.faults(**two, rounds=56)), ([fault], []))
         self.assertEqual(self.faults(**two | {"top": 7}, rounds=7200), [])
 
+    def test_rounds_that_only_two_levels_have(self):
+        self.assertEqual(self.faults(rounds=1821), ["--rounds is 1821: it has to be a whole number of 1 to 1,820, or to 7,200 with top"])
+
     def test_stream_larger_than_its_room(self):
         self.stream.write_bytes(bytes(2 * 1022 + 1))
         fault = "the stream has 2,045 bytes, and 1 round of 2 updates have room for 2,044"
