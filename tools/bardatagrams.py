@@ -32,8 +32,10 @@ CHAINS = {1: 265, 2: 133, 3: 67, 4: 34}
 
 
 def signature_size(lms, ots, top=None):
-    """How many bytes a signature has: its leaf, both types, the one-time signature and a path. One of two levels has two of these, before
-    them a number, and between them the lower public key."""
+    """How many bytes a signature has: its leaf, both types, a one-time signature and a path.
+
+    One of two levels has two of these, a number before them and the lower public key between them.
+    """
     size = 12 + 32 * (1 + CHAINS[ots] + LEVELS[lms])
     return 4 + signature_size(top, ots) + PUBLIC_KEY_SIZE + size if top else size
 
