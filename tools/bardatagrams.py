@@ -11,6 +11,9 @@ from barformats import BLOCK, CASE, EVICT, KEY, KEYREQ, MANIFEST, QUERY, REPLY, 
 # how many bytes the block of an update has, a junk item, a digest, and a nonce or a key
 BLOCK_SIZE, JUNK_SIZE, DIGEST_SIZE, SECRET_SIZE = 1024, 1280, 32, 32
 
+# how many bytes the public key of one tree has
+PUBLIC_KEY_SIZE = 56
+
 # how many updates a word of a window has a bit for
 WORD = 64
 
@@ -26,6 +29,15 @@ FIRST_MESSAGES = {REQUEST: (0, 1), RESPONSE: (0, 0), QUERY: (1, 1), REPLY: (1, 0
 # the levels of a tree by its LMS type, and the chains of a one-time signature by its LM-OTS type
 LEVELS = {5: 5, 6: 10, 7: 15}
 CHAINS = {1: 265, 2: 133, 3: 67, 4: 34}
+
+
+def signature_size(lms, ots, top=None):
+    """How many bytes a signature has: its leaf, both types, a one-time signature and a path.
+
+    One of two levels has two of these, a number before them and the lower public key between them.
+    """
+    size = 12 + 32 * (1 + CHAINS[ots] + LEVELS[lms])
+    return 4 + signature_size(top, ots) + PUBLIC_KEY_SIZE + size if top else size
 
 
 def number_at(datagram, at, size=4):
@@ -155,7 +167,7 @@ class Reader:
         self.words = UPDATES[session.version] // WORD
         self.window = 8 * self.words * session.life
         self.terms_sizes = SECRET_SIZE + 2 * self.window, 4 * self.window + 1
-        self.signature = 12 + 32 * (1 + CHAINS[session.ots] + LEVELS[session.lms])
+        self.signature = signature_size(session.lms, session.ots, session.top)
         signed = {REQUEST: 84, RESPONSE: 20 + self.window, QUERY: 52 + 2 * self.window, REPLY: 21 + 2 * self.window, KEY: 54}
         self.lengths = {BLOCK: REST_AT + BLOCK_SIZE, KEYREQ: 22} | {kind: size + self.signature for kind, size in signed.items()}
 

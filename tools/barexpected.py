@@ -1,4 +1,6 @@
 """Folders of expected values: which sessions their peers are of."""
+from barformats import Malformed, Session
+from barscript import progress
 
 
 def home_of(folder):
@@ -10,3 +12,17 @@ def worlds_of(folder):
     """Each folder of what peers took and did, with the folder of their session."""
     yield from ((world, world) for world in sorted(folder.glob("world-*")))
     yield from ((folder / name, home_of(folder)) for name in ("world", "puppet"))
+
+
+def is_of_session(part, world, party):
+    """Whether the session of a folder has the party of which another folder has files. It's told where not.
+
+    Where the session's text can't be read or is none, the party counts as one of it: then what needs the text is refused.
+    """
+    try:
+        peers = Session.read(world / "session.toml").peers
+    except (Malformed, OSError):
+        return True
+    if party > peers:
+        progress(f"{part} has files of party {party}, which are left out: its session has {peers} peers")
+    return party <= peers

@@ -11,9 +11,12 @@ from barscript import Failure, counted, listed
 CONTENT = 1022
 SLOTS = 8
 
-# how many leaves a round takes of a key, and how many a key of each LMS type has
+# how many leaves a round takes of a key, and how many a tree of each LMS type has
 LEAVES_A_ROUND = 18
 LEAVES = {5: 32, 6: 1024, 7: 32_768}
+
+# the LMS type of the lower trees of a key of two levels
+LOWER = 5
 
 # how many updates a round has at most in a session of each version
 UPDATES = {1: 64, 2: 128}
@@ -48,11 +51,22 @@ class Number:
         """Whether a value is a number in this range."""
         return type(value) is int and self.least <= value <= self.most
 
+    @property
+    def shown(self):
+        """The range in words."""
+        numbers = f"{self.least:,}" if self.least == self.most else f"a whole number of {self.least:,} to {self.most:,}"
+        return f"{numbers}{self.why}"
+
+
+# the ranges of numbers that have others where signatures have two levels
+RANGES_WITH_TOP = {"rounds": (1, 7200), "lms": (LOWER, LOWER), "ots": (3, 4)}
+LONGEST = RANGES_WITH_TOP["rounds"][1]
 
 NUMBERS = {
     "version": Number(min(UPDATES), max(UPDATES), f"the version; by it a round has up to {listed(UPDATES.values(), 'or')} updates"),
     "peers": Number(2, 200, "how many peers there are"),
-    "rounds": Number(1, 1820, "for how many rounds the stream is sent"),
+    "top": Number(5, 7, "the LMS type of the upper tree, where signatures have two levels"),
+    "rounds": Number(1, 1820, "for how many rounds the stream is sent", f", or to {LONGEST:,} with top"),
     "life": Number(2, 16, "how many rounds an update lives"),
     "cap": Number(1, 16, "how many items an exchange trades at most"),
     "per_round": Number(1, max(UPDATES.values()), "how many updates a round has at most"),
@@ -66,8 +80,11 @@ NUMBERS = {
 
 
 def range_of(name, numbers):
-    """The range of one of these numbers, which another of them may narrow."""
+    """The range of one of these numbers, which another of them may change."""
     number = NUMBERS[name]
+    if name in RANGES_WITH_TOP and "top" in numbers:
+        least, most = RANGES_WITH_TOP[name]
+        return dataclasses.replace(number, least=least, most=most, why=" with top")
     if name == "fanout" and NUMBERS["peers"].has(numbers.get("peers")):
         return dataclasses.replace(number, most=numbers["peers"], why=", the number of peers")
     if name == "per_round" and NUMBERS["version"].has(numbers.get("version")):
@@ -81,7 +98,7 @@ def faults_of_number(name, numbers, shown):
     if value is None:
         yield f"{shown} is missing"
     elif not number.has(value):
-        yield f"{shown} is {reprlib.repr(value)}: it has to be a whole number of {number.least:,} to {number.most:,}{number.why}"
+        yield f"{shown} is {reprlib.repr(value)}: it has to be {number.shown}"
 
 
 def version_for(per_round):
@@ -89,25 +106,42 @@ def version_for(per_round):
     return min(version for version, most in UPDATES.items() if most >= per_round)
 
 
-def type_for(rounds):
-    """The LMS type with the smallest tree that has enough leaves for so many rounds."""
-    return min(lms for lms, leaves in LEAVES.items() if leaves >= LEAVES_A_ROUND * rounds)
+def leaves_of(lms, top=None):
+    """How many leaves a key has that sign messages: those of its tree, or of the lower trees that hang on the leaves of the upper one."""
+    return LEAVES[lms] * (LEAVES[top] if top else 1)
 
 
-def faults_of_leaves(rounds, lms):
-    """What refuses so many rounds with keys of this LMS type."""
-    need, have = LEAVES_A_ROUND * rounds, LEAVES[lms]
+def most_rounds_of(top):
+    """For how many rounds the stream is sent at most, with this upper tree or with none."""
+    return range_of("rounds", {"top": top} if top else {}).most
+
+
+def tree_for(rounds, top=None):
+    """The smallest tree that has enough leaves for so many rounds, in words: an upper one where there is one, or has to be."""
+    need = LEAVES_A_ROUND * rounds
+    if top or rounds > most_rounds_of(None):
+        return f"top {min(each for each in LEAVES if leaves_of(LOWER, each) >= need)}"
+    return f"LMS type {min(each for each in LEAVES if leaves_of(each) >= need)}"
+
+
+def faults_of_leaves(rounds, lms, top=None):
+    """What refuses so many rounds with keys of this LMS type, and of this upper tree where there is one."""
+    need, have = LEAVES_A_ROUND * rounds, leaves_of(lms, top)
     if need > have:
-        told = f"{counted(rounds, 'round')} need {need:,} leaves, and a key of LMS type {lms} has {have:,}"
-        yield f"{told}: take LMS type {type_for(rounds)}, or at most {counted(have // LEAVES_A_ROUND, 'round')}"
+        tree = f"top {top}" if top else f"LMS type {lms}"
+        told = f"{counted(rounds, 'round')} need {need:,} leaves, and a key of {tree} has {have:,}"
+        yield f"{told}: take {tree_for(rounds, top)}, or at most {counted(have // LEAVES_A_ROUND, 'round')}"
 
 
 def faults_of_numbers(numbers, names, shown=str):
-    """What refuses the numbers of these names, among which are `rounds` and `lms`. `shown` gives the name that a fault has for a number."""
+    """What refuses the numbers of these names, among which are `rounds` and `lms`, and `top` where signatures have two levels.
+
+    `shown` gives the name that a fault has for a number.
+    """
     faults = {name: [*faults_of_number(name, numbers, shown(name))] for name in names}
     yield from itertools.chain(*faults.values())
-    if not faults["rounds"] and not faults["lms"]:
-        yield from faults_of_leaves(numbers["rounds"], numbers["lms"])
+    if not any(faults.get(name) for name in ("top", "rounds", "lms")):
+        yield from faults_of_leaves(numbers["rounds"], numbers["lms"], numbers.get("top"))
 
 
 def room_of(rounds, per_round):
@@ -115,31 +149,35 @@ def room_of(rounds, per_round):
     return rounds * per_round * CONTENT
 
 
-def told_of_room(rounds, per_round, version, lms):
-    """So many rounds of so many updates, in words, with the version and the LMS type where the given ones have too few for them."""
+def told_of_room(rounds, per_round, version, lms, top):
+    """So many rounds of so many updates, in words, with the version and the tree where the given ones have too few for them."""
     needed = [f"version {version_for(per_round)}"] if per_round > UPDATES[version] else []
-    needed += [f"LMS type {type_for(rounds)}"] if type_for(rounds) > lms else []
+    needed += [tree_for(rounds, top)] if LEAVES_A_ROUND * rounds > leaves_of(lms, top) else []
     told = f"{counted(rounds, 'round')} of {counted(per_round, 'update')}"
     return f"{told} with {listed(needed)}" if needed else told
 
 
-def larger_rooms(length, version, rounds, per_round, lms):
-    """Which numbers have room for a stream of this length, in words: more rounds, more updates a round, or both."""
-    pieces, most_rounds, most_updates = -(-length // CONTENT), NUMBERS["rounds"].most, NUMBERS["per_round"].most
+def larger_rooms(length, version, rounds, per_round, lms, top):
+    """Which numbers have room for a stream of this length, in words: more rounds, more updates a round, or both.
+
+    More rounds than a key of one level has leaves for are told where nothing else has room.
+    """
+    pieces, most_updates = -(-length // CONTENT), NUMBERS["per_round"].most
     fullest = [(-(-pieces // updates), updates) for updates in sorted({UPDATES[version], most_updates})]
-    ways = [(-(-pieces // per_round), per_round), (rounds, -(-pieces // rounds)), *fullest]
-    told = [told_of_room(*way, version, lms) for way in dict.fromkeys(ways) if way[0] <= most_rounds and way[1] <= most_updates]
-    if told:
-        return f"take {' or '.join(told[:2])}"
-    return f"take a stream of at most {room_of(most_rounds, most_updates):,} bytes, the room of the longest session"
+    ways = [*dict.fromkeys([(-(-pieces // per_round), per_round), (rounds, -(-pieces // rounds)), *fullest])]
+    for most_rounds in (most_rounds_of(top), LONGEST):
+        having = [way for way in ways if way[0] <= most_rounds and way[1] <= most_updates]
+        if having:
+            return f"take {' or '.join(told_of_room(*way, version, lms, top) for way in having[:2])}"
+    return f"take a stream of at most {room_of(LONGEST, most_updates):,} bytes, the room of the longest session"
 
 
-def faults_of_length(length, version, rounds, per_round, lms):
+def faults_of_length(length, version, rounds, per_round, lms, top=None):
     """What refuses a stream of this length in a session of these numbers."""
     room = room_of(rounds, per_round)
     if length > room:
         told = f"{counted(rounds, 'round')} of {counted(per_round, 'update')} have room for {room:,}"
-        yield f"the stream has {length:,} bytes, and {told}: {larger_rooms(length, version, rounds, per_round, lms)}"
+        yield f"the stream has {length:,} bytes, and {told}: {larger_rooms(length, version, rounds, per_round, lms, top)}"
 
 
 # ---- texts
@@ -168,12 +206,13 @@ def faults_of_digits(name, value, count):
 
 
 def faults_of_public_keys(document, peers):
-    """What refuses the public keys of a session's text, whose types are in their ranges."""
-    types, owners = f"{document['lms']:08x}{document['ots']:08x}", {}
+    """What refuses the public keys of a session's text, whose types are in their ranges. Those of two levels begin with this number."""
+    size, front, tree = (120, f"{2:08x}", "top") if "top" in document else (112, "", "lms")
+    types, owners = f"{front}{document[tree]:08x}{document['ots']:08x}", {}
     for name, value in [("key", document.get("key")), *((f"peer {number} key", peer.get("key")) for number, peer in enumerate(peers, 1))]:
-        faults = [*faults_of_digits(name, value, 112)]
+        faults = [*faults_of_digits(name, value, size)]
         if not faults and not value.startswith(types):
-            faults.append(f"{name} isn't of the types lms and ots")
+            faults.append(f"{name} isn't of the types {tree} and ots")
         if not faults and owners.setdefault(value.lower(), name) != name:
             faults.append(f"{name} is {owners[value.lower()]} too")
         yield from faults
@@ -185,9 +224,14 @@ def faults_of_anchors(peers):
         yield from faults_of_digits(f"peer {number} anchor", peer.get("anchor"), 64)
 
 
+def names_in(document, names):
+    """These names of numbers, but for `top` where a document has none."""
+    return [name for name in names if name != "top" or name in document]
+
+
 @dataclasses.dataclass(frozen=True)
 class Session:
-    """The id and the numbers of a session's text."""
+    """The id and the numbers of a session's text. There is a type of an upper tree where signatures have two levels."""
 
     version: int
     id: str
@@ -201,6 +245,7 @@ class Session:
     lms: int
     ots: int
     peers: int
+    top: int | None = None
 
     @classmethod
     def of_text(cls, text):
@@ -210,7 +255,7 @@ class Session:
         if not isinstance(peers, list) or not all(isinstance(peer, dict) for peer in peers):
             raise Malformed("it has no tables [[peer]]")
         numbers = document | {"peers": len(peers)}
-        names = [field.name for field in dataclasses.fields(cls) if field.name != "id"]
+        names = names_in(document, [field.name for field in dataclasses.fields(cls) if field.name != "id"])
         faults = [*faults_of_digits("id", document.get("id"), 16), *faults_of_numbers(numbers, names)]
         faults = faults or [*faults_of_public_keys(document, peers), *faults_of_anchors(peers)]
         if faults:
@@ -249,12 +294,12 @@ class Session:
 
     def faults_of_stream(self, length):
         """What refuses a stream of this length."""
-        return faults_of_length(length, self.version, self.rounds, self.per_round, self.lms)
+        return faults_of_length(length, self.version, self.rounds, self.per_round, self.lms, self.top)
 
 
 @dataclasses.dataclass(frozen=True)
 class KeyFile:
-    """What a key file says, without its secret."""
+    """What a key file says, without its secret. There is a type of an upper tree in one of two levels."""
 
     id: str
     party: int
@@ -262,23 +307,24 @@ class KeyFile:
     lms: int
     ots: int
     spent: bool
+    top: int | None = None
 
     @classmethod
     def of_text(cls, text):
         """Reads a key file, whose version is 1 in a session of any version."""
         document = document_of(text, [1])
-        names = ["party", "rounds", "lms", "ots"]
+        names = names_in(document, ["party", "rounds", "lms", "ots", "top"])
         faults = [*faults_of_digits("id", document.get("id"), 16), *faults_of_numbers(document, names)]
         faults += faults_of_digits("secret", document.get("secret"), 64)
         if type(document.get("spent")) is not bool:
             faults.append("spent is neither true nor false")
         if faults:
             raise Malformed("; ".join(faults))
-        return cls(document["id"].lower(), *(document[name] for name in names), document["spent"])
+        return cls(document["id"].lower(), spent=document["spent"], **{name: document[name] for name in names})
 
     def faults(self, session, party):
         """What tells that this isn't the session's key of the party. Whether the public key is the session's isn't looked at."""
-        wanted = {"id": session.id, "party": party, "rounds": session.rounds, "lms": session.lms, "ots": session.ots}
+        wanted = {"id": session.id, "party": party} | {name: getattr(session, name) for name in ("rounds", "lms", "ots", "top")}
         others = [name for name, value in wanted.items() if getattr(self, name) != value]
         if others:
             yield f"it has another {listed(others)} than party {party} of the session"

@@ -7,7 +7,7 @@ import pathlib
 import secrets
 import shutil
 
-from barformats import Session, faults_of_length, faults_of_numbers, range_of
+from barformats import LOWER, NUMBERS, Session, faults_of_length, faults_of_numbers, names_in, range_of
 from barprogram import spread
 from barscript import held
 from barsession import Folder, free_port, make_key
@@ -16,16 +16,26 @@ from barsession import Folder, free_port, make_key
 DEFAULTS = {"version": 1, "peers": 5, "rounds": 10, "life": 6, "cap": 8, "per_round": 8, "fanout": 3, "tick_ms": 50, "lms": 6, "ots": 3}
 
 
+# the numbers that may be left out
+FREE = ("port", "top")
+
+
 def option_of(name):
     """The option of a script that gives a number of the session."""
     return f"--{name.replace('_', '-')}"
+
+
+def completed(given):
+    """The numbers of a session of which these are given."""
+    return DEFAULTS | ({"lms": LOWER} if "top" in given else {}) | given
 
 
 @dataclasses.dataclass(frozen=True)
 class Wanted:
     """The session that is wanted: its folder, its stream and its numbers. A number that wasn't read is the text that stands for it.
 
-    The port may be left out, and free ones are found then. The seed, from which all secrets are derived, is text of hex digits, or None.
+    The port may be left out, and free ones are found then. Where the type of an upper tree is there, signatures have two levels. The seed,
+    from which all secrets are derived, is text of hex digits, or None.
     """
 
     folder: pathlib.Path
@@ -35,7 +45,7 @@ class Wanted:
 
     def faults(self):
         """What refuses it."""
-        names = [*DEFAULTS, *(["port"] if "port" in self.numbers else [])]
+        names = [*DEFAULTS, *(name for name in FREE if name in self.numbers)]
         yield from faults_of_folder(self.folder)
         yield from faults_of_numbers(self.numbers, names, option_of)
         yield from faults_of_stream(self.stream, self.numbers)
@@ -55,7 +65,7 @@ def faults_of_folder(path):
 
 def faults_of_stream(path, numbers):
     """What refuses the file of a stream in a session of these numbers, as far as they are numbers."""
-    names = ("version", "rounds", "per_round", "lms")
+    names = names_in(numbers, ["version", "rounds", "per_round", "lms", "top"])
     if not path.is_file():
         yield f"the stream {path} is {'no file' if path.exists() else 'missing'}: name a file"
     elif not os.access(path, os.R_OK):
@@ -107,17 +117,16 @@ def derived(seed, what):
 
 def make_keys(folder, program, session_id, numbers, seed):
     """Makes all key files, as many at once as there are processors, and returns what a session's text says of each party."""
-    types = [numbers[name] for name in ("rounds", "lms", "ots")]
 
     def make_one(party):
-        return make_key(folder, program, party, session_id, *types, derived(seed, f"secret {party}"))
+        return make_key(folder, program, party, session_id, numbers, derived(seed, f"secret {party}"))
 
     return spread(make_one, range(numbers["peers"] + 1), "keys")
 
 
 def text_of(session_id, numbers, keys):
     """The session's text."""
-    lines = [f"{name} = {number}" for name, number in numbers.items() if name not in ("version", "peers")]
+    lines = [f"{name} = {numbers[name]}" for name in NUMBERS if name in numbers and name not in ("version", "peers")]
     return "\n".join([f"version = {numbers['version']}", f'id = "{session_id}"', *lines, "\n[[peer]]\n".join(keys)])
 
 

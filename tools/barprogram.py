@@ -34,6 +34,7 @@ COMMANDS = {
     "session": ("session", "keys", "stream", "begin", "results", "program"),
     "simulate": ("seed",),
     "keygen": ("party", "id", "rounds", "lms", "ots", "secret", "key"),
+    "hsskeygen": ("party", "id", "rounds", "top", "ots", "secret", "key"),
 }
 
 
@@ -157,6 +158,12 @@ class Ran:
 def words_of(command, **values):
     """The words of a command, with each of its options."""
     return [command, *(word for name in COMMANDS[command] for word in (f"--{name}", str(values[name])))]
+
+
+def key_words(numbers, **values):
+    """The words that make a key of a session of these numbers: one of two levels where they have the type of an upper tree."""
+    command = "hsskeygen" if numbers.get("top") else "keygen"
+    return words_of(command, **{name: numbers[name] for name in COMMANDS[command] if name in numbers} | values)
 
 
 def run_words(program, words, stdout=subprocess.PIPE):

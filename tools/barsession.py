@@ -16,7 +16,7 @@ import tempfile
 import time
 
 from barformats import LEAVES, KeyFile, Malformed, finding_of
-from barprogram import Status, run, spread, words_of
+from barprogram import Status, key_words, run_words, spread, words_of
 from barscript import Failure, Refusal
 
 LOOPBACK = "127.0.0.1"
@@ -83,13 +83,12 @@ def key_of(folder, session, party):
     return key
 
 
-def make_key(folder, program, party, session_id, rounds, lms, ots, secret):
-    """Makes a key file of the secret in the folder, and returns the lines of a session's text that tell of the party."""
+def make_key(folder, program, party, session_id, numbers, secret):
+    """Makes a key file of the secret in the folder for a session of these numbers, whose text has the returned lines on the party."""
     path = folder.path / f"secret.{party}"
     path.write_bytes(secret)
     try:
-        numbers = {"party": party, "id": session_id, "rounds": rounds, "lms": lms, "ots": ots}
-        ran = run(program, "keygen", **numbers, secret=path, key=folder.key(party))
+        ran = run_words(program, key_words(numbers, party=party, id=session_id, secret=path, key=folder.key(party)))
     finally:
         path.unlink()
     if ran.status != Status.DONE:
@@ -101,18 +100,18 @@ def begin_of(session, program):
     """When a session begins that is started now, in milliseconds of Unix time: after all parties have made their keys.
 
     How long that takes is measured by the same number of keys with the smallest tree, all made at once; a tree with more leaves takes so
-    many times longer.
+    many times longer. Of a key of two levels the upper tree is made.
     """
     with tempfile.TemporaryDirectory() as room:
         folder, started = Folder(room), time.monotonic()
-        types = SMALLEST, session.ots
+        numbers = {"rounds": 1, "lms": SMALLEST, "ots": session.ots}
 
         def make(party):
-            return make_key(folder, program, party, session.id, 1, *types, bytes(32))
+            return make_key(folder, program, party, session.id, numbers, bytes(32))
 
         spread(make, session.parties, at_once=len(session.parties))
         smallest = time.monotonic() - started
-    times_longer = LEAVES[session.lms] / LEAVES[SMALLEST]
+    times_longer = LEAVES[session.top or session.lms] / LEAVES[SMALLEST]
     return round(1000 * (time.time() + 1 + 1.5 * smallest * times_longer))
 
 

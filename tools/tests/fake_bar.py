@@ -17,16 +17,18 @@ WAYS = json.loads(pathlib.Path(sys.argv[1]).read_text())
 
 
 def keygen(options):
-    """Makes a key file, whose public key tells nothing but its types and the secret."""
+    """Makes a key file, whose public key tells nothing but its types and the secret. One of two levels has lower trees of type 5."""
     if "keygen_seconds" in WAYS:
         import time
 
         time.sleep(WAYS["keygen_seconds"])
     secret = pathlib.Path(options["secret"]).read_bytes().hex()
-    numbers = [f"{name} = {options[name]}" for name in ("party", "rounds", "lms", "ots")]
+    options = {"lms": "5"} | options
+    numbers = [f"{name} = {options[name]}" for name in ("party", "rounds", "lms", "ots", "top") if name in options]
     lines = ["version = 1", f'id = "{options["id"]}"', *numbers, f'secret = "{secret}"', "spent = false", ""]
     pathlib.Path(options["key"]).write_text("\n".join(lines))
-    print(f'key = "{int(options["lms"]):08x}{int(options["ots"]):08x}{secret}{secret[:32]}"')
+    front = "00000002" if "top" in options else ""
+    print(f'key = "{front}{int(options.get("top", options["lms"])):08x}{int(options["ots"]):08x}{secret}{secret[:32]}"')
     if options["party"] != "0":
         print(f'anchor = "{secret}"')
 
@@ -88,7 +90,7 @@ def main():
         print(WAYS.get("said", ""), end="", file=sys.stderr)
         return status
     options = dict(zip((word.removeprefix("--") for word in rest[::2]), rest[1::2]))
-    return {"keygen": keygen, "session": session, "replay": replay}.get(command, other)(options)
+    return {"keygen": keygen, "hsskeygen": keygen, "session": session, "replay": replay}.get(command, other)(options)
 
 
 if __name__ == "__main__":

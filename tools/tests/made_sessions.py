@@ -12,13 +12,20 @@ NUMBERS = {"rounds": 6, "life": 3, "cap": 2, "fanout": 1, "port": 21000, "tick_m
 SESSION = Session(1, "00112233445566aa", per_round=4, **NUMBERS)
 # a session of version 2, with as many updates a round as it may have
 WIDE = Session(2, "00112233445566aa", per_round=128, **NUMBERS)
-# a signature of these types
-SIGNATURE = bytes(1292)
+# a session with signatures of two levels
+LONG = dataclasses.replace(SESSION, top=6)
+# the lengths of signatures of these types, by the upper tree
+LENGTHS = {None: 1292, 6: 2804}
 EVERYONE = 0xFFFF
 
 
 def first_tick(number):
     return SLOTS * (number - 1) + 1
+
+
+def signature(session):
+    """What stands in the place of a signature in a session."""
+    return bytes(LENGTHS[session.top])
 
 
 def block_with(content):
@@ -45,7 +52,7 @@ def datagram(kind, sender, receiver, body, session=SESSION):
 
 def manifest(number, blocks=PLAIN, session=SESSION):
     digests = [hashlib.sha256(block).digest() for update, block in sorted(blocks.items()) if update.round == number]
-    return datagram(MANIFEST, 0, EVERYONE, struct.pack(">IB", number, len(digests)) + b"".join(digests) + SIGNATURE, session)
+    return datagram(MANIFEST, 0, EVERYONE, struct.pack(">IB", number, len(digests)) + b"".join(digests) + signature(session), session)
 
 
 def block(receiver, update, blocks=PLAIN, session=SESSION):
@@ -53,7 +60,7 @@ def block(receiver, update, blocks=PLAIN, session=SESSION):
 
 
 def evict(number, *parties, session=SESSION):
-    return datagram(EVICT, 0, EVERYONE, struct.pack(f">IB{len(parties)}H", number, len(parties), *parties) + SIGNATURE, session)
+    return datagram(EVICT, 0, EVERYONE, struct.pack(f">IB{len(parties)}H", number, len(parties), *parties) + signature(session), session)
 
 
 def window(number, updates, session=SESSION):
@@ -110,14 +117,14 @@ class Trade:
     def request(self):
         """The initiator's first message."""
         if self.exchange.push:
-            return self.datagram(QUERY, True, bytes(32) + 2 * self.no_updates + SIGNATURE)
-        return self.datagram(REQUEST, True, bytes(64) + SIGNATURE)
+            return self.datagram(QUERY, True, bytes(32) + 2 * self.no_updates + signature(self.session))
+        return self.datagram(REQUEST, True, bytes(64) + signature(self.session))
 
     def answer(self):
         """The responder's first message."""
         if self.exchange.push:
-            return self.datagram(REPLY, False, 2 * self.no_updates + bytes(1) + SIGNATURE)
-        return self.datagram(RESPONSE, False, self.no_updates + SIGNATURE)
+            return self.datagram(REPLY, False, 2 * self.no_updates + bytes(1) + signature(self.session))
+        return self.datagram(RESPONSE, False, self.no_updates + signature(self.session))
 
     def briefcase_key(self, by_initiator):
         return hashlib.sha256(b"%d %r" % (by_initiator, self.exchange.spelled())).digest()
@@ -126,13 +133,13 @@ class Trade:
         updates, junk = self.promises[by_initiator]
         plain = b"".join(self.blocks[update] for update in updates) + junk_of(self.session, self.exchange, junk)
         sealed = exclusive_or(plain, keystream(self.briefcase_key(by_initiator), len(plain)))
-        return self.of_case(CASE, by_initiator, bytes([len(updates), junk]) + (terms or self.terms) + sealed + SIGNATURE)
+        return self.of_case(CASE, by_initiator, bytes([len(updates), junk]) + (terms or self.terms) + sealed + signature(self.session))
 
     def key_request(self, by_initiator):
         return self.of_case(KEYREQ, by_initiator, b"")
 
     def key(self, by_initiator, key=None):
-        return self.of_case(KEY, by_initiator, (key or self.briefcase_key(by_initiator)) + SIGNATURE)
+        return self.of_case(KEY, by_initiator, (key or self.briefcase_key(by_initiator)) + signature(self.session))
 
 
 # ---- logs

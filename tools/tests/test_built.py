@@ -1,13 +1,15 @@
 """The built program in small sessions, and its ranges. These tests are skipped where it isn't built."""
 import itertools
+import pathlib
 import re
 import tempfile
 import tomllib
 import unittest
 
-from support import ROOT, RoomCase, bound, lines_of, run_script
+from support import NUMBERS, ROOT, RoomCase, bound, lines_of, run_script
 
 import barformats
+import barmaking
 import barprogram
 import barrunning
 import barscript
@@ -40,6 +42,11 @@ class Sessions(RoomCase):
     def test_a_session_of_version_2(self):
         self.stream.write_bytes(bytes(70 * 1022))
         folder, session = self.make_session(PROGRAM, version=2, per_round=128)
+        status, last, _ = self.run_session(folder, session)
+        self.assertEqual((status, last), (0, f"OK: all parties ended with status 0, all replays agree, page {folder.page}"))
+
+    def test_a_session_of_two_levels(self):
+        folder, session = self.make_session(PROGRAM, top=5, rounds=2)
         status, last, _ = self.run_session(folder, session)
         self.assertEqual((status, last), (0, f"OK: all parties ended with status 0, all replays agree, page {folder.page}"))
 
@@ -110,6 +117,19 @@ class Ranges(unittest.TestCase):
             changed = text.replace(f"\n{name} = {document[name]}\n".encode(), f"\n{name} = {value}\n".encode())
             changed = changed.replace(b"version = 1\n", b"version = %d\n" % version)
             with self.subTest(version=version, name=name, value=value):
+                self.assertEqual(self.status_of(changed) != Status.SESSION, self.is_session(changed))
+
+    def test_numbers_with_two_levels(self):
+        with tempfile.TemporaryDirectory() as room:
+            wanted = barmaking.Wanted(pathlib.Path(room) / "session", EXAMPLE / "table", NUMBERS | {"top": 5})
+            folder, _ = lines_of(lambda: barmaking.make(wanted, PROGRAM))[0]
+            text = folder.session.read_bytes()
+        tries = [("top", value) for value in (0, 4, 5, 6, 8)] + [("lms", value) for value in (4, 5, 6)]
+        tries += [("ots", value) for value in (2, 3, 4)] + [("rounds", value) for value in (0, 56, 57, 1820, 1821, 7200, 7201)]
+        for top, (name, value) in itertools.product((b"5", b"6", b"7"), tries):
+            changed = text.replace(b"top = 5", b"top = " + top).replace(b'key = "0000000200000005', b'key = "000000020000000' + top)
+            changed = re.sub(rb"\n%s = \d+" % name.encode(), b"\n%s = %d" % (name.encode(), value), changed)
+            with self.subTest(top=top, name=name, value=value):
                 self.assertEqual(self.status_of(changed) != Status.SESSION, self.is_session(changed))
 
     def test_keys(self):

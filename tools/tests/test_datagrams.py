@@ -1,3 +1,4 @@
+import dataclasses
 import pathlib
 import sys
 import unittest
@@ -6,9 +7,9 @@ sys.path.insert(0, str(pathlib.Path(__file__).resolve().parent.parent))
 
 import made_sessions as made
 from barbriefcases import keystream, opened
-from bardatagrams import BalancedTerms, Exchange, Promise, PushTerms, Reader, Update
+from bardatagrams import BalancedTerms, Exchange, Promise, PushTerms, Reader, Update, signature_size
 from barformats import KEY, KEYREQ, QUERY, REPLY, REQUEST, RESPONSE
-from made_sessions import PLAIN, SESSION, WIDE, WIDE_PLAIN, Trade
+from made_sessions import LONG, PLAIN, SESSION, WIDE, WIDE_PLAIN, Trade
 
 BALANCED = Trade.balanced(Exchange(4, False, 2, 3), [[Update(2, 0), Update(3, 1)], [Update(4, 3)]], [[Update(4, 3)], [Update(2, 0)]])
 PUSH_WINDOWS = [[Update(4, 0), Update(4, 1)], [Update(2, 2), Update(3, 3)], [Update(4, 1)], []]
@@ -92,7 +93,7 @@ class Versions(unittest.TestCase):
 
     def test_lengths_of_version_2(self):
         lengths = {len(datagram) for datagram in WIDE_DATAGRAMS if datagram[3] not in (KEY, KEYREQ)}
-        window, signature = 48, len(made.SIGNATURE)
+        window, signature = 48, len(made.signature(WIDE))
         told = {21 + 32 * 128 + signature, 21 + 4 + signature, 1045, 84 + signature, 20 + window + signature}
         told |= {52 + 2 * window + signature, 21 + 2 * window + signature}
         told |= {24 + 32 + 2 * window + 2 * 1024 + signature, 24 + 4 * window + 1 + 1024 + signature}
@@ -118,6 +119,24 @@ class Versions(unittest.TestCase):
         promised = [(LOW[0], LOW[1]), tuple(HIGH), (Update(4, 64),), (Update(3, 65),)]
         self.assertEqual([case.promise for case in cases], [Promise(updates, 0) for updates in promised])
         self.assertEqual(cases[0].terms, BalancedTerms(bytes(range(32)), frozenset(LOW), frozenset(HIGH)))
+
+
+class Levels(unittest.TestCase):
+    """Sessions with signatures of two levels."""
+
+    def test_lengths_of_signatures(self):
+        self.assertEqual([signature_size(6, 4), signature_size(5, 4), signature_size(5, 4, 6)], [1452, 1292, 2804])
+        self.assertEqual(len(dataclasses.replace(BALANCED, session=LONG).request()), 2888)
+
+    def test_a_datagram_is_of_a_session_with_the_same_levels_alone(self):
+        trades = [dataclasses.replace(trade, session=LONG) for trade in (BALANCED, PUSH)]
+        datagrams = [made.manifest(1, session=LONG), made.evict(2, 1, 3, session=LONG)]
+        datagrams += [message() for trade in trades for message in (trade.request, trade.answer)]
+        datagrams += [part(side) for trade in trades for part in (trade.case, trade.key) for side in (False, True)]
+        for datagram in datagrams:
+            self.assertIsNotNone(Reader(LONG).read(datagram))
+            self.assertIsNone(Reader(SESSION).read(datagram))
+        self.assertEqual([len(Reader(LONG).read(trades[1].case(side)).cipher) for side in (True, False)], [1024, 1280])
 
 
 class Briefcases(unittest.TestCase):

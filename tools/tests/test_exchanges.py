@@ -7,7 +7,7 @@ sys.path.insert(0, str(pathlib.Path(__file__).resolve().parent.parent))
 import made_sessions as made
 from bardatagrams import Exchange, Reader, Update
 from barexchanges import Account, Arrival
-from made_sessions import PLAIN, SESSION, WIDE, WIDE_PLAIN, Diary, Trade, first_tick
+from made_sessions import LONG, PLAIN, SESSION, WIDE, WIDE_PLAIN, Diary, Trade, first_tick
 
 ME, PARTNER = 1, 2
 FIRST, SECOND, THIRD, FOURTH = (Update(1, index) for index in range(4))
@@ -288,7 +288,7 @@ class Pushes(unittest.TestCase):
 
     def test_updates_beside_wrong_junk_are_not_held(self):
         case = bytearray(PUSH_OUT.case(False))
-        case[-len(made.SIGNATURE) - 1] ^= 1
+        case[-len(made.signature(SESSION)) - 1] ^= 1
         diary = diary_of_round_3(*FRESH)
         diary.trade(PUSH_OUT, 18, key_tick=19, case=bytes(case))
         account = account_of(diary, evidence={str(PARTNER): made.evidence(case, PUSH_OUT.key(False))})
@@ -338,6 +338,18 @@ class Wide(unittest.TestCase):
         diary = self.diary(FIRST, session=SESSION)
         diary.trade(trade, 9, key_tick=10)
         self.assertEqual((self.account_of(diary).held, self.account_of(diary).sides), ({}, {}))
+
+
+class Long(unittest.TestCase):
+    def test_an_exchange_with_signatures_of_two_levels(self):
+        trade = Trade.balanced(Exchange(2, False, ME, PARTNER), [[FIRST], [SECOND]], [[SECOND], [FIRST]], session=LONG)
+        diary = Diary(ME, LONG)
+        diary.until(1)
+        diary.take_manifest(1)
+        diary.take(made.block(ME, FIRST, session=LONG))
+        diary.trade(trade, 9, key_tick=11)
+        self.assertEqual(Account(LONG, ME, diary.log()).held, {FIRST: Arrival(1, 0, 2), SECOND: Arrival(11, PARTNER, 2)})
+        self.assertEqual(Account(SESSION, ME, diary.log()).held, {})
 
 
 class CutRecordings(unittest.TestCase):

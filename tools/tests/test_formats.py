@@ -1,6 +1,7 @@
 """The parsers of the tools, on the examples and on what is made up or cut."""
 import dataclasses
 import itertools
+import re
 import tomllib
 import unittest
 
@@ -13,6 +14,8 @@ EXAMPLE = ROOT / "examples/first-path/one-block"
 SESSION = (EXAMPLE / "session.toml").read_bytes()
 KEY = (EXAMPLE / "key.toml").read_bytes()
 RECORDING = (EXAMPLE / "recording").read_bytes()
+# the example's session, with keys of two levels
+LONG = SESSION.replace(b"lms = 6", b"top = 5\nlms = 5").replace(b'key = "00000006', b'key = "0000000200000005')
 
 
 class Texts(unittest.TestCase):
@@ -96,6 +99,37 @@ class Texts(unittest.TestCase):
         fault = self.fault_of(Session.of_text, b"\n[[peer]]\n".join([head, second, second]))
         self.assertEqual(fault, "peer 2 key is peer 1 key too")
 
+    def test_session_of_two_levels(self):
+        session = Session.of_text(LONG)
+        self.assertEqual((session.top, session.lms, session.rounds, Session.of_text(SESSION).top), (5, 5, 10, None))
+        changes = {b"top = 5": b"top = 4", b"lms = 5": b"lms = 6", b"ots = 4": b"ots = 2", b"rounds = 10": b"rounds = 7201"}
+        ranges = ["top is 4: it has to be a whole number of 5 to 7", "lms is 6: it has to be 5 with top"]
+        ranges += ["ots is 2: it has to be a whole number of 3 to 4 with top"]
+        ranges += ["rounds is 7201: it has to be a whole number of 1 to 7,200 with top"]
+        self.assertEqual([self.fault_of(Session.of_text, LONG.replace(*change)) for change in changes.items()], ranges)
+
+    def test_too_few_leaves_of_two_levels(self):
+        fault = self.fault_of(Session.of_text, LONG.replace(b"rounds = 10", b"rounds = 57"))
+        self.assertEqual(fault, "57 rounds need 1,026 leaves, and a key of top 5 has 1,024: take top 6, or at most 56 rounds")
+        for top, rounds in ((5, 56), (6, 1820), (7, 7200)):
+            text = re.sub(b'key = "0{7}20{7}5', b'key = "00000002%08x' % top, LONG.replace(b"top = 5", b"top = %d" % top))
+            self.assertEqual(Session.of_text(text.replace(b"rounds = 10", b"rounds = %d" % rounds)).rounds, rounds)
+        fault = self.fault_of(Session.of_text, text.replace(b"top = 7", b"top = 6").replace(b"rounds = 10", b"rounds = 1821"))
+        self.assertTrue(fault.startswith("1,821 rounds need 32,778 leaves, and a key of top 6 has 32,768: take top 7"), fault)
+
+    def test_keys_of_two_levels(self):
+        fault = self.fault_of(Session.of_text, SESSION.replace(b"lms = 6", b"lms = 5\ntop = 5"))
+        self.assertTrue(fault.startswith("key isn't a text of 120 hex digits"), fault)
+        for old, new in ((b"0000000200000005", b"0000000100000005"), (b"0000000200000005", b"0000000200000006")):
+            fault = self.fault_of(Session.of_text, LONG.replace(old, new))
+            self.assertTrue(fault.startswith("key isn't of the types top and ots"), fault)
+
+    def test_key_file_of_two_levels(self):
+        key = KeyFile.of_text(KEY.replace(b"lms = 6", b"lms = 5").replace(b"ots = 4\n", b"ots = 4\ntop = 5\n"))
+        self.assertEqual((key.top, [*key.faults(Session.of_text(LONG), 1)]), (5, []))
+        other = dataclasses.replace(Session.of_text(LONG), top=None)
+        self.assertEqual([*key.faults(other, 1)], ["it has another top than party 1 of the session"])
+
     def test_what_is_no_text(self):
         texts = [b"\xff", b"version = ", b"x = [" * 2000, b"version = 2", b"version = true", b"", b"version = 1\npeer = 1"]
         for text, reader in itertools.product(texts, (Session.of_text, KeyFile.of_text)):
@@ -154,9 +188,15 @@ class Rooms(unittest.TestCase):
         self.assertTrue(self.fault_of(3000 * 1022, 2, 1, 1, 7).endswith("take 24 rounds of 128 updates"))
 
     def test_larger_than_every_room(self):
-        told = "at most 238,085,120 bytes, the room of the longest session"
-        for version in (1, 2):
-            self.assertTrue(self.fault_of(1820 * 128 * 1022 + 1, version, 1, 1, 7).endswith(told))
+        told = "at most 941,875,200 bytes, the room of the longest session"
+        for version, lms, *top in ((1, 7), (2, 7), (2, 5, 7)):
+            self.assertTrue(self.fault_of(7200 * 128 * 1022 + 1, version, 1, 1, lms, *top).endswith(told))
+
+    def test_more_rounds_with_two_levels(self):
+        self.assertTrue(self.fault_of(1820 * 128 * 1022 + 1, 2, 1, 1, 7).endswith("take 1,821 rounds of 128 updates with top 7"))
+        told = "take 57 rounds of 1 update with top 6 or 1 round of 57 updates"
+        self.assertTrue(self.fault_of(57 * 1022, 1, 1, 1, 5, 5).endswith(told))
+        self.assertTrue(self.fault_of(57 * 1022, 1, 1, 1, 5, 6).endswith(told.replace(" with top 6", "")))
 
 
 class Recordings(unittest.TestCase):

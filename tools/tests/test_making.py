@@ -51,6 +51,19 @@ class Refusals(RoomCase):
         fault = "2 rounds need 36 leaves, and a key of LMS type 5 has 32: take LMS type 6, or at most 1 round"
         self.assertEqual(self.faults(rounds=2, lms=5), [fault])
 
+    def test_numbers_that_do_not_go_with_two_levels(self):
+        two = {"lms": 5, "ots": 3, "top": 5}
+        told = {"lms": "--lms is 6: it has to be 5 with top", "top": "--top is 8: it has to be a whole number of 5 to 7"}
+        told |= {"ots": "--ots is 2: it has to be a whole number of 3 to 4 with top"}
+        for name, value in (("lms", 6), ("top", 8), ("ots", 2)):
+            self.assertEqual(self.faults(**two | {name: value}), [told[name]])
+        fault = "57 rounds need 1,026 leaves, and a key of top 5 has 1,024: take top 6, or at most 56 rounds"
+        self.assertEqual((self.faults(**two, rounds=57), self.faults(**two, rounds=56)), ([fault], []))
+        self.assertEqual(self.faults(**two | {"top": 7}, rounds=7200), [])
+
+    def test_rounds_that_only_two_levels_have(self):
+        self.assertEqual(self.faults(rounds=1821), ["--rounds is 1821: it has to be a whole number of 1 to 1,820, or to 7,200 with top"])
+
     def test_stream_larger_than_its_room(self):
         self.stream.write_bytes(bytes(2 * 1022 + 1))
         fault = "the stream has 2,045 bytes, and 1 round of 2 updates have room for 2,044"
@@ -106,6 +119,15 @@ class Makings(RoomCase):
         self.assertEqual((session.version, session.per_round, session.room), (2, 128, 128 * 1022))
         self.assertEqual(folder.session.read_text().splitlines()[0], "version = 2")
         self.assertEqual([barformats.KeyFile.of_text(folder.key(party).read_bytes()).party for party in range(3)], [0, 1, 2])
+
+    def test_a_session_of_two_levels(self):
+        words = ["--peers", 2, "--rounds", 56, "--fanout", 1, "--top", 5, "--stream", self.stream, "--bar", fake_program(self.room)]
+        status, _, err = run_script("make-session", self.room / "new", *words)
+        self.assertEqual(status, 0, err)
+        session = barformats.Session.read(self.room / "new/session.toml")
+        self.assertEqual((session.top, session.lms, session.ots, session.rounds), (5, 5, 3, 56))
+        keys = [barformats.KeyFile.of_text((self.room / f"new/key.{party}").read_bytes()) for party in range(3)]
+        self.assertEqual([fault for party, key in enumerate(keys) for fault in key.faults(session, party)], [])
 
     def test_the_same_seed_makes_the_same_keys(self):
         folder, session = self.make_session(fake_program(self.room))

@@ -4,6 +4,7 @@ import os
 import re
 import shutil
 import signal
+import tomllib
 import unittest
 
 from support import ROOT, TOOLS, RoomCase, datagram, fake_program, has_ended, run_script, start_script, wait_for
@@ -107,6 +108,19 @@ class Checks(RoomCase):
         status, out, err = run_script("check-vectors", self.expected("as it should be\n"), "--bar", program)
         self.assertEqual((status, out, err), (0, ["OK: 3 values compared, none differs"], ["checks: 1 of 1"]))
 
+    def test_keys_of_a_session(self):
+        for numbers in ({}, {"top": 5}):
+            folder, _ = self.make_session(fake_program(self.room), **numbers)
+            (folder.path / "secret.1").write_bytes(bytes.fromhex(tomllib.loads(folder.key(1).read_text())["secret"]))
+            (folder.path / "keygen.1.out").write_bytes(folder.session.read_bytes().split(b"[[peer]]\n")[1].strip() + b"\n")
+            folder.key(1).rename(folder.path / "K.1")
+            status, out, _ = run_script("check-vectors", folder.path, "--bar", self.room / "bar")
+            self.assertEqual((status, out), (0, ["OK: 4 values compared, none differs"]))
+            (folder.path / "K.1").write_text("version = 1\n")
+            status, out, _ = run_script("check-vectors", folder.path, "--bar", self.room / "bar")
+            self.assertEqual((status, out[0][:20], out[-1]), (1, "key of party 1 key: ", "FAILED: 1 of 4 values differ"))
+            shutil.rmtree(folder.path)
+
     def test_a_folder_of_one_session(self):
         folder, _ = self.make_session(fake_program(self.room, printed=""), version=2)
         folder.key(1).rename(folder.path / "K.1")
@@ -116,8 +130,10 @@ class Checks(RoomCase):
             (folder.path / name / "1.transcript.gz").write_bytes(gzip.compress(b""))
             (folder.path / name / "1.played").write_bytes(b"played")
             (folder.path / name / "1.table").touch()
-        status, out, _ = run_script("check-vectors", folder.path, "--bar", self.room / "bar")
+            (folder.path / name / "3.transcript.gz").touch()
+        status, out, err = run_script("check-vectors", folder.path, "--bar", self.room / "bar")
         self.assertEqual((status, out), (0, ["OK: 12 values compared, none differs"]))
+        self.assertIn(f"{folder.path}/puppet has files of party 3, which are left out: its session has 2 peers", err)
         (folder.path / "puppet/1.played").write_bytes(b"other")
         status, out, _ = run_script("check-vectors", folder.path, "--bar", self.room / "bar")
         self.assertEqual((status, out[0][:22], out[-1]), (1, "puppet peer 1 played: ", "FAILED: 1 of 12 values differ"))
