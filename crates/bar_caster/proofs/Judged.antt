@@ -1,7 +1,7 @@
 -- What the memory of a broadcaster holds after evidence was judged.
-use Rattle.std.proofs.Common.{◌≡◌, ◌≤◌, ◌∙◌, ℕ, true, List, [], ◌∷◌, ◌++◌, Option, Some, None, is_some, length, length-append, drop, refl}
+use Rattle.std.proofs.Common.{◌≡◌, ◌≤◌, ◌∙◌, ℕ, true, false, List, [], ◌∷◌, ◌++◌, Option, Some, None, is_some, length, length-append, drop, refl}
 use Rattle.std.proofs.Common.{sym, ap, subst, arith, if◌then◌else◌}
-use Rattle.std.specs.Prelude.{◌&&◌, nat_le, option_map}
+use Rattle.std.specs.Prelude.{◌&&◌, is_none, nat_le, option_map}
 use Rattle.std.specs.Borrow.{Bor}
 use Rattle.std.specs.List.{concat}
 use Rattle.std.specs.Bool.{then_some}
@@ -34,6 +34,7 @@ use Rattle.bar_judge.specs.declared.verdicts.Verdict.{Verdict as CodeVerdict}
 use Rattle.bar_judge.specs.declared.verdicts.Verdict.TheVariants as verdicts
 use Rattle.bar_judge.specs.Verdicts.{plain_verdict}
 use Rattle.bar_laws.specs.Broadcasting.{ShownIsShort}
+use Rattle.bar_laws.specs.Ignoring.{evicts, is_news}
 use Rattle.bar_caster.specs.declared.evictions.Evictions.{Evictions}
 use Rattle.bar_caster.specs.declared.memory.Memory.{Memory}
 use Rattle.bar_caster.specs.Evictions.{AreOfLog}
@@ -131,6 +132,17 @@ not_shown log m n v evidence h same tells is none =
     let log_is : log ≡ evict_by log evidence (verdict m.session (caster_table (member_of m) (stream_of m) log) evidence) =
     sym (silent log evidence v none) ∙ ap (evict_by log evidence) (is ∙ told_verdict log m evidence tells) in
     subst (λ (l : Log). Tells l n) log_is (tells_still log m n h same tells)
+
+some_there : (o : Option (List (List ℕ))) → is_none o ≡ false → is_some o ≡ true
+some_there None e = absurd (cc)
+some_there (Some evidence) e = refl
+
+-- evidence that is shown and no news is against a party that is evicted
+pub evicted_before : (log : Log) (m : Memory) (party : ℕ) (fault : Fault) (evidence : List (List ℕ)) → Tells log m
+    → Shown party fault ≡ verdict m.session (digests_of m.table.lists) evidence
+    → is_news (member_of m) (stream_of m) log (Evidence evidence) ≡ false → is_some (kept log party) ≡ true
+evicted_before log m party fault evidence tells is quiet =
+    some_there (kept log party) (ap (evicts log) (is ∙ told_verdict log m evidence tells) ∙ quiet)
 
 -- ---- evidence in a datagram
 

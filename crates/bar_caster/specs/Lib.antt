@@ -8,3 +8,4 @@ pub mod Ticking
 pub mod Core
 pub mod Time
 pub mod Runs
+pub mod Ignoring

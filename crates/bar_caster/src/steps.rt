@@ -1,8 +1,10 @@
 //! What a broadcaster does at an input.
-ghost use Rattle.std.specs.Prelude.{◌≡◌, ◌+◌, ◌*◌, ◌≤◌, ◌++◌, ◌∷◌, ◌↔◌, [], IsTrue, max};
+ghost use Rattle.std.specs.Prelude.{◌≡◌, ◌+◌, ◌*◌, ◌≤◌, ◌++◌, ◌∷◌, ◌↔◌, [], IsTrue, max, true};
 ghost use Rattle.bar_store.specs.Orders.{left_in};
 ghost use Rattle.bar_wire.specs.Inputs.{plain_input};
 ghost use Rattle.bar_rules.specs.Broadcaster.Sending.{caster_step};
+ghost use Rattle.bar_laws.specs.Ignoring.{is_unread};
+ghost use Rattle.bar_caster.specs.Ignoring.{Ignores, IsUntouched};
 ghost use Rattle.bar_caster.specs.Memory.{IsOfTheSame, member_of, stream_of};
 ghost use Rattle.bar_caster.specs.StandsFor.{Inputs, StandsFor, AreLeft, log_of};
 
@@ -30,6 +32,10 @@ impl<S: Scheme> Caster<S> {
             → AreLeft self.new.memory self.new.orders (inputs ++ plain_input input.entry ∷ [])
             (caster_step (member_of self.old.memory) (stream_of self.old.memory) (log_of self.old.memory inputs)
             (plain_input input.entry)).sends }
+        // what isn't read changes nothing, nor does what shows no fault of a party that isn't evicted yet
+        ensures unread { is_unread self.old.memory.session (plain_input input.entry) ≡ true
+            → IsUntouched self.old.memory self.new.memory self.new.orders }
+        ensures ignored { Ignores self.old.memory (plain_input input.entry) self.new.memory self.new.orders }
         ensures same { IsOfTheSame self.old.memory self.new.memory }
         ensures scheme { self.new.scheme ≡ self.old.scheme }
         ensures cost { steps.new ≤ steps.old + max (self.old.memory.session.shape.per_round * self.old.memory.session.shape.peers)

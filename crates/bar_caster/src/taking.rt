@@ -3,11 +3,14 @@ ghost use Rattle.std.specs.Prelude.{◌≡◌, ◌+◌, ◌*◌, ◌<◌, ◌≤
 ghost use Rattle.bar_wire.specs.Datagram.{Evidence};
 ghost use Rattle.bar_wire.specs.Evidence.{IsEvidence};
 ghost use Rattle.bar_wire.specs.Inputs.{Tick};
+ghost use Rattle.bar_wire.specs.Inputs.{Datagram as Arrival};
 ghost use Rattle.bar_rules.specs.Broadcaster.Sending.{caster_take, judge_body, judge_datagram};
 ghost use Rattle.bar_rules.specs.Member.{last_tick};
 ghost use Rattle.bar_rules.specs.Peer.Log.{Log};
 ghost use Rattle.bar_rules.specs.Values.{datagram_of};
 ghost use Rattle.bar_rules.specs.Verifiers.{IsVerifierOf, NamesLeavesOf};
+ghost use Rattle.bar_laws.specs.Ignoring.{is_news, is_unread};
+ghost use Rattle.bar_caster.specs.Ignoring.{IgnoresInput};
 ghost use Rattle.bar_caster.specs.Memory.{Tells, IsOfTheSame, member_of, stream_of};
 ghost use Rattle.bar_caster.specs.Orders.{Stands};
 ghost use Rattle.bar_caster.specs.StandsFor.{Inputs, StandsFor, log_of};
@@ -38,6 +41,8 @@ impl Memory {
         requires names { NamesLeavesOf self.old.session (V.leaf_named verifier.now) (V.signature_len verifier.now) }
         ensures judged { (log : Log) (evidence : List (List ℕ)) → Tells log self.old → IsEvidence bytes.now evidence
             → Tells (judge_body (member_of self.old) (stream_of self.old) log (Evidence evidence)) self.new }
+        ensures no_news { (log : Log) (evidence : List (List ℕ)) → Tells log self.old → IsEvidence bytes.now evidence
+            → is_news (member_of self.old) (stream_of self.old) log (Evidence evidence) ≡ false → self.new ≡ self.old }
         ensures ticks { self.new.ticks ≡ self.old.ticks }
         ensures same { IsOfTheSame self.old self.new }
         ensures cost { steps.new ≤ steps.old + (2 * V.most_steps verifier.now + self.old.session.shape.rounds) }
@@ -68,6 +73,8 @@ impl Memory {
         requires names { NamesLeavesOf self.old.session (V.leaf_named verifier.now) (V.signature_len verifier.now) }
         ensures judged { (log : Log) → Tells log self.old
             → Tells (judge_datagram (member_of self.old) (stream_of self.old) log (datagram_of self.old.session bytes.now)) self.new }
+        ensures ignored { IgnoresInput (Arrival bytes.now) self.old self.new }
+        ensures unread { is_unread self.old.session (Arrival bytes.now) ≡ true → self.new ≡ self.old }
         ensures ticks { self.new.ticks ≡ self.old.ticks }
         ensures same { IsOfTheSame self.old self.new }
         ensures cost { steps.new ≤ steps.old + (2 * V.most_steps verifier.now + self.old.session.shape.rounds) }

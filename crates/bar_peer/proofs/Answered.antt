@@ -268,3 +268,21 @@ repeat-answered log d m n o p says bytes is_member sound one spells fits tell do
 
     life : 2 ≤ me.session.shape.life
     life = is_member.session.shape.life_low
+
+-- what is told as a repeat and is none is of an exchange that can't be asked about any more: there is nothing to say
+pub nothing-changed : (log : Log) (d : Datagram) (m n : Memory) (says : Says) → IsMember (member_of m.who) → Tell m d false says
+    → (orders_of_reply says ≡ [] → n ≡ m)
+    → (IsInTime (member_of m.who) (known (member_of m.who) log) d.message → repeated (member_of m.who) (known (member_of m.who) log) d ≡ Some d)
+    → Tells log m → repeated (member_of m.who) (known (member_of m.who) log) d ≡ None → n ≡ m
+nothing-changed log d m n says is_member tell nothing again tells none =
+    elim (cases_Bool (nat_le (this_round (known me log)) (round_of d.message.body + me.session.shape.life))) [
+      | inl t ↦
+          let both : None ≡ Some d = sym none ∙ again (in-time-by me (known me log) d.message.from d.message.to d.message.body t) in
+          absurd (cc)
+      | inr f ↦
+          nothing (tell (known me log) tells (λ n. absurd (false≢true n))
+          ∙ stale-orders me (known me log) d.message.from d.message.to d.message.body is_member.session.shape.life_low f)
+    ]
+  where
+    me : Member
+    me = member_of m.who

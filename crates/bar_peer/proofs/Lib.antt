@@ -7,6 +7,7 @@ pub mod Stale
 pub mod Opened
 pub mod Given
 pub mod Answered
+mod Ignored
 pub mod Keys
 pub mod Learned
 pub mod Heard

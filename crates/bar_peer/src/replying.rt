@@ -1,5 +1,5 @@
 //! What a peer answers to a datagram.
-ghost use Rattle.std.specs.Prelude.{◌≡◌, ◌+◌, ◌≤◌, length};
+ghost use Rattle.std.specs.Prelude.{◌≡◌, ◌+◌, ◌≤◌, [], length};
 ghost use Rattle.std.specs.List.{AllByRecursion};
 ghost use Rattle.bar_rules.specs.Peer.Knowledge.{known};
 ghost use Rattle.bar_rules.specs.Peer.Rules.{IsObedient};
@@ -39,6 +39,7 @@ pub fn reply(memory: &mut Memory, orders: &mut Orders<Order>, says: Says)
         → AllByRecursion (IsOwn (member_of memory.old.who) (known (member_of memory.old.who) out.state)) (says_in says)
         → length orders.old.list.items + 2 ≤ orders.old.room
         → Stands (perform_all (member_of memory.old.who) out (orders_of_reply says)) memory.new orders.new }
+    ensures nothing { orders_of_reply says ≡ [] → memory.new ≡ memory.old }
     ensures length { length orders.new.list.items ≤ length orders.old.list.items + 2 }
     ensures room { orders.new.room ≡ orders.old.room }
     ensures given { orders.new.given ≡ orders.old.given }

@@ -12,6 +12,8 @@ ghost use Rattle.bar_rules.specs.Peer.Ticks.{contents_at_tick};
 ghost use Rattle.bar_rules.specs.Verifiers.{IsVerifierOf, NamesLeavesOf};
 ghost use Rattle.bar_peer.specs.Checking.{IsCheckedOnce, AdmitsChecked, AdmitsKept, StandsFirst, IsSeedKept};
 ghost use Rattle.bar_peer.specs.Checking.{checked_in, choice_round_in, round_in, sender_in, shows_seed};
+ghost use Rattle.bar_laws.specs.Ignoring.{is_unread};
+ghost use Rattle.bar_peer.specs.Ignoring.{Ignores, IgnoresInput, IsUntouched};
 ghost use Rattle.bar_peer.specs.Memory.{member_of, Tells};
 ghost use Rattle.bar_store.specs.Orders.{left_in};
 ghost use Rattle.bar_peer.specs.StandsFor.{Inputs, StandsFor, AreLeft, contents_left};
@@ -24,6 +26,7 @@ use crate::peer::Peer;
 use crate::playing::Playing;
 use crate::taking::{take_datagram, take_tick};
 use bar_bytes::Steps;
+use bar_laws::ignoring::ignored_datagrams_change_nothing;
 use bar_laws::knowing::knowledge_is_enough;
 use bar_laws::obedience::signed_by_rule;
 use bar_seal::{Checker, Scheme, Verifier};
@@ -68,6 +71,9 @@ fn take_input<V: Verifier, L: StepLedger>(
     requires names { NamesLeavesOf memory.old.who.session (V.leaf_named checker.old.verifier) (V.signature_len checker.old.verifier) }
     requires points { AreSeeds memory.old.who.session points.old }
     ensures stands { TakesInput (plain_input input.entry) memory.old orders.old memory.new orders.new }
+    ensures ignored { IgnoresInput (plain_input input.entry) memory.old memory.new }
+    ensures unread { is_unread memory.old.who.session (plain_input input.entry) ≡ true
+        → (memory.new ≡ memory.old) × (orders.new ≡ orders.old) × (checker.new.memo ≡ checker.old.memo) × (points.new ≡ points.old) }
     ensures room { orders.new.room ≡ orders.old.room }
     ensures given { orders.new.given ≡ orders.old.given }
     ensures who { memory.new.who ≡ memory.old.who }
@@ -129,6 +135,11 @@ impl<S: Scheme> Peer<S> {
             → contents_left self.new.memory.store self.new.playing
             ≡ (step (member_of self.old.memory.who) (log_after (member_of self.old.memory.who) [] inputs)
             (plain_input input.entry)).contents }
+        // what isn't read changes nothing, and what is ignored at most what is remembered and kept of seeds
+        ensures unread { is_unread self.old.memory.who.session (plain_input input.entry) ≡ true
+            → IsUntouched self.old.memory self.new.memory self.new.orders self.new.playing
+            × (self.new.checker.memo ≡ self.old.checker.memo) × (self.new.points ≡ self.old.points) }
+        ensures ignored { Ignores self.old.memory (plain_input input.entry) self.new.memory self.new.orders self.new.playing }
         ensures who { self.new.memory.who ≡ self.old.memory.who }
         ensures verifier { self.new.checker.verifier ≡ self.old.checker.verifier }
         // how many hashes it takes at the most, and how many where the datagram is remembered
@@ -145,6 +156,7 @@ impl<S: Scheme> Peer<S> {
     {
         knowledge_is_enough();
         signed_by_rule();
+        ignored_datagrams_change_nothing();
         if self.memory.is_over() {
             return;
         }

@@ -1,5 +1,5 @@
 //! What a peer does with a datagram.
-ghost use Rattle.std.specs.Prelude.{◌≡◌, ◌≤◌, ◌<◌, [], ◌+◌, ◌*◌, Some, true, is_some, length};
+ghost use Rattle.std.specs.Prelude.{◌≡◌, ◌≤◌, ◌<◌, [], ◌+◌, ◌*◌, None, Some, true, false, is_some, length};
 ghost use Rattle.bar_seeds.specs.Checkpoints.{kept_round, MovesOn};
 ghost use Rattle.bar_roster.specs.Points.{AreSeeds};
 ghost use Rattle.bar_wire.specs.Bodies.{choice_round};
@@ -15,9 +15,12 @@ ghost use Rattle.bar_rules.specs.Peer.Admission.{is_admitted as admitted};
 ghost use Rattle.bar_rules.specs.Peer.Evidence.{is_tried, new_evidence};
 ghost use Rattle.bar_rules.specs.Peer.Knowledge.{known};
 ghost use Rattle.bar_rules.specs.Peer.Log.{Log};
+ghost use Rattle.bar_rules.specs.Peer.Replies.{repeated};
 ghost use Rattle.bar_rules.specs.Peer.Rules.{IsObedient};
 ghost use Rattle.bar_rules.specs.Peer.Run.{answered_to, take_datagram, with_evidence};
 ghost use Rattle.bar_rules.specs.Verifiers.{IsVerifierOf, NamesLeavesOf};
+ghost use Rattle.bar_laws.specs.Ignoring.{is_unread, tells_nothing};
+ghost use Rattle.bar_peer.specs.Ignoring.{IgnoresInput, LeavesMemory};
 ghost use Rattle.bar_peer.specs.Memory.{member_of, HasOtherEvidence, Tells};
 ghost use Rattle.bar_peer.specs.Sending.{Stands};
 ghost use Rattle.bar_peer.specs.Steps.{TakesTick, TakesDatagram};
@@ -71,6 +74,7 @@ impl Memory {
             → is_tried me (known me log) d ≡ true
             → (result ≡ is_some (new_evidence me (known me log) d))
             × Tells (with_evidence me log d.message.from (new_evidence me (known me log) d)) self.new }
+        ensures none { result ≡ false → self.new ≡ self.old }
         ensures rest { HasOtherEvidence self.old self.new }
         ensures cost { steps.new ≤ steps.old + choice_round (plain view.now.body) }
         ensures seeds { AreSeeds self.old.who.session points.new }
@@ -116,6 +120,9 @@ fn answer(
         (datagram memory.old.who.session.shape view.now)
         → orders.old.list.items ≡ [] → 2 ≤ orders.old.room
         → Stands (answered_to (member_of memory.old.who) log (datagram memory.old.who.session.shape view.now)) memory.new orders.new }
+    ensures idle { (log : Log) → IsObedient (member_of memory.old.who) log → Tells log memory.old → is_admitted ≡ false
+        → repeated (member_of memory.old.who) (known (member_of memory.old.who) log) (datagram memory.old.who.session.shape view.now) ≡ None
+        → memory.new ≡ memory.old }
     ensures length { orders.old.list.items ≡ [] → length orders.new.list.items ≤ 2 }
     ensures room { orders.new.room ≡ orders.old.room }
     ensures given { orders.new.given ≡ orders.old.given }
@@ -160,6 +167,10 @@ fn answer_tried<V: Verifier, L: StepLedger>(
         → orders.old.list.items ≡ [] → 3 ≤ orders.old.room
         → Stands (take_datagram (member_of memory.old.who) log (Some (datagram memory.old.who.session.shape view.now)))
         memory.new orders.new }
+    ensures idle { is_admitted ≡ false → (log : Log) → IsObedient (member_of memory.old.who) log → Tells log memory.old
+        → is_tried (member_of memory.old.who) (known (member_of memory.old.who) log) (datagram memory.old.who.session.shape view.now) ≡ true
+        → tells_nothing (member_of memory.old.who) (known (member_of memory.old.who) log) (datagram memory.old.who.session.shape view.now) ≡ true
+        → memory.new ≡ memory.old }
     ensures room { orders.new.room ≡ orders.old.room }
     ensures given { orders.new.given ≡ orders.old.given }
     ensures who { memory.new.who ≡ memory.old.who }
@@ -198,6 +209,7 @@ pub fn take_view<V: Verifier, L: StepLedger>(
         → Tells log memory.old → orders.old.list.items ≡ [] → 3 ≤ orders.old.room
         → Stands (take_datagram (member_of memory.old.who) log (Some (datagram memory.old.who.session.shape view.now)))
         memory.new orders.new }
+    ensures idle { LeavesMemory (datagram memory.old.who.session.shape view.now) memory.old memory.new }
     ensures room { orders.new.room ≡ orders.old.room }
     ensures given { orders.new.given ≡ orders.old.given }
     ensures who { memory.new.who ≡ memory.old.who }
@@ -250,6 +262,9 @@ pub fn take_datagram<V: Verifier, L: StepLedger>(
     requires names { NamesLeavesOf memory.old.who.session (V.leaf_named checker.old.verifier) (V.signature_len checker.old.verifier) }
     requires points { AreSeeds memory.old.who.session points.old }
     ensures stands { TakesDatagram bytes.now memory.old orders.old memory.new orders.new }
+    ensures ignored { IgnoresInput (Arrival bytes.now) memory.old memory.new }
+    ensures unread { is_unread memory.old.who.session (Arrival bytes.now) ≡ true
+        → (memory.new ≡ memory.old) × (orders.new ≡ orders.old) × (checker.new.memo ≡ checker.old.memo) × (points.new ≡ points.old) }
     ensures room { orders.new.room ≡ orders.old.room }
     ensures given { orders.new.given ≡ orders.old.given }
     ensures who { memory.new.who ≡ memory.old.who }

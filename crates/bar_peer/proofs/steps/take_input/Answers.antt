@@ -1,4 +1,5 @@
-use Rattle.std.proofs.Common.{◌≡◌, sym, ap, subst}
+use Rattle.std.proofs.Common.{◌≡◌, ◌∙◌, sym, ap, subst}
+use Rattle.std.proofs.lemmas.Bool.{false≢true}
 use Rattle.bar_wire.specs.Inputs.{Input, plain_input}
 use Rattle.bar_wire.specs.Inputs as event
 use Rattle.bar_rules.specs.Member.{Member}
@@ -6,6 +7,8 @@ use Rattle.bar_rules.specs.Peer.Rules.{IsObedient}
 use Rattle.bar_rules.specs.Peer.Run.{take_input}
 use Rattle.bar_peer.specs.Memory.{member_of}
 use Rattle.bar_peer.specs.Sending.{Stands}
+use Rattle.bar_rules.specs.Peer.Knowledge.{known}
+use Rattle.bar_laws.specs.Ignoring.{is_ignored, is_unread}
 use Rattle.bar_peer.proofs.steps.take_input.Goals as goal
 
 pub returns-in-Tick-clause-stands : goal.returns-in-Tick-clause-stands
@@ -17,3 +20,14 @@ returns-in-Tick-clause-stands g c log obeys tells empty room =
     in
     subst (λ (input : Input). Stands (take_input me log input) c.take_tick.new.memory c.take_tick.new.orders) (sym is)
     (record { tells = stands.tells; orders = stands.orders })
+
+pub returns-in-Tick-clause-ignored : goal.returns-in-Tick-clause-ignored
+returns-in-Tick-clause-ignored g c log obeys tells ignored =
+    let me : Member = member_of c.args.memory.now.who in
+    let is : plain_input c.args.input ≡ event.Tick = ap plain_input c.in-Tick.is in
+    absurd (false≢true (ap (is_ignored me (known me log)) (sym is) ∙ ignored))
+
+pub returns-in-Tick-clause-unread : goal.returns-in-Tick-clause-unread
+returns-in-Tick-clause-unread g c unread =
+    let is : plain_input c.args.input ≡ event.Tick = ap plain_input c.in-Tick.is in
+    absurd (false≢true (ap (is_unread c.args.memory.now.who.session) (sym is) ∙ unread))

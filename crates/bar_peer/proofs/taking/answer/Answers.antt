@@ -1,4 +1,5 @@
 use Rattle.std.proofs.Common.{◌≡◌, ◌∙◌, ◌∷◌, true, false, sym, ap, subst}
+use Rattle.std.proofs.lemmas.Bool.{false≢true}
 use Rattle.bar_wire.specs.Datagram.{Datagram}
 use Rattle.bar_wire.specs.Views.{datagram}
 use Rattle.bar_rules.specs.Member.{Member}
@@ -13,7 +14,7 @@ use Rattle.bar_laws.specs.Soundness.{IsSound}
 use Rattle.bar_balanced.specs.Balanced.{AreSpelled}
 use Rattle.bar_peer.specs.Memory.{member_of}
 use Rattle.bar_peer.specs.Sending.{Stands}
-use Rattle.bar_peer.proofs.Answered.{answered-before, answered-new, answered-again, new-replied, repeat-answered, not-repeated, apart, received}
+use Rattle.bar_peer.proofs.Answered.{nothing-changed, answered-before, answered-new, answered-again, new-replied, repeat-answered, not-repeated, apart, received}
 use Rattle.bar_peer.proofs.Later.{obeys_before_all}
 use Rattle.bar_peer.proofs.Sent.{none_stand}
 use Rattle.bar_peer.proofs.taking.answer.Goals as goal
@@ -61,3 +62,16 @@ returns-else-is_repeat-clause-stands c log obeys tells weighed empty room =
     c.bytes_spell_one.ensures c.requires.view.spelled
     (λ in_time. c.is_repeat.ensures (known me log) tells spelled in_time ∙ ap (λ b. then_some b d) c.if-is_repeat.false)))
     (none_stand log c.args.memory.now c.args.orders.now tells empty)
+
+pub returns-then-is_admitted-clause-idle : goal.returns-then-is_admitted-clause-idle
+returns-then-is_admitted-clause-idle c log obeys tells refused none = absurd (false≢true (sym refused ∙ c.if-is_admitted.true))
+
+pub returns-then-is_repeat-clause-idle : goal.returns-then-is_repeat-clause-idle
+returns-then-is_repeat-clause-idle c log obeys tells refused none =
+    let me : Member = member_of c.args.memory.now.who in
+    let d : Datagram = datagram c.args.memory.now.who.session.shape c.args.view.now in
+    let sound : IsSound me (known me log) = c.logs_are_sound.ensures me log obeys in
+    let spelled : AreSpelled me (known me log) = record { spelled = sound.spelled } in
+    nothing-changed log d c.args.memory.now c.reply-then-is_repeat.new.memory c.says_to-says-then-is_repeat.result c.args.memory.now.who.is_member
+    c.says_to-says-then-is_repeat.ensures.orders c.reply-then-is_repeat.ensures.nothing
+    (λ in_time. c.is_repeat.ensures (known me log) tells spelled in_time ∙ ap (λ b. then_some b d) c.if-is_repeat.true) tells none

@@ -1,4 +1,5 @@
-use Rattle.std.proofs.Common.{◌<◌, ◌∙◌, List, ℕ, Option, length, sym, subst, arith}
+use Rattle.std.proofs.Common.{◌≡◌, ◌<◌, ◌∙◌, List, ℕ, Option, None, is_some, length, sym, ap, subst, arith}
+use Rattle.std.proofs.lemmas.Bool.{false≢true}
 use Rattle.bar_wire.specs.Datagram.{Datagram}
 use Rattle.bar_wire.specs.Views.{datagram}
 use Rattle.bar_rules.specs.Member.{Member}
@@ -8,6 +9,11 @@ use Rattle.bar_rules.specs.Peer.Run.{answered_to, with_evidence}
 use Rattle.bar_peer.specs.declared.credentials.Credentials.{Credentials}
 use Rattle.bar_peer.specs.Memory.{member_of}
 use Rattle.bar_peer.specs.Sending.{Stands}
+use Rattle.bar_rules.specs.Peer.Replies.{repeated}
+use Rattle.bar_rules.specs.Peer.Rules.{IsObedient}
+use Rattle.bar_peer.specs.declared.memory.Memory.{Memory}
+use Rattle.bar_peer.specs.Memory.{Tells}
+use Rattle.bar_peer.proofs.Ignored.{TellsNothing, nothing-told}
 use Rattle.bar_peer.proofs.Taken.{AreObedient, Answers, admitted-still, obeyed, tried-stands, untried-stands}
 use Rattle.bar_peer.proofs.taking.answer_tried.Goals as goal
 
@@ -59,3 +65,30 @@ returns-else-is_found-clause-stands g c log obeys tells tried weighed empty room
     (omega (arith, room))
     in
     untried-stands me c.answer.new.memory c.answer.new.orders log d v.from ev stands (sym kept.0 ∙ c.if-is_found.false)
+
+pub returns-then-is_found-clause-idle : goal.returns-then-is_found-clause-idle
+returns-then-is_found-clause-idle g c refused log obeys tells tried idle =
+    let who = c.args.memory.now.who in
+    let me : Member = member_of who in
+    let v = c.args.view.now in
+    let d : Datagram = datagram who.session.shape v in
+    let none : TellsNothing me (known me log) d = nothing-told me (known me log) d idle in
+    let obeyed_still : IsObedient me (with_evidence me log v.from (new_evidence me (known me log) d)) =
+    subst (λ (e : Option (List (List ℕ))). IsObedient me (with_evidence me log v.from e)) (sym none.unshown) obeys in
+    let kept = c.keep_found-is_found.ensures.kept log obeyed_still obeys tells tried in
+    absurd (false≢true (sym (ap is_some none.unshown) ∙ sym kept.0 ∙ c.if-is_found.true))
+
+pub returns-else-is_found-clause-idle : goal.returns-else-is_found-clause-idle
+returns-else-is_found-clause-idle g c refused log obeys tells tried idle =
+    let who = c.args.memory.now.who in
+    let me : Member = member_of who in
+    let v = c.args.view.now in
+    let d : Datagram = datagram who.session.shape v in
+    let none : TellsNothing me (known me log) d = nothing-told me (known me log) d idle in
+    let same : c.keep_found-is_found.new.self ≡ c.args.memory.now = c.keep_found-is_found.ensures.none c.if-is_found.false in
+    c.answer.ensures.idle log
+    (subst (λ (m : Memory). IsObedient (member_of m.who) log) (sym same) obeys)
+    (subst (λ (m : Memory). Tells log m) (sym same) tells)
+    refused
+    (ap (λ (m : Memory). repeated (member_of m.who) (known (member_of m.who) log) (datagram m.who.session.shape v)) same ∙ none.unlike)
+    ∙ same

@@ -9,6 +9,7 @@ use Rattle.bar_rules.specs.Peer.Run.{answered_to, report_new, with_evidence}
 use Rattle.bar_laws.specs.Soundness.{IsSound}
 use Rattle.bar_peer.specs.Memory.{member_of}
 use Rattle.bar_peer.specs.Sending.{Stands}
+use Rattle.bar_peer.proofs.Ignored.{TellsNothing, nothing-told}
 use Rattle.bar_peer.proofs.Taken.{AreObedient, obeyed, none-new}
 use Rattle.bar_peer.proofs.taking.take_view.Goals as goal
 
@@ -42,3 +43,22 @@ returns-else-weighed-clause-stands g c log obeys tells empty room =
     (λ (e : Option (List (List ℕ))). Stands (report_new me (answered_to me (with_evidence me log q e) d) q e) c.answer.new.memory c.answer.new.orders)
     (sym none)
     (c.answer.ensures.stands log answered tells (c.weigh-weighed.ensures.admitted k tells sound) empty (omega (arith, room)))
+
+pub returns-then-weighed-clause-idle : goal.returns-then-weighed-clause-idle
+returns-then-weighed-clause-idle g c log obeys tells idle =
+    let me : Member = member_of c.args.memory.now.who in
+    let d : Datagram = datagram c.args.memory.now.who.session.shape c.args.view.now in
+    let k : Knowledge = known me log in
+    let sound : IsSound me k = c.logs_are_sound.ensures me log obeys in
+    let none : TellsNothing me k d = nothing-told me k d idle in
+    c.answer_tried.ensures.idle (c.weigh-weighed.ensures.admitted k tells sound ∙ none.refused) log obeys tells
+    (sym (c.weigh-weighed.ensures.tried k tells sound) ∙ c.if-weighed.true) idle
+
+pub returns-else-weighed-clause-idle : goal.returns-else-weighed-clause-idle
+returns-else-weighed-clause-idle g c log obeys tells idle =
+    let me : Member = member_of c.args.memory.now.who in
+    let d : Datagram = datagram c.args.memory.now.who.session.shape c.args.view.now in
+    let k : Knowledge = known me log in
+    let sound : IsSound me k = c.logs_are_sound.ensures me log obeys in
+    let none : TellsNothing me k d = nothing-told me k d idle in
+    c.answer.ensures.idle log obeys tells (c.weigh-weighed.ensures.admitted k tells sound ∙ none.refused) none.unlike

@@ -1,10 +1,12 @@
 -- An input before the last tick is taken; after it nothing changes, and nothing is sent.
 use Rattle.std.proofs.Common.{◌≡◌, ◌∙◌, ◌++◌, ◌∷◌, [], refl, sym, ap, subst, drop}
+use Rattle.std.proofs.lemmas.Bool.{false≢true}
 use Rattle.bar_store.specs.Orders.{left_in}
 use Rattle.bar_wire.specs.Inputs as event
 use Rattle.bar_wire.specs.Inputs.{plain_input}
 use Rattle.bar_wire.specs.declared.input.Input.{Input as RawInput}
 use Rattle.bar_rules.specs.Broadcaster.Sending.{caster_step}
+use Rattle.bar_laws.specs.Ignoring.{is_ignored_by_caster, is_unread}
 use Rattle.bar_caster.specs.Memory.{member_of, stream_of}
 use Rattle.bar_caster.specs.Orders.{Orders}
 use Rattle.bar_caster.specs.StandsFor.{StandsFor, AreLeft, log_of}
@@ -61,3 +63,38 @@ returns-in-Datagram-clause-sends g c inputs stood =
     (sym c.in-Datagram.is)
     (then_silent m n inputs (event.Datagram c.in-Datagram.bytes.now) c.take_datagram.ensures.same go stood o
     (λ i. drop (c.clear.ensures.1 i) (c.clear.ensures.0 i)) refl)
+
+cleared : (o : Orders) → o.list.items ≡ [] → o.given ≡ 0 → left_in o ≡ []
+cleared o none first = λ i. drop (first i) (none i)
+
+pub returns-then-is_over-clause-unread : goal.returns-then-is_over-clause-unread
+returns-then-is_over-clause-unread g c unread = record { memory = refl; sends = c.requires.sends }
+
+pub returns-then-is_over-clause-ignored : goal.returns-then-is_over-clause-ignored
+returns-then-is_over-clause-ignored g c inputs stood ignored = record { memory = refl; sends = c.requires.sends }
+
+pub returns-in-Tick-clause-unread : goal.returns-in-Tick-clause-unread
+returns-in-Tick-clause-unread g c unread =
+    absurd (false≢true (ap (λ (x : RawInput). is_unread c.args.self.now.memory.session (plain_input x)) (sym c.in-Tick.is) ∙ unread))
+
+pub returns-in-Tick-clause-ignored : goal.returns-in-Tick-clause-ignored
+returns-in-Tick-clause-ignored g c inputs stood ignored =
+    let m = c.args.self.now.memory in
+    absurd (false≢true (ap (λ (x : RawInput). is_ignored_by_caster (member_of m) (stream_of m) (log_of m inputs) (plain_input x)) (sym c.in-Tick.is) ∙ ignored))
+
+pub returns-in-Datagram-clause-unread : goal.returns-in-Datagram-clause-unread
+returns-in-Datagram-clause-unread g c unread =
+    record {
+      memory = c.take_datagram.ensures.unread
+          (ap (λ (x : RawInput). is_unread c.args.self.now.memory.session (plain_input x)) (sym c.in-Datagram.is) ∙ unread);
+      sends = cleared c.clear.new.self c.clear.ensures.0 c.clear.ensures.1;
+    }
+
+pub returns-in-Datagram-clause-ignored : goal.returns-in-Datagram-clause-ignored
+returns-in-Datagram-clause-ignored g c inputs stood ignored =
+    let m = c.args.self.now.memory in
+    record {
+      memory = c.take_datagram.ensures.ignored (log_of m inputs) stood
+          (ap (λ (x : RawInput). is_ignored_by_caster (member_of m) (stream_of m) (log_of m inputs) (plain_input x)) (sym c.in-Datagram.is) ∙ ignored);
+      sends = cleared c.clear.new.self c.clear.ensures.0 c.clear.ensures.1;
+    }

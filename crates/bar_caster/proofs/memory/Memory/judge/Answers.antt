@@ -2,7 +2,9 @@
 use Rattle.std.proofs.Common.{◌∙◌, refl, ap, subst}
 use Rattle.bar_terms.specs.Table.{digests_of}
 use Rattle.bar_rules.specs.Judge.Verdict.{verdict}
-use Rattle.bar_caster.proofs.Judged.{shown, not_shown, Evicts}
+use Rattle.bar_caster.specs.declared.evictions.Evictions.{Evictions}
+use Rattle.bar_caster.specs.declared.memory.Memory.{Memory}
+use Rattle.bar_caster.proofs.Judged.{evicted_before, shown, not_shown, Evicts}
 use Rattle.bar_caster.proofs.memory.Memory.judge.Goals as goal
 
 pub returns-in-Shown-clause-judged : goal.returns-in-Shown-clause-judged
@@ -26,3 +28,11 @@ returns-in_default-verdict-clause-judged g c = λ log evidence tells of.
     refl tells
     (c.verdict.ensures.exact ∙ ap (verdict m.session (digests_of m.table.lists)) same)
     c.in_default-verdict.not-Shown
+
+pub returns-in-Shown-clause-no_news : goal.returns-in-Shown-clause-no_news
+returns-in-Shown-clause-no_news g c = λ log evidence tells of quiet.
+    let m = c.args.self.now in
+    let same = c.in-Ok.ensures.only evidence of in
+    ap (λ (e : Evictions). record m { evictions = e })
+    (c.evict.ensures.again m.session log tells.evictions
+    (evicted_before log m c.in-Shown.party _ evidence tells (c.in-Shown.ensures.exact ∙ ap (verdict m.session (digests_of m.table.lists)) same) quiet))

@@ -1,8 +1,17 @@
-use Rattle.std.proofs.Common.{◌≡◌, ◌≤◌, ◌∙◌, ℕ, [], sym, ap, subst, arith, drop}
+use Rattle.std.proofs.Common.{◌≡◌, ◌≤◌, ◌∙◌, ℕ, List, [], map, Option, Some, true, false, refl, sym, ap, subst, arith, drop}
+use Rattle.std.proofs.lemmas.Bool.{false≢true}
+use Rattle.bar_wire.specs.Datagram.{Datagram}
+use Rattle.bar_wire.specs.Inputs.{Input}
+use Rattle.bar_wire.specs.Inputs as event
+use Rattle.bar_rules.specs.Runs.{begun}
+use Rattle.bar_roster.specs.SessionText.{SessionData}
+use Rattle.bar_peer.specs.Steps.{is_tick}
+use Rattle.bar_laws.specs.Ignoring.{is_unread}
+use Rattle.bar_peer.proofs.Ignored.{none_mapped}
 use Rattle.bar_wire.specs.Inputs.{plain_input}
 use Rattle.bar_rules.specs.Member.{Member}
 use Rattle.bar_rules.specs.Peer.Log.{Log}
-use Rattle.bar_rules.specs.Peer.Run.{Out, log_after}
+use Rattle.bar_rules.specs.Peer.Run.{Out, log_after, step}
 use Rattle.bar_peer.specs.Orders.{Orders}
 use Rattle.bar_peer.specs.Memory.{member_of, Tells}
 use Rattle.bar_store.specs.Orders.{left_in}
@@ -69,3 +78,48 @@ returns-clause-contents g c inputs stood =
           c.take_input.ensures.who go stood stands (sym c.is_tick-is_tick.ensures ∙ w.if-is_tick.false)
           (ap (contents_left c.take_input.new.memory.store) w.self-is ∙ w.none-self.ensures c.take_input.new.memory.store)
     ]
+
+pub returns-then-is_over-clause-unread : goal.returns-then-is_over-clause-unread
+returns-then-is_over-clause-unread g c unread =
+    (record { memory = refl; sends = c.requires.sends; contents = c.requires.contents }, refl, refl)
+
+pub returns-then-is_over-clause-ignored : goal.returns-then-is_over-clause-ignored
+returns-then-is_over-clause-ignored g c inputs stood ignored =
+    record { memory = refl; sends = c.requires.sends; contents = c.requires.contents }
+
+cleared : (o : Orders) → o.list.items ≡ [] → o.given ≡ 0 → left_in o ≡ []
+cleared o none first = λ i. drop (first i) (none i)
+
+no-tick : (s : SessionData) (input : Input) → is_tick input ≡ true → false ≡ is_unread s input
+no-tick s event.Tick e = refl
+no-tick s (event.Datagram bytes) e = absurd (cc)
+
+pub returns-clause-unread : goal.returns-clause-unread
+returns-clause-unread g c unread =
+    let s = c.args.self.now.memory.who.session in
+    let same = c.take_input.ensures.unread unread in (
+      record {
+        memory = same.0;
+        sends = ap left_in same.1 ∙ cleared c.clear.new.self c.clear.ensures.0 c.clear.ensures.1;
+        contents = elim c.if-is_tick.branch [
+          | then-is_tick w ↦ absurd (false≢true (no-tick s (plain_input c.args.input) (sym c.is_tick-is_tick.ensures ∙ w.if-is_tick.true) ∙ unread))
+          | else-is_tick w ↦ ap (contents_left c.take_input.new.memory.store) w.self-is ∙ w.none-self.ensures c.take_input.new.memory.store
+        ];
+      },
+      same.2,
+      same.3,
+    )
+
+pub returns-clause-ignored : goal.returns-clause-ignored
+returns-clause-ignored g c inputs stood ignored =
+    let m = c.args.self.now.memory in
+    let me : Member = member_of m.who in
+    let log : Log = log_after me [] inputs in
+    let quiet : step me log (plain_input c.args.input) ≡ begun log =
+    c.ignored_datagrams_change_nothing.ensures.peers me log (plain_input c.args.input) ignored in
+    record {
+      memory = c.take_input.ensures.ignored log (c.signed_by_rule.ensures me m.who.is_member inputs).obedient stood ignored;
+      sends = none_mapped _ _ ((returns-clause-sends g c inputs stood).same
+          ∙ ap (λ (out : Out). map (λ (send : ℕ × Datagram). Some send) out.sends) quiet);
+      contents = returns-clause-contents g c inputs stood ∙ ap (λ (out : Out). out.contents) quiet;
+    }
