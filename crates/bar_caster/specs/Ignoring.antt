@@ -9,14 +9,25 @@ use Rattle.bar_caster.specs.Memory.{Tells, member_of, stream_of}
 use Rattle.bar_caster.specs.Orders.{Orders}
 use Rattle.bar_caster.specs.StandsFor.{Inputs, StandsFor, log_of}
 
+-- Nothing of a memory is changed.
+pub record IsAsBefore (old new : Memory) : Type 0 where
+  pub session : new.session ≡ old.session
+  pub secrets : new.secrets ≡ old.secrets
+  pub stream : new.stream ≡ old.stream
+  pub ticks : new.ticks ≡ old.ticks
+  pub table : new.table ≡ old.table
+  pub manifests : new.manifests ≡ old.manifests
+  pub notice : new.notice ≡ old.notice
+  pub evictions : new.evictions ≡ old.evictions
+
 -- an input that is ignored leaves the memory as it was
 abbrev pub IgnoresInput : Input → Memory → Memory → Type 0
 IgnoresInput input m n =
-    (log : Log) → Tells log m → is_ignored_by_caster (member_of m) (stream_of m) log input ≡ true → n ≡ m
+    (log : Log) → Tells log m → is_ignored_by_caster (member_of m) (stream_of m) log input ≡ true → IsAsBefore m n
 
 -- The memory is as it was, and nothing is left to be given out.
 pub record IsUntouched (old new : Memory) (o : Orders) : Type 0 where
-  pub memory : new ≡ old
+  pub memory : IsAsBefore old new
   pub sends : left_in o ≡ []
 
 -- a broadcaster that took these inputs ignores the next one

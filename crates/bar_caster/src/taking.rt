@@ -10,7 +10,7 @@ ghost use Rattle.bar_rules.specs.Peer.Log.{Log};
 ghost use Rattle.bar_rules.specs.Values.{datagram_of};
 ghost use Rattle.bar_rules.specs.Verifiers.{IsVerifierOf, NamesLeavesOf};
 ghost use Rattle.bar_laws.specs.Ignoring.{is_news, is_unread};
-ghost use Rattle.bar_caster.specs.Ignoring.{IgnoresInput};
+ghost use Rattle.bar_caster.specs.Ignoring.{IgnoresInput, IsAsBefore};
 ghost use Rattle.bar_caster.specs.Memory.{Tells, IsOfTheSame, member_of, stream_of};
 ghost use Rattle.bar_caster.specs.Orders.{Stands};
 ghost use Rattle.bar_caster.specs.StandsFor.{Inputs, StandsFor, log_of};
@@ -42,7 +42,7 @@ impl Memory {
         ensures judged { (log : Log) (evidence : List (List ℕ)) → Tells log self.old → IsEvidence bytes.now evidence
             → Tells (judge_body (member_of self.old) (stream_of self.old) log (Evidence evidence)) self.new }
         ensures no_news { (log : Log) (evidence : List (List ℕ)) → Tells log self.old → IsEvidence bytes.now evidence
-            → is_news (member_of self.old) (stream_of self.old) log (Evidence evidence) ≡ false → self.new ≡ self.old }
+            → is_news (member_of self.old) (stream_of self.old) log (Evidence evidence) ≡ false → IsAsBefore self.old self.new }
         ensures ticks { self.new.ticks ≡ self.old.ticks }
         ensures same { IsOfTheSame self.old self.new }
         ensures cost { steps.new ≤ steps.old + (2 * V.most_steps verifier.now + self.old.session.shape.rounds) }
@@ -74,7 +74,7 @@ impl Memory {
         ensures judged { (log : Log) → Tells log self.old
             → Tells (judge_datagram (member_of self.old) (stream_of self.old) log (datagram_of self.old.session bytes.now)) self.new }
         ensures ignored { IgnoresInput (Arrival bytes.now) self.old self.new }
-        ensures unread { is_unread self.old.session (Arrival bytes.now) ≡ true → self.new ≡ self.old }
+        ensures unread { is_unread self.old.session (Arrival bytes.now) ≡ true → IsAsBefore self.old self.new }
         ensures ticks { self.new.ticks ≡ self.old.ticks }
         ensures same { IsOfTheSame self.old self.new }
         ensures cost { steps.new ≤ steps.old + (2 * V.most_steps verifier.now + self.old.session.shape.rounds) }

@@ -7,6 +7,8 @@ use Rattle.bar_wire.specs.Inputs.{plain_input}
 use Rattle.bar_wire.specs.declared.input.Input.{Input as RawInput}
 use Rattle.bar_rules.specs.Broadcaster.Sending.{caster_step}
 use Rattle.bar_laws.specs.Ignoring.{is_ignored_by_caster, is_unread}
+use Rattle.bar_caster.specs.declared.memory.Memory.{Memory}
+use Rattle.bar_caster.specs.Ignoring.{IsAsBefore}
 use Rattle.bar_caster.specs.Memory.{member_of, stream_of}
 use Rattle.bar_caster.specs.Orders.{Orders}
 use Rattle.bar_caster.specs.StandsFor.{StandsFor, AreLeft, log_of}
@@ -64,14 +66,26 @@ returns-in-Datagram-clause-sends g c inputs stood =
     (then_silent m n inputs (event.Datagram c.in-Datagram.bytes.now) c.take_datagram.ensures.same go stood o
     (λ i. drop (c.clear.ensures.1 i) (c.clear.ensures.0 i)) refl)
 
+as-before : (m : Memory) → IsAsBefore m m
+as-before m = record {
+  session = refl;
+  secrets = refl;
+  stream = refl;
+  ticks = refl;
+  table = refl;
+  manifests = refl;
+  notice = refl;
+  evictions = refl;
+}
+
 cleared : (o : Orders) → o.list.items ≡ [] → o.given ≡ 0 → left_in o ≡ []
 cleared o none first = λ i. drop (first i) (none i)
 
 pub returns-then-is_over-clause-unread : goal.returns-then-is_over-clause-unread
-returns-then-is_over-clause-unread g c unread = record { memory = refl; sends = c.requires.sends }
+returns-then-is_over-clause-unread g c unread = record { memory = as-before c.args.self.now.memory; sends = c.requires.sends }
 
 pub returns-then-is_over-clause-ignored : goal.returns-then-is_over-clause-ignored
-returns-then-is_over-clause-ignored g c inputs stood ignored = record { memory = refl; sends = c.requires.sends }
+returns-then-is_over-clause-ignored g c inputs stood ignored = record { memory = as-before c.args.self.now.memory; sends = c.requires.sends }
 
 pub returns-in-Tick-clause-unread : goal.returns-in-Tick-clause-unread
 returns-in-Tick-clause-unread g c unread =

@@ -2,8 +2,6 @@
 use Rattle.std.proofs.Common.{◌∙◌, refl, ap, subst}
 use Rattle.bar_terms.specs.Table.{digests_of}
 use Rattle.bar_rules.specs.Judge.Verdict.{verdict}
-use Rattle.bar_caster.specs.declared.evictions.Evictions.{Evictions}
-use Rattle.bar_caster.specs.declared.memory.Memory.{Memory}
 use Rattle.bar_caster.proofs.Judged.{evicted_before, shown, not_shown, Evicts}
 use Rattle.bar_caster.proofs.memory.Memory.judge.Goals as goal
 
@@ -33,6 +31,14 @@ pub returns-in-Shown-clause-no_news : goal.returns-in-Shown-clause-no_news
 returns-in-Shown-clause-no_news g c = λ log evidence tells of quiet.
     let m = c.args.self.now in
     let same = c.in-Ok.ensures.only evidence of in
-    ap (λ (e : Evictions). record m { evictions = e })
-    (c.evict.ensures.again m.session log tells.evictions
-    (evicted_before log m c.in-Shown.party _ evidence tells (c.in-Shown.ensures.exact ∙ ap (verdict m.session (digests_of m.table.lists)) same) quiet))
+    record {
+      session = refl;
+      secrets = refl;
+      stream = refl;
+      ticks = refl;
+      table = refl;
+      manifests = refl;
+      notice = refl;
+      evictions = c.evict.ensures.again m.session log tells.evictions
+          (evicted_before log m c.in-Shown.party _ evidence tells (c.in-Shown.ensures.exact ∙ ap (verdict m.session (digests_of m.table.lists)) same) quiet);
+    }
