@@ -9,15 +9,15 @@ use Rattle.bar_wire.specs.Inputs as event
 use Rattle.bar_rules.specs.Broadcaster.Sending.{caster_step, caster_take, evict_by, judge_body, judge_datagram}
 use Rattle.bar_rules.specs.Broadcaster.Stream.{caster_table}
 use Rattle.bar_rules.specs.Judge.Verdict.{Verdict, Shown, NotShown, verdict}
-use Rattle.bar_rules.specs.Member.{Member, last_tick}
+use Rattle.bar_rules.specs.Member.{Member}
 use Rattle.bar_rules.specs.Peer.Admission.{is_admitted}
 use Rattle.bar_rules.specs.Peer.Evidence.{new_evidence}
 use Rattle.bar_rules.specs.Peer.Knowledge.{known}
-use Rattle.bar_rules.specs.Peer.Log.{Log, Heard, Kept, kept, ticks}
+use Rattle.bar_rules.specs.Peer.Log.{Log, Heard, Kept, kept}
 use Rattle.bar_rules.specs.Peer.Machine as machine
 use Rattle.bar_rules.specs.Peer.Machine.{logs}
 use Rattle.bar_rules.specs.Peer.Replies.{repeated}
-use Rattle.bar_rules.specs.Peer.Run.{Out, answer_repeat, answered_to, report_new, step, take_datagram, take_input, with_evidence}
+use Rattle.bar_rules.specs.Peer.Run.{Out, answer_repeat, answered_to, report_new, take_datagram, take_input, with_evidence}
 use Rattle.bar_rules.specs.Runs.{begun}
 use Rattle.bar_rules.specs.Values.{datagram_of}
 use Rattle.bar_laws.specs.Ignoring.{CastersIgnore, PeersIgnore, evicts, is_ignored, is_ignored_by_caster, is_news, tells_nothing}
