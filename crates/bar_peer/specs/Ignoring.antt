@@ -1,5 +1,5 @@
 -- Datagrams that a peer ignores leave its memory as it was, and nothing is to be given out for them.
-use Rattle.std.specs.Prelude.{◌≡◌, true, ℕ, List, []}
+use Rattle.std.specs.Prelude.{◌≡◌, true, []}
 use Rattle.bar_store.specs.Orders.{left_in}
 use Rattle.bar_wire.specs.Datagram.{Datagram}
 use Rattle.bar_wire.specs.Inputs.{Input}
