@@ -1,6 +1,6 @@
 //! Whole broadcasters: what they send and whom they evict, worked out by hand from the rules.
 
-mod casters;
+pub mod casters;
 mod sessions;
 
 use bar_caster::{Caster, CasterFault};

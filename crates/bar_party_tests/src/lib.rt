@@ -6,4 +6,6 @@
 #[cfg(test)]
 mod caster_tests;
 #[cfg(test)]
+mod hostile_tests;
+#[cfg(test)]
 mod peer_tests;

@@ -3,7 +3,7 @@
 mod datagrams;
 mod evidence;
 mod pair;
-mod peers;
+pub mod peers;
 mod sessions;
 
 use bar_hss::SessionScheme;

@@ -5,7 +5,7 @@ ghost use Rattle.bar_peer.specs.StandsFor.{contents_left};
 
 use super::sessions::ID;
 use bar_bytes::Steps;
-use bar_hss::{PartyKey, SessionScheme};
+use bar_hss::{PartyKey, SessionScheme, hss_key_text};
 use bar_lms::SecretKey;
 use bar_peer::Peer;
 use bar_roster::{Session, key_text};
@@ -31,6 +31,29 @@ pub struct Given {
     pub sends: Vec<Sent>,
 }
 
+/// The fresh key text of a party of a session, of one level or of two, whose secret is 32 times one byte.
+fn text_of(
+    alloc: Global,
+    session: &Session,
+    party: u16,
+    secret: u8,
+) -> Result<Vec<u8>, AllocError> {
+    let rounds = session.shape().rounds;
+    let params = session.params();
+    let (lms, ots) = (params.lms(), params.ots());
+    let secret = [secret; 32];
+    match session.top() {
+        None => key_text(alloc, party, &ID, rounds, lms, ots, &secret, false),
+        Some(top) => hss_key_text(alloc, party, &ID, rounds, top, ots, &secret, false),
+    }
+}
+
+/// The key of a party, whose secret is 32 times one byte.
+pub fn key_of(alloc: Global, session: &Session, party: u16, secret: u8) -> Result<PartyKey, Fail> {
+    let text = text_of(alloc, session, party, secret)?;
+    Ok(PartyKey::read(alloc, &text, session, party == 0, false)?)
+}
+
 /// A peer of a session whose secret is 32 times one byte.
 pub fn peer_of(
     alloc: Global,
@@ -39,21 +62,7 @@ pub fn peer_of(
     secret: u8,
 ) -> Result<Peer<SessionScheme>, Fail> {
     let session = Session::read(alloc, session.as_bytes())?;
-    let rounds = session.shape().rounds;
-    let params = session.params();
-    let (lms, ots) = (params.lms(), params.ots());
-    let secret = [secret; 32];
-    let text = key_text(
-        alloc,
-        u16::from(party),
-        &ID,
-        rounds,
-        lms,
-        ots,
-        &secret,
-        false,
-    )?;
-    let key = PartyKey::read(alloc, &text, &session, false, false)?;
+    let key = key_of(alloc, &session, u16::from(party), secret)?;
     Ok(Peer::of_key(alloc, session, key)?)
 }
 
