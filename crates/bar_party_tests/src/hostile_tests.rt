@@ -186,12 +186,7 @@ fn evidence_of(alloc: Global, datagram: &[u8]) -> Result<Vec<u8>, AllocError> {
 }
 
 /// The EVICT of round 2 that names peer 2.
-fn eviction_of(
-    rt: &impl Abort,
-    alloc: Global,
-    text: &str,
-    like: &[u8],
-) -> Result<Vec<u8>, Fail> {
+fn eviction_of(rt: &impl Abort, alloc: Global, text: &str, like: &[u8]) -> Result<Vec<u8>, Fail> {
     let session = Session::read(alloc, text.as_bytes())?;
     let scheme = key_of(alloc, &session, 0, 7)?.scheme;
     let body = [0, 0, 0, 2, 1, 0, 2];
@@ -234,7 +229,14 @@ fn take_course(
 ) -> Result<(), Fail> {
     for before in 0..TICKS {
         let (tick, first) = (before + 1, course.sent.len());
-        tick_all(rt, alloc, parties, tick, &mut course.sent, &mut course.played)?;
+        tick_all(
+            rt,
+            alloc,
+            parties,
+            tick,
+            &mut course.sent,
+            &mut course.played,
+        )?;
         deliver_all(rt, alloc, parties, course, tick, first)?;
         if course.is_disturbed && tick == 12 {
             tell_others(rt, alloc, &mut parties.one, text, &course.sent)?;
@@ -289,7 +291,11 @@ fn what_anybody_can_make_of_a_datagram_changes_nothing(rt: HostRuntime) -> Resul
         let text = text_of(alloc, version, has_two_levels)?;
         let course = course_of(&rt, alloc, &text, false)?;
         for kind in KINDS {
-            assert!(&rt; course.sent.iter().any(|p| is_of(&p.bytes, &[kind])), "{}", kind.code());
+            assert!(&rt;
+                course.sent.iter().any(|p| is_of(&p.bytes, &[kind])),
+                "{}",
+                kind.code()
+            );
         }
         let disturbed = course_of(&rt, alloc, &text, true)?;
         assert!(&rt; disturbed.sent == course.sent, "in version {version}");

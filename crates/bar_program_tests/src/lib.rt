@@ -8,6 +8,8 @@ mod children_tests;
 #[cfg(test)]
 mod cli_tests;
 #[cfg(test)]
+mod failing_tests;
+#[cfg(test)]
 mod judge_tests;
 #[cfg(test)]
 mod keygen_tests;

@@ -84,6 +84,22 @@ pub fn tell_forms(
     tell_changed_signature(rt, alloc, peer, datagram)
 }
 
+/// A datagram with the signature of another, which has so many bytes.
+fn signed_as(
+    alloc: Global,
+    datagram: &[u8],
+    other: &[u8],
+    len: usize,
+) -> Result<Vec<u8>, AllocError> {
+    let mut bytes = datagram.to_vec(alloc)?;
+    bytes.truncate(datagram.len().saturating_sub(len));
+    let start = other.len().saturating_sub(len);
+    if let Some(signature) = other.get(start..) {
+        bytes.extend_from_slice(signature)?;
+    }
+    Ok(bytes)
+}
+
 /// Gives a peer a CASE with the signature of each CASE among these that isn't it.
 pub fn tell_signed_as(
     rt: &impl Abort,
@@ -93,13 +109,12 @@ pub fn tell_signed_as(
     case: &[u8],
     others: &[Parcel],
 ) -> Result<(), AllocError> {
-    let len = shape.sig_len;
-    for other in others.iter().filter(|p| is_of(&p.bytes, &[Kind::Case]) && p.bytes.as_slice() != case) {
-        let end = case.len().saturating_sub(len);
-        let mut bytes = case.get(..end).unwrap_or(b"").to_vec(alloc)?;
-        let start = other.bytes.len().saturating_sub(len);
-        bytes.extend_from_slice(other.bytes.get(start..).unwrap_or(b""))?;
-        tell(rt, alloc, peer, &bytes)?;
+    for other in others {
+        let bytes = other.bytes.as_slice();
+        if is_of(bytes, &[Kind::Case]) && bytes != case {
+            let signed = signed_as(alloc, case, bytes, shape.sig_len)?;
+            tell(rt, alloc, peer, &signed)?;
+        }
     }
     Ok(())
 }

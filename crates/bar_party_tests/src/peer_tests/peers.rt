@@ -49,12 +49,7 @@ fn text_of(
 }
 
 /// The key of a party, whose secret is 32 times one byte.
-pub fn key_of(
-    alloc: Global,
-    session: &Session,
-    party: u16,
-    secret: u8,
-) -> Result<PartyKey, Fail> {
+pub fn key_of(alloc: Global, session: &Session, party: u16, secret: u8) -> Result<PartyKey, Fail> {
     let text = text_of(alloc, session, party, secret)?;
     Ok(PartyKey::read(alloc, &text, session, party == 0, false)?)
 }

@@ -1,0 +1,197 @@
+//! Each call of a short run that can fail does so once, one after another: of its files, its link, its output, its children.
+ghost use Rattle.std.specs.Prelude.{◌≡◌, true};
+ghost use Rattle.bar_outside.specs.MemTaken.{are_small};
+
+use crate::outcome::{Left, Outside, outside_of, run};
+use crate::texts::{small_caster_key, small_key, small_session};
+use bar_outside::{MemFiles, MemLink, MemSpawner, MemTaken};
+use std::alloc::{AllocError, Global};
+use std::process::Abort;
+use std::test::Fail;
+
+/// A command that runs shortly.
+#[derive(Clone, Copy)]
+enum Short {
+    Peer,
+    Broadcaster,
+    Replay,
+    Keygen,
+    Judge,
+    Session,
+    Simulate,
+}
+
+impl Short {
+    fn line(self) -> &'static str {
+        match self {
+            Short::Peer => "peer --session s --key k --begin 5 --played p --recording r --found f",
+            Short::Broadcaster => {
+                "broadcaster --session s --key c --begin 5 --stream t --found f"
+            }
+            Short::Replay => "replay --session s --key k --recording in --played p --found f",
+            Short::Keygen => {
+                "keygen --party 1 --id 0011223344556677 --rounds 1 --lms 5 --ots 4 --secret x --key p"
+            }
+            Short::Judge => "judge --session s --table t --evidence e",
+            Short::Session => {
+                "session --session s --keys k --stream t --begin 5 --results r --program bar"
+            }
+            Short::Simulate => "simulate --seed 1",
+        }
+    }
+}
+
+/// An object of the outside, a call of which fails.
+#[derive(Clone, Copy)]
+enum Object {
+    Files,
+    Link,
+    Output,
+    Spawner,
+}
+
+impl Object {
+    /// The status of a run in which its call fails, and the line that says so.
+    fn end(self) -> (u8, &'static str) {
+        match self {
+            Object::Files => (3, "bar: file failed\n"),
+            Object::Link => (6, "bar: link failed\n"),
+            Object::Output => (7, "bar: output failed\n"),
+            Object::Spawner => (9, "bar: child failed\n"),
+        }
+    }
+}
+
+/// The number of the call that fails, where it is one of these; no call has number 0.
+fn number_for(alloc: Global, fails: bool, number: u64) -> Result<Vec<u64>, AllocError> {
+    let number = if fails { number } else { 0 };
+    [number].to_vec(alloc)
+}
+
+/// Prepares what the short runs read: evidence of a datagram of one byte, a stream of two, an empty table, and a recording of two ticks.
+fn put_all(alloc: Global, files: &mut MemFiles) -> Result<(), AllocError> {
+    files.put("s", small_session().as_bytes())?;
+    files.put("k", small_key().as_bytes())?;
+    files.put("c", small_caster_key().as_bytes())?;
+    files.put("e", &[1, 0, 1, 7])?;
+    files.put("x", &[8; 32])?;
+    files.put("t", b"")?;
+    let mut recording = b"BARL\x01".to_vec(alloc)?;
+    recording.extend_from_slice(&[0x00, 0x11, 0x22, 0x33, 0x44, 0x55, 0x66, 0x77, 0, 2])?;
+    recording.extend_from_slice(&[1, 1, 0])?;
+    files.put("in", &recording)?;
+    Ok(())
+}
+
+/// A link of two ticks and a datagram.
+fn link_of(alloc: Global, fail: Vec<u64>) -> Result<MemLink, AllocError> {
+    let mut list = Vec::new(alloc);
+    list.push(MemTaken::Tick)?;
+    list.push(MemTaken::Datagram(Vec::new(alloc)))?;
+    list.push(MemTaken::Tick)?;
+    Ok(MemLink::make(alloc, list, fail))
+}
+
+/// The outside of a short run, of which the call of an object with this number fails.
+fn outside_by(alloc: Global, object: Object, number: u64) -> Result<Outside, AllocError> {
+    let fail = number_for(alloc, matches!(object, Object::Files), number)?;
+    let mut files = MemFiles::make(alloc, fail);
+    put_all(alloc, &mut files)?;
+    let fail_out = number_for(alloc, matches!(object, Object::Output), number)?;
+    let mut outside = outside_of(alloc, files, &fail_out, &[])?;
+    let fail = number_for(alloc, matches!(object, Object::Link), number)?;
+    outside.link = link_of(alloc, fail)?;
+    let fail = number_for(alloc, matches!(object, Object::Spawner), number)?;
+    outside.spawn = MemSpawner::make(alloc, Vec::new(alloc), fail);
+    Ok(outside)
+}
+
+fn run_with(
+    alloc: Global,
+    command: Short,
+    object: Object,
+    number: u64,
+) -> Result<Left, AllocError> {
+    run(alloc, command.line(), outside_by(alloc, object, number)?)
+}
+
+/// Whether a file holds a front of what it holds behind a whole run, or what it held before it.
+fn is_front(left: &Left, whole: &Left, path: &str) -> bool {
+    match (left.outside.files.get(path), whole.outside.files.get(path)) {
+        (Some(bytes), Some(all)) => all.starts_with(bytes),
+        (Some(_), None) => false,
+        (None, _) => true,
+    }
+}
+
+/// Checks the end of a run in which a call failed: what it printed, played and recorded are fronts of what a whole run does.
+fn check_stopped(rt: &impl Abort, left: &Left, whole: &Left, object: Object, number: u64) {
+    let (status, line) = object.end();
+    assert!(rt; left.status == status, "at {number}");
+    assert!(rt; left.outside.err.bytes() == line.as_bytes(), "at {number}");
+    assert!(rt; is_front(left, whole, "p"), "at {number}");
+    assert!(rt; is_front(left, whole, "r"), "at {number}");
+    let printed = left.outside.out.bytes();
+    assert!(rt;
+        whole.outside.out.bytes().starts_with(printed),
+        "at {number}"
+    );
+}
+
+/// More calls than a short run makes.
+const MANY: u64 = 100;
+
+/// Lets each call of an object fail, up to the first number that no call has: then the run is whole. Answers how many calls there are.
+fn count_calls(
+    rt: &impl Abort,
+    alloc: Global,
+    command: Short,
+    object: Object,
+) -> Result<u64, Fail> {
+    let whole = run_with(alloc, command, object, 0)?;
+    for before in 0..MANY {
+        let left = run_with(alloc, command, object, before + 1)?;
+        if left.status == whole.status {
+            assert_eq!(rt; left.outside.out.bytes(), whole.outside.out.bytes());
+            return Ok(before);
+        }
+        check_stopped(rt, &left, &whole, object, before + 1);
+    }
+    panic!(rt; "it makes more calls")
+}
+
+/// Of each command, the objects that it uses, and how many calls of each an undisturbed run makes.
+const CALLS: [(Short, &[(Object, u64)]); 7] = [
+    (
+        Short::Peer,
+        &[(Object::Files, 0), (Object::Link, 0), (Object::Output, 1)],
+    ),
+    (
+        Short::Broadcaster,
+        &[(Object::Files, 0), (Object::Link, 0), (Object::Output, 1)],
+    ),
+    (Short::Replay, &[(Object::Files, 0), (Object::Output, 1)]),
+    (Short::Keygen, &[(Object::Files, 3), (Object::Output, 1)]),
+    (Short::Judge, &[(Object::Files, 3), (Object::Output, 1)]),
+    (
+        Short::Session,
+        &[
+            (Object::Files, 1),
+            (Object::Output, 3),
+            (Object::Spawner, 6),
+        ],
+    ),
+    (Short::Simulate, &[(Object::Output, 1)]),
+];
+
+#[test]
+fn each_call_fails_once(rt: HostRuntime) -> Result<(), Fail> {
+    let alloc = rt.alloc();
+    for (place, (command, objects)) in CALLS.iter().enumerate() {
+        for (object, calls) in *objects {
+            let counted = count_calls(&rt, alloc, *command, *object)?;
+            assert!(&rt; counted == *calls, "command {place} makes {counted} calls");
+        }
+    }
+    Ok(())
+}
