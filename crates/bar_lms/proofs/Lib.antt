@@ -1,6 +1,7 @@
 pub mod ChainLemmas
 pub mod DigitLemmas
 pub mod GroupLemmas
+pub mod LaneLemmas
 pub mod ListLemmas
 pub mod TreeLemmas
 pub mod TreeFill

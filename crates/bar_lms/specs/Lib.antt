@@ -1,5 +1,6 @@
 pub mod Params
 pub mod Chains
+pub mod Lanes
 pub mod Order
 pub mod Tree
 pub mod Signature

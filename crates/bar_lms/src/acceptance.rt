@@ -135,17 +135,18 @@ fn hash_copy(row: &[u8], i: usize) -> [u8; 32]
     hash
 }
 
-// The ends of the chains, from the values in a signature on.
-fn ends<L: Ledger>(
+// Writes the ends of the chains, from the values in a signature on.
+fn put_ends<L: Ledger>(
     ident: &[u8; 16],
     q: u32,
     hash: &[u8; 32],
     values: &[u8],
     ots: Ots,
+    ends: &mut Row,
     steps: &mut Steps<L>,
-) -> Row
+)
     requires { 32 * chains ots ≤ length values.now }
-    ensures value { (i : ℕ) → i < chains ots → slice_index_or result i [] ≡ end_at ident.now q ots hash.now values.now i }
+    ensures value { (i : ℕ) → i < chains ots → slice_index_or ends.new i [] ≡ end_at ident.now q ots hash.now values.now i }
     ensures cost { steps.new ≡ steps.old + longest_by_eights (steps_left ots hash.now) (chains ots) (last ots) }
 {
     let last = ots.last() as u8;
@@ -158,7 +159,7 @@ fn ends<L: Ledger>(
         legs.starts[i] = hash_copy(values, i);
         legs.counts[i] = last - legs.from[i];
     }
-    all_chains(ident, q, &legs, ots.chains(), last, steps)
+    all_chains(ident, q, &legs, ots.chains(), last, ends, steps);
 }
 
 // Adds the first n hashes of a row to a message.
@@ -185,7 +186,8 @@ fn key_of_ends<L: Ledger>(
     ensures value { result ≡ one_time_key ident.now q (joined (end_at ident.now q ots hash.now values.now) (chains ots)) }
     ensures cost { steps.new ≡ steps.old + (longest_by_eights (steps_left ots hash.now) (chains ots) (last ots) + 1) }
 {
-    let ends = ends(ident, q, hash, values, ots, steps);
+    let mut ends = [[0u8; 32]; 265];
+    put_ends(ident, q, hash, values, ots, &mut ends, steps);
     let mut hasher = head(ident, q, 0x8080, steps);
     add_row(&mut hasher, &ends, ots.chains());
     hasher.finalize()

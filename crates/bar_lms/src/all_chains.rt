@@ -1,13 +1,13 @@
 //! All chains of a leaf, the longest first.
 
 ghost use Rattle.std.specs.Prelude.{◌≡◌, ℕ, ◌+◌, ◌*◌, ◌/◌, ◌%◌, ◌≤◌, ◌<◌, [], List, slice_index, slice_index_or};
-ghost use Rattle.bar_lms.specs.Chains.{most_of, in_groups, total_from};
+ghost use Rattle.bar_lms.specs.Chains.{most_of, in_pairs, in_group, total_from};
 ghost use Rattle.bar_lms.specs.Order.{longest_by_eights, steps_at, reached};
 
 use crate::chains::chain;
-use crate::groups::eight_chains;
-use crate::legs::{Legs, Row, eight_bytes, eight_hashes};
-use crate::order::{Order, eight_from, longest_first};
+use crate::groups::{eight_chains, sixteen_chains};
+use crate::legs::{Legs, Row, eight_legs};
+use crate::order::{Order, eight_back_from, eight_from, longest_first};
 use bar_bytes::Steps;
 use std::sync::ledger::Ledger;
 
@@ -23,49 +23,84 @@ fn keep_eight(row: &mut Row, numbers: &[u16; 8], hashes: &[[u8; 32]; 8])
     }
 }
 
-// The values of eight chains once their legs are taken.
-fn eight_of<L: Ledger>(
+// Takes the chains with these numbers, in each lane one of the first and then one of the second, and keeps their values in a row.
+fn take_sixteen<L: Ledger>(
     ident: &[u8; 16],
     q: u32,
     legs: &Legs,
-    numbers: &[u16; 8],
+    first: [u16; 8],
+    second: [u16; 8],
+    row: &mut Row,
     steps: &mut Steps<L>,
-) -> [[u8; 32]; 8]
-    requires inside { (j : ℕ) → j < 8 → slice_index numbers.now j < 265 }
-    requires bytes { (j : ℕ) → j < 8
-        → slice_index legs.now.from (slice_index numbers.now j) + slice_index legs.now.counts (slice_index numbers.now j) ≤ 256 }
-    ensures value { (j : ℕ) → j < 8 → slice_index_or result j [] ≡ reached ident.now q legs.now (slice_index numbers.now j) }
-    ensures cost { steps.new ≡ steps.old + 8 * most_of (steps_at legs.now.counts numbers.now) 0 8 }
+)
+    requires inside { (j : ℕ) → j < 8 → (slice_index first j < 265) × (slice_index second j < 265) }
+    requires first { (j : ℕ) → j < 8 → slice_index legs.now.from (slice_index first j) + slice_index legs.now.counts (slice_index first j) ≤ 256 }
+    requires second { (j : ℕ) → j < 8
+        → slice_index legs.now.from (slice_index second j) + slice_index legs.now.counts (slice_index second j) ≤ 256 }
+    ensures kept { (i : ℕ) → slice_index_or row.old i [] ≡ reached ident.now q legs.now i
+        → slice_index_or row.new i [] ≡ reached ident.now q legs.now i }
+    ensures first { (j : ℕ) → j < 8 → slice_index_or row.new (slice_index first j) [] ≡ reached ident.now q legs.now (slice_index first j) }
+    ensures second { (j : ℕ) → j < 8 → slice_index_or row.new (slice_index second j) [] ≡ reached ident.now q legs.now (slice_index second j) }
+    ensures cost { steps.new ≡ steps.old
+        + 8 * most_of (λ j. steps_at legs.now.counts first j + steps_at legs.now.counts second j) 0 8 }
 {
-    let starts = eight_hashes(&legs.starts, numbers);
-    let from = eight_bytes(&legs.from, numbers);
-    let counts = eight_bytes(&legs.counts, numbers);
-    eight_chains(ident, q, numbers, &starts, &from, &counts, steps)
+    let first = eight_legs(legs, first);
+    let second = eight_legs(legs, second);
+    let mut ends = [[0u8; 32]; 8];
+    let values = sixteen_chains(ident, q, &first, &second, &mut ends, steps);
+    keep_eight(row, &first.numbers, &ends);
+    keep_eight(row, &second.numbers, &values);
 }
 
-// Takes the chains that stand in groups of eight in an order.
-fn take_groups<L: Ledger>(
+// Takes the chains that stand in groups of sixteen in an order: in each lane one of the longer eight, and then one of the shorter, of which
+// the longest stands behind the shortest of the longer.
+fn take_pairs<L: Ledger>(
     ident: &[u8; 16],
     q: u32,
     legs: &Legs,
     order: &Order,
     n: usize,
+    row: &mut Row,
     steps: &mut Steps<L>,
-) -> Row
+)
     requires few { n ≤ 265 }
     requires inside { (j : ℕ) → j < n → slice_index order.now j < n }
     requires bytes { (i : ℕ) → i < n → slice_index legs.now.from i + slice_index legs.now.counts i ≤ 256 }
-    ensures value { (j : ℕ) → j < 8 * (n / 8)
-        → slice_index_or result (slice_index order.now j) [] ≡ reached ident.now q legs.now (slice_index order.now j) }
-    ensures cost { steps.new ≡ steps.old + in_groups (steps_at legs.now.counts order.now) (n / 8) }
+    ensures value { (j : ℕ) → j < 16 * (n / 16)
+        → slice_index_or row.new (slice_index order.now j) [] ≡ reached ident.now q legs.now (slice_index order.now j) }
+    ensures cost { steps.new ≡ steps.old + in_pairs (steps_at legs.now.counts order.now) (n / 16) }
 {
-    let mut row = [[0u8; 32]; 265];
-    'groups: for g in 0..n / 8 {
-        let numbers = eight_from(order, 8 * g);
-        let values = eight_of(ident, q, legs, &numbers, steps);
-        keep_eight(&mut row, &numbers, &values);
+    'groups: for g in 0..n / 16 {
+        let first = eight_from(order, 16 * g);
+        let second = eight_back_from(order, 16 * g + 15);
+        take_sixteen(ident, q, legs, first, second, row, steps);
     }
-    row
+}
+
+// Takes the eight chains behind the groups of sixteen of an order, if there are so many.
+fn take_group<L: Ledger>(
+    ident: &[u8; 16],
+    q: u32,
+    legs: &Legs,
+    order: &Order,
+    n: usize,
+    row: &mut Row,
+    steps: &mut Steps<L>,
+)
+    requires few { n ≤ 265 }
+    requires inside { (j : ℕ) → j < n → slice_index order.now j < n }
+    requires bytes { (i : ℕ) → i < n → slice_index legs.now.from i + slice_index legs.now.counts i ≤ 256 }
+    requires pairs { (j : ℕ) → j < 16 * (n / 16)
+        → slice_index_or row.old (slice_index order.now j) [] ≡ reached ident.now q legs.now (slice_index order.now j) }
+    ensures value { (j : ℕ) → j < 8 * (n / 8)
+        → slice_index_or row.new (slice_index order.now j) [] ≡ reached ident.now q legs.now (slice_index order.now j) }
+    ensures cost { steps.new ≡ steps.old + in_group (steps_at legs.now.counts order.now) n }
+{
+    if n / 8 % 2 == 1 {
+        let eight = eight_legs(legs, eight_from(order, 16 * (n / 16)));
+        let values = eight_chains(ident, q, &eight, steps);
+        keep_eight(row, &eight.numbers, &values);
+    }
 }
 
 // Takes the last chains of an order, which fill no group of eight.
@@ -95,25 +130,26 @@ fn take_singles<L: Ledger>(
     }
 }
 
-/// The values of the first n chains of leaf q once their legs are taken, none of which is longer than `top`.
+/// Writes the values of the first n chains of leaf q once their legs are taken, none of which is longer than `top`.
 ///
-/// The longest are taken first, eight of like length side by side. The last few are taken one by one.
+/// The longest are taken first, sixteen of like length in eight lanes. The last few are taken one by one.
 pub(crate) fn all_chains<L: Ledger>(
     ident: &[u8; 16],
     q: u32,
     legs: &Legs,
     n: usize,
     top: u8,
+    row: &mut Row,
     steps: &mut Steps<L>,
-) -> Row
+)
     requires few { n ≤ 265 }
     requires bytes { (i : ℕ) → i < n → slice_index legs.now.from i + slice_index legs.now.counts i ≤ 256 }
     requires bound { (i : ℕ) → i < n → slice_index legs.now.counts i ≤ top }
-    ensures value { (i : ℕ) → i < n → slice_index_or result i [] ≡ reached ident.now q legs.now i }
+    ensures value { (i : ℕ) → i < n → slice_index_or row.new i [] ≡ reached ident.now q legs.now i }
     ensures cost { steps.new ≡ steps.old + longest_by_eights (slice_index legs.now.counts) n top }
 {
     let order = longest_first(&legs.counts, n, top);
-    let mut row = take_groups(ident, q, legs, &order, n, steps);
-    take_singles(ident, q, legs, &order, n, &mut row, steps);
-    row
+    take_pairs(ident, q, legs, &order, n, row, steps);
+    take_group(ident, q, legs, &order, n, row, steps);
+    take_singles(ident, q, legs, &order, n, row, steps);
 }

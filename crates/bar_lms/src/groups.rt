@@ -1,10 +1,12 @@
-//! Eight chains of LM-OTS side by side.
+//! Chains of LM-OTS side by side, in eight lanes.
 
-ghost use Rattle.std.specs.Prelude.{◌≡◌, ℕ, ◌+◌, ◌*◌, ◌%◌, ◌^◌, ◌≤◌, ◌<◌, ◌++◌, ◌∷◌, [], List, length, take, drop, slice_index, slice_index_or, if◌then◌else◌, nat_lt};
+ghost use Rattle.std.specs.Prelude.{◌≡◌, ℕ, ◌+◌, ◌*◌, ◌%◌, ◌^◌, ◌==◌, ◌≤◌, ◌<◌, ◌++◌, ◌∷◌, [], List, length, take, drop, slice_index, slice_index_or, if◌then◌else◌, nat_lt};
 ghost use Rattle.sha2.specs.Hashers.{Holds256};
-ghost use Rattle.bar_lms.specs.Chains.{place, chain, chain_buffer, most_of};
+ghost use Rattle.bar_lms.specs.Chains.{place, chain, most_of};
+ghost use Rattle.bar_lms.specs.Lanes.{leg_of, leg_end, lane_steps};
 
 use crate::chains::{Buffer, buffer};
+use crate::legs::Eight;
 use bar_bytes::Steps;
 use bar_lanes::sha_eight;
 use sha2::{Digest, Sha256};
@@ -25,8 +27,9 @@ fn first_buffers(
     from: &[u8; 8],
     values: &[[u8; 32]; 8],
 ) -> [Buffer; 8]
-    ensures { (j : ℕ) → j < 8 → slice_index_or result j []
+    ensures held { (j : ℕ) → j < 8 → slice_index_or result j []
         ≡ place ident.now q (slice_index numbers.now j) ++ slice_index from.now j ∷ slice_index_or values.now j [] }
+    ensures bytes { (j : ℕ) → j < 8 → slice_index from.now j < 256 }
 {
     let mut buffers = [[0u8; 55]; 8];
     'fill: for j in 0..8 {
@@ -47,9 +50,9 @@ fn take_step(buffer: &mut Buffer, hash: &[u8; 32], goes: bool)
     }
 }
 
-// Takes the step behind the first n of each buffer whose chain has so many; these are their hashes.
+// Takes the step behind the first n of each lane that has so many; these are the hashes of the buffers.
 #[inline(always)]
-fn take_steps(buffers: &mut [Buffer; 8], hashes: &[[u8; 32]; 8], counts: &[u8; 8], n: u8)
+fn take_steps(buffers: &mut [Buffer; 8], hashes: &[[u8; 32]; 8], counts: &[u16; 8], n: u16)
     ensures { (j : ℕ) → j < 8 → slice_index_or buffers.new j [] ≡ (if nat_lt n (slice_index counts.now j)
         then take 22 (slice_index_or buffers.old j []) ++ (slice_index (slice_index_or buffers.old j []) 22 + 1) % 256
         ∷ slice_index_or hashes.now j []
@@ -90,9 +93,46 @@ fn values_in(buffers: &[Buffer; 8]) -> [[u8; 32]; 8]
     ]
 }
 
+// Keeps the value of each lane whose first chain has n steps.
+#[inline(always)]
+fn keep_ends(ends: &mut [[u8; 32]; 8], buffers: &[Buffer; 8], counts: &[u16; 8], n: u16)
+    ensures { (j : ℕ) → j < 8 → slice_index_or ends.new j [] ≡ (if slice_index counts.now j == n
+        then drop 23 (slice_index_or buffers.now j []) else slice_index_or ends.old j []) }
+{
+    'lanes: for j in 0..8 {
+        if counts[j] == n {
+            ends[j] = value_in(&buffers[j]);
+        }
+    }
+}
+
+// Begins the second chain of each lane whose first has n steps.
+#[inline(always)]
+fn begin_seconds(buffers: &mut [Buffer; 8], seconds: &[Buffer; 8], counts: &[u16; 8], n: u16)
+    ensures { (j : ℕ) → j < 8 → slice_index_or buffers.new j [] ≡ (if slice_index counts.now j == n
+        then slice_index_or seconds.now j [] else slice_index_or buffers.old j []) }
+{
+    'lanes: for j in 0..8 {
+        if counts[j] == n {
+            buffers[j] = seconds[j];
+        }
+    }
+}
+
+// How many steps each lane takes: those of its first chain and then those of its second.
+fn lane_steps(first: &[u8; 8], second: &[u8; 8]) -> [u16; 8]
+    ensures { (j : ℕ) → j < 8 → slice_index result j ≡ slice_index first.now j + slice_index second.now j }
+{
+    let mut steps = [0u16; 8];
+    'fill: for j in 0..8 {
+        steps[j] = first[j] as u16 + second[j] as u16;
+    }
+    steps
+}
+
 // The greatest of eight numbers.
 #[tactic(auto, using(crate::proofs::GroupLemmas::most_none, crate::proofs::GroupLemmas::most_more))]
-fn most(numbers: &[u8; 8]) -> u8
+fn most(numbers: &[u16; 8]) -> u16
     ensures { result ≡ most_of (slice_index numbers.now) 0 8 }
 {
     let mut most = 0;
@@ -102,31 +142,63 @@ fn most(numbers: &[u8; 8]) -> u8
     most
 }
 
+/// Takes two chains of leaf q in each lane, one after the other. Writes the values of the first of each, and answers those of the second.
+///
+/// A lane at its end keeps its value while the others go on, so eight steps are counted for each of the lane that takes the most.
+pub(crate) fn sixteen_chains<L: Ledger>(
+    ident: &[u8; 16],
+    q: u32,
+    first: &Eight,
+    second: &Eight,
+    ends: &mut [[u8; 32]; 8],
+    steps: &mut Steps<L>,
+) -> [[u8; 32]; 8]
+    requires first { (j : ℕ) → j < 8 → slice_index first.now.from j + slice_index first.now.counts j ≤ 256 }
+    requires second { (j : ℕ) → j < 8 → slice_index second.now.from j + slice_index second.now.counts j ≤ 256 }
+    ensures first { (j : ℕ) → j < 8 → slice_index_or ends.new j [] ≡ leg_end (leg_of ident.now q first.now j) }
+    ensures second { (j : ℕ) → j < 8 → slice_index_or result j [] ≡ leg_end (leg_of ident.now q second.now j) }
+    ensures cost { steps.new ≡ steps.old + 8 * most_of (lane_steps first.now second.now) 0 8 }
+{
+    let mut buffers = first_buffers(ident, q, &first.numbers, &first.from, &first.starts);
+    let seconds = first_buffers(ident, q, &second.numbers, &second.from, &second.starts);
+    let firsts = lane_steps(&first.counts, &[0; 8]);
+    let counts = lane_steps(&first.counts, &second.counts);
+    let most = most(&counts);
+    let mut hashes = [[0u8; 32]; 8];
+    'steps: for n in 0..most {
+        keep_ends(ends, &buffers, &firsts, n);
+        begin_seconds(&mut buffers, &seconds, &firsts, n);
+        sha_eight(&buffers, &mut hashes);
+        steps.eight();
+        take_steps(&mut buffers, &hashes, &counts, n);
+    }
+    keep_ends(ends, &buffers, &firsts, most);
+    begin_seconds(&mut buffers, &seconds, &firsts, most);
+    values_in(&buffers)
+}
+
 /// The values of the chains with these numbers of leaf q, the one with `numbers[j]` after `counts[j]` steps from number `from[j]` on.
 ///
-/// A chain at its end keeps its value while the others go on, so eight steps are counted for each of the longest.
+/// Eight steps are counted for each of the longest.
 pub(crate) fn eight_chains<L: Ledger>(
     ident: &[u8; 16],
     q: u32,
-    numbers: &[u16; 8],
-    values: &[[u8; 32]; 8],
-    from: &[u8; 8],
-    counts: &[u8; 8],
+    first: &Eight,
     steps: &mut Steps<L>,
 ) -> [[u8; 32]; 8]
-    requires { (j : ℕ) → j < 8 → slice_index from.now j + slice_index counts.now j ≤ 256 }
-    ensures value { (j : ℕ) → j < 8 → slice_index_or result j [] ≡ chain (place ident.now q (slice_index numbers.now j))
-        (slice_index from.now j) (slice_index counts.now j) (slice_index_or values.now j []) }
-    ensures cost { steps.new ≡ steps.old + 8 * most_of (slice_index counts.now) 0 8 }
+    requires { (j : ℕ) → j < 8 → slice_index first.now.from j + slice_index first.now.counts j ≤ 256 }
+    ensures value { (j : ℕ) → j < 8 → slice_index_or result j [] ≡ leg_end (leg_of ident.now q first.now j) }
+    ensures cost { steps.new ≡ steps.old + 8 * most_of (slice_index first.now.counts) 0 8 }
 {
-    let mut buffers = first_buffers(ident, q, numbers, from, values);
-    let mut hashes = [[0u8; 32]; 8];
-    'steps: for n in 0..most(counts) {
-        sha_eight(&buffers, &mut hashes);
-        steps.eight();
-        take_steps(&mut buffers, &hashes, counts, n);
-    }
-    values_in(&buffers)
+    let none = Eight {
+        numbers: [0; 8],
+        starts: [[0; 32]; 8],
+        from: [0; 8],
+        counts: [0; 8],
+    };
+    let mut ends = [[0u8; 32]; 8];
+    sixteen_chains(ident, q, first, &none, &mut ends, steps);
+    ends
 }
 
 /// The numbers `first` to `first + 7`.

@@ -1,6 +1,7 @@
 //! What is taken of each chain of a leaf.
 
-ghost use Rattle.std.specs.Prelude.{◌≡◌, ℕ, ◌<◌, [], slice_index, slice_index_or};
+ghost use Rattle.std.specs.Prelude.{◌≡◌, ℕ, ◌<◌, [], List, slice_index, slice_index_or};
+ghost use Rattle.bar_lms.specs.Lanes.{leg_of, leg_at};
 
 /// A hash of each chain, by its number. There is room for as many chains as a key has at most.
 pub(crate) type Row = [[u8; 32]; 265];
@@ -17,8 +18,17 @@ pub(crate) struct Legs {
     pub counts: Bytes,
 }
 
-/// The hashes with eight numbers.
-pub(crate) fn eight_hashes(all: &Row, numbers: &[u16; 8]) -> [[u8; 32]; 8]
+/// What is taken of eight chains with these numbers, each as in `Legs`.
+#[derive(Drop)]
+pub(crate) struct Eight {
+    pub numbers: [u16; 8],
+    pub starts: [[u8; 32]; 8],
+    pub from: [u8; 8],
+    pub counts: [u8; 8],
+}
+
+// The hashes with eight numbers.
+fn eight_hashes(all: &Row, numbers: &[u16; 8]) -> [[u8; 32]; 8]
     requires { (j : ℕ) → j < 8 → slice_index numbers.now j < 265 }
     ensures { (j : ℕ) → j < 8 → slice_index_or result j [] ≡ slice_index_or all.now (slice_index numbers.now j) [] }
 {
@@ -29,8 +39,8 @@ pub(crate) fn eight_hashes(all: &Row, numbers: &[u16; 8]) -> [[u8; 32]; 8]
     hashes
 }
 
-/// The bytes with eight numbers.
-pub(crate) fn eight_bytes(all: &Bytes, numbers: &[u16; 8]) -> [u8; 8]
+// The bytes with eight numbers.
+fn eight_bytes(all: &Bytes, numbers: &[u16; 8]) -> [u8; 8]
     requires { (j : ℕ) → j < 8 → slice_index numbers.now j < 265 }
     ensures { (j : ℕ) → j < 8 → slice_index result j ≡ slice_index all.now (slice_index numbers.now j) }
 {
@@ -39,4 +49,21 @@ pub(crate) fn eight_bytes(all: &Bytes, numbers: &[u16; 8]) -> [u8; 8]
         bytes[j] = all[numbers[j] as usize];
     }
     bytes
+}
+
+/// What is taken of the chains with eight numbers.
+pub(crate) fn eight_legs(legs: &Legs, numbers: [u16; 8]) -> Eight
+    requires { (j : ℕ) → j < 8 → slice_index numbers j < 265 }
+    ensures numbers { result.numbers ≡ numbers }
+    ensures legs { (ident : List ℕ) (q j : ℕ) → j < 8 → leg_of ident q result j ≡ leg_at ident q legs.now (slice_index numbers j) }
+{
+    let starts = eight_hashes(&legs.starts, &numbers);
+    let from = eight_bytes(&legs.from, &numbers);
+    let counts = eight_bytes(&legs.counts, &numbers);
+    Eight {
+        numbers,
+        starts,
+        from,
+        counts,
+    }
 }

@@ -36,9 +36,9 @@ fn put_row(out: &mut [u8], row: &Row, n: usize)
     }
 }
 
-// The values of all chains of leaf q after their first step, which begins with the seed.
-fn starts<L: Ledger>(key: &Private, q: u32, steps: &mut Steps<L>) -> Row
-    ensures value { (i : ℕ) → i < chains key.now.params.ots → slice_index_or result i [] ≡ value key.now q 0 i }
+// Writes the values of all chains of leaf q after their first step, which begins with the seed.
+fn put_starts<L: Ledger>(key: &Private, q: u32, starts: &mut Row, steps: &mut Steps<L>)
+    ensures value { (i : ℕ) → i < chains key.now.params.ots → slice_index_or starts.new i [] ≡ value key.now q 0 i }
     ensures cost { steps.new ≡ steps.old + chains key.now.params.ots }
 {
     let legs = Legs {
@@ -46,21 +46,44 @@ fn starts<L: Ledger>(key: &Private, q: u32, steps: &mut Steps<L>) -> Row
         from: [255; 265],
         counts: [1; 265],
     };
-    all_chains(&key.ident, q, &legs, key.params.ots.chains(), 1, steps)
+    all_chains(
+        &key.ident,
+        q,
+        &legs,
+        key.params.ots.chains(),
+        1,
+        starts,
+        steps,
+    );
 }
 
-// The values of the chains in a signature: each from its start on, so many steps as its digit says.
-fn values<L: Ledger>(key: &Private, q: u32, hash: &[u8; 32], steps: &mut Steps<L>) -> Row
-    ensures value { (i : ℕ) → i < chains key.now.params.ots → slice_index_or result i [] ≡ signed_value key.now q hash.now i }
+// Writes the values of the chains in a signature: each from its start on, so many steps as its digit says.
+fn take_digits<L: Ledger>(
+    key: &Private,
+    q: u32,
+    hash: &[u8; 32],
+    values: &mut Row,
+    steps: &mut Steps<L>,
+)
+    ensures value { (i : ℕ) → i < chains key.now.params.ots → slice_index_or values.new i [] ≡ signed_value key.now q hash.now i }
     ensures cost { steps.new ≡ steps.old + signed_steps key.now.params.ots hash.now }
 {
     let ots = key.params.ots;
-    let legs = Legs {
-        starts: starts(key, q, steps),
+    let mut legs = Legs {
+        starts: [[0; 32]; 265],
         from: [0; 265],
         counts: digits_of(hash, ots),
     };
-    all_chains(&key.ident, q, &legs, ots.chains(), ots.last() as u8, steps)
+    put_starts(key, q, &mut legs.starts, steps);
+    all_chains(
+        &key.ident,
+        q,
+        &legs,
+        ots.chains(),
+        ots.last() as u8,
+        values,
+        steps,
+    );
 }
 
 /// Writes the values of the chains, from byte 40 on.
@@ -77,7 +100,8 @@ pub(crate) fn put_values<L: Ledger>(
     ensures rest { drop (40 + 32 * chains key.now.params.ots) out.new ≡ drop (40 + 32 * chains key.now.params.ots) out.old }
     ensures cost { steps.new ≡ steps.old + signed_steps key.now.params.ots hash.now }
 {
-    let values = values(key, q, hash, steps);
+    let mut values = [[0u8; 32]; 265];
+    take_digits(key, q, hash, &mut values, steps);
     put_row(out, &values, key.params.ots.chains());
 }
 

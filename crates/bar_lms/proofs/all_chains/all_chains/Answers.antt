@@ -17,4 +17,4 @@ returns-clause-cost g c =
     let all : by_eights taken c.args.n ≡ longest_by_eights counts c.args.n c.args.top =
     longest_in counts taken c.args.n c.args.top c.longest_first-order.ensures.order
     in
-    omega (arith, all, c.take_groups-row.ensures.cost, c.take_singles.ensures.cost)
+    omega (arith, all, c.take_pairs.ensures.cost, c.take_group.ensures.cost, c.take_singles.ensures.cost)

@@ -6,7 +6,7 @@ use Rattle.bar_lms.specs.Order.{reached, longest_by_eights}
 use Rattle.bar_lms.specs.Tree.{value}
 use Rattle.bar_lms.proofs.DigitLemmas.{few_chains}
 use Rattle.bar_lms.proofs.OrderLemmas.{longest_ones}
-use Rattle.bar_lms.proofs.signing.starts.Goals as goal
+use Rattle.bar_lms.proofs.signing.put_starts.Goals as goal
 
 pub all_chains-requires-clause-bytes : goal.all_chains-requires-clause-bytes
 all_chains-requires-clause-bytes g c = λ i below.

@@ -4,7 +4,7 @@ use Rattle.bar_lms.specs.Chains.{steps_left}
 use Rattle.bar_lms.specs.Order.{reached, longest_by_eights}
 use Rattle.bar_lms.specs.Signature.{end_at}
 use Rattle.bar_lms.proofs.OrderLemmas.{longest_same}
-use Rattle.bar_lms.proofs.acceptance.ends.Goals as goal
+use Rattle.bar_lms.proofs.acceptance.put_ends.Goals as goal
 
 pub returns-clause-value : goal.returns-clause-value
 unfolding end_at reached

@@ -7,7 +7,7 @@ use Rattle.bar_lms.specs.Signature.{signed_value}
 use Rattle.bar_lms.specs.Tree.{value}
 use Rattle.bar_lms.proofs.DigitLemmas.{few_chains, digit_facts}
 use Rattle.bar_lms.proofs.OrderLemmas.{longest_same}
-use Rattle.bar_lms.proofs.signing.values.Goals as goal
+use Rattle.bar_lms.proofs.signing.take_digits.Goals as goal
 
 pub all_chains-requires-clause-bytes : goal.all_chains-requires-clause-bytes
 all_chains-requires-clause-bytes g c = λ i below.
@@ -21,7 +21,7 @@ unfolding signed_value value chain reached
 returns-clause-value g c = λ i below.
     let few : i < 265 = omega (arith, few_chains c.args.key.now.params.ots) in
     let from : slice_index (replicate 265 0) i ≡ 0 = get_or-replicate 265 i 0 0 few in
-    rw (from, c.digits_of.ensures.value i below, c.starts.ensures.value i below) at (c.all_chains.ensures.value i (omega arith))
+    rw (from, c.digits_of.ensures.value i below, c.put_starts.ensures.value i below) at (c.all_chains.ensures.value i (omega arith))
 
 pub returns-clause-cost : goal.returns-clause-cost
 returns-clause-cost g c =
@@ -31,4 +31,4 @@ returns-clause-cost g c =
     let same : longest_by_eights counts (chains ots) (last ots) ≡ longest_by_eights digits (chains ots) (last ots) =
     longest_same counts digits (chains ots) (last ots) c.digits_of.ensures.value
     in
-    omega (arith, c.starts.ensures.cost, rw (c.chains.ensures, c.last.ensures, same) at c.all_chains.ensures.cost)
+    omega (arith, c.put_starts.ensures.cost, rw (c.chains.ensures, c.last.ensures, same) at c.all_chains.ensures.cost)

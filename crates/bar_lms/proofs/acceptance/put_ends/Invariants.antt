@@ -2,7 +2,7 @@ use Rattle.std.proofs.Common.{◌≡◌, ℕ, ◌≤◌, ◌<◌, [], length, sl
 use Rattle.bar_lms.specs.Params.{chains, last}
 use Rattle.bar_lms.specs.Chains.{digit, steps_left}
 use Rattle.bar_lms.specs.Signature.{hash_at}
-use Rattle.bar_lms.proofs.acceptance.ends.Given as goal
+use Rattle.bar_lms.proofs.acceptance.put_ends.Given as goal
 
 abbrev pub invariant-starts : goal.invariant-starts
 invariant-starts g l = record {

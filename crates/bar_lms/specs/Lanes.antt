@@ -1,0 +1,48 @@
+-- Eight lanes, each of which takes two chains, one after the other.
+use Rattle.std.specs.Prelude.{ℕ, ◌+◌, ◌-◌, List, [], slice_index, slice_index_or, nat_lt, if◌then◌else◌, min}
+use Rattle.bar_lms.specs.declared.legs.Legs.{Legs}
+use Rattle.bar_lms.specs.declared.legs.Eight.{Eight}
+use Rattle.bar_lms.specs.Chains.{place, chain, chain_buffer}
+
+-- what is taken of a chain at a place: from a value on, count steps, the first of which has the number from
+pub record Leg : Type 0 where
+  pub at : List ℕ
+  pub from : ℕ
+  pub count : ℕ
+  pub value : List ℕ
+
+-- the value behind it
+abbrev pub leg_end : Leg → List ℕ
+leg_end leg = chain leg.at leg.from leg.count leg.value
+
+-- what is taken of chain i of leaf q
+abbrev pub leg_at : List ℕ → ℕ → Legs → ℕ → Leg
+leg_at ident q legs i = record {
+  at = place ident q i;
+  from = slice_index legs.from i;
+  count = slice_index legs.counts i;
+  value = slice_index_or legs.starts i [];
+}
+
+-- what is taken of one of eight chains of leaf q
+abbrev pub leg_of : List ℕ → ℕ → Eight → ℕ → Leg
+leg_of ident q eight j = record {
+  at = place ident q (slice_index eight.numbers j);
+  from = slice_index eight.from j;
+  count = slice_index eight.counts j;
+  value = slice_index_or eight.starts j [];
+}
+
+-- the steps of a lane that takes one of eight chains and then one of eight others
+abbrev pub lane_steps : Eight → Eight → ℕ → ℕ
+lane_steps first second j = slice_index first.counts j + slice_index second.counts j
+
+-- what the buffer of a lane holds after n steps of one leg and then another, before the second is begun where the first is over
+unfoldable pub lane_held : Leg → Leg → ℕ → List ℕ
+lane_held a b n =
+    (if nat_lt a.count n then chain_buffer b.at b.from (min (n - a.count) b.count) b.value else chain_buffer a.at a.from n a.value)
+
+-- and behind that
+unfoldable pub lane_begun : Leg → Leg → ℕ → List ℕ
+lane_begun a b n =
+    (if nat_lt n a.count then chain_buffer a.at a.from n a.value else chain_buffer b.at b.from (min (n - a.count) b.count) b.value)
