@@ -7,6 +7,8 @@ The first word names the file, a JSON object. Of these it has what a test asks f
   keygen_seconds   how long a key takes
   sent, taken      by peer, the datagrams of its transcript and of its recording, in hex
   replayed         what a replay plays
+  audited          the lines of an audit, which names an exchange that isn't balanced in the last one, or none
+  packed           what is written to a proof file, in hex, and the line of that
   printed          what every other command prints
 """
 import json
@@ -79,6 +81,30 @@ def replay(options):
         print(1, int(datagram[28:32], 16), datagram)
 
 
+def audit(options):
+    """Reads the recordings of the parties, each of which has to be whole, and prints what an audit finds. Returns its status."""
+    for party in range(int(options["first"]), int(options["last"]) + 1):
+        path = pathlib.Path(f"{options['results']}.{party}.recording")
+        if not path.exists():
+            print("bar: file failed", file=sys.stderr)
+            return 3
+        if path.read_bytes()[-1:] != b"\0":
+            print("bar: input refused: recording NoEnd", file=sys.stderr)
+            return 8
+    lines = WAYS.get("audited", ["balanced"])
+    print("\n".join(lines))
+    return int(lines[-1] != "balanced")
+
+
+def pack(options):
+    """Writes a proof file."""
+    packed, line = WAYS["packed"]
+    if packed:
+        pathlib.Path(options["proof"]).write_bytes(bytes.fromhex(packed))
+    print(line)
+    return 0 if packed else 1
+
+
 def other(_options):
     print(WAYS["printed"], end="")
 
@@ -90,7 +116,8 @@ def main():
         print(WAYS.get("said", ""), end="", file=sys.stderr)
         return status
     options = dict(zip((word.removeprefix("--") for word in rest[::2]), rest[1::2]))
-    return {"keygen": keygen, "hsskeygen": keygen, "session": session, "replay": replay}.get(command, other)(options)
+    known = {"keygen": keygen, "hsskeygen": keygen, "session": session, "replay": replay, "audit": audit, "pack": pack}
+    return known.get(command, other)(options)
 
 
 if __name__ == "__main__":
