@@ -227,9 +227,20 @@ class Benches(RoomCase):
 
 class Scripts(RoomCase):
     def test_programs_that_are_missing(self):
-        status, out, err = run_script("try-edge", "--bar", self.room / "none")
-        self.assertEqual((status, out), (2, []))
-        self.assertIn("REFUSED: there is no program at", err[-1])
+        for script in ("try-edge", "try-hostile"):
+            status, out, err = run_script(script, "--bar", self.room / "none")
+            self.assertEqual((status, out), (2, []))
+            self.assertIn("REFUSED: there is no program at", err[-1])
+
+    def test_numbers(self):
+        status, _, err = run_script("try-hostile", "--count", 0, "--seconds", -1)
+        self.assertEqual(status, 2)
+        self.assertEqual(err[:2], ["--count is 0: take 1 or more", "--seconds is -1.0: take more than 0 and less than 3,600"])
+
+    def test_a_session_that_is_not_run(self):
+        program = fake_program(self.room, status={"peer": 70, "broadcaster": 70})
+        status, out, _ = run_script("try-hostile", "--short", "--bar", program)
+        self.assertEqual((status, out), (1, ["FAILED: the session that nobody attacks ends with the statuses 70"]))
 
 
 if __name__ == "__main__":
