@@ -272,3 +272,11 @@ def read_slowly(place, front, rest):
         other.write_bytes(b"another file")
         other.replace(place)
         pipe.write(rest)
+
+
+def changed(draw, data):
+    """Bytes with a bit turned, cut, or with bytes put in or left out, at a place that is drawn."""
+    at = draw.randrange(len(data))
+    some = draw.randbytes(draw.randrange(1, 4))
+    turned = bytes([data[at] ^ 1 << draw.randrange(8)])
+    return draw.choice([data[:at] + turned + data[at + 1 :], data[:at], data[:at] + some + data[at:], data[:at] + data[at + len(some) :]])

@@ -1,6 +1,7 @@
 """How runs in trouble are started, and what is noted of them."""
 import os
 import pathlib
+import random
 import signal
 import subprocess
 import sys
@@ -127,6 +128,13 @@ class Hazards(RoomCase):
         front = [*barhazards.limited("fsize", 100), *barhazards.without_signal("XFSZ")]
         self.assertEqual(self.run_behind(front, *large).status, 1)
         self.assertEqual((self.room / "file").stat().st_size, 100)
+
+    def test_bytes_that_are_changed(self):
+        draw, data = random.Random(7), bytes(range(40))
+        all_changed = [baredges.changed(draw, data) for _ in range(100)]
+        self.assertNotIn(data, all_changed)
+        lengths = [len(it) for it in all_changed]
+        self.assertTrue(min(lengths) < len(data) < max(lengths) and len(data) in lengths)
 
     def test_tools_that_are_missing(self):
         with mock.patch("shutil.which", return_value=None), self.assertRaises(Skipped) as skipped:
