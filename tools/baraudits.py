@@ -117,6 +117,8 @@ def audit_of(folder, session, program):
             ran = run(program, "audit", session=folder.session, results=f"{room}/R", first=1, last=session.peers)
     except OSError as error:
         return Audit(refused=f"{error.filename or 'a recording'} can't be read: {error.strerror}", is_failure=True)
+    if ran.status == Status.WORDS:
+        return Audit(refused="the program has no command `audit`, as earlier ones have none")
     if ran.status not in (Status.DONE, Status.NO_FAULT):
         return Audit(refused=ran.told, is_failure=True)
     return audit_of_text(session.peers, ran.printed.decode(errors="replace"))

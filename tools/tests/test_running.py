@@ -257,6 +257,11 @@ class Outcomes(SessionCase):
         told = "the recordings weren't audited: status 70: there is no memory left (bar: no memory)"
         self.assertEqual((outcome.status, out[3], *outcome.lines), (1, told, f"FAILED: {told}"))
 
+    def test_an_earlier_program_audits_nothing(self):
+        outcome, out, _ = self.run_session(status={"audit": 2}, said="bar: usage\n")
+        told = "the recordings weren't audited: the program has no command `audit`, as earlier ones have none"
+        self.assertEqual((outcome.status, out[3]), (0, told))
+
     def test_a_recording_that_was_cut_is_audited_up_to_its_last_whole_entry(self):
         front = b"BARL\x01" + bytes(10) + b"\x01"
         self.folder.recording(1).write_bytes(front + b"\x02\x00\x05cut")
