@@ -52,6 +52,8 @@ class Side:
     paid: int | None = None
     was_paid: int | None = None
     was_cheated: int | None = None
+    # whether an auditor found the exchange unbalanced
+    is_unbalanced: bool = False
 
     @property
     def partner(self):

@@ -12,7 +12,10 @@ from barsession import Folder
 
 @dataclasses.dataclass
 class Log:
-    """What is known of a peer's run by its recording and its replay: what it took and sent, each with the tick before it."""
+    """What is known of a peer's run by its recording and its replay: what it took and sent, each with the tick before it.
+
+    The inputs to which it sent something are told by their numbers, counted from 1.
+    """
 
     whole: bool
     ticks: int
@@ -20,6 +23,7 @@ class Log:
     sent: list
     played: bytes
     findings: dict
+    answered: frozenset = frozenset()
 
 
 def log_of(recording, printed, played, findings):
@@ -33,7 +37,8 @@ def log_of(recording, printed, played, findings):
     sent = [(number, datagram) for number, _, datagram in transcript_of(printed)]
     if any(not 0 < number < len(ticks) for number, _ in sent):
         raise Malformed("a line of the transcript has the number of no input")
-    return Log(whole, ticks[-1], taken, [(ticks[number], datagram) for number, datagram in sent], played, findings)
+    answered = frozenset(number for number, _ in sent)
+    return Log(whole, ticks[-1], taken, [(ticks[number], datagram) for number, datagram in sent], played, findings, answered)
 
 
 # ---- replays

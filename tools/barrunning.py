@@ -1,8 +1,12 @@
-"""Runs a session in its folder, replays what was recorded and draws it, and says what failed and why. What can't be run is refused."""
+"""Runs a session in its folder, audits and replays what was recorded and draws it, and says what failed and why.
+
+What can't be run is refused.
+"""
 import re
 import subprocess
 
 import bartimeline
+from baraudits import audit_of
 from barcauses import causes_of
 from barformats import Malformed, Session
 from barprogram import await_end, lines_of, running, status_of
@@ -126,19 +130,22 @@ def compare(folder, session, program, parties):
     return logs, [f"party {party}: {told}" for party, told in differ]
 
 
-def draw(folder, session, logs, picture):
+def draw(folder, session, logs, audit, picture):
     """Draws a session as its page, and where a picture is named, in this file too. Returns what fails, and what is said of the page."""
     drawn = {folder.page: bartimeline.page} | ({picture: bartimeline.picture} if picture else {})
     for path, draw_in in drawn.items():
         try:
-            path.write_text(draw_in(session, logs))
+            path.write_text(draw_in(session, logs, audit))
         except OSError as error:
             return [f"{path} can't be written: {error.strerror}"], f"{path.name} isn't whole"
     return [], f"page {folder.page}"
 
 
-def compare_and_draw(folder, session, program, picture):
-    """Replays each peer that left a recording and draws the session. Returns what differs or fails, and what is said of the page."""
+def compare_and_draw(folder, session, program, audit, picture):
+    """Replays each peer that left a recording and draws the session with its audit.
+
+    Returns what differs or fails, and what is said of the page.
+    """
     parties = [party for party in session.parties[:-1] if folder.recording(party).exists()]
     try:
         logs, differ = compare(folder, session, program, parties) if parties else ({}, [])
@@ -146,7 +153,7 @@ def compare_and_draw(folder, session, program, picture):
         return [f"the recordings can't be replayed: {told_of(error)}"], "there is no page"
     if not logs:
         return differ, "there is no page, since nobody left a recording that is replayed"
-    unwritten, page = draw(folder, session, logs, picture)
+    unwritten, page = draw(folder, session, logs, audit, picture)
     return [*differ, *unwritten], page
 
 
@@ -162,17 +169,19 @@ def lost_lines(drops):
 
 
 def run_session(folder, session, program, kill=None, picture=None):
-    """Runs an accepted session, compares its replays and draws it, and returns the script's outcome."""
+    """Runs an accepted session, audits it, compares its replays and draws it, and returns the script's outcome."""
     begin = begin_of(session, program)
     watch = Watch(session, begin, party_words(folder, program, kill, begin) if kill else None)
     with watched(watch):
         statuses, status = run_parties(folder, program, begin)
     causes = [*causes_of(folder, session, statuses, status, kill)]
-    differ, page = compare_and_draw(folder, session, program, picture)
+    audit = audit_of(folder, session, program)
+    say(audit.line)
+    differ, page = compare_and_draw(folder, session, program, audit, picture)
     for line in lost_lines(watch.drops):
         say(line)
-    if causes or differ:
+    if causes or audit.failures or differ:
         say(page)
-        return failed(*causes, *differ)
+        return failed(*causes, *audit.failures, *differ)
     ended = f"party {kill} was killed, the others ended" if kill else "all parties ended"
     return well(f"{ended} with status 0, all replays agree, {page}")

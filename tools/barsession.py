@@ -65,10 +65,11 @@ def session_words(folder, program, begin):
     return [program, *words_of("session", **files, begin=begin, results=folder.results, program=program)]
 
 
-def party_words(folder, program, party, begin):
-    """The words of one party, which are those that a session starts it with."""
+def party_words(folder, program, party, begin, results=None):
+    """The words of one party, which are those that a session starts it with, but for its results where these are to stand elsewhere."""
+    own = f"{results or folder.results}.{party}"
     values = {"session": folder.session, "key": folder.key(party), "begin": begin, "stream": folder.stream}
-    values |= {"played": folder.played(party), "recording": folder.recording(party), "found": f"{folder.results}.{party}"}
+    values |= {"played": f"{own}.played", "recording": f"{own}.recording", "found": own}
     return [program, *words_of("peer" if party else "broadcaster", **values)]
 
 

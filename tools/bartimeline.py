@@ -1,6 +1,7 @@
 """Draws a session as one page that needs nothing else: an inline drawing with rounds across and a row for each peer, and a table.
 
-All that it shows is taken from the peers' recordings and what their replays print, play and find, as barexchanges tells it.
+All that it shows is taken from the peers' recordings and what their replays print, play and find, as barexchanges tells it. An exchange
+that an audit of the recordings found unbalanced has a red frame.
 """
 import dataclasses
 import html
@@ -55,6 +56,7 @@ def told_of(side):
         told.append(f"is promised {items(side.gets)}")
     keys = (side.paid, "gave its key"), (side.was_paid, "was given the key"), (side.was_cheated, "was given a wrong key")
     told += [f"{said} at tick {tick}" for tick, said in keys if tick is not None]
+    told += ["unbalanced by the audit"] if side.is_unbalanced else []
     return f"round {number}: " + ", ".join(told)
 
 
@@ -68,6 +70,7 @@ def token(x, y, side):
     if side.was_paid is not None:
         inside.append(arrow(middle, y + 21.5, False))
     classes = ["push" if side.exchange.push else "balanced", "asks" if side.asks else "asked", "traded" if side.gives else "idle"]
+    classes += ["unbalanced"] if side.is_unbalanced else []
     return tag("g", *inside, class_=" ".join(classes))
 
 
@@ -223,7 +226,7 @@ svg .partner { text-anchor: middle; font-size: 10.5px; font-weight: 620 }
 .balanced { --own: var(--blue) } .push { --own: var(--amber) } .alarm { fill: var(--alarm) } .key { fill: var(--ink) }
 .sign { stroke: var(--own); stroke-width: 1.2 } .asks .sign { fill: var(--own) } .asked .sign { fill: #fff }
 svg .asks .partner, svg .alarm .partner { fill: #fff } svg .asked .partner { fill: var(--own) }
-.idle { opacity: .32 }
+.idle { opacity: .32 } .unbalanced .sign { stroke: var(--alarm); stroke-width: 3 } .unbalanced { opacity: 1 }
 rect.straight { fill: var(--grey) } rect.traded { fill: var(--green) } rect.missed { fill: #fff; stroke: var(--rule) }
 rect.gone { fill: #f2f4f6; opacity: .85 }
 """.replace("FONT", FONT)
@@ -349,10 +352,29 @@ def table(chart, accounts):
     return tag("table", tag("tr", *(tag("th", name) for name in lines[0])), *(tag("tr", *(tag("td", it) for it in line)) for line in told))
 
 
-def notes(accounts):
+def audited(audit):
+    """A line on what an auditor found, where there was one."""
+    if audit.refused:
+        return f"The recordings weren’t audited: {audit.refused}."
+    told = f"An auditor, who has the public keys alone, read the {counted(audit.recordings, 'recording')}"
+    if audit.named:
+        number, push, initiator, responder = audit.named
+        which = f"the {'push' if push else 'balanced exchange'} of round {number} that peer {initiator} started with peer {responder}"
+        return f"{told} and found {which} unbalanced: {audit.cause}. A red frame stands around the signs of exchanges that are unbalanced."
+    balanced = "each peer that gave its key holds its partner’s briefcase, by which both promise equally many items"
+    return f"{told} and found {audit.balanced} balanced: {balanced}." if audit.entries else f"{told} and found no exchange."
+
+
+def notes(accounts, audit):
+    """A line on the audit, if there was one, and one on the evidence that is kept, if there is any."""
+    lines = [tag("p", html.escape(audited(audit)))] if audit else []
+    return lines + kept(accounts)
+
+
+def kept(accounts):
     """A line on the evidence that is kept."""
-    kept = [(int(accused), account.party) for account in accounts for accused in account.log.findings if accused != "table"]
-    said = [f"peer {accused} by peer {party}" for accused, party in sorted(kept)]
+    found = [(int(accused), account.party) for account in accounts for accused in account.log.findings if accused != "table"]
+    said = [f"peer {accused} by peer {party}" for accused, party in sorted(found)]
     told = f"Evidence is kept against {', '.join(said)}. A red mark stands where it was sent to the broadcaster."
     return [tag("p", told)] if said else []
 
@@ -374,23 +396,28 @@ def charts_of(session, accounts):
     return [Chart(session, released, length, range(first, min(first + MOST_COLUMNS, session.ends + 1))) for first in firsts]
 
 
-def accounts_of(session, logs):
-    return [Account(session, party, log) for party, log in sorted(logs.items())]
+def accounts_of(session, logs, audit):
+    """The accounts of the peers; an audit marks the exchanges that aren't balanced."""
+    accounts = [Account(session, party, log) for party, log in sorted(logs.items())]
+    for account in accounts:
+        for exchange in account.sides.keys() & (audit.unbalanced if audit else ()):
+            account.sides[exchange].is_unbalanced = True
+    return accounts
 
 
-def picture(session, logs):
+def picture(session, logs, audit=None):
     """The drawing of a session's first rounds by itself, as an SVG file."""
-    accounts = accounts_of(session, logs)
+    accounts = accounts_of(session, logs, audit)
     drawn = panel(charts_of(session, accounts)[0], accounts)
     return drawn.replace("<svg", '<svg xmlns="http://www.w3.org/2000/svg"', 1).replace(">", f">{tag('style', DRAWING_STYLE)}", 1) + "\n"
 
 
-def page(session, logs):
-    """The page of a session, by the logs of its peers."""
-    accounts = accounts_of(session, logs)
+def page(session, logs, audit=None):
+    """The page of a session, by the logs of its peers and what an audit of their recordings found, if there was one."""
+    accounts = accounts_of(session, logs, audit)
     charts = charts_of(session, accounts)
     parts = [tag("h1", "A session, as its peers recorded it"), tag("p", subtitle(session), class_="soft")]
-    parts += [figures(charts[0], accounts), legend(), *(tag("figure", panel(chart, accounts)) for chart in charts), *notes(accounts)]
+    parts += [figures(charts[0], accounts), legend(), *(tag("figure", panel(chart, accounts)) for chart in charts), *notes(accounts, audit)]
     reading = [tag("p", said.format(life=session.life, fanout=counted(session.fanout, "peer"))) for said in READING]
     parts += [tag("h2", "How to read it"), tag("div", *reading, class_="reading"), tag("h2", "Each peer"), table(charts[0], accounts)]
     head = f'<meta charset="utf-8"><meta name="viewport" content="width=device-width"><title>Session {html.escape(session.id)}</title>'

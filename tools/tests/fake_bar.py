@@ -7,7 +7,10 @@ The first word names the file, a JSON object. Of these it has what a test asks f
   keygen_seconds   how long a key takes
   sent, taken      by peer, the datagrams of its transcript and of its recording, in hex
   replayed         what a replay plays
+  audited          the lines of an audit, which names an exchange that isn't balanced in the last one, or none
+  packed           what is written to a proof file, in hex, and the line of that
   printed          what every other command prints
+  live             a replay prints and plays what `peer` does: at each tick it plays a letter and sends a datagram to the next peer
 """
 import json
 import pathlib
@@ -72,6 +75,8 @@ def end_well(options, party, session_id):
 
 def replay(options):
     """Plays what a replay plays, and prints the transcript of what the peer sent behind the first tick."""
+    if "live" in WAYS:
+        return live_replay(options)
     peer = pathlib.Path(options["recording"]).read_bytes()[14]
     pathlib.Path(options["played"]).write_text(WAYS.get("replayed", "played"))
     pathlib.Path(f"{options['found']}.table").write_bytes(b"")
@@ -79,18 +84,160 @@ def replay(options):
         print(1, int(datagram[28:32], 16), datagram)
 
 
+class Ended(Exception):
+    """The program ends with a status, and says a line."""
+
+
+def party(options, number):
+    """Runs a party, whose ticks are due from the session's begin on, and which takes what comes to its port."""
+    import socket
+    import tomllib
+
+    try:
+        session = tomllib.loads(pathlib.Path(options["session"]).read_text())
+        key = pathlib.Path(options["key"]).read_text()
+        pathlib.Path(options["stream"] if number == 0 else options["session"]).read_bytes()
+        pathlib.Path(options["key"]).write_text(key.replace("spent = false", "spent = true"))
+        played, recording = [open(options[name], "wb", buffering=0) if number else None for name in ("played", "recording")]
+        with socket.socket(socket.AF_INET, socket.SOCK_DGRAM) as link:
+            bind(link, session["port"] + number)
+            takes(options, session, number, link, played, recording)
+        pathlib.Path(f"{options['found']}.table").write_bytes(b"")
+    except OSError:
+        raise Ended(3, "file failed") from None
+    tell("ticks")
+
+
+def bind(link, port):
+    try:
+        link.bind(("127.0.0.1", port))
+    except OSError:
+        raise Ended(6, "link failed") from None
+
+
+def takes(options, session, number, link, played, recording):
+    """Takes all ticks, each when it is due or behind that, and what comes between them."""
+    import time
+
+    if number:
+        recording.write(b"BARL\x01" + bytes.fromhex(session["id"]) + number.to_bytes(2, "big"))
+    due, ticks = int(options["begin"]) / 1000, 8 * (session["rounds"] + session["life"] + 1)
+    while ticks:
+        entry = b"\x01" if due <= time.time() else taken(link, min(due - time.time(), 0.1))
+        if number and entry:
+            recording.write(entry)
+        if entry == b"\x01":
+            due, ticks = due + session["tick_ms"] / 1000, ticks - 1
+            for to, datagram in sent_at_tick(session, number):
+                send(link, datagram, session["port"] + to)
+            if number:
+                played.write(b"p" * 100)
+    if number:
+        recording.write(b"\x00")
+
+
+def taken(link, seconds):
+    """The entry of a datagram that comes in this time, or nothing."""
+    link.settimeout(max(seconds, 0.001))
+    try:
+        datagram = link.recv(1 << 16)
+    except TimeoutError:
+        return b""
+    return b"\x02" + len(datagram).to_bytes(2, "big") + datagram
+
+
+def send(link, datagram, port):
+    try:
+        link.sendto(datagram, ("127.0.0.1", port))
+    except OSError:
+        raise Ended(6, "link failed") from None
+
+
+def sent_at_tick(session, number):
+    """What a peer sends at each tick: a request for a key, to the next peer."""
+    to = number % len(session["peer"]) + 1
+    if number and to != number:
+        head = b"\xba\x47" + bytes([session["version"], 9]) + bytes.fromhex(session["id"])
+        yield to, head + number.to_bytes(2, "big") + to.to_bytes(2, "big") + b"\0\0\0\1\0\0"
+
+
+def tell(line):
+    try:
+        print(line, flush=True)
+    except OSError:
+        raise Ended(7, "output failed") from None
+
+
+def peer(options):
+    import re
+
+    return party(options, int(re.search(r"^party = (\d+)$", pathlib.Path(options["key"]).read_text(), re.MULTILINE)[1]))
+
+
+def live_replay(options):
+    """Replays a recording as a party took it; one that is cut is refused."""
+    import tomllib
+
+    session = tomllib.loads(pathlib.Path(options["session"]).read_text())
+    recording, at, number = pathlib.Path(options["recording"]).read_bytes(), 15, 0
+    with open(options["played"], "wb") as played:
+        while recording[at : at + 1] in (b"\1", b"\2"):
+            number += 1
+            if recording[at] == 1:
+                played.write(b"p" * 100)
+                for to, datagram in sent_at_tick(session, recording[14]):
+                    print(number, to, datagram.hex())
+            at += 1 if recording[at] == 1 else 3 + int.from_bytes(recording[at + 1 : at + 3], "big")
+    if recording[at:] != b"\0":
+        raise Ended(8, "input refused: recording NoEnd" if at == len(recording) else f"input refused: recording BadEntry at {at}")
+    pathlib.Path(f"{options['found']}.table").write_bytes(b"")
+
+
+def audit(options):
+    """Reads the recordings of the parties, each of which has to be whole, and prints what an audit finds. Returns its status."""
+    for party in range(int(options["first"]), int(options["last"]) + 1):
+        path = pathlib.Path(f"{options['results']}.{party}.recording")
+        if not path.exists():
+            print("bar: file failed", file=sys.stderr)
+            return 3
+        if path.read_bytes()[-1:] != b"\0":
+            print("bar: input refused: recording NoEnd", file=sys.stderr)
+            return 8
+    lines = WAYS.get("audited", ["balanced"])
+    print("\n".join(lines))
+    return int(lines[-1] != "balanced")
+
+
+def pack(options):
+    """Writes a proof file."""
+    packed, line = WAYS["packed"]
+    if packed:
+        pathlib.Path(options["proof"]).write_bytes(bytes.fromhex(packed))
+    print(line)
+    return 0 if packed else 1
+
+
 def other(_options):
     print(WAYS["printed"], end="")
 
 
 def main():
+    if len(sys.argv) == 2:
+        print("bar: usage", file=sys.stderr)
+        return 2
     command, *rest = sys.argv[2:]
     status = WAYS.get("status", {}).get(command)
     if status:
         print(WAYS.get("said", ""), end="", file=sys.stderr)
         return status
     options = dict(zip((word.removeprefix("--") for word in rest[::2]), rest[1::2]))
-    return {"keygen": keygen, "hsskeygen": keygen, "session": session, "replay": replay}.get(command, other)(options)
+    known = {"keygen": keygen, "hsskeygen": keygen, "session": session, "replay": replay, "audit": audit, "pack": pack}
+    known |= {"peer": peer, "broadcaster": lambda options: party(options, 0)}
+    try:
+        return known.get(command, other)(options)
+    except Ended as ended:
+        print(f"bar: {ended.args[1]}", file=sys.stderr)
+        return ended.args[0]
 
 
 if __name__ == "__main__":

@@ -10,6 +10,7 @@ from unittest import mock
 
 from support import NUMBERS, RoomCase, bound, datagram, fake_program, lines_of
 
+import baraudits
 import barcauses
 import barmaking
 import barrunning
@@ -191,7 +192,8 @@ class Outcomes(SessionCase):
         sent = datagram(KEYREQ, 1, 2, b"\x00\x00\x00\x01\x00\x00", self.session.id).hex()
         outcome, out, err = self.run_session(sent={"1": [sent]}, taken={"2": [sent, sent]})
         parties = ["party 1 status 0 played 6 of 600 bytes, 1.0%", "party 2 status 0 played 6 of 600 bytes, 1.0%", "party 0 status 0"]
-        self.assertEqual(out, [*parties, "all 2 replays agree; peers sent each other 1 datagrams and took 2"])
+        audit, replays = "the audit finds no exchange", "all 2 replays agree; peers sent each other 1 datagrams and took 2"
+        self.assertEqual(out, [*parties, audit, replays])
         told = f"OK: all parties ended with status 0, all replays agree, page {self.folder.page}"
         self.assertEqual((outcome.status, *outcome.lines), (0, told))
         self.assertTrue(self.folder.page.read_text().startswith("<!doctype html>"))
@@ -204,7 +206,10 @@ class Outcomes(SessionCase):
             outcome, out, _ = self.run_session(statuses={"2": 6})
         self.assertEqual((outcome.status, *outcome.lines), (1, f"FAILED: party 2 status 6: port {self.session.port + 2} is taken"))
         self.assertEqual(out[1], "party 2 status 6")
-        self.assertEqual(out[3:], ["all 1 replays agree; peers sent each other 0 datagrams and took 0", f"page {self.folder.page}"])
+        lines = ["the recordings weren't audited: party 2 left no recording"]
+        lines += ["all 1 replays agree; peers sent each other 0 datagrams and took 0", f"page {self.folder.page}"]
+        self.assertEqual(out[3:], lines)
+        self.assertIn("The recordings weren’t audited: party 2 left no recording.", self.folder.page.read_text())
 
     def test_a_peer_that_is_killed(self):
         outcome, out, _ = self.run_session(kill=2, statuses={"2": 137})
@@ -231,7 +236,40 @@ class Outcomes(SessionCase):
         outcome, out, _ = self.run_session(status={"session": 4})
         told = "there is no status of any party; the command `session` status 4: the session's text is refused"
         self.assertEqual((outcome.status, *outcome.lines), (1, f"FAILED: {told}"))
-        self.assertEqual(out, ["there is no page, since nobody left a recording that is replayed"])
+        audit = "the recordings weren't audited: party 1 and party 2 left no recording"
+        self.assertEqual(out, [audit, "there is no page, since nobody left a recording that is replayed"])
+
+    def test_exchanges_that_are_balanced(self):
+        exchanges = ["exchange 1 0 1 2 cases 3 3 keys 1 1", "exchange 1 1 2 1 cases 1 0 keys 0 0"]
+        outcome, out, _ = self.run_session(audited=[*exchanges, "balanced"])
+        self.assertEqual((outcome.status, out[3]), (0, "the audit finds all 2 exchanges balanced"))
+        told = "An auditor, who has the public keys alone, read the 2 recordings and found all 2 exchanges balanced: "
+        self.assertIn(told, self.folder.page.read_text())
+
+    def test_an_exchange_that_is_unbalanced(self):
+        outcome, out, _ = self.run_session(audited=["exchange 1 0 1 2 cases 3 0 keys 1 1", "unbalanced 1 0 1 2"])
+        told = "the audit finds exchange 1 0 1 2 unbalanced: peer 1 gave its key and has no briefcase of peer 2"
+        self.assertEqual((outcome.status, out[3], *outcome.lines), (1, told, f"FAILED: {told}"))
+        self.assertIn("the balanced exchange of round 1 that peer 1 started with peer 2 unbalanced: ", self.folder.page.read_text())
+
+    def test_an_audit_that_is_refused(self):
+        outcome, out, _ = self.run_session(status={"audit": 70}, said="bar: no memory\n")
+        told = "the recordings weren't audited: status 70: there is no memory left (bar: no memory)"
+        self.assertEqual((outcome.status, out[3], *outcome.lines), (1, told, f"FAILED: {told}"))
+
+    def test_an_earlier_program_audits_nothing(self):
+        outcome, out, _ = self.run_session(status={"audit": 2}, said="bar: usage\n")
+        told = "the recordings weren't audited: the program has no command `audit`, as earlier ones have none"
+        self.assertEqual((outcome.status, out[3]), (0, told))
+
+    def test_a_recording_that_was_cut_is_audited_up_to_its_last_whole_entry(self):
+        front = b"BARL\x01" + bytes(10) + b"\x01"
+        self.folder.recording(1).write_bytes(front + b"\x02\x00\x05cut")
+        self.folder.recording(2).write_bytes(front + b"\x00")
+        program = fake_program(self.room, audited=["exchange 1 0 1 2 cases 1 1 keys 1 1", "balanced"])
+        audit = baraudits.audit_of(self.folder, self.session, program)
+        self.assertEqual((audit.line, audit.failures), ("the audit finds the one exchange balanced", []))
+        self.assertEqual(self.folder.recording(1).read_bytes(), front + b"\x02\x00\x05cut")
 
     def test_what_was_lost_is_told_before_the_last_line(self):
         with mock.patch("barrunning.Watch") as watch:

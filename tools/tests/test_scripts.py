@@ -138,6 +138,66 @@ class Checks(RoomCase):
         status, out, _ = run_script("check-vectors", folder.path, "--bar", self.room / "bar")
         self.assertEqual((status, out[0][:22], out[-1]), (1, "puppet peer 1 played: ", "FAILED: 1 of 12 values differ"))
 
+    def checked(self, folder, **ways):
+        """The status and the lines of the expected values of a folder."""
+        status, out, _ = run_script("check-vectors", folder, "--bar", fake_program(self.room, **ways))
+        return status, out
+
+    def test_audits(self):
+        folder = self.room / "expected"
+        for part in ("audit", "audit-cut", "world"):
+            (folder / part).mkdir(parents=True)
+        (folder / "session.toml").touch()
+        for party in (1, 2, 3):
+            (folder / f"world/{party}.recording").write_bytes(b"\0")
+            (folder / f"audit-cut/R.{party}.recording").write_bytes(b"\0")
+        (folder / "audit/statuses").write_text("1 3 1\n2 2 1\n")
+        (folder / "audit-cut/statuses").write_text("2 3 1\n")
+        lines = ["exchange 2 0 1 2 cases 1 0 keys 1 1", "unbalanced 2 0 1 2"]
+        for name in ("audit/1-3.out", "audit/2-2.out", "audit-cut/2-3.out"):
+            (folder / name).write_text("\n".join([*lines, ""]))
+        self.assertEqual(self.checked(folder, audited=lines), (0, ["OK: 9 values compared, none differs"]))
+        told = ["audit of parties 1 to 3", "audit of parties 2 to 2", "audit-cut of parties 2 to 3"]
+        status, out = self.checked(folder, audited=["balanced"])
+        wanted = [f"{name} {said}" for name in told for said in ("status: ", "printed: ")]
+        self.assertEqual((status, [line.partition(": ")[0] + ": " for line in out[:-1]]), (1, wanted))
+        (folder / "audit-cut/R.2.recording").write_bytes(b"\1")
+        status, out = self.checked(folder, audited=lines)
+        self.assertEqual((status, out[-1]), (1, "FAILED: 3 of 9 values differ"))
+        (folder / "audit/statuses").write_text("1 3\n")
+        self.assertEqual(self.checked(folder), (2, []))
+
+    def test_proofs(self):
+        folder = self.expected("")
+        (folder / "simulate.txt").unlink()
+        (folder / "proofs").mkdir()
+        (folder / "session.toml").touch()
+        for name in ("evidence/table", "evidence/e.1", "evidence/e.2", "proofs/q.1"):
+            (folder / name).touch()
+        (folder / "proofs/p.1").write_bytes(b"proof")
+        (folder / "proofs/pack.txt").write_text("e.1\tpacked 5 bytes\n")
+        (folder / "proofs/proofs.txt").write_text("q.1\t0\tparty 3 fault F1\n")
+        ways = {"packed": [b"proof".hex(), "packed 5 bytes"], "printed": "party 3 fault F1\n"}
+        self.assertEqual(self.checked(folder, **ways), (0, ["OK: 8 values compared, none differs"]))
+        status, out = self.checked(folder, **ways | {"packed": [b"other".hex(), "packed 5 bytes"]})
+        self.assertEqual((status, out), (1, ["pack e.1 proof: line 1: b'other' for b'proof'", "FAILED: 1 of 8 values differ"]))
+        (folder / "proofs/pack.txt").write_text("e.1\tno fault: Consistent\n")
+        self.assertEqual(self.checked(folder, **ways | {"packed": ["", "no fault: Consistent"]})[0], 0)
+        status, out = self.checked(folder, **ways)
+        self.assertEqual([line.partition(": ")[0] for line in out[:-1]], ["pack e.1 status", "pack e.1 line", "pack e.1 files"])
+
+    def test_proofs_of_evidence_that_is_judged(self):
+        folder = self.expected("")
+        (folder / "simulate.txt").unlink()
+        (folder / "proofs").mkdir()
+        for name in ("evidence/session.toml", "evidence/e.1", "proofs/p.1"):
+            (folder / name).touch()
+        shutil.copy(ROOT / "examples/evidence/table", folder / "evidence/table")
+        (folder / "proofs/pack.txt").write_text("e.1\tpacked 0 bytes\n")
+        (folder / "evidence/expected.txt").write_text("e.1\t0\tparty 3 fault F1\n")
+        _, out = self.checked(folder, packed=["", "packed 0 bytes"], printed="party 4 fault F1\n")
+        self.assertIn("verify p.1 line: line 1: b'party 4 fault F1' for b'party 3 fault F1'", out)
+
     def test_values_that_differ(self):
         program = fake_program(self.room, printed="as it is\n")
         status, out, _ = run_script("check-vectors", self.expected("as it should be\n"), "--bar", program)

@@ -23,8 +23,8 @@ LAST_TICK = SLOTS * SESSION.ends
 class Page:
     """What a page shows of a session with one peer or more."""
 
-    def __init__(self, logs, session=SESSION):
-        page = bartimeline.page(session, logs)
+    def __init__(self, logs, session=SESSION, audit=None):
+        page = bartimeline.page(session, logs, audit)
         self.body = xml.etree.ElementTree.fromstring(page[page.index("<body>") : page.index("</html>")])
         drawn = [*self.body.iter("figure")]
         self.titles = [(it.get("class"), it.findtext("title")) for part in drawn for it in part.iter() if it.find("title") is not None]

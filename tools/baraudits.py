@@ -1,0 +1,124 @@
+"""What an audit finds in the recordings of a session's peers: which exchanges there are, and whether each is balanced.
+
+An exchange is balanced where each party whose KEY its partner took has the partner's CASE in its own recording, by equal terms if the
+partner has its CASE too. The auditor has public keys alone. Recordings that were stopped are audited up to their last whole entries.
+"""
+import dataclasses
+import pathlib
+import re
+import tempfile
+
+from bardatagrams import Exchange
+from barformats import entries_of, whole_recording
+from barprogram import Status, run
+from barscript import counted, listed
+
+EXCHANGE = re.compile(r"exchange (\d+) ([01]) (\d+) (\d+) cases (\d+) (\d+) keys ([01]) ([01])")
+UNBALANCED = re.compile(r"unbalanced (\d+) ([01]) (\d+) (\d+)")
+
+
+@dataclasses.dataclass(frozen=True)
+class Entry:
+    """An exchange that was audited, and by role, that of the initiator first, how much its CASE promises and whether its KEY came."""
+
+    exchange: Exchange
+    cases: tuple
+    keys: tuple
+
+    @property
+    def lacks(self):
+        """Each party that gave its key and has no CASE of its partner, with the partner."""
+        sides = self.exchange.initiator, self.exchange.responder
+        return [(sides[role], sides[1 - role]) for role in (0, 1) if self.keys[role] and not self.cases[1 - role]]
+
+
+@dataclasses.dataclass(frozen=True)
+class Audit:
+    """What was audited: how many recordings, the exchanges in their order, and the first that isn't balanced; or why it wasn't audited."""
+
+    recordings: int = 0
+    entries: tuple = ()
+    named: Exchange | None = None
+    # why it wasn't audited, and whether that is a failure of the auditor's own
+    refused: str | None = None
+    is_failure: bool = False
+
+    @property
+    def unbalanced(self):
+        """The exchanges that aren't balanced, as far as the auditor tells: the first one, and all in which a CASE is lacking."""
+        lacking = {entry.exchange for entry in self.entries if entry.lacks}
+        return lacking | {self.named} if self.named else lacking
+
+    @property
+    def cause(self):
+        """Why the first exchange that isn't balanced isn't, in words."""
+        lacks = next((entry.lacks for entry in self.entries if entry.exchange == self.named), [])
+        told = [f"peer {party} gave its key and has no briefcase of peer {partner}" for party, partner in lacks]
+        return listed(told) if told else "the terms of its briefcases differ"
+
+    @property
+    def balanced(self):
+        """How many exchanges there are, in words, where all are balanced."""
+        return f"all {counted(len(self.entries), 'exchange')}" if len(self.entries) != 1 else "the one exchange"
+
+    @property
+    def line(self):
+        """What was found, in one line."""
+        if self.refused:
+            return f"the recordings weren't audited: {self.refused}"
+        if self.named:
+            number, push, initiator, responder = self.named
+            return f"the audit finds exchange {number} {push:d} {initiator} {responder} unbalanced: {self.cause}"
+        return f"the audit finds {self.balanced} balanced" if self.entries else "the audit finds no exchange"
+
+    @property
+    def failures(self):
+        """What failed, if anything."""
+        return [self.line] if self.named or self.is_failure else []
+
+
+def exchange_of(number, push, initiator, responder):
+    return Exchange(int(number), push == "1", int(initiator), int(responder))
+
+
+def audit_of_text(recordings, printed):
+    """An audit of so many recordings, by the lines that were printed."""
+    entries, named, last = [], None, None
+    for last in printed.splitlines():
+        if it := EXCHANGE.fullmatch(last):
+            cases, keys = tuple(map(int, it.group(5, 6))), tuple(key == "1" for key in it.group(7, 8))
+            entries.append(Entry(exchange_of(*it.group(1, 2, 3, 4)), cases, keys))
+        elif it := UNBALANCED.fullmatch(last):
+            named = exchange_of(*it.groups())
+    if last != "balanced" and not named:
+        return Audit(refused=f"the auditor ended with the line {last!r}", is_failure=True)
+    return Audit(recordings, tuple(entries), named)
+
+
+def mend(folder, party, room):
+    """Puts a peer's recording, up to its last whole entry, where an audit of this folder finds it."""
+    recording, place = folder.recording(party).read_bytes(), pathlib.Path(room) / f"R.{party}.recording"
+    if entries_of(recording)[1]:
+        place.symlink_to(folder.recording(party))
+    else:
+        place.write_bytes(whole_recording(recording))
+
+
+def audit_of(folder, session, program):
+    """Audits the recordings of all peers of a session, where all are there."""
+    peers = range(1, session.peers + 1)
+    missing = [f"party {party}" for party in peers if not folder.recording(party).is_file()]
+    if missing:
+        return Audit(refused=f"{listed(missing)} left no recording")
+    try:
+        with tempfile.TemporaryDirectory() as room:
+            for party in peers:
+                mend(folder, party, room)
+            ran = run(program, "audit", session=folder.session, results=f"{room}/R", first=1, last=session.peers)
+    except OSError as error:
+        return Audit(refused=f"{error.filename or 'a recording'} can't be read: {error.strerror}", is_failure=True)
+    if ran.status == Status.WORDS:
+        return Audit(refused="the program has no command `audit`, as earlier ones have none")
+    if ran.status not in (Status.DONE, Status.NO_FAULT):
+        return Audit(refused=ran.told, is_failure=True)
+    return audit_of_text(session.peers, ran.printed.decode(errors="replace"))

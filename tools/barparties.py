@@ -1,0 +1,61 @@
+"""A session whose parties a script starts itself, so that it may start one otherwise, and stop or end it in the middle of the run."""
+import contextlib
+import dataclasses
+import signal
+import subprocess
+import time
+
+from barprogram import Ran, await_end, running, status_of
+from barsession import party_words
+
+
+@dataclasses.dataclass(frozen=True)
+class Way:
+    """How a party is started: the words before its own, what is added to its environment, and where its results stand."""
+
+    front: tuple = ()
+    environment: dict = dataclasses.field(default_factory=dict)
+    results: object = None
+
+
+@dataclasses.dataclass(frozen=True)
+class Live:
+    """A session that runs: its numbers, the processes of its parties by number, and when it began, in milliseconds of Unix time."""
+
+    session: object
+    processes: dict
+    begin: int
+
+    def await_tick(self, tick):
+        """Waits until a tick is due."""
+        time.sleep(max(0, (self.begin + tick * self.session.tick_ms) / 1000 - time.time()))
+
+    def send(self, number, *parties):
+        """Sends a signal to these parties, as far as they run."""
+        for party in parties:
+            self.processes[party].send_signal(number)
+
+    def sleep(self, ticks, *parties):
+        """Stops these parties for so many ticks."""
+        self.send(signal.SIGSTOP, *parties)
+        time.sleep(ticks * self.session.tick_ms / 1000)
+        self.send(signal.SIGCONT, *parties)
+
+    def ends(self):
+        """Waits for all parties, and returns how each ended and what it printed."""
+        printed = {party: await_end(process) for party, process in self.processes.items()}
+        return {party: Ran(status_of(self.processes[party]), *printed[party]) for party in printed}
+
+
+@contextlib.contextmanager
+def started(folder, session, program, begin, ways=None):
+    """Starts the parties of a session, each in its own way where it has one. Those that still run behind the block are killed."""
+    with contextlib.ExitStack() as stack:
+        processes = {}
+        for party in session.parties:
+            way = (ways or {}).get(party, Way())
+            words = [*way.front, *party_words(folder, program, party, begin, way.results)]
+            options = {"env": way.environment} if way.environment else {}
+            pipes = {"stdout": subprocess.PIPE, "stderr": subprocess.PIPE}
+            processes[party] = stack.enter_context(running(words, **pipes, **options))
+        yield Live(session, processes, begin)
