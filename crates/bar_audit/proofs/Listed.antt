@@ -1,6 +1,6 @@
 -- The recorded exchanges as one list: one more is put into a rising list, and rising lists with the same members are one.
 use Rattle.std.proofs.Common.{◌≡◌, ◌⊎◌, ◌↔◌, ℕ, Bool, true, false, List, [], ◌∷◌, ◌++◌, refl, sym, ap, ◌∙◌, subst, cond, ◌||◌, inl, inr, IsTrue, arith}
-use Rattle.std.specs.Prelude.{Option, Some, None, option_map, option_and_then, is_some, find, filter, Contains}
+use Rattle.std.specs.Prelude.{◌==◌, Option, Some, None, option_map, option_and_then, is_some, find, filter, Contains}
 use Rattle.std.specs.List.{AllByRecursion}
 use Rattle.std.specs.Option.{option_map_or}
 use Rattle.std.proofs.lemmas.Bool.{and_parts, both_ways, or_cases}
