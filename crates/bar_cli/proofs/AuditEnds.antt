@@ -98,10 +98,11 @@ module _ (content : Content) (status : ℕ) (line : List ℕ) where
 module _ (names : AuditFiles) (content : Content) where
   pub end-told : (a : AuditAccepted names content) → HasEnd (audit_plan names content) (status_of_balance (balance_in names content a)) []
   end-told a =
-      end-parties content _ [] names a.session a.parties a.by_parties
-      (subst (λ parties. HasEnd (recordings_plan names.results a.session parties [] content) _ [])
+      let status = status_of_balance (balance_in names content a) in
+      end-parties content status [] names a.session a.parties a.by_parties
+      (subst (λ parties. HasEnd (recordings_plan names.results a.session parties [] content) status [])
       (append-nil (map (λ (r : Recording). r.party) a.recordings) ∙ a.has.order)
-      (end-behind content _ [] names.results a.session [] a.recordings [] a.has.each (record { is = refl; said = refl })))
+      (end-behind content status [] names.results a.session [] a.recordings [] a.has.each (record { is = refl; said = refl })))
 
   pub end-bad_session : (fault : SessionFault) → HasBadSession names content fault → HasEnd (audit_plan names content) 4 (session_refused fault)
   end-bad_session fault b =

@@ -1,7 +1,9 @@
 -- Recordings are read one after another, and what is told of them.
-use Rattle.std.proofs.Common.{append-nil, append_assoc, ◌≡◌, ◌<◌, ◌≤◌, ◌+◌, ◌-◌, ℕ, suc, zero, List, [], ◌∷◌, ◌++◌, Vec, Option, Some, None, Result, Ok, Err, refl, sym, ap, ◌∙◌, subst, take, arith}
-use Rattle.std.specs.Prelude.{slice_get}
+use Rattle.std.proofs.Common.{append-nil, append_assoc, ◌≡◌, ◌<◌, ◌≤◌, ◌+◌, ◌-◌, ℕ, suc, zero, Bool, true, false, List, [], ◌∷◌, ◌++◌, Vec, Option, Some, None, length, Result, Ok, Err, refl, sym, ap, ◌∙◌, subst, take, arith}
+use Rattle.std.specs.Prelude.{option_map, slice_get}
+use Rattle.std.specs.Bool.{then_some}
 use Rattle.std.specs.List.{flat_map, range_with_len}
+use Rattle.std.specs.Option.{ok_or}
 use Rattle.std.specs.declared.alloc.Global.{Global}
 use Rattle.bar_outside.specs.Disk.{Content, Disk, Reads}
 use Rattle.bar_outside.specs.Ends.{EndsWith}
@@ -9,14 +11,20 @@ use Rattle.bar_outside.specs.Faults.{code_of_fault, fault_of_file, line_of_fault
 use Rattle.bar_outside.specs.Plan.{Outside, Plan, no_memory, with_files}
 use Rattle.bar_outside.specs.declared.files.FileFault.{FileFault}
 use Rattle.bar_outside.proofs.Ending.{EndsWith-accepted, EndsWith-ending, EndsWith-memory, EndsWith-reading, EndsWith-refused, EndsWith-unread}
+use Rattle.bar_window.specs.declared.exchange.Exchange.{Exchange}
 use Rattle.bar_wire.specs.Inputs.{Input}
+use Rattle.bar_wire.specs.declared.shape.Shape.{Shape}
 use Rattle.bar_record.specs.declared.fault.RecordFault.{RecordFault}
 use Rattle.bar_roster.specs.SessionText.{SessionData}
 use Rattle.bar_audit.specs.declared.audit.Audit.{Audit}
+use Rattle.bar_audit.specs.declared.line.Line.{Line}
 use Rattle.bar_audit.specs.Audits.{Audits}
+use Rattle.bar_audit.specs.Exchanges.{unbalanced}
+use Rattle.bar_audit.specs.Listed.{recorded}
 use Rattle.bar_audit.specs.Recordings.{Recording}
-use Rattle.bar_cli.specs.AuditPlan.{AuditFiles, Leaves, all_parties, inputs_listed, recording_name, recordings_plan, telling_plan}
-use Rattle.bar_cli.specs.Refusals.{recording_refused}
+use Rattle.bar_cli.specs.AuditPlan.{AuditFiles, Leaves, all_parties, audit_text, balance_of, inputs_listed, is_range, parties_of, parties_plan, recording_name, recordings_plan, telling_plan}
+use Rattle.bar_cli.specs.AuditText.{text_for}
+use Rattle.bar_cli.specs.Refusals.{parties_refused, recording_refused}
 use Rattle.bar_cli.proofs.AuditEnds.{with-recording}
 
 -- how many parties there are
@@ -39,14 +47,20 @@ pub record Gathered (names : AuditFiles) (s : SessionData) (place : ℕ) (audit 
   pub knows : Audits s recordings audit
   pub leaves : (w : Outside) → Leaves (all_plan names s) (left_plan names s place recordings) (with_files w old) (with_files w now)
 
+all-left : (names : AuditFiles) → parties_left names 0 ≡ all_parties names
+unfolding all_parties
+all-left names =
+    let first : names.first + 0 ≡ names.first = omega arith in
+    let many : count names - 0 ≡ count names = omega arith in
+    λ i. range_with_len (first i) (many i)
+
 pub gathered-none : (names : AuditFiles) (s : SessionData) (audit : Audit) (old : Disk) → Audits s [] audit →
     Gathered names s 0 audit old old
 gathered-none names s audit old knows = record {
   recordings = [];
   knows = knows;
   leaves = λ w new status line e.
-      subst (λ first. EndsWith (recordings_plan names.results s (range_with_len first (count names)) []) (with_files w old) new status line)
-      (let same : names.first + 0 ≡ names.first = omega arith in same) e;
+      subst (λ parties. EndsWith (recordings_plan names.results s parties []) (with_files w old) new status line) (all-left names) e;
 }
 
 next-party : (first place n : ℕ) → place < n →
@@ -72,10 +86,10 @@ module _ (names : AuditFiles) (s : SessionData) (place : ℕ) (audit : Audit) (o
 
   module _ (within : place < count names) where
     -- the recording of the next party is to be read
-    after : List ℕ
+    abbrev after : List ℕ
     after = parties_left names (place + 1)
 
-    party : ℕ
+    abbrev party : ℕ
     party = names.first + place
 
     next-leaves : (w : Outside) →
@@ -126,9 +140,31 @@ module _ (names : AuditFiles) (s : SessionData) (place : ℕ) (audit : Audit) (o
         leaves = λ w new status line e. behind w new status line (EndsWith-accepted _ inputs _ _ _ _ _ _ is e);
       }
 
+-- ---- the parties
+
+-- whether they are a range, as it is tested
+pub range-is : (names : AuditFiles) (some shape : Shape) (tested is : Bool) → some ≡ shape → tested ≡ is_range names some.peers →
+    tested ≡ is → is_range names shape.peers ≡ is
+range-is names some shape tested is same test e = sym (ap (λ (shape : Shape). is_range names shape.peers) same) ∙ (sym test ∙ e)
+
+-- they are refused
+pub refused-parties : (names : AuditFiles) (s : SessionData) (old : Outside) → is_range names s.shape.peers ≡ false →
+    EndsWith (parties_plan names s) old old 8 parties_refused
+refused-parties names s old none =
+    EndsWith-refused (ok_or (parties_of names s) (tt {0})) (tt {0}) _ _ _ _ _ _
+    (ap (λ b. ok_or (then_some b (all_parties names)) (tt {0})) none) (EndsWith-ending 8 parties_refused old refl)
+
+-- or accepted
+pub accepted-parties : (names : AuditFiles) (s : SessionData) (old new : Outside) (status : ℕ) (line : List ℕ) →
+    is_range names s.shape.peers ≡ true → EndsWith (all_plan names s) old new status line →
+    EndsWith (parties_plan names s) old new status line
+accepted-parties names s old new status line range h =
+    EndsWith-accepted (ok_or (parties_of names s) (tt {0})) (all_parties names) _ _ _ _ _ _
+    (ap (λ b. ok_or (then_some b (all_parties names)) (tt {0})) range) h
+
 -- ---- what is told
 
-take-next : {A : Type 0} (xs : List A) (k : ℕ) (x : A) → slice_get xs k ≡ Some x → take (k + 1) xs ≡ take k xs ++ x ∷ []
+take-next : {A : Type 0} (xs : List A) (k : ℕ) (x : A) → slice_get xs k ≡ Some x → take (suc k) xs ≡ take k xs ++ x ∷ []
 take-next [] k x e = cc
 take-next (y ∷ ys) zero x e = let same : y ≡ x = cc in ap (λ z. z ∷ []) same
 take-next (y ∷ ys) (suc k) x e = ap (λ zs. y ∷ zs) (take-next ys k x e)
@@ -140,4 +176,31 @@ flat_map-one f (y ∷ ys) x = ap (λ zs. f y ++ zs) (flat_map-one f ys x) ∙ sy
 -- the text of one element more
 pub text-more : {A B : Type 0} (f : A → List B) (xs : List A) (k : ℕ) (x : A) → slice_get xs k ≡ Some x →
     flat_map f (take (k + 1) xs) ≡ flat_map f (take k xs) ++ f x
-text-more f xs k x e = ap (flat_map f) (take-next xs k x e) ∙ flat_map-one f (take k xs) x
+text-more f xs k x e =
+    let next : k + 1 ≡ suc k = omega arith in
+    ap (λ n. flat_map f (take n xs)) next ∙ (ap (flat_map f) (take-next xs k x e) ∙ flat_map-one f (take k xs) x)
+
+-- the line of a number is that of the exchange there
+pub line-there : (f : Exchange → Line) (xs : List Exchange) (k : ℕ) (line : Line) → Some line ≡ option_map f (slice_get xs k) →
+    (x : Exchange) × (slice_get xs k ≡ Some x) × (line ≡ f x)
+line-there f xs k line e = go (slice_get xs k) refl e
+  where
+    go : (o : Option Exchange) → slice_get xs k ≡ o → Some line ≡ option_map f o → (x : Exchange) × (slice_get xs k ≡ Some x) × (line ≡ f x)
+    go None h e = cc
+    go (Some x) h e = (x, h, cc)
+
+pub line-missing : (f : Exchange → Line) (xs : List Exchange) (k : ℕ) → None ≡ option_map f (slice_get xs k) → k < length xs → ⊥
+line-missing f [] k e l = omega (arith, l)
+line-missing f (x ∷ xs) zero e l = cc
+line-missing f (x ∷ xs) (suc k) e l = line-missing f xs k e (omega (arith, l))
+
+-- so it is of the one list of the recorded exchanges
+pub text-told : (s : SessionData) (recordings : List Recording) (text : List ℕ) (xs : List Exchange) → text ≡ text_for s recordings xs →
+    xs ≡ recorded s recordings → text ≡ audit_text s recordings
+unfolding audit_text
+text-told s recordings text xs is one = is ∙ ap (text_for s recordings) one
+
+pub balance-told : (s : SessionData) (recordings : List Recording) (balance : Option Exchange) (xs : List Exchange) →
+    balance ≡ unbalanced s recordings xs → xs ≡ recorded s recordings → balance ≡ balance_of s recordings
+unfolding balance_of
+balance-told s recordings balance xs is one = is ∙ ap (unbalanced s recordings) one

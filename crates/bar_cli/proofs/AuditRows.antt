@@ -1,5 +1,6 @@
 -- The rows of the status table, from how `audit` ended.
-use Rattle.std.proofs.Common.{append-nil, append_assoc, map-append, ◌≡◌, ◌⊎◌, ℕ, List, [], ◌∷◌, ◌++◌, Option, Some, None, Result, Ok, Err, false, true, IsTrue, refl, sym, ap, ◌∙◌, subst, map, IsSomeAnd, inl, inr}
+use Rattle.std.proofs.Common.{append-nil, append_assoc, ◌≡◌, ◌⊎◌, ℕ, List, [], ◌∷◌, ◌++◌, Option, Some, None, Result, Ok, Err, false, true, IsTrue, refl, sym, ap, ◌∙◌, subst, map, IsSomeAnd, inl, inr}
+use Rattle.std.proofs.lemmas.List.{map-append}
 use Rattle.std.specs.List.{AllByRecursion}
 use Rattle.std.specs.Option.{ok_or}
 use Rattle.bar_outside.specs.Disk.{Content, Failure, readable}
@@ -167,7 +168,7 @@ module _ (names : AuditFiles) (old new : Outside) where
   -- so with the balance that was told
   audited : IsListed → KeysArePaid → (balance : Option Exchange) (status : ℕ) (t : Told status) →
       balance_in names old.files.content t.accepted ≡ balance → Audited names balance old new
-  unfolding audit_text, balance_of
+  unfolding audit_text balance_of
   audited listed paid balance status t e =
       let s = t.accepted.session in
       let recordings = t.accepted.recordings in

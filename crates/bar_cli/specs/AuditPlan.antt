@@ -49,7 +49,8 @@ inputs_listed s party bytes = entries.recording_of s.shape.id party (last_tick s
 abbrev pub is_range : AuditFiles → ℕ → Bool
 is_range names peers = nat_le 1 names.first && nat_le names.first names.last && nat_le names.last peers
 
-abbrev pub all_parties : AuditFiles → List ℕ
+-- from the first to the last
+unfoldable pub all_parties : AuditFiles → List ℕ
 all_parties names = range_with_len names.first (suc (names.last - names.first))
 
 -- the parties whose recordings are read, in order

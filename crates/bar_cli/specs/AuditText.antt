@@ -1,5 +1,5 @@
 -- What is told of an audit.
-use Rattle.std.specs.Prelude.{ℕ, Bool, List, ◌++◌, codes, slice_index, Option, None, Some, if◌then◌else◌}
+use Rattle.std.specs.Prelude.{ℕ, Bool, false, List, ◌++◌, codes, slice_index, slice_index_or, Option, None, Some, if◌then◌else◌}
 use Rattle.std.specs.List.{flat_map}
 use Rattle.std.specs.Fmt.{decimal}
 use Rattle.bar_window.specs.declared.exchange.Exchange.{Exchange}
@@ -28,7 +28,7 @@ exchange_line l =
     ++ (codes " "
     ++ (decimal (slice_index l.cases 1)
     ++ (codes " keys "
-    ++ (decimal (bit (slice_index l.keys 0)) ++ (codes " " ++ (decimal (bit (slice_index l.keys 1)) ++ codes "\n")))))))))
+    ++ (decimal (bit (slice_index_or l.keys 0 false)) ++ (codes " " ++ (decimal (bit (slice_index_or l.keys 1 false)) ++ codes "\n")))))))))
 
 abbrev pub line_for : Session → List Recording → Exchange → List ℕ
 line_for s recordings x = exchange_line (line_of s recordings x)
