@@ -87,16 +87,28 @@ module _ (reads : ReadsFirst) (ends : EndsThere) (shows : ShowsThere) (names : A
       Went (recordings_plan names.results s after more old.files.content) old new status → Outcome names old new status) →
       Went (by_inputs (recordings_plan names.results s after) party given r old.files.content) old new status → Outcome names old new status
   outcome-inputs s all before after party given bytes (Err fault) by order has read is others w =
-      refused 8 (recording_refused fault) w (λ same. inr (same, inr (fault, record {
-        session = s;
-        party = party;
-        next = record {
-          parties = all; by_parties = by; before = before; after = after; order = order; recordings = given; has = has
-        };
-        bytes = bytes;
-        read = read;
-        is = is;
-      })))
+      refused 8 (recording_refused fault) w (λ same. inr (
+        same,
+        inr (
+          fault,
+          record {
+            session = s;
+            party = party;
+            next = record {
+              parties = all;
+              by_parties = by;
+              before = before;
+              after = after;
+              order = order;
+              recordings = given;
+              has = has;
+            };
+            bytes = bytes;
+            read = read;
+            is = is;
+          },
+        ),
+      ))
   outcome-inputs s all before after party given bytes (Ok inputs) by order has read is others w =
       others (given ++ (record { party = party; inputs = inputs }) ∷ [])
       (has-more names.results old.files.content s before given (record { party = party; inputs = inputs }) has

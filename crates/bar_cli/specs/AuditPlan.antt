@@ -104,7 +104,8 @@ audit_plan names = reading names.session (λ text. by_session names (session_of 
 
 -- what ends by the rest of a plan from here ends by the whole of it from there
 abbrev pub Leaves : (Content → Plan) → (Content → Plan) → Outside → Outside → Type 0
-Leaves whole rest old now = (new : Outside) (status : ℕ) (line : List ℕ) → EndsWith rest now new status line → EndsWith whole old new status line
+Leaves whole rest old now =
+    (new : Outside) (status : ℕ) (line : List ℕ) → EndsWith rest now new status line → EndsWith whole old new status line
 
 -- All recordings were accepted and given to an auditor, and what it knows is to be told; or one was refused, or the outside failed.
 abbrev pub ReadsRecordings : AuditFiles → SessionData → Result (Result Audit RecordFault) Fault → Outside → Outside → Type 0
@@ -127,8 +128,8 @@ pub record HasRecording (results : List ℕ) (content : Content) (s : SessionDat
 -- so are the recordings of these parties, in order
 pub record HasRecordings (results : List ℕ) (content : Content) (s : SessionData) (parties : List ℕ) (recordings : List Recording) : Type 0
   where
-  pub order : map (λ (r : Recording). r.party) recordings ≡ parties
-  pub each : AllByRecursion (HasRecording results content s) recordings
+    pub order : map (λ (r : Recording). r.party) recordings ≡ parties
+    pub each : AllByRecursion (HasRecording results content s) recordings
 
 -- the session is accepted, and these are peers of it
 pub record HasParties (names : AuditFiles) (content : Content) (s : SessionData) (parties : List ℕ) : Type 0 where

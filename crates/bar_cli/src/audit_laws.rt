@@ -17,8 +17,8 @@ ghost use Rattle.bar_cli.specs.Refusals.{parties_refused, recording_refused, ses
 use bar_audit::laws::{keys_are_paid, recorded_exchanges_are_one_list, runs_are_balanced};
 use bar_outside::plans_go_in_order;
 
-/// Where all files are accepted, the status is 0 exactly where all recorded exchanges are balanced, and 1 exactly where one isn't, but for a
-/// fault of the outside or want of memory; and these come only there. Then the lines were printed, and nothing on standard error.
+/// Where all files are accepted, the status is 0 exactly where all recorded exchanges are balanced, and 1 exactly where one isn't, but for
+/// a fault of the outside or want of memory; and these come only there. Then the lines were printed, and nothing on standard error.
 pub fn an_audit_is_told()
     ensures balanced { (names : AuditFiles) → AtEnd 0 (audit_plan names) (Audited names None) }
     ensures unbalanced { (names : AuditFiles) → AtEnd 1 (audit_plan names) (λ old new. (x : Exchange) × Audited names (Some x) old new) }

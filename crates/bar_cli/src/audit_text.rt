@@ -32,7 +32,9 @@ fn exchange_line(alloc: Global, line: Line) -> Result<String, AllocError>
     let [first_key, second_key] = line.keys;
     let first_bit = u8::from(first_key);
     let second_bit = u8::from(second_key);
-    format!(in alloc; "exchange {x} cases {first_case} {second_case} keys {first_bit} {second_bit}\n")
+    format!(in alloc;
+        "exchange {x} cases {first_case} {second_case} keys {first_bit} {second_bit}\n"
+    )
 }
 
 /// A line for each recorded exchange, in order.

@@ -32,13 +32,7 @@ fn last_tick(session: &Session) -> u32
 }
 
 /// The inputs of a party's recording that bytes spell under a session, as they stand in it.
-#[tactic(
-    auto,
-    unfolding(
-        crate::specs::AuditPlan::inputs_listed,
-        crate::specs::Replay::recording_of
-    )
-)]
+#[tactic(auto, unfolding(crate::specs::AuditPlan::inputs_listed, crate::specs::Replay::recording_of))]
 pub fn read_recording<'a>(
     session: &Session,
     party: u16,

@@ -26,9 +26,9 @@ ghost use Rattle.bar_cli.specs.SimulatePlan.{simulation_text};
 ghost use Rattle.bar_cli.specs.SessionPlan.{SessionEnds, SessionRuns, is_plain_end, session_line};
 
 use crate::audit::audit;
+use crate::audit_laws::{an_audit_is_told, an_audit_stays};
 use crate::judge::judge;
 use crate::keygen::keygen;
-use crate::audit_laws::{an_audit_is_told, an_audit_stays};
 use crate::laws::a_replay_keeps_the_rules;
 use crate::line::{Command, command_of};
 use crate::replay::replay;
