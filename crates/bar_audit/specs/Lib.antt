@@ -1,6 +1,7 @@
 pub mod Recordings
 pub mod Found
 pub mod Exchanges
+pub mod Listed
 pub mod Runs
 pub mod Laws
 pub mod Sides

@@ -6,6 +6,9 @@ pub mod StatusLemmas
 pub mod MemberLemmas
 pub mod Spoken
 pub mod Rows
+pub mod AuditEnds
+pub mod AuditLemmas
+pub mod AuditRows
 pub mod EvidenceLemmas
 pub mod JudgeRows
 pub mod KeygenLemmas

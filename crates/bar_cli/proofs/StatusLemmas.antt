@@ -16,12 +16,13 @@ use Rattle.bar_live.specs.PeerPlan.{PeerNames}
 use Rattle.bar_live.specs.Views.{code_of_run as live_code_of_run}
 use Rattle.bar_live.specs.declared.ended.Ended.{Ended}
 use Rattle.bar_live.specs.declared.ended.Ended.TheVariants as live
+use Rattle.bar_cli.specs.AuditPlan.{AuditFiles}
 use Rattle.bar_cli.specs.JudgePlan.{JudgeFiles}
-use Rattle.bar_cli.specs.Line.{Line, peer, broadcaster, replay, keygen, judge, session_run, simulate, is_status_of, may_print, usage}
-use Rattle.bar_cli.specs.Printing.{keygen_may_print, judge_may_print, replay_may_print}
-use Rattle.bar_cli.specs.Status.{code_of, said_at, code_of_run, is_replay_end, is_keygen_end, is_judge_end}
+use Rattle.bar_cli.specs.Line.{Line, peer, broadcaster, replay, keygen, audit, judge, session_run, simulate, is_status_of, may_print, usage}
+use Rattle.bar_cli.specs.Printing.{audit_may_print, keygen_may_print, judge_may_print, replay_may_print}
+use Rattle.bar_cli.specs.Status.{code_of, said_at, code_of_run, is_replay_end, is_keygen_end, is_audit_end, is_judge_end}
 use Rattle.bar_cli.specs.declared.status.Status.{Status}
-use Rattle.bar_cli.specs.declared.status.Status.TheVariants.{Done, NoFault, Usage, FileFailed, LinkFailed, SessionRefused, KeyRefused, OutputFailed, ChildFailed, RecordingRefused, StreamRefused, SecretRefused, TableRefused, EvidenceRefused, NoMemory}
+use Rattle.bar_cli.specs.declared.status.Status.TheVariants.{Done, NoFault, Unbalanced, Usage, FileFailed, LinkFailed, SessionRefused, KeyRefused, OutputFailed, ChildFailed, RecordingRefused, PartiesRefused, StreamRefused, SecretRefused, TableRefused, EvidenceRefused, NoMemory}
 use Rattle.bar_cli.specs.ReplayPlan.{ReplayFiles}
 use Rattle.bar_cli.specs.KeygenPlan.{Keygen}
 
@@ -75,6 +76,13 @@ unshown-at Link P h e = h refl
 unshown-at Output P h e = absurd cc
 unshown-at WantOfMemory P h e = absurd cc
 
+-- at `audit` those of the files and of the link
+pub untold-at : (fault : Fault) (P : Type 0) → (fault ≡ File → P) → (fault ≡ Link → P) → audit_may_print (code_of_fault fault) ≡ false → P
+untold-at File P h k e = h refl
+untold-at Link P h k e = k refl
+untold-at Output P h k e = absurd cc
+untold-at WantOfMemory P h k e = absurd cc
+
 -- at `judge` those of the files and of the link
 pub unsaid-at : (fault : Fault) (P : Type 0) → (fault ≡ File → P) → (fault ≡ Link → P) → judge_may_print (code_of_fault fault) ≡ false → P
 unsaid-at File P h k e = h refl
@@ -89,6 +97,7 @@ pub replay-statuses : (names : ReplayFiles) (ended : Result Status Fault) → If
 replay-statuses names (Ok Done) h other = refl
 replay-statuses names (Ok Usage) h other = absurd cc
 replay-statuses names (Ok NoFault) h other = absurd cc
+replay-statuses names (Ok Unbalanced) h other = absurd cc
 replay-statuses names (Ok (TableRefused at)) h other = absurd cc
 replay-statuses names (Ok EvidenceRefused) h other = absurd cc
 replay-statuses names (Ok FileFailed) h other = absurd cc
@@ -97,6 +106,7 @@ replay-statuses names (Ok (SessionRefused fault)) h other = refl
 replay-statuses names (Ok (KeyRefused fault)) h other = refl
 replay-statuses names (Ok OutputFailed) h other = absurd cc
 replay-statuses names (Ok (RecordingRefused fault)) h other = refl
+replay-statuses names (Ok PartiesRefused) h other = absurd cc
 replay-statuses names (Ok (StreamRefused have room)) h other = absurd cc
 replay-statuses names (Ok (SecretRefused len)) h other = absurd cc
 replay-statuses names (Ok ChildFailed) h other = absurd cc
@@ -113,6 +123,7 @@ pub keygen-statuses : (asked : Keygen) (ended : Result Status Fault) → IfOk en
 keygen-statuses asked (Ok Done) h other = refl
 keygen-statuses asked (Ok Usage) h other = absurd cc
 keygen-statuses asked (Ok NoFault) h other = absurd cc
+keygen-statuses asked (Ok Unbalanced) h other = absurd cc
 keygen-statuses asked (Ok (TableRefused at)) h other = absurd cc
 keygen-statuses asked (Ok EvidenceRefused) h other = absurd cc
 keygen-statuses asked (Ok FileFailed) h other = absurd cc
@@ -121,6 +132,7 @@ keygen-statuses asked (Ok (SessionRefused fault)) h other = refl
 keygen-statuses asked (Ok (KeyRefused fault)) h other = absurd cc
 keygen-statuses asked (Ok OutputFailed) h other = absurd cc
 keygen-statuses asked (Ok (RecordingRefused fault)) h other = absurd cc
+keygen-statuses asked (Ok PartiesRefused) h other = absurd cc
 keygen-statuses asked (Ok (StreamRefused have room)) h other = absurd cc
 keygen-statuses asked (Ok (SecretRefused len)) h other = refl
 keygen-statuses asked (Ok ChildFailed) h other = absurd cc
@@ -130,12 +142,39 @@ keygen-statuses asked (Err Link) h other = absurd (other refl)
 keygen-statuses asked (Err Output) h other = refl
 keygen-statuses asked (Err WantOfMemory) h other = refl
 
+-- those of `audit`
+pub audit-statuses : (names : AuditFiles) (ended : Result Status Fault) → IfOk ended (λ status. IsTrue (is_audit_end status)) →
+    (ended ≡ Err Link → ⊥) →
+    IsTrue (is_status_of (Some (audit names)) (code_of_run ended))
+audit-statuses names (Ok Done) h other = refl
+audit-statuses names (Ok NoFault) h other = absurd cc
+audit-statuses names (Ok Unbalanced) h other = refl
+audit-statuses names (Ok Usage) h other = absurd cc
+audit-statuses names (Ok FileFailed) h other = absurd cc
+audit-statuses names (Ok LinkFailed) h other = absurd cc
+audit-statuses names (Ok (SessionRefused fault)) h other = refl
+audit-statuses names (Ok (KeyRefused fault)) h other = absurd cc
+audit-statuses names (Ok OutputFailed) h other = absurd cc
+audit-statuses names (Ok (RecordingRefused fault)) h other = refl
+audit-statuses names (Ok PartiesRefused) h other = refl
+audit-statuses names (Ok (StreamRefused have room)) h other = absurd cc
+audit-statuses names (Ok (SecretRefused len)) h other = absurd cc
+audit-statuses names (Ok (TableRefused at)) h other = absurd cc
+audit-statuses names (Ok EvidenceRefused) h other = absurd cc
+audit-statuses names (Ok ChildFailed) h other = absurd cc
+audit-statuses names (Ok NoMemory) h other = absurd cc
+audit-statuses names (Err File) h other = refl
+audit-statuses names (Err Link) h other = absurd (other refl)
+audit-statuses names (Err Output) h other = refl
+audit-statuses names (Err WantOfMemory) h other = refl
+
 -- those of `judge`
 pub judge-statuses : (names : JudgeFiles) (ended : Result Status Fault) → IfOk ended (λ status. IsTrue (is_judge_end status)) →
     (ended ≡ Err Link → ⊥) →
     IsTrue (is_status_of (Some (judge names)) (code_of_run ended))
 judge-statuses names (Ok Done) h other = refl
 judge-statuses names (Ok NoFault) h other = refl
+judge-statuses names (Ok Unbalanced) h other = absurd cc
 judge-statuses names (Ok Usage) h other = absurd cc
 judge-statuses names (Ok FileFailed) h other = absurd cc
 judge-statuses names (Ok LinkFailed) h other = absurd cc
@@ -143,6 +182,7 @@ judge-statuses names (Ok (SessionRefused fault)) h other = refl
 judge-statuses names (Ok (KeyRefused fault)) h other = absurd cc
 judge-statuses names (Ok OutputFailed) h other = absurd cc
 judge-statuses names (Ok (RecordingRefused fault)) h other = absurd cc
+judge-statuses names (Ok PartiesRefused) h other = absurd cc
 judge-statuses names (Ok (StreamRefused have room)) h other = absurd cc
 judge-statuses names (Ok (SecretRefused len)) h other = absurd cc
 judge-statuses names (Ok (TableRefused at)) h other = refl
@@ -199,6 +239,7 @@ memory-status (Some (peer names)) = refl
 memory-status (Some (broadcaster names)) = refl
 memory-status (Some (replay names)) = refl
 memory-status (Some (keygen asked)) = refl
+memory-status (Some (audit names)) = refl
 memory-status (Some (judge names)) = refl
 memory-status (Some (session_run names)) = refl
 memory-status (Some (simulate seed)) = refl
@@ -226,6 +267,7 @@ no-usage line status h e = at-two line (subst (λ n. IsTrue (is_status_of (Some 
     at-two (broadcaster names) h = cc
     at-two (replay names) h = cc
     at-two (keygen asked) h = cc
+    at-two (audit names) h = cc
     at-two (judge names) h = cc
     at-two (session_run names) h = cc
     at-two (simulate seed) h = cc
@@ -234,6 +276,7 @@ no-usage line status h e = at-two line (subst (λ n. IsTrue (is_status_of (Some 
 pub said-at_two : (status : Status) → code_of status ≡ 2 → said_at status ≡ usage
 said-at_two Done e = absurd (omega arith)
 said-at_two NoFault e = absurd (omega arith)
+said-at_two Unbalanced e = absurd (omega arith)
 said-at_two Usage e = refl
 said-at_two FileFailed e = absurd (omega arith)
 said-at_two LinkFailed e = absurd (omega arith)
@@ -241,6 +284,7 @@ said-at_two (SessionRefused fault) e = absurd (omega arith)
 said-at_two (KeyRefused fault) e = absurd (omega arith)
 said-at_two OutputFailed e = absurd (omega arith)
 said-at_two (RecordingRefused fault) e = absurd (omega arith)
+said-at_two PartiesRefused e = absurd (omega arith)
 said-at_two (StreamRefused have room) e = absurd (omega arith)
 said-at_two (SecretRefused len) e = absurd (omega arith)
 said-at_two (TableRefused at) e = absurd (omega arith)
@@ -261,6 +305,7 @@ unprinted-by (Some line) status result P h (inr e) none =
     prints-at_memory (broadcaster names) = refl
     prints-at_memory (replay names) = refl
     prints-at_memory (keygen asked) = refl
+    prints-at_memory (audit names) = refl
     prints-at_memory (judge names) = refl
     prints-at_memory (session_run names) = refl
     prints-at_memory (simulate seed) = refl

@@ -16,10 +16,11 @@ use Rattle.bar_live.specs.PeerPlan.{PeerNames, peer_plan}
 use Rattle.bar_cli.specs.Words.{levels_of, types_of}
 use Rattle.bar_cli.specs.ReplayPlan.{ReplayFiles, replay_plan}
 use Rattle.bar_cli.specs.KeygenPlan.{Keygen, keygen_plan, leaves_for}
+use Rattle.bar_cli.specs.AuditPlan.{AuditFiles, audit_plan}
 use Rattle.bar_cli.specs.JudgePlan.{JudgeFiles, judge_plan}
 use Rattle.bar_cli.specs.SessionPlan.{session_plan}
 use Rattle.bar_cli.specs.SimulatePlan.{simulate_plan}
-use Rattle.bar_cli.specs.Printing.{judge_may_print, keygen_may_print, live_may_print, replay_may_print, session_may_print, simulate_may_print}
+use Rattle.bar_cli.specs.Printing.{audit_may_print, judge_may_print, keygen_may_print, live_may_print, replay_may_print, session_may_print, simulate_may_print}
 
 -- one constructor for each command
 pub data Line : Type 0 where
@@ -27,6 +28,7 @@ pub data Line : Type 0 where
   broadcaster : (names : CasterNames) → Line
   replay : (names : ReplayFiles) → Line
   keygen : (asked : Keygen) → Line
+  audit : (names : AuditFiles) → Line
   judge : (names : JudgeFiles) → Line
   session_run : (names : SessionNames) → Line
   simulate : (seed : ℕ) → Line
@@ -107,6 +109,19 @@ hsskeygen_values _ = None
 abbrev pub hsskeygen_line : List (List ℕ) → Option Line
 hsskeygen_line words = option_and_then hsskeygen_values (values_of hsskeygen_options words)
 
+abbrev pub audit_options : List (List ℕ)
+audit_options = codes "session" ∷ codes "results" ∷ codes "first" ∷ codes "last" ∷ []
+
+abbrev pub audit_values : List (List ℕ) → Option Line
+audit_values (session ∷ results ∷ first_word ∷ last_word ∷ []) = do
+  first ← number_in 0 200 first_word
+  last ← number_in 0 200 last_word
+  Some (audit (record { session = session; results = results; first = first; last = last }))
+audit_values _ = None
+
+abbrev pub audit_line : List (List ℕ) → Option Line
+audit_line words = option_and_then audit_values (values_of audit_options words)
+
 abbrev pub judge_options : List (List ℕ)
 judge_options = codes "session" ∷ codes "table" ∷ codes "evidence" ∷ []
 
@@ -151,6 +166,7 @@ line_of (name ∷ options) =
     else if bytes_eq name (codes "replay") then replay_line options
     else if bytes_eq name (codes "keygen") then keygen_line options
     else if bytes_eq name (codes "hsskeygen") then hsskeygen_line options
+    else if bytes_eq name (codes "audit") then audit_line options
     else if bytes_eq name (codes "judge") then judge_line options
     else if bytes_eq name (codes "session") then session_line options
     else if bytes_eq name (codes "simulate") then simulate_line options
@@ -166,6 +182,7 @@ plan_of (Some (peer names)) given = peer_plan names given
 plan_of (Some (broadcaster names)) given = caster_plan names given
 plan_of (Some (replay names)) given = replay_plan names
 plan_of (Some (keygen asked)) given = keygen_plan asked
+plan_of (Some (audit names)) given = audit_plan names
 plan_of (Some (judge names)) given = judge_plan names
 plan_of (Some (session_run names)) given = session_plan names
 plan_of (Some (simulate seed)) given = simulate_plan seed
@@ -177,6 +194,7 @@ has_plan (Some (peer names)) = true
 has_plan (Some (broadcaster names)) = true
 has_plan (Some (replay names)) = true
 has_plan (Some (keygen asked)) = true
+has_plan (Some (audit names)) = true
 has_plan (Some (judge names)) = true
 has_plan (Some (session_run names)) = false
 has_plan (Some (simulate seed)) = true
@@ -191,6 +209,8 @@ is_status_of (Some (broadcaster names)) status =
 is_status_of (Some (replay names)) status =
     status == 0 || status == 3 || status == 4 || status == 5 || status == 7 || status == 8 || status == 70
 is_status_of (Some (keygen asked)) status = status == 0 || status == 3 || status == 4 || status == 7 || status == 8 || status == 70
+is_status_of (Some (audit names)) status =
+    status == 0 || status == 1 || status == 3 || status == 4 || status == 7 || status == 8 || status == 70
 is_status_of (Some (judge names)) status =
     status == 0 || status == 1 || status == 3 || status == 4 || status == 7 || status == 8 || status == 70
 is_status_of (Some (session_run names)) status =
@@ -204,6 +224,7 @@ may_print (Some (peer names)) status = live_may_print status
 may_print (Some (broadcaster names)) status = live_may_print status
 may_print (Some (replay names)) status = replay_may_print status
 may_print (Some (keygen asked)) status = keygen_may_print status
+may_print (Some (audit names)) status = audit_may_print status
 may_print (Some (judge names)) status = judge_may_print status
 may_print (Some (session_run names)) status = session_may_print status
 may_print (Some (simulate seed)) status = simulate_may_print status
@@ -215,6 +236,7 @@ uses_link (Some (peer names)) = true
 uses_link (Some (broadcaster names)) = true
 uses_link (Some (replay names)) = false
 uses_link (Some (keygen asked)) = false
+uses_link (Some (audit names)) = false
 uses_link (Some (judge names)) = false
 uses_link (Some (session_run names)) = false
 uses_link (Some (simulate seed)) = false
@@ -226,6 +248,7 @@ starts_children (Some (peer names)) = false
 starts_children (Some (broadcaster names)) = false
 starts_children (Some (replay names)) = false
 starts_children (Some (keygen asked)) = false
+starts_children (Some (audit names)) = false
 starts_children (Some (judge names)) = false
 starts_children (Some (session_run names)) = true
 starts_children (Some (simulate seed)) = false
@@ -237,6 +260,7 @@ reads_nothing (Some (peer names)) = false
 reads_nothing (Some (broadcaster names)) = false
 reads_nothing (Some (replay names)) = false
 reads_nothing (Some (keygen asked)) = is_err (leaves_for asked)
+reads_nothing (Some (audit names)) = false
 reads_nothing (Some (judge names)) = false
 reads_nothing (Some (session_run names)) = false
 reads_nothing (Some (simulate seed)) = true

@@ -21,6 +21,10 @@ session_may_print status = status == 0 || status == 7 || status == 9 || status =
 abbrev pub simulate_may_print : ℕ → Bool
 simulate_may_print status = status == 0 || status == 7 || status == 70
 
+-- `audit` prints its lines at its end
+abbrev pub audit_may_print : ℕ → Bool
+audit_may_print status = status == 0 || status == 1 || status == 7 || status == 70
+
 -- `judge` prints its verdict
 abbrev pub judge_may_print : ℕ → Bool
 judge_may_print status = status == 0 || status == 1 || status == 7 || status == 70

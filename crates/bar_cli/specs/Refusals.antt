@@ -17,6 +17,10 @@ record_fault_text (AfterLast at) = codes "AfterLast at " ++ decimal at
 abbrev pub recording_refused : RecordFault → List ℕ
 recording_refused fault = codes "bar: input refused: recording " ++ (record_fault_text fault ++ codes "\n")
 
+-- the parties of an audit are refused
+abbrev pub parties_refused : List ℕ
+parties_refused = codes "bar: input refused: parties" ++ 10 ∷ []
+
 -- a table is refused at this place
 abbrev pub table_refused : ℕ → List ℕ
 table_refused at = codes "bar: input refused: table at " ++ (decimal at ++ codes "\n")

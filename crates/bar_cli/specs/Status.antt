@@ -4,14 +4,15 @@ use Rattle.bar_outside.specs.Plan as plan
 use Rattle.bar_outside.specs.Faults.{code_of_fault, line_of_fault}
 use Rattle.bar_outside.specs.declared.fault.Fault.{Fault}
 use Rattle.bar_cli.specs.declared.status.Status.{Status}
-use Rattle.bar_cli.specs.declared.status.Status.TheVariants.{Done, NoFault, Usage, FileFailed, LinkFailed, SessionRefused, KeyRefused, OutputFailed, ChildFailed, RecordingRefused, StreamRefused, SecretRefused, TableRefused, EvidenceRefused, NoMemory}
+use Rattle.bar_cli.specs.declared.status.Status.TheVariants.{Done, NoFault, Unbalanced, Usage, FileFailed, LinkFailed, SessionRefused, KeyRefused, OutputFailed, ChildFailed, RecordingRefused, PartiesRefused, StreamRefused, SecretRefused, TableRefused, EvidenceRefused, NoMemory}
 use Rattle.bar_cli.specs.Line.{usage}
 use Rattle.bar_cli.specs.SessionPlan.{child_failed}
-use Rattle.bar_cli.specs.Refusals.{session_refused, key_refused, recording_refused, stream_refused, secret_refused, table_refused, evidence_refused}
+use Rattle.bar_cli.specs.Refusals.{session_refused, key_refused, recording_refused, parties_refused, stream_refused, secret_refused, table_refused, evidence_refused}
 
 abbrev pub code_of : Status → ℕ
 code_of Done = 0
 code_of NoFault = 1
+code_of Unbalanced = 1
 code_of Usage = 2
 code_of FileFailed = 3
 code_of (SessionRefused fault) = 4
@@ -19,6 +20,7 @@ code_of (KeyRefused fault) = 5
 code_of LinkFailed = 6
 code_of OutputFailed = 7
 code_of (RecordingRefused fault) = 8
+code_of PartiesRefused = 8
 code_of (StreamRefused have room) = 8
 code_of (SecretRefused len) = 8
 code_of (TableRefused at) = 8
@@ -30,6 +32,7 @@ code_of NoMemory = 70
 abbrev pub said_at : Status → List ℕ
 said_at Done = []
 said_at NoFault = []
+said_at Unbalanced = []
 said_at Usage = usage
 said_at FileFailed = plan.file_failed
 said_at LinkFailed = plan.link_failed
@@ -37,6 +40,7 @@ said_at (SessionRefused fault) = session_refused fault
 said_at (KeyRefused fault) = key_refused fault
 said_at OutputFailed = plan.output_failed
 said_at (RecordingRefused fault) = recording_refused fault
+said_at PartiesRefused = parties_refused
 said_at (StreamRefused have room) = stream_refused have room
 said_at (SecretRefused len) = secret_refused len
 said_at (TableRefused at) = table_refused at
@@ -59,6 +63,7 @@ is_replay_end Done = true
 is_replay_end (SessionRefused fault) = true
 is_replay_end (KeyRefused fault) = true
 is_replay_end (RecordingRefused fault) = true
+is_replay_end PartiesRefused = false
 is_replay_end (StreamRefused have room) = false
 is_replay_end Usage = false
 is_replay_end FileFailed = false
@@ -66,6 +71,7 @@ is_replay_end LinkFailed = false
 is_replay_end OutputFailed = false
 is_replay_end (SecretRefused len) = false
 is_replay_end NoFault = false
+is_replay_end Unbalanced = false
 is_replay_end (TableRefused at) = false
 is_replay_end EvidenceRefused = false
 is_replay_end ChildFailed = false
@@ -78,8 +84,10 @@ is_keygen_end (SessionRefused fault) = true
 is_keygen_end (SecretRefused len) = true
 is_keygen_end (KeyRefused fault) = false
 is_keygen_end (RecordingRefused fault) = false
+is_keygen_end PartiesRefused = false
 is_keygen_end (StreamRefused have room) = false
 is_keygen_end NoFault = false
+is_keygen_end Unbalanced = false
 is_keygen_end (TableRefused at) = false
 is_keygen_end EvidenceRefused = false
 is_keygen_end Usage = false
@@ -89,15 +97,37 @@ is_keygen_end OutputFailed = false
 is_keygen_end ChildFailed = false
 is_keygen_end NoMemory = false
 
+-- how `audit` ends where no fault stops it
+abbrev pub is_audit_end : Status → Bool
+is_audit_end Done = true
+is_audit_end Unbalanced = true
+is_audit_end (SessionRefused fault) = true
+is_audit_end PartiesRefused = true
+is_audit_end (RecordingRefused fault) = true
+is_audit_end NoFault = false
+is_audit_end (KeyRefused fault) = false
+is_audit_end (StreamRefused have room) = false
+is_audit_end (SecretRefused len) = false
+is_audit_end (TableRefused at) = false
+is_audit_end EvidenceRefused = false
+is_audit_end Usage = false
+is_audit_end FileFailed = false
+is_audit_end LinkFailed = false
+is_audit_end OutputFailed = false
+is_audit_end ChildFailed = false
+is_audit_end NoMemory = false
+
 -- how `judge` ends where no fault stops it
 abbrev pub is_judge_end : Status → Bool
 is_judge_end Done = true
 is_judge_end NoFault = true
+is_judge_end Unbalanced = false
 is_judge_end (SessionRefused fault) = true
 is_judge_end (TableRefused at) = true
 is_judge_end EvidenceRefused = true
 is_judge_end (KeyRefused fault) = false
 is_judge_end (RecordingRefused fault) = false
+is_judge_end PartiesRefused = false
 is_judge_end (StreamRefused have room) = false
 is_judge_end (SecretRefused len) = false
 is_judge_end Usage = false

@@ -7,13 +7,15 @@ use Rattle.bar_live.specs.declared.caster_names.CasterNames.{CasterNames}
 use Rattle.bar_live.specs.declared.peer_names.PeerNames.{PeerNames}
 use Rattle.bar_cli.specs.declared.replay_names.ReplayNames.{ReplayNames}
 use Rattle.bar_cli.specs.declared.keygen_words.KeygenWords.{KeygenWords}
+use Rattle.bar_cli.specs.declared.audit_names.AuditNames.{AuditNames}
 use Rattle.bar_cli.specs.declared.judge_names.JudgeNames.{JudgeNames}
 use Rattle.bar_cli.specs.declared.line.Command.{Command}
-use Rattle.bar_cli.specs.declared.line.Command.TheVariants.{Peer, Broadcaster, Replay, Keygen, Judge, Session, Simulate}
+use Rattle.bar_cli.specs.declared.line.Command.TheVariants.{Peer, Broadcaster, Replay, Keygen, Audit, Judge, Session, Simulate}
 use Rattle.bar_cli.specs.ReplayPlan.{ReplayFiles}
 use Rattle.bar_cli.specs.KeygenPlan as plan
+use Rattle.bar_cli.specs.AuditPlan.{AuditFiles}
 use Rattle.bar_cli.specs.JudgePlan.{JudgeFiles}
-use Rattle.bar_cli.specs.Line.{Line, peer, broadcaster, replay, keygen, judge, session_run, simulate}
+use Rattle.bar_cli.specs.Line.{Line, peer, broadcaster, replay, keygen, audit, judge, session_run, simulate}
 
 abbrev pub names_view : ReplayNames → ReplayFiles
 names_view names =
@@ -37,6 +39,10 @@ keygen_view asked =
       key = asked.key.now;
     }
 
+abbrev pub audit_view : AuditNames → AuditFiles
+audit_view names =
+    record { session = names.session.now; results = names.results.now; first = names.first; last = names.last }
+
 abbrev pub judge_view : JudgeNames → JudgeFiles
 judge_view names = record { session = names.session.now; table = names.table.now; evidence = names.evidence.now }
 
@@ -52,6 +58,9 @@ replay_view names = replay (names_view names)
 abbrev pub asked_view : KeygenWords → Line
 asked_view asked = keygen (keygen_view asked)
 
+abbrev pub audited_view : AuditNames → Line
+audited_view names = audit (audit_view names)
+
 abbrev pub judged_view : JudgeNames → Line
 judged_view names = judge (judge_view names)
 
@@ -66,6 +75,7 @@ command_view (Peer names) = peer_view names
 command_view (Broadcaster names) = broadcaster_view names
 command_view (Replay names) = replay_view names
 command_view (Keygen asked) = asked_view asked
+command_view (Audit names) = audited_view names
 command_view (Judge names) = judged_view names
 command_view (Session names) = session_view names
 command_view (Simulate seed) = seed_view seed

@@ -58,7 +58,7 @@ pub fn read_evidence(bytes: &[u8]) -> Option<EvidenceView<'_>>
 }
 
 /// The verifier of a session's signatures.
-fn verifier_of(session: &Session) -> SessionVerifier
+pub fn verifier_of(session: &Session) -> SessionVerifier
     ensures verifies { IsVerifierOf session.now (accepted_with result) }
     ensures names { NamesLeavesOf session.now (leaf_with result) (length_with result) }
 {

@@ -1,6 +1,11 @@
 //! The commands of the program, over an outside that is handed in.
 #![tactic(auto)]
 
+mod audit;
+mod audit_laws;
+mod audit_names;
+mod audit_text;
+mod auditing;
 mod judge;
 mod judge_laws;
 mod judge_names;
@@ -20,6 +25,11 @@ mod simulating;
 mod status;
 mod words;
 
+pub use audit_laws::{
+    a_front_of_an_audit_is_printed, an_audit_fails_only, an_audit_is_told,
+    an_audit_is_told_where_all_is_accepted, an_audit_refuses_a_bad_session,
+    an_audit_refuses_bad_parties_and_recordings, an_audit_stays,
+};
 pub use judge_laws::{
     a_bad_session_is_refused, a_bad_table_or_evidence_is_refused,
     a_front_of_the_verdict_is_printed, a_judge_changes_nothing, a_judge_fails_only,

@@ -3,11 +3,12 @@ ghost use Rattle.std.specs.Prelude.{◌≡◌, ◌≤◌, Some, None, Err, IfOk,
 ghost use Rattle.std.specs.Option.{option_map};
 ghost use Rattle.bar_words.specs.Options.{texts};
 ghost use Rattle.bar_words.specs.declared.options.WordsFault.TheVariants.{Usage};
-ghost use Rattle.bar_cli.specs.Line.{broadcaster_line, broadcaster_values, asked_by, hsskeygen_line, hsskeygen_values, judge_files, judge_line, keygen_line, keygen_values, line_of, peer_line, peer_values, replay_files, replay_line, session_line, session_values, simulate_line, simulate_values};
+ghost use Rattle.bar_cli.specs.Line.{audit_line, audit_values, broadcaster_line, broadcaster_values, asked_by, hsskeygen_line, hsskeygen_values, judge_files, judge_line, keygen_line, keygen_values, line_of, peer_line, peer_values, replay_files, replay_line, session_line, session_values, simulate_line, simulate_values};
 ghost use Rattle.bar_cli.specs.Words.{types_view};
 ghost use Rattle.bar_roster.specs.NumberRanges.{most_long_rounds};
-ghost use Rattle.bar_cli.specs.Views.{asked_view, broadcaster_view, command_view, judged_view, peer_view, replay_view, seed_view, session_view};
+ghost use Rattle.bar_cli.specs.Views.{asked_view, audited_view, broadcaster_view, command_view, judged_view, peer_view, replay_view, seed_view, session_view};
 
+use crate::audit_names::AuditNames;
 use crate::judge_names::JudgeNames;
 use crate::key_types::KeyTypes;
 use crate::keygen_words::KeygenWords;
@@ -27,6 +28,7 @@ pub enum Command<'a> {
     Replay(ReplayNames<'a>),
     /// The key of a party, of one level or of two.
     Keygen(KeygenWords<'a>),
+    Audit(AuditNames<'a>),
     Judge(JudgeNames<'a>),
     Session(SessionNames<'a>),
     /// The simulation of a seed.
@@ -42,6 +44,8 @@ const REPLAY_OPTIONS: [&str; 5] = ["session", "key", "recording", "played", "fou
 const KEYGEN_OPTIONS: [&str; 7] = ["party", "id", "rounds", "lms", "ots", "secret", "key"];
 
 const HSSKEYGEN_OPTIONS: [&str; 7] = ["party", "id", "rounds", "top", "ots", "secret", "key"];
+
+const AUDIT_OPTIONS: [&str; 4] = ["session", "results", "first", "last"];
 
 const JUDGE_OPTIONS: [&str; 3] = ["session", "table", "evidence"];
 
@@ -67,6 +71,7 @@ pub fn command_of(alloc: Global, words: &[String]) -> Result<Command<'_>, WordsF
         "replay" => Ok(Command::Replay(replay_words(alloc, options)?)),
         "keygen" => Ok(Command::Keygen(keygen_words(alloc, options)?)),
         "hsskeygen" => Ok(Command::Keygen(hsskeygen_words(alloc, options)?)),
+        "audit" => Ok(Command::Audit(audit_words(alloc, options)?)),
         "judge" => Ok(Command::Judge(judge_words(alloc, options)?)),
         "session" => Ok(Command::Session(session_words(alloc, options)?)),
         "simulate" => Ok(Command::Simulate(simulate_words(alloc, options)?)),
@@ -224,6 +229,29 @@ fn hsskeygen_words(alloc: Global, words: &[String]) -> Result<KeygenWords<'_>, W
 {
     let values = option_values(alloc, &HSSKEYGEN_OPTIONS, words)?;
     hsskeygen_of(&values).ok_or(WordsFault::Usage)
+}
+
+/// The files of an audit and its parties, from the values of its options.
+fn audit_of<'a>(values: &[&'a str]) -> Option<AuditNames<'a>>
+    ensures { option_map audited_view result ≡ audit_values (texts values.now) }
+{
+    let [session, results, first, last] = *values else {
+        return None;
+    };
+    Some(AuditNames {
+        session,
+        results,
+        first: number_in(first, 0, 200)? as u16,
+        last: number_in(last, 0, 200)? as u16,
+    })
+}
+
+fn audit_words(alloc: Global, words: &[String]) -> Result<AuditNames<'_>, WordsFault>
+    ensures line { IfOk result (λ names. audit_line (map string_bytes words.now) ≡ Some (audited_view names)) }
+    ensures usage { result ≡ Err Usage → audit_line (map string_bytes words.now) ≡ None }
+{
+    let values = option_values(alloc, &AUDIT_OPTIONS, words)?;
+    audit_of(&values).ok_or(WordsFault::Usage)
 }
 
 /// The files of a judge, from the values of its options.

@@ -4,6 +4,7 @@ ghost use Rattle.bar_record.specs.Inputs.{inputs_left};
 ghost use Rattle.bar_record.specs.Pacing.{paced};
 ghost use Rattle.bar_hss.specs.Files.{IsPartyKeyOf};
 ghost use Rattle.bar_rules.specs.Member.{last_tick};
+ghost use Rattle.bar_cli.specs.AuditPlan.{inputs_listed};
 ghost use Rattle.bar_cli.specs.Replay.{recording_of, secrets_of_key};
 
 use bar_hss::PartyKey;
@@ -31,7 +32,7 @@ fn last_tick(session: &Session) -> u32
 }
 
 /// The inputs of a party's recording that bytes spell under a session, as they stand in it.
-#[tactic(auto, unfolding(crate::specs::Replay::recording_of))]
+#[tactic(auto, unfolding(crate::specs::AuditPlan::inputs_listed, crate::specs::Replay::recording_of))]
 pub fn read_recording<'a>(
     session: &Session,
     party: u16,
@@ -39,6 +40,8 @@ pub fn read_recording<'a>(
 ) -> Result<Items<'a>, RecordFault>
     ensures ok { IfOk result (λ items. recording_of session.now party bytes.now ≡ Ok (paced (last_tick session.now) (inputs_left items))) }
     ensures err { IfErr result (λ fault. recording_of session.now party bytes.now ≡ Err fault) }
+    ensures listed { IfOk result (λ items. inputs_listed session.now party bytes.now ≡ Ok (inputs_left items)) }
+    ensures refused { IfErr result (λ fault. inputs_listed session.now party bytes.now ≡ Err fault) }
 {
     let shape = session.shape();
     read(bytes, &shape.id, party, last_tick(session))

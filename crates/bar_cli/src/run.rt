@@ -17,12 +17,16 @@ ghost use Rattle.bar_cli.specs.Status.{code_of, said_at};
 ghost use Rattle.bar_cli.specs.Views.{command_view};
 ghost use Rattle.bar_cli.specs.ReplayPlan.{ReplayFiles, Replayed};
 ghost use Rattle.bar_cli.specs.KeygenPlan.{HasFewLeaves, Keygen, KeyMade};
+ghost use Rattle.bar_cli.specs.AuditPlan.{AuditFiles};
+ghost use Rattle.bar_cli.specs.Audited.{AuditStays, HasAudited};
 ghost use Rattle.bar_cli.specs.JudgePlan.{HasJudged, JudgeFiles};
 ghost use Rattle.bar_outside.specs.Stages.{HasShown};
 ghost use Rattle.bar_world.specs.Ends.{sim_end};
 ghost use Rattle.bar_cli.specs.SimulatePlan.{simulation_text};
 ghost use Rattle.bar_cli.specs.SessionPlan.{SessionEnds, SessionRuns, is_plain_end, session_line};
 
+use crate::audit::audit;
+use crate::audit_laws::{an_audit_is_told, an_audit_stays};
 use crate::judge::judge;
 use crate::keygen::keygen;
 use crate::laws::a_replay_keeps_the_rules;
@@ -198,6 +202,20 @@ pub fn bar_run<F: Files, L: Link, K: Sink, S: Spawner>(
         (outside (F.disk files.old) (K.stream out.old) (L.wire link.old))
         (outside (F.disk files.new) (K.stream out.new) (L.wire link.new)) }
 
+    // an audit that ends with 0 or 1 has printed a line for each exchange that its recordings record, in order, and then that all are
+    // balanced, at 0, or the first that isn't, at 1; at 0 each party whose key was received holds its partner's briefcase, by whose terms
+    // both sides promise equally many items
+    ensures audited { (names : AuditFiles) → line_of (map string_bytes words.now) ≡ Some (line.audit names) →
+        IsTrue (F.disk files.old).told → (result ≡ 0) ⊎ (result ≡ 1) → HasAudited names result
+        (outside (F.disk files.old) (K.stream out.old) (L.wire link.old))
+        (outside (F.disk files.new) (K.stream out.new) (L.wire link.new)) }
+
+    // whatever its status, an audit changes no file, and it calls no exchange of obedient parties unbalanced
+    ensures audit_stays { (names : AuditFiles) → line_of (map string_bytes words.now) ≡ Some (line.audit names) →
+        IsTrue (F.disk files.old).told → AuditStays names
+        (outside (F.disk files.old) (K.stream out.old) (L.wire link.old))
+        (outside (F.disk files.new) (K.stream out.new) (L.wire link.new)) result }
+
     // a judge that ends with 0 or 1 has printed the line of the rules' verdict on its files, which says a fault at 0 and none at 1
     ensures judged { (names : JudgeFiles) → line_of (map string_bytes words.now) ≡ Some (line.judge names) →
         IsTrue (F.disk files.old).told → (result ≡ 0) ⊎ (result ≡ 1) → HasJudged names result
@@ -217,6 +235,8 @@ pub fn bar_run<F: Files, L: Link, K: Sink, S: Spawner>(
     a_replay_keeps_the_rules();
     accepted_secrets_are_held();
     accepted_sessions_are_in_range();
+    an_audit_is_told();
+    an_audit_stays();
     bad_keys_leave_evidence();
     balanced();
     honest_peers_stay();
@@ -297,6 +317,7 @@ fn run_command<F: Files, L: Link, K: Sink, S: Spawner>(
         }
         Command::Replay(names) => status_of(replay(alloc, names, files, out)),
         Command::Keygen(asked) => status_of(keygen(alloc, asked, files, out)),
+        Command::Audit(names) => status_of(audit(alloc, names, files, out)),
         Command::Judge(names) => status_of(judge(alloc, names, files, out)),
         Command::Session(names) => status_of(session(alloc, names, files, out, spawn)),
         Command::Simulate(seed) => status_of(simulate_seed(alloc, *seed, out)),

@@ -24,6 +24,8 @@ pub enum Status {
     Done,
     /// The judge finds no fault.
     NoFault,
+    /// An audited exchange isn't balanced.
+    Unbalanced,
     /// The words aren't a line.
     Usage,
     FileFailed,
@@ -33,6 +35,8 @@ pub enum Status {
     KeyRefused(KeyFileFault),
     OutputFailed,
     RecordingRefused(RecordFault),
+    /// The parties of an audit aren't peers of the session, or the first is above the last.
+    PartiesRefused,
     /// The stream has so many bytes, and the session has room for so many.
     StreamRefused { have: u64, room: u64 },
     /// The secret has so many bytes.
@@ -53,6 +57,7 @@ impl Status {
         match self {
             Status::Done => 0,
             Status::NoFault => 1,
+            Status::Unbalanced => 1,
             Status::Usage => 2,
             Status::FileFailed => 3,
             Status::SessionRefused(_) => 4,
@@ -60,6 +65,7 @@ impl Status {
             Status::LinkFailed => 6,
             Status::OutputFailed => 7,
             Status::RecordingRefused(_) => 8,
+            Status::PartiesRefused => 8,
             Status::StreamRefused { .. } => 8,
             Status::SecretRefused(_) => 8,
             Status::TableRefused(_) => 8,
@@ -218,6 +224,7 @@ pub fn report<K: Sink>(alloc: Global, status: &Status, err: &mut K) -> u8
     match status {
         Status::Done => code,
         Status::NoFault => code,
+        Status::Unbalanced => code,
         Status::Usage => print_line(b"bar: usage\n", code, err),
         Status::FileFailed => print_line(b"bar: file failed\n", code, err),
         Status::LinkFailed => print_line(b"bar: link failed\n", code, err),
@@ -225,6 +232,7 @@ pub fn report<K: Sink>(alloc: Global, status: &Status, err: &mut K) -> u8
         Status::KeyRefused(fault) => print_text(key_refusal(alloc, *fault), code, err),
         Status::OutputFailed => print_line(b"bar: output failed\n", code, err),
         Status::RecordingRefused(fault) => print_text(recording_refusal(alloc, *fault), code, err),
+        Status::PartiesRefused => print_line(b"bar: input refused: parties\n", code, err),
         Status::StreamRefused { have, room } => {
             print_text(stream_refusal(alloc, *have, *room), code, err)
         }

@@ -71,6 +71,17 @@ pub fn signature() -> &'static str {
     f8f2249d16039aaf647f0406"
 }
 
+/// The same session with types that make short chains.
+pub fn audited_session() -> &'static str {
+    "version = 1\nid = \"0011223344556677\"\nrounds = 10\nlife = 4\ncap = 4\n\
+    per_round = 8\nfanout = 1\nport = 20000\ntick_ms = 20\nlms = 6\nots = 1\n\
+    key = \"00000006000000018d1e3644fdcc75d960cb49ec946968481554a91f1289fa02a0336e795ad4b25490e95e447533fc4da8ff8806af933922\"\n\n[[peer]]\n\
+    key = \"00000006000000012ef17295b2b2463d8d9beef9c2b84a1588e44acc6e2efaa4ccc770a8e5c237a6264b1ba299000f8607cc9b43de9271c5\"\n\
+    anchor = \"0f6658ab7e90dda684f49951ffa7345a50488289b1681527c9b1fba610ef4502\"\n\n[[peer]]\n\
+    key = \"0000000600000001d87398929b1937843f54974546a2b8d69290230c2d8089b9aee1c81336271d5c67dd566098385c583070d2ad05ddd8b1\"\n\
+    anchor = \"22d984a93475a329dd35bccd254007ee8d81f582aaf64ee95e3bfea93bfbea63\"\n"
+}
+
 /// A session of one round with a small tree, whose keys are quickly made, of the same secrets.
 pub fn small_session() -> &'static str {
     "version = 1\nid = \"0011223344556677\"\nrounds = 1\nlife = 4\ncap = 4\n\

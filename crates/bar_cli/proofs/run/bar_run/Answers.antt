@@ -1,9 +1,10 @@
-use Rattle.std.proofs.Common.{◌∙◌, Option, IsTrue, ap, sym, subst, inl, inr, arith}
+use Rattle.std.proofs.Common.{◌∙◌, Option, None, Some, IsTrue, ap, sym, subst, inl, inr, arith}
 use Rattle.bar_outside.specs.Disk.{Disk}
 use Rattle.bar_cli.specs.Headline.{KeepsTheRules}
+use Rattle.bar_cli.specs.AuditPlan.{audit_plan}
 use Rattle.bar_cli.specs.JudgePlan.{judge_plan}
 use Rattle.bar_cli.specs.KeygenPlan.{keygen_plan}
-use Rattle.bar_cli.specs.Line.{Line, peer, broadcaster, replay, keygen, judge, simulate, has_plan, is_status_of, reads_nothing}
+use Rattle.bar_cli.specs.Line.{Line, peer, broadcaster, replay, keygen, audit, judge, simulate, has_plan, is_status_of, reads_nothing}
 use Rattle.bar_cli.specs.ReplayPlan.{replay_plan}
 use Rattle.bar_cli.proofs.JudgeRows.{judged_so, outcome, same_files}
 use Rattle.bar_cli.proofs.KeygenRows as making
@@ -161,7 +162,7 @@ returns-clause-replay_headline g c = λ names is told.
     let ends = (ends-as _ (replay names) _ _ _ _ _ is c.report.ensures.code (c.run_words-status.ensures.ends (ap has_plan is))).ends in
     c.a_replay_keeps_the_rules.ensures names _ _ _ ends told
 
--- ---- `keygen` and `judge`
+-- ---- `keygen`, `audit` and `judge`
 
 pub returns-clause-key_made : goal.returns-clause-key_made
 returns-clause-key_made g c = λ asked is told zero.
@@ -169,6 +170,21 @@ returns-clause-key_made g c = λ asked is told zero.
     let ends = (ends-as _ (keygen asked) _ _ _ _ _ is c.report.ensures.code (c.run_words-status.ensures.ends (ap has_plan is))).ends in
     making.made asked _ _ told
     (making.outcome law.reads law.ends asked _ _ 0 told (law.went (keygen_plan asked) _ _ 0 (rw zero at ends) told))
+
+pub returns-clause-audited : goal.returns-clause-audited
+returns-clause-audited g c = λ names is told which.
+    let ends = (ends-as _ (audit names) _ _ _ _ _ is c.report.ensures.code (c.run_words-status.ensures.ends (ap has_plan is))).ends in
+    elim which [
+      | inl zero ↦ (None, zero, c.an_audit_is_told.ensures.balanced names _ _ (rw zero at ends) told)
+      | inr one ↦
+          let unbalanced = c.an_audit_is_told.ensures.unbalanced names _ _ (rw one at ends) told in
+          (Some unbalanced.0, one, unbalanced.1)
+    ]
+
+pub returns-clause-audit_stays : goal.returns-clause-audit_stays
+returns-clause-audit_stays g c = λ names is told.
+    let ends = (ends-as _ (audit names) _ _ _ _ _ is c.report.ensures.code (c.run_words-status.ensures.ends (ap has_plan is))).ends in
+    c.an_audit_stays.ensures.stays names _ _ _ ends told
 
 pub returns-clause-judged : goal.returns-clause-judged
 returns-clause-judged g c = λ names is told which.

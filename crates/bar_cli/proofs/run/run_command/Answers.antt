@@ -6,16 +6,18 @@ use Rattle.bar_live.specs.Views.{peer_view, caster_view}
 use Rattle.bar_children.specs.Names.{SessionNames}
 use Rattle.bar_children.specs.Views.{names_view as family_view}
 use Rattle.bar_cli.specs.KeygenPlan.{Keygen, HasFewLeaves}
+use Rattle.bar_cli.specs.AuditPlan.{AuditFiles}
 use Rattle.bar_cli.specs.JudgePlan.{JudgeFiles}
-use Rattle.bar_cli.specs.Line.{Line, peer, broadcaster, replay, keygen, judge, session_run, simulate}
+use Rattle.bar_cli.specs.Line.{Line, peer, broadcaster, replay, keygen, audit, judge, session_run, simulate}
 use Rattle.bar_cli.specs.ReplayPlan.{ReplayFiles}
 use Rattle.bar_cli.specs.Status.{code_of_run}
-use Rattle.bar_cli.specs.Views.{names_view, keygen_view, judge_view, command_view}
+use Rattle.bar_cli.specs.Views.{names_view, keygen_view, audit_view, judge_view, command_view}
+use Rattle.bar_cli.proofs.AuditEnds as auditing
 use Rattle.bar_cli.proofs.JudgeRows as judging
 use Rattle.bar_cli.proofs.KeygenRows as making
 use Rattle.bar_cli.proofs.Rows as replaying
 use Rattle.bar_cli.proofs.RunLemmas.{few-leaves, over-no_link}
-use Rattle.bar_cli.proofs.StatusLemmas.{never-linked, never-six, quiet, peer-statuses, broadcaster-statuses, replay-statuses, keygen-statuses, judge-statuses, never-filed, simulate-statuses}
+use Rattle.bar_cli.proofs.StatusLemmas.{never-linked, never-six, quiet, peer-statuses, broadcaster-statuses, replay-statuses, keygen-statuses, audit-statuses, judge-statuses, never-filed, simulate-statuses}
 use Rattle.bar_cli.proofs.run.run_command.Goals as goal
 
 -- the other commands are not `keygen`
@@ -28,6 +30,9 @@ broadcaster-other names asked e = cc
 
 replay-other : (names : ReplayFiles) (asked : Keygen) → ◌≡◌ {A = Line} (replay names) (keygen asked) → ⊥
 replay-other names asked e = cc
+
+audit-other : (names : AuditFiles) (asked : Keygen) → ◌≡◌ {A = Line} (audit names) (keygen asked) → ⊥
+audit-other names asked e = cc
 
 judge-other : (names : JudgeFiles) (asked : Keygen) → ◌≡◌ {A = Line} (judge names) (keygen asked) → ⊥
 judge-other names asked e = cc
@@ -48,6 +53,9 @@ replay-no_session names family e = cc
 
 keygen-no_session : (asked : Keygen) (family : SessionNames) → ◌≡◌ {A = Line} (keygen asked) (session_run family) → ⊥
 keygen-no_session asked family e = cc
+
+audit-no_session : (names : AuditFiles) (family : SessionNames) → ◌≡◌ {A = Line} (audit names) (session_run family) → ⊥
+audit-no_session names family e = cc
 
 judge-no_session : (names : JudgeFiles) (family : SessionNames) → ◌≡◌ {A = Line} (judge names) (session_run family) → ⊥
 judge-no_session names family e = cc
@@ -164,6 +172,31 @@ returns-in-Keygen-clause-unread g c = rw c.in-Keygen.is (λ few. c.keygen.ensure
 pub returns-in-Keygen-clause-unprinted : goal.returns-in-Keygen-clause-unprinted
 returns-in-Keygen-clause-unprinted g c = rw (c.in-Keygen.is, c.status_of-in-Keygen.ensures.code) c.keygen.ensures.unprinted
 
+-- `audit`
+
+pub returns-in-Audit-clause-ends : goal.returns-in-Audit-clause-ends
+returns-in-Audit-clause-ends g c =
+    rw (c.in-Audit.is, c.status_of-in-Audit.ensures.code, c.status_of-in-Audit.ensures.line)
+    (λ plan. over-no_link _ _ _ _ _ (g.L.Link.wire c.args.link.now) _ _ (auditing.unlinked-plan (audit_view c.in-Audit.names))
+    (never-six _ _ _ _ _ refl refl (c.audit.ensures.ends quiet))
+    (c.audit.ensures.ends (with_wire quiet (g.L.Link.wire c.args.link.now))))
+
+pub returns-in-Audit-clause-statuses : goal.returns-in-Audit-clause-statuses
+returns-in-Audit-clause-statuses g c =
+    rw (c.in-Audit.is, c.status_of-in-Audit.ensures.code)
+    (audit-statuses (audit_view c.in-Audit.names) c.audit.result c.audit.ensures.answers
+    (never-linked _ _ _ _ _ refl refl (c.audit.ensures.ends quiet)))
+
+pub returns-in-Audit-clause-leaves : goal.returns-in-Audit-clause-leaves
+returns-in-Audit-clause-leaves g c =
+    λ asked is. absurd (audit-other (audit_view c.in-Audit.names) asked (sym (ap command_view c.in-Audit.is) ∙ is))
+
+pub returns-in-Audit-clause-unread : goal.returns-in-Audit-clause-unread
+returns-in-Audit-clause-unread g c = rw c.in-Audit.is (λ alone. absurd (true≢false (sym alone)))
+
+pub returns-in-Audit-clause-unprinted : goal.returns-in-Audit-clause-unprinted
+returns-in-Audit-clause-unprinted g c = rw (c.in-Audit.is, c.status_of-in-Audit.ensures.code) c.audit.ensures.unprinted
+
 -- `judge`
 
 pub returns-in-Judge-clause-ends : goal.returns-in-Judge-clause-ends
@@ -204,6 +237,10 @@ returns-in-Replay-clause-session g c =
 pub returns-in-Keygen-clause-session : goal.returns-in-Keygen-clause-session
 returns-in-Keygen-clause-session g c =
     λ family is. absurd (keygen-no_session (keygen_view c.in-Keygen.asked) family (sym (ap command_view c.in-Keygen.is) ∙ is))
+
+pub returns-in-Audit-clause-session : goal.returns-in-Audit-clause-session
+returns-in-Audit-clause-session g c =
+    λ family is. absurd (audit-no_session (audit_view c.in-Audit.names) family (sym (ap command_view c.in-Audit.is) ∙ is))
 
 pub returns-in-Judge-clause-session : goal.returns-in-Judge-clause-session
 returns-in-Judge-clause-session g c =

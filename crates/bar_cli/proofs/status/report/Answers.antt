@@ -14,6 +14,9 @@ returns-in-RecordingRefused-clause-said g c =
     rw c.in-RecordingRefused.is
     (c.print_text-in-RecordingRefused.ensures.said (recording_refused c.in-RecordingRefused.fault) c.recording_refusal.ensures)
 
+pub returns-in-PartiesRefused-clause-said : goal.returns-in-PartiesRefused-clause-said
+returns-in-PartiesRefused-clause-said g c = rw c.in-PartiesRefused.is c.print_line-in-PartiesRefused.ensures.said
+
 pub returns-in-StreamRefused-clause-said : goal.returns-in-StreamRefused-clause-said
 returns-in-StreamRefused-clause-said g c =
     rw c.in-StreamRefused.is (c.print_text-in-StreamRefused.ensures.said
