@@ -8,7 +8,11 @@ pub mod Spoken
 pub mod Rows
 pub mod EvidenceLemmas
 pub mod JudgeRows
-pub mod KeygenLemmas
+pub mod VerifyRows
+pub mod PackLemmas
+pub mod PackRows
+pub mod PackFronts
+pub mod MadeFiles
 pub mod KeygenRows
 pub mod KeygenFronts
 pub mod CoreTurns
