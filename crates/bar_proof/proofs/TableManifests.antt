@@ -99,7 +99,9 @@ cut-first (high ∷ low ∷ others) manifest rest is =
       | inl all ↦
           let e : Entry (take k others) (drop k others) ≡ Entry manifest rest = rw all at is in
           let one : take k others ≡ manifest = cc in
-          let two : drop k others ≡ rest = cc in (one, two)
+          let two : drop k others ≡ rest = cc in
+          let behind : 2 + k ≡ suc (suc k) = omega arith in
+          (one, ap (λ n. drop n (high ∷ low ∷ others)) behind ∙ two)
       | inr short ↦ absurd (let e : NoEntry ≡ Entry manifest rest = rw short at is in cc)
     ]
 
