@@ -2,7 +2,8 @@ use Rattle.std.proofs.Common.{◌≡◌, ◌∙◌, [], Ok, Err, refl, ap, sym, 
 use Rattle.std.proofs.lemmas.Result.{err_from_is_err_and}
 use Rattle.bar_outside.specs.Plan.{with_out}
 use Rattle.bar_outside.proofs.Ending.{EndsWith-reading, EndsWith-accepted, EndsWith-refused, EndsWith-doing, EndsWith-ending, EndsWith-memory, EndsWith-unread}
-use Rattle.bar_cli.specs.KeygenPlan.{keygen_actions}
+use Rattle.bar_roster.specs.KeyText.{key_text_of}
+use Rattle.bar_cli.specs.KeygenPlan.{key_made, keygen_actions, lines_of}
 use Rattle.bar_cli.specs.Refusals.{secret_refused}
 use Rattle.bar_cli.specs.Views.{keygen_view}
 use Rattle.bar_cli.proofs.MadeFiles.{can-make, made-of}
@@ -23,7 +24,8 @@ returns-in_err-make_file-clause-ends g c = λ w.
     (with_out w (g.K.Sink.stream c.args.out.now))
     _ c.in_ok-bytes.bytes _ _ c.in_ok-bytes.ensures (EndsWith-accepted _ _ _ _ _ _ _ _ accepted
     (EndsWith-doing (keygen_actions (keygen_view c.args.asked.now) c.in-Some.secret) 0 [] _ _
-    (λ told. can-make c.args.asked.now.key.now _ _ (g.F.Files.disk c.read_file.new.files).created_here) refl
+    (λ told. can-make c.args.asked.now.key.now (key_text_of (key_made (keygen_view c.args.asked.now) c.in-Some.secret))
+    (lines_of (keygen_view c.args.asked.now) c.in-Some.secret) (g.F.Files.disk c.read_file.new.files).created_here) refl
     (Err c.in_err-make_file.field-0.0)
     (made-of c.args.asked.now.key.now _ _ _ _ _ _ _ c.in_ok-made.ensures.text c.in_ok-made.ensures.lines
     (c.in_err-make_file.ensures.follows w)))))
@@ -35,7 +37,8 @@ returns-clause-ends g c = λ w.
     (with_out w (g.K.Sink.stream c.args.out.now))
     _ c.in_ok-bytes.bytes _ _ c.in_ok-bytes.ensures (EndsWith-accepted _ _ _ _ _ _ _ _ accepted
     (EndsWith-doing (keygen_actions (keygen_view c.args.asked.now) c.in-Some.secret) 0 [] _ _
-    (λ told. can-make c.args.asked.now.key.now _ _ (g.F.Files.disk c.read_file.new.files).created_here) refl
+    (λ told. can-make c.args.asked.now.key.now (key_text_of (key_made (keygen_view c.args.asked.now) c.in-Some.secret))
+    (lines_of (keygen_view c.args.asked.now) c.in-Some.secret) (g.F.Files.disk c.read_file.new.files).created_here) refl
     (Ok tt)
     (made-of c.args.asked.now.key.now _ _ _ _ _ _ _ c.in_ok-made.ensures.text c.in_ok-made.ensures.lines
     (c.in_ok-make_file.ensures.follows w))))
