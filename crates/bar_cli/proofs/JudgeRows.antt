@@ -10,7 +10,8 @@ use Rattle.bar_terms.specs.Table.{Lists}
 use Rattle.bar_roster.specs.declared.fault.SessionFault.{SessionFault}
 use Rattle.bar_roster.specs.SessionText.{SessionData}
 use Rattle.bar_rules.specs.Judge.Verdict.{Verdict, Fault, Why, Shown, NotShown}
-use Rattle.bar_cli.specs.Judging.{lists_of, evidence_of, verdict_of, verdict_line, status_of_verdict}
+use Rattle.bar_proof.specs.ProofFile.{evidence_of}
+use Rattle.bar_cli.specs.Judging.{lists_of, verdict_of, verdict_line, status_of_verdict}
 use Rattle.bar_cli.specs.JudgePlan.{JudgeFiles, HasSession, HasTable, JudgeAccepted, HasBadSession, HasBadTable, HasBadEvidence, HasJudged, Judged, JudgedFront, IsJudgeCall, by_datagrams, by_lists, by_session, evidence_plan, judge_plan, table_plan, verdict_in}
 use Rattle.bar_cli.specs.Refusals.{session_refused, table_refused, evidence_refused}
 use Rattle.bar_live.specs.Accepting.{session_of}
@@ -44,15 +45,15 @@ pub says-on : (v : Verdict) → is_stop (status_of_verdict v) ≡ false
 says-on (Shown party fault) = refl
 says-on (NotShown why) = refl
 
-is-shown : (v : Verdict) → 0 ≡ status_of_verdict v → (party : ℕ) × (fault : Fault) × (v ≡ Shown party fault)
+pub is-shown : (v : Verdict) → 0 ≡ status_of_verdict v → (party : ℕ) × (fault : Fault) × (v ≡ Shown party fault)
 is-shown (Shown party fault) e = (party, fault, refl)
 is-shown (NotShown why) e = absurd (differ 0 1 refl e)
 
-is-not_shown : (v : Verdict) → 1 ≡ status_of_verdict v → (why : Why) × (v ≡ NotShown why)
+pub is-not_shown : (v : Verdict) → 1 ≡ status_of_verdict v → (why : Why) × (v ≡ NotShown why)
 is-not_shown (Shown party fault) e = absurd (differ 1 0 refl e)
 is-not_shown (NotShown why) e = (why, refl)
 
-no-refusal : (v : Verdict) (status : ℕ) → is_stop status ≡ false → 4 ≡ status ⊎ 8 ≡ status → status ≡ status_of_verdict v → ⊥
+pub no-refusal : (v : Verdict) (status : ℕ) → is_stop status ≡ false → 4 ≡ status ⊎ 8 ≡ status → status ≡ status_of_verdict v → ⊥
 no-refusal (Shown party fault) status go which e =
     elim which [ inl four ↦ differ 4 0 refl (four ∙ e) | inr eight ↦ differ 8 0 refl (eight ∙ e) ]
 no-refusal (NotShown why) status go which e =

@@ -1,18 +1,16 @@
 -- The rows of the status table, from how `keygen` ended.
 use Rattle.std.proofs.Common.{◌≡◌, ◌≢◌, ◌⊎◌, ◌==◌, ℕ, List, [], ◌∷◌, ◌++◌, Bool, true, false, IsTrue, Option, Some, None, Result, Ok, Err, refl, ap, ◌∙◌, subst, IsSomeAnd, inl, inr, length, append-nil, cond}
 use Rattle.std.proofs.lemmas.Bool.{cases_Bool, eqb-true}
-use Rattle.bar_outside.specs.Disk.{Content, Failure, readable, created}
-use Rattle.bar_outside.specs.Plan.{Outside, Plan, Names, Touches, content_after, accepting, ending, is_stop}
-use Rattle.bar_outside.specs.Plan.Action.{create, append, show}
+use Rattle.bar_outside.specs.Disk.{Content, Failure, readable}
+use Rattle.bar_outside.specs.Plan.{Outside, Plan, Names, accepting, ending, is_stop}
 use Rattle.bar_outside.specs.Stages.{Went, IsUnchanged, ReadsFirst, EndsThere, NamesFirst}
-use Rattle.bar_outside.proofs.Contents.{put_at-same, put_at-other, appended-same, appended-other}
 use Rattle.bar_outside.proofs.Unlinked.{IsUnlinked, unlinked-accepting, unlinked-reading}
-use Rattle.bar_outside.proofs.Untouched.{untouched-reached}
 use Rattle.bar_roster.specs.declared.fault.SessionFault.{SessionFault}
 use Rattle.bar_roster.specs.KeyText.{key_text_of}
 use Rattle.bar_cli.specs.Refusals.{session_refused, secret_refused}
-use Rattle.bar_cli.specs.KeygenPlan.{Keygen, KeygenAccepted, KeyMade, HasEnoughLeaves, HasFewLeaves, IsKeygenCall, secret_of, key_made, lines_of, keygen_actions, making_plan, secret_plan, keygen_plan, SecretRefused, leaves_for}
+use Rattle.bar_cli.specs.KeygenPlan.{Keygen, KeygenAccepted, KeyMade, HasEnoughLeaves, HasFewLeaves, IsKeygenCall, secret_of, key_made, lines_of, making_plan, secret_plan, keygen_plan, SecretRefused, leaves_for}
 use Rattle.bar_cli.proofs.EndLemmas.{differ, go-on}
+use Rattle.bar_cli.proofs.MadeFiles.{made as made-file, others-untouched}
 
 -- what comes behind the count of leaves, and behind the read
 
@@ -100,16 +98,6 @@ module _ (reads : ReadsFirst) (ends : EndsThere) (asked : Keygen) (old new : Out
 
 -- ---- the rows
 
--- what the actions leave
-written : (key text lines : List ℕ) (content : Content) →
-    content_after (create key ∷ append key text ∷ show lines ∷ []) content key ≡ Some text
-written key text lines content = appended-same (created content key) key text [] (put_at-same content key [])
-
-unwritten : (key text lines : List ℕ) (content : Content) (path : List ℕ) → path ≢ key →
-    content_after (create key ∷ append key text ∷ show lines ∷ []) content path ≡ content path
-unwritten key text lines content path differs =
-    appended-other (created content key) key text path differs ∙ put_at-other content key [] path differs
-
 module _ (asked : Keygen) (old new : Outside) where
   -- at 0 the key was made
   pub made : IsTrue old.files.told → Outcome asked old new 0 → KeyMade asked old new
@@ -119,16 +107,8 @@ module _ (asked : Keygen) (old new : Outside) where
   ])
   made told (inr p) =
       let a = p.0 in
-      let ran = (p.1.carried refl).ran in
-      let text : List ℕ = key_text_of (key_made asked a.secret) in
-      let lines : List ℕ = lines_of asked a.secret in
-      record {
-        accepted = a;
-        written = ap (λ (holds : Content). holds asked.key) (ran.files told) ∙ written asked.key text lines old.files.content;
-        printed = λ tells. ran.out tells ∙ ap (λ xs. old.out.bytes ++ xs) (append-nil lines);
-        others = λ path differs. ap (λ (holds : Content). holds path) (ran.files told)
-            ∙ unwritten asked.key text lines old.files.content path differs;
-      }
+      let m = made-file asked.key (key_text_of (key_made asked a.secret)) (lines_of asked a.secret) old new told (p.1.carried refl).ran in
+      record { accepted = a; written = m.written; printed = m.printed; others = m.others }
 
   -- at a refusal nothing was changed or printed
   pub refused_so : (status : ℕ) → (status == 0) ≡ false → is_stop status ≡ false → Outcome asked old new status →
@@ -142,19 +122,13 @@ module _ (asked : Keygen) (old new : Outside) where
   pub refused-secret : Outcome asked old new 8 → (bytes : List ℕ) × SecretRefused asked old.files.content bytes
   refused-secret o = elim (refused_so 8 refl refl o).1 [ inl k ↦ absurd (differ 8 4 refl k.0) | inr k ↦ k.1 ]
 
-touched-all : (asked : Keygen) (secret path : List ℕ) → Touches (keygen_actions asked secret) path → path ≡ asked.key
-touched-all asked secret path (inl e) = e
-touched-all asked secret path (inr (inl e)) = e
-touched-all asked secret path (inr (inr h)) = absurd h
-
 -- whatever the status, no file but the key file was changed
 pub other-untouched : (asked : Keygen) (old new : Outside) (status : ℕ) (path : List ℕ) → IsTrue old.files.told → (path ≡ asked.key → ⊥) →
     Outcome asked old new status →
     new.files.content path ≡ old.files.content path
 other-untouched asked old new status path told differs (inl r) = ap (λ (holds : Content). holds path) r.0.files
 other-untouched asked old new status path told differs (inr p) =
-    untouched-reached (keygen_actions asked p.0.secret) path old new status p.1.part told
-    (λ h. differs (touched-all asked p.0.secret path h))
+    others-untouched asked.key (key_text_of (key_made asked p.0.secret)) (lines_of asked p.0.secret) old new status path told differs p.1.part
 
 -- ---- the calls
 

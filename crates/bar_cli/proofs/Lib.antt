@@ -11,7 +11,11 @@ pub mod AuditLemmas
 pub mod AuditRows
 pub mod EvidenceLemmas
 pub mod JudgeRows
-pub mod KeygenLemmas
+pub mod VerifyRows
+pub mod PackLemmas
+pub mod PackRows
+pub mod PackFronts
+pub mod MadeFiles
 pub mod KeygenRows
 pub mod KeygenFronts
 pub mod CoreTurns

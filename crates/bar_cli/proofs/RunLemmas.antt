@@ -18,7 +18,7 @@ use Rattle.bar_outside.proofs.Unlinked.{IsUnlinked}
 use Rattle.bar_node.proofs.Doing.{none-more}
 use Rattle.bar_live.proofs.Reaching.{nothing-reached, reached-unlinked}
 use Rattle.bar_live.proofs.RunFollowing.{heard-nothing}
-use Rattle.bar_cli.specs.Line.{Line, peer, broadcaster, replay, keygen, audit, judge, session_run, simulate, plan_of, reads_nothing, usage}
+use Rattle.bar_cli.specs.Line.{Line, peer, broadcaster, replay, keygen, audit, judge, session_run, simulate, plan_of, reads_nothing, usage, pack, verify}
 use Rattle.bar_cli.specs.KeygenPlan.{secret_plan, leaves_for}
 
 -- ---- which plan it was
@@ -138,6 +138,8 @@ plan-line (Some (replay names)) given content = refl
 plan-line (Some (keygen asked)) given content = refl
 plan-line (Some (audit names)) given content = refl
 plan-line (Some (judge names)) given content = refl
+plan-line (Some (pack names)) given content = refl
+plan-line (Some (verify names)) given content = refl
 plan-line (Some (session_run names)) given content = refl
 plan-line (Some (simulate seed)) given content = refl
 
@@ -176,6 +178,8 @@ plan-fixed (Some (keygen asked)) given content h =
     refused-fixed (leaves_for asked) (λ _. secret_plan asked) session_refused content h
 plan-fixed (Some (audit names)) given content h = absurd (true≢false (sym h))
 plan-fixed (Some (judge names)) given content h = absurd (true≢false (sym h))
+plan-fixed (Some (pack names)) given content h = absurd (true≢false (sym h))
+plan-fixed (Some (verify names)) given content h = absurd (true≢false (sym h))
 plan-fixed (Some (session_run names)) given content h = absurd (true≢false (sym h))
 plan-fixed (Some (simulate seed)) given content h = record { same = λ other. refl; unread = tt }
 

@@ -18,11 +18,15 @@ use Rattle.bar_live.specs.declared.ended.Ended.{Ended}
 use Rattle.bar_live.specs.declared.ended.Ended.TheVariants as live
 use Rattle.bar_cli.specs.AuditPlan.{AuditFiles}
 use Rattle.bar_cli.specs.JudgePlan.{JudgeFiles}
-use Rattle.bar_cli.specs.Line.{Line, peer, broadcaster, replay, keygen, audit, judge, session_run, simulate, is_status_of, may_print, usage}
+use Rattle.bar_cli.specs.Line.{Line, peer, broadcaster, replay, keygen, audit, judge, session_run, simulate, is_status_of, may_print, usage, pack, verify}
 use Rattle.bar_cli.specs.Printing.{audit_may_print, keygen_may_print, judge_may_print, replay_may_print}
-use Rattle.bar_cli.specs.Status.{code_of, said_at, code_of_run, is_replay_end, is_keygen_end, is_audit_end, is_judge_end}
+use Rattle.bar_cli.specs.Status.{code_of, said_at, code_of_run, is_replay_end, is_keygen_end, is_audit_end, is_judge_end, is_proof_end}
 use Rattle.bar_cli.specs.declared.status.Status.{Status}
-use Rattle.bar_cli.specs.declared.status.Status.TheVariants.{Done, NoFault, Unbalanced, Usage, FileFailed, LinkFailed, SessionRefused, KeyRefused, OutputFailed, ChildFailed, RecordingRefused, PartiesRefused, StreamRefused, SecretRefused, TableRefused, EvidenceRefused, NoMemory}
+use Rattle.bar_cli.specs.declared.status.Status.TheVariants.{Done, NoFault, Unbalanced, Usage, FileFailed, LinkFailed, SessionRefused, KeyRefused, OutputFailed, ChildFailed, RecordingRefused, PartiesRefused, StreamRefused, SecretRefused, TableRefused, EvidenceRefused, NoMemory, ProofRefused}
+use Rattle.bar_rules.specs.Judge.Verdict.{Verdict, Shown, NotShown}
+use Rattle.bar_cli.specs.Judging.{status_of_verdict}
+use Rattle.bar_cli.specs.PackPlan.{PackFiles}
+use Rattle.bar_cli.specs.VerifyPlan.{VerifyFiles}
 use Rattle.bar_cli.specs.ReplayPlan.{ReplayFiles}
 use Rattle.bar_cli.specs.KeygenPlan.{Keygen}
 
@@ -100,6 +104,7 @@ replay-statuses names (Ok NoFault) h other = absurd cc
 replay-statuses names (Ok Unbalanced) h other = absurd cc
 replay-statuses names (Ok (TableRefused at)) h other = absurd cc
 replay-statuses names (Ok EvidenceRefused) h other = absurd cc
+replay-statuses names (Ok (ProofRefused fault)) h other = absurd cc
 replay-statuses names (Ok FileFailed) h other = absurd cc
 replay-statuses names (Ok LinkFailed) h other = absurd cc
 replay-statuses names (Ok (SessionRefused fault)) h other = refl
@@ -126,6 +131,7 @@ keygen-statuses asked (Ok NoFault) h other = absurd cc
 keygen-statuses asked (Ok Unbalanced) h other = absurd cc
 keygen-statuses asked (Ok (TableRefused at)) h other = absurd cc
 keygen-statuses asked (Ok EvidenceRefused) h other = absurd cc
+keygen-statuses asked (Ok (ProofRefused fault)) h other = absurd cc
 keygen-statuses asked (Ok FileFailed) h other = absurd cc
 keygen-statuses asked (Ok LinkFailed) h other = absurd cc
 keygen-statuses asked (Ok (SessionRefused fault)) h other = refl
@@ -161,6 +167,7 @@ audit-statuses names (Ok (StreamRefused have room)) h other = absurd cc
 audit-statuses names (Ok (SecretRefused len)) h other = absurd cc
 audit-statuses names (Ok (TableRefused at)) h other = absurd cc
 audit-statuses names (Ok EvidenceRefused) h other = absurd cc
+audit-statuses names (Ok (ProofRefused fault)) h other = absurd cc
 audit-statuses names (Ok ChildFailed) h other = absurd cc
 audit-statuses names (Ok NoMemory) h other = absurd cc
 audit-statuses names (Err File) h other = refl
@@ -187,12 +194,52 @@ judge-statuses names (Ok (StreamRefused have room)) h other = absurd cc
 judge-statuses names (Ok (SecretRefused len)) h other = absurd cc
 judge-statuses names (Ok (TableRefused at)) h other = refl
 judge-statuses names (Ok EvidenceRefused) h other = refl
+judge-statuses names (Ok (ProofRefused fault)) h other = absurd cc
 judge-statuses names (Ok ChildFailed) h other = absurd cc
 judge-statuses names (Ok NoMemory) h other = absurd cc
 judge-statuses names (Err File) h other = refl
 judge-statuses names (Err Link) h other = absurd (other refl)
 judge-statuses names (Err Output) h other = refl
 judge-statuses names (Err WantOfMemory) h other = refl
+
+-- those of `pack` and of `verify`
+
+-- the statuses without a fault are some of them
+proof-status : (status : ℕ) → IsTrue (is_proof_end status) →
+    IsTrue (status == 0 || status == 1 || status == 3 || status == 4 || status == 7 || status == 8 || status == 70)
+proof-status status h = by_tests (status == 0) (status == 1) (status == 3) (status == 4) (status == 7) (status == 8) (status == 70) h
+  where
+    by_tests : (a b c d e f g : Bool) → IsTrue (a || b || d || f) → IsTrue (a || b || c || d || e || f || g)
+    by_tests true b c d e f g h = refl
+    by_tests false true c d e f g h = refl
+    by_tests false false true d e f g h = refl
+    by_tests false false false true e f g h = refl
+    by_tests false false false false true f g h = refl
+    by_tests false false false false false true g h = refl
+    by_tests false false false false false false g h = absurd cc
+
+pub pack-statuses : (names : PackFiles) (ended : Result Status Fault) → IfOk ended (λ status. IsTrue (is_proof_end (code_of status))) →
+    (ended ≡ Err Link → ⊥) → IsTrue (is_status_of (Some (pack names)) (code_of_run ended))
+pack-statuses names (Ok status) h other = proof-status (code_of status) h
+pack-statuses names (Err File) h other = refl
+pack-statuses names (Err Link) h other = absurd (other refl)
+pack-statuses names (Err Output) h other = refl
+pack-statuses names (Err WantOfMemory) h other = refl
+
+pub verify-statuses : (names : VerifyFiles) (ended : Result Status Fault) → IfOk ended (λ status. IsTrue (is_proof_end (code_of status))) →
+    (ended ≡ Err Link → ⊥) → IsTrue (is_status_of (Some (verify names)) (code_of_run ended))
+verify-statuses names (Ok status) h other = proof-status (code_of status) h
+verify-statuses names (Err File) h other = refl
+verify-statuses names (Err Link) h other = absurd (other refl)
+verify-statuses names (Err Output) h other = refl
+verify-statuses names (Err WantOfMemory) h other = refl
+
+-- a verdict that was printed ends so
+pub proof-end : (v : Verdict) (ended : Result Status Fault) → IfOk ended (λ status. code_of status ≡ status_of_verdict v) →
+    IfOk ended (λ status. IsTrue (is_proof_end (code_of status)))
+proof-end (Shown party fault) (Ok status) h = ap is_proof_end h
+proof-end (NotShown why) (Ok status) h = ap is_proof_end h
+proof-end v (Err fault) h = tt
 
 -- those of `simulate`
 pub simulate-statuses : (seed : ℕ) (ended : Result Status Fault) → IfOk ended (λ status. status ≡ Done) → (ended ≡ Err File → ⊥) →
@@ -241,6 +288,8 @@ memory-status (Some (replay names)) = refl
 memory-status (Some (keygen asked)) = refl
 memory-status (Some (audit names)) = refl
 memory-status (Some (judge names)) = refl
+memory-status (Some (pack names)) = refl
+memory-status (Some (verify names)) = refl
 memory-status (Some (session_run names)) = refl
 memory-status (Some (simulate seed)) = refl
 
@@ -269,6 +318,8 @@ no-usage line status h e = at-two line (subst (λ n. IsTrue (is_status_of (Some 
     at-two (keygen asked) h = cc
     at-two (audit names) h = cc
     at-two (judge names) h = cc
+    at-two (pack names) h = cc
+    at-two (verify names) h = cc
     at-two (session_run names) h = cc
     at-two (simulate seed) h = cc
 
@@ -289,6 +340,7 @@ said-at_two (StreamRefused have room) e = absurd (omega arith)
 said-at_two (SecretRefused len) e = absurd (omega arith)
 said-at_two (TableRefused at) e = absurd (omega arith)
 said-at_two EvidenceRefused e = absurd (omega arith)
+said-at_two (ProofRefused fault) e = absurd (omega arith)
 said-at_two ChildFailed e = absurd (omega arith)
 said-at_two NoMemory e = absurd (omega arith)
 
@@ -307,5 +359,7 @@ unprinted-by (Some line) status result P h (inr e) none =
     prints-at_memory (keygen asked) = refl
     prints-at_memory (audit names) = refl
     prints-at_memory (judge names) = refl
+    prints-at_memory (pack names) = refl
+    prints-at_memory (verify names) = refl
     prints-at_memory (session_run names) = refl
     prints-at_memory (simulate seed) = refl

@@ -10,7 +10,8 @@ use Rattle.bar_terms.specs.Table.{Lists}
 use Rattle.bar_roster.specs.declared.fault.SessionFault.{SessionFault}
 use Rattle.bar_roster.specs.SessionText.{SessionData}
 use Rattle.bar_rules.specs.Judge.Verdict.{Verdict}
-use Rattle.bar_cli.specs.Judging.{lists_of, evidence_of, verdict_of, verdict_line, status_of_verdict}
+use Rattle.bar_proof.specs.ProofFile.{evidence_of}
+use Rattle.bar_cli.specs.Judging.{lists_of, verdict_of, verdict_line, status_of_verdict}
 use Rattle.bar_cli.specs.Refusals.{session_refused, table_refused, evidence_refused}
 use Rattle.bar_live.specs.Accepting.{session_of}
 

@@ -18,6 +18,8 @@ use Rattle.bar_cli.specs.ReplayPlan.{ReplayFiles, replay_plan}
 use Rattle.bar_cli.specs.KeygenPlan.{Keygen, keygen_plan, leaves_for}
 use Rattle.bar_cli.specs.AuditPlan.{AuditFiles, audit_plan}
 use Rattle.bar_cli.specs.JudgePlan.{JudgeFiles, judge_plan}
+use Rattle.bar_cli.specs.PackPlan.{PackFiles, pack_plan}
+use Rattle.bar_cli.specs.VerifyPlan.{VerifyFiles, verify_plan}
 use Rattle.bar_cli.specs.SessionPlan.{session_plan}
 use Rattle.bar_cli.specs.SimulatePlan.{simulate_plan}
 use Rattle.bar_cli.specs.Printing.{audit_may_print, judge_may_print, keygen_may_print, live_may_print, replay_may_print, session_may_print, simulate_may_print}
@@ -30,6 +32,8 @@ pub data Line : Type 0 where
   keygen : (asked : Keygen) → Line
   audit : (names : AuditFiles) → Line
   judge : (names : JudgeFiles) → Line
+  pack : (names : PackFiles) → Line
+  verify : (names : VerifyFiles) → Line
   session_run : (names : SessionNames) → Line
   simulate : (seed : ℕ) → Line
 
@@ -132,6 +136,27 @@ judge_files _ = None
 abbrev pub judge_line : List (List ℕ) → Option Line
 judge_line words = option_and_then judge_files (values_of judge_options words)
 
+abbrev pub pack_options : List (List ℕ)
+pack_options = codes "session" ∷ codes "table" ∷ codes "evidence" ∷ codes "proof" ∷ []
+
+abbrev pub pack_files : List (List ℕ) → Option Line
+pack_files (session ∷ table ∷ evidence ∷ proof ∷ []) =
+    Some (pack (record { session = session; table = table; evidence = evidence; proof = proof }))
+pack_files _ = None
+
+abbrev pub pack_line : List (List ℕ) → Option Line
+pack_line words = option_and_then pack_files (values_of pack_options words)
+
+abbrev pub verify_options : List (List ℕ)
+verify_options = codes "session" ∷ codes "proof" ∷ []
+
+abbrev pub verify_files : List (List ℕ) → Option Line
+verify_files (session ∷ proof ∷ []) = Some (verify (record { session = session; proof = proof }))
+verify_files _ = None
+
+abbrev pub verify_line : List (List ℕ) → Option Line
+verify_line words = option_and_then verify_files (values_of verify_options words)
+
 abbrev pub session_options : List (List ℕ)
 session_options = codes "session" ∷ codes "keys" ∷ codes "stream" ∷ codes "begin" ∷ codes "results" ∷ codes "program" ∷ []
 
@@ -168,6 +193,8 @@ line_of (name ∷ options) =
     else if bytes_eq name (codes "hsskeygen") then hsskeygen_line options
     else if bytes_eq name (codes "audit") then audit_line options
     else if bytes_eq name (codes "judge") then judge_line options
+    else if bytes_eq name (codes "pack") then pack_line options
+    else if bytes_eq name (codes "verify") then verify_line options
     else if bytes_eq name (codes "session") then session_line options
     else if bytes_eq name (codes "simulate") then simulate_line options
     else None
@@ -184,6 +211,8 @@ plan_of (Some (replay names)) given = replay_plan names
 plan_of (Some (keygen asked)) given = keygen_plan asked
 plan_of (Some (audit names)) given = audit_plan names
 plan_of (Some (judge names)) given = judge_plan names
+plan_of (Some (pack names)) given = pack_plan names
+plan_of (Some (verify names)) given = verify_plan names
 plan_of (Some (session_run names)) given = session_plan names
 plan_of (Some (simulate seed)) given = simulate_plan seed
 
@@ -196,6 +225,8 @@ has_plan (Some (replay names)) = true
 has_plan (Some (keygen asked)) = true
 has_plan (Some (audit names)) = true
 has_plan (Some (judge names)) = true
+has_plan (Some (pack names)) = true
+has_plan (Some (verify names)) = true
 has_plan (Some (session_run names)) = false
 has_plan (Some (simulate seed)) = true
 
@@ -213,6 +244,10 @@ is_status_of (Some (audit names)) status =
     status == 0 || status == 1 || status == 3 || status == 4 || status == 7 || status == 8 || status == 70
 is_status_of (Some (judge names)) status =
     status == 0 || status == 1 || status == 3 || status == 4 || status == 7 || status == 8 || status == 70
+is_status_of (Some (pack names)) status =
+    status == 0 || status == 1 || status == 3 || status == 4 || status == 7 || status == 8 || status == 70
+is_status_of (Some (verify names)) status =
+    status == 0 || status == 1 || status == 3 || status == 4 || status == 7 || status == 8 || status == 70
 is_status_of (Some (session_run names)) status =
     status == 0 || status == 3 || status == 4 || status == 7 || status == 9 || status == 70
 is_status_of (Some (simulate seed)) status = status == 0 || status == 7 || status == 70
@@ -226,6 +261,8 @@ may_print (Some (replay names)) status = replay_may_print status
 may_print (Some (keygen asked)) status = keygen_may_print status
 may_print (Some (audit names)) status = audit_may_print status
 may_print (Some (judge names)) status = judge_may_print status
+may_print (Some (pack names)) status = judge_may_print status
+may_print (Some (verify names)) status = judge_may_print status
 may_print (Some (session_run names)) status = session_may_print status
 may_print (Some (simulate seed)) status = simulate_may_print status
 
@@ -238,6 +275,8 @@ uses_link (Some (replay names)) = false
 uses_link (Some (keygen asked)) = false
 uses_link (Some (audit names)) = false
 uses_link (Some (judge names)) = false
+uses_link (Some (pack names)) = false
+uses_link (Some (verify names)) = false
 uses_link (Some (session_run names)) = false
 uses_link (Some (simulate seed)) = false
 
@@ -250,6 +289,8 @@ starts_children (Some (replay names)) = false
 starts_children (Some (keygen asked)) = false
 starts_children (Some (audit names)) = false
 starts_children (Some (judge names)) = false
+starts_children (Some (pack names)) = false
+starts_children (Some (verify names)) = false
 starts_children (Some (session_run names)) = true
 starts_children (Some (simulate seed)) = false
 
@@ -262,5 +303,7 @@ reads_nothing (Some (replay names)) = false
 reads_nothing (Some (keygen asked)) = is_err (leaves_for asked)
 reads_nothing (Some (audit names)) = false
 reads_nothing (Some (judge names)) = false
+reads_nothing (Some (pack names)) = false
+reads_nothing (Some (verify names)) = false
 reads_nothing (Some (session_run names)) = false
 reads_nothing (Some (simulate seed)) = true

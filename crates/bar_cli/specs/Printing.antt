@@ -25,6 +25,6 @@ simulate_may_print status = status == 0 || status == 7 || status == 70
 abbrev pub audit_may_print : ℕ → Bool
 audit_may_print status = status == 0 || status == 1 || status == 7 || status == 70
 
--- `judge` prints its verdict
+-- `judge` and `verify` print their verdict, and `pack` how long its file is or why there is none
 abbrev pub judge_may_print : ℕ → Bool
 judge_may_print status = status == 0 || status == 1 || status == 7 || status == 70

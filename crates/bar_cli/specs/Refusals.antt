@@ -3,6 +3,8 @@ use Rattle.std.specs.Prelude.{ℕ, List, [], ◌∷◌, ◌++◌, codes}
 use Rattle.std.specs.Fmt.{decimal}
 use Rattle.bar_record.specs.declared.fault.RecordFault.{RecordFault}
 use Rattle.bar_record.specs.declared.fault.RecordFault.TheVariants.{BadHead, BadEntry, NoEnd, AfterEnd, AfterLast}
+use Rattle.bar_proof.specs.declared.proof_fault.ProofFault.{ProofFault}
+use Rattle.bar_proof.specs.declared.proof_fault.ProofFault.TheVariants as proof
 pub use Rattle.bar_live.specs.Refusals.{session_refused, key_refused, stream_refused}
 
 -- the fault of a recording, with its place where it has one
@@ -28,6 +30,17 @@ table_refused at = codes "bar: input refused: table at " ++ (decimal at ++ codes
 -- an evidence file is refused
 abbrev pub evidence_refused : List ℕ
 evidence_refused = codes "bar: input refused: evidence" ++ 10 ∷ []
+
+-- the fault of a proof file, with its place where it has one
+abbrev pub proof_fault_text : ProofFault → List ℕ
+proof_fault_text proof.BadHead = codes "BadHead"
+proof_fault_text (proof.BadManifest at) = codes "manifest at " ++ decimal at
+proof_fault_text proof.BadEvidence = codes "evidence"
+proof_fault_text proof.NoMemory = codes "NoMemory"
+
+-- a proof file is refused
+abbrev pub proof_refused : ProofFault → List ℕ
+proof_refused fault = codes "bar: input refused: proof " ++ (proof_fault_text fault ++ codes "\n")
 
 -- a secret of so many bytes is refused
 abbrev pub secret_refused : ℕ → List ℕ

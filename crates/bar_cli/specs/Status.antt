@@ -1,13 +1,13 @@
 -- The exit statuses, and the line of each.
-use Rattle.std.specs.Prelude.{ℕ, Bool, true, false, List, [], Result, Ok, Err}
+use Rattle.std.specs.Prelude.{ℕ, ◌==◌, ◌||◌, Bool, true, false, List, [], Result, Ok, Err}
 use Rattle.bar_outside.specs.Plan as plan
 use Rattle.bar_outside.specs.Faults.{code_of_fault, line_of_fault}
 use Rattle.bar_outside.specs.declared.fault.Fault.{Fault}
 use Rattle.bar_cli.specs.declared.status.Status.{Status}
-use Rattle.bar_cli.specs.declared.status.Status.TheVariants.{Done, NoFault, Unbalanced, Usage, FileFailed, LinkFailed, SessionRefused, KeyRefused, OutputFailed, ChildFailed, RecordingRefused, PartiesRefused, StreamRefused, SecretRefused, TableRefused, EvidenceRefused, NoMemory}
+use Rattle.bar_cli.specs.declared.status.Status.TheVariants.{Done, NoFault, Unbalanced, Usage, FileFailed, LinkFailed, SessionRefused, KeyRefused, OutputFailed, ChildFailed, RecordingRefused, PartiesRefused, StreamRefused, SecretRefused, TableRefused, EvidenceRefused, NoMemory, ProofRefused}
 use Rattle.bar_cli.specs.Line.{usage}
 use Rattle.bar_cli.specs.SessionPlan.{child_failed}
-use Rattle.bar_cli.specs.Refusals.{session_refused, key_refused, recording_refused, parties_refused, stream_refused, secret_refused, table_refused, evidence_refused}
+use Rattle.bar_cli.specs.Refusals.{session_refused, key_refused, recording_refused, parties_refused, stream_refused, secret_refused, table_refused, evidence_refused, proof_refused}
 
 abbrev pub code_of : Status → ℕ
 code_of Done = 0
@@ -25,6 +25,7 @@ code_of (StreamRefused have room) = 8
 code_of (SecretRefused len) = 8
 code_of (TableRefused at) = 8
 code_of EvidenceRefused = 8
+code_of (ProofRefused fault) = 8
 code_of ChildFailed = 9
 code_of NoMemory = 70
 
@@ -45,6 +46,7 @@ said_at (StreamRefused have room) = stream_refused have room
 said_at (SecretRefused len) = secret_refused len
 said_at (TableRefused at) = table_refused at
 said_at EvidenceRefused = evidence_refused
+said_at (ProofRefused fault) = proof_refused fault
 said_at ChildFailed = child_failed
 said_at NoMemory = plan.no_memory
 
@@ -74,6 +76,7 @@ is_replay_end NoFault = false
 is_replay_end Unbalanced = false
 is_replay_end (TableRefused at) = false
 is_replay_end EvidenceRefused = false
+is_replay_end (ProofRefused fault) = false
 is_replay_end ChildFailed = false
 is_replay_end NoMemory = false
 
@@ -90,6 +93,7 @@ is_keygen_end NoFault = false
 is_keygen_end Unbalanced = false
 is_keygen_end (TableRefused at) = false
 is_keygen_end EvidenceRefused = false
+is_keygen_end (ProofRefused fault) = false
 is_keygen_end Usage = false
 is_keygen_end FileFailed = false
 is_keygen_end LinkFailed = false
@@ -110,6 +114,7 @@ is_audit_end (StreamRefused have room) = false
 is_audit_end (SecretRefused len) = false
 is_audit_end (TableRefused at) = false
 is_audit_end EvidenceRefused = false
+is_audit_end (ProofRefused fault) = false
 is_audit_end Usage = false
 is_audit_end FileFailed = false
 is_audit_end LinkFailed = false
@@ -125,6 +130,7 @@ is_judge_end Unbalanced = false
 is_judge_end (SessionRefused fault) = true
 is_judge_end (TableRefused at) = true
 is_judge_end EvidenceRefused = true
+is_judge_end (ProofRefused fault) = false
 is_judge_end (KeyRefused fault) = false
 is_judge_end (RecordingRefused fault) = false
 is_judge_end PartiesRefused = false
@@ -136,3 +142,7 @@ is_judge_end LinkFailed = false
 is_judge_end OutputFailed = false
 is_judge_end ChildFailed = false
 is_judge_end NoMemory = false
+
+-- the statuses of `pack` and of `verify` where no fault stops them
+abbrev pub is_proof_end : ℕ → Bool
+is_proof_end status = status == 0 || status == 1 || status == 4 || status == 8

@@ -9,13 +9,17 @@ use Rattle.bar_cli.specs.declared.replay_names.ReplayNames.{ReplayNames}
 use Rattle.bar_cli.specs.declared.keygen_words.KeygenWords.{KeygenWords}
 use Rattle.bar_cli.specs.declared.audit_names.AuditNames.{AuditNames}
 use Rattle.bar_cli.specs.declared.judge_names.JudgeNames.{JudgeNames}
+use Rattle.bar_cli.specs.declared.pack_names.PackNames.{PackNames}
+use Rattle.bar_cli.specs.declared.verify_names.VerifyNames.{VerifyNames}
 use Rattle.bar_cli.specs.declared.line.Command.{Command}
-use Rattle.bar_cli.specs.declared.line.Command.TheVariants.{Peer, Broadcaster, Replay, Keygen, Audit, Judge, Session, Simulate}
+use Rattle.bar_cli.specs.declared.line.Command.TheVariants.{Peer, Broadcaster, Replay, Keygen, Audit, Judge, Session, Simulate, Pack, Verify}
 use Rattle.bar_cli.specs.ReplayPlan.{ReplayFiles}
 use Rattle.bar_cli.specs.KeygenPlan as plan
 use Rattle.bar_cli.specs.AuditPlan.{AuditFiles}
 use Rattle.bar_cli.specs.JudgePlan.{JudgeFiles}
-use Rattle.bar_cli.specs.Line.{Line, peer, broadcaster, replay, keygen, audit, judge, session_run, simulate}
+use Rattle.bar_cli.specs.Line.{Line, peer, broadcaster, replay, keygen, audit, judge, session_run, simulate, pack, verify}
+use Rattle.bar_cli.specs.PackPlan.{PackFiles}
+use Rattle.bar_cli.specs.VerifyPlan.{VerifyFiles}
 
 abbrev pub names_view : ReplayNames → ReplayFiles
 names_view names =
@@ -46,6 +50,18 @@ audit_view names =
 abbrev pub judge_view : JudgeNames → JudgeFiles
 judge_view names = record { session = names.session.now; table = names.table.now; evidence = names.evidence.now }
 
+abbrev pub packing_view : PackNames → PackFiles
+packing_view names =
+    record {
+      session = names.session.now;
+      table = names.table.now;
+      evidence = names.evidence.now;
+      proof = names.proof.now;
+    }
+
+abbrev pub verify_view : VerifyNames → VerifyFiles
+verify_view names = record { session = names.session.now; proof = names.proof.now }
+
 abbrev pub peer_view : PeerNames → Line
 peer_view names = peer (live.peer_view names)
 
@@ -64,6 +80,12 @@ audited_view names = audit (audit_view names)
 abbrev pub judged_view : JudgeNames → Line
 judged_view names = judge (judge_view names)
 
+abbrev pub packed_view : PackNames → Line
+packed_view names = pack (packing_view names)
+
+abbrev pub verified_view : VerifyNames → Line
+verified_view names = verify (verify_view names)
+
 abbrev pub session_view : SessionNames → Line
 session_view names = session_run (children.names_view names)
 
@@ -77,5 +99,7 @@ command_view (Replay names) = replay_view names
 command_view (Keygen asked) = asked_view asked
 command_view (Audit names) = audited_view names
 command_view (Judge names) = judged_view names
+command_view (Pack names) = packed_view names
+command_view (Verify names) = verified_view names
 command_view (Session names) = session_view names
 command_view (Simulate seed) = seed_view seed

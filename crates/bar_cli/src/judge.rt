@@ -14,11 +14,12 @@ ghost use Rattle.bar_cli.specs.Status.{code_of, code_of_run, said_at, said_by_ru
 ghost use Rattle.bar_cli.specs.Views.{judge_view};
 
 use crate::judge_names::JudgeNames;
-use crate::judging::{judge_evidence, read_evidence, read_lists};
+use crate::judging::{judge_evidence, read_lists};
 use crate::status::Status;
 use bar_judge::{TableFault, Verdict};
 use bar_live::read_session;
 use bar_outside::{Fault, Files, Sink, read_file, show_bytes};
+use bar_proof::read_evidence;
 use bar_roster::{Session, SessionFault};
 use bar_terms::Table;
 use bar_wire::EvidenceView;
@@ -90,11 +91,16 @@ fn judge_table<F: Files, K: Sink>(
     say_verdict(alloc, &judge_evidence(session, table, &evidence), out)
 }
 
-// Prints the line of a verdict.
-fn say_verdict<K: Sink>(alloc: Global, verdict: &Verdict, out: &mut K) -> Result<Status, Fault>
+/// Prints the line of a verdict.
+pub(crate) fn say_verdict<K: Sink>(
+    alloc: Global,
+    verdict: &Verdict,
+    out: &mut K,
+) -> Result<Status, Fault>
     ensures ends { (w : Outside) → EndsWith (saying_plan (plain_verdict verdict.now))
         (with_out w (K.stream out.old)) (with_out w (K.stream out.new)) (code_of_run result) (said_by_run result) }
     ensures answers { IfOk result (λ status. IsTrue (is_judge_end status)) }
+    ensures code { IfOk result (λ status. code_of status ≡ status_of_verdict (plain_verdict verdict.now)) }
     ensures unprinted { judge_may_print (code_of_run result) ≡ false → K.stream out.new ≡ K.stream out.old }
 {
     let line = line_of(alloc, verdict)?;

@@ -1,5 +1,5 @@
-//! What a table file and an evidence file say, and the verdict on them, with a count of steps that nobody reads.
-ghost use Rattle.std.specs.Prelude.{◌≡◌, ◌⊎◌, ◌<◌, Err, IfOk, IfErr, option_map};
+//! What a table file says, and the verdict on evidence, with a count of steps that nobody reads.
+ghost use Rattle.std.specs.Prelude.{◌≡◌, ◌⊎◌, ◌<◌, Err, IfOk, IfErr};
 ghost use Rattle.bar_terms.specs.Table.{digests_of};
 ghost use Rattle.bar_wire.specs.Evidence.{datagrams_of};
 ghost use Rattle.bar_rules.specs.Judge.Verdict.{verdict};
@@ -7,14 +7,14 @@ ghost use Rattle.bar_rules.specs.Verifiers.{IsVerifierOf, NamesLeavesOf};
 ghost use Rattle.bar_hss.specs.Chosen.{accepted_with, leaf_with, length_with};
 ghost use Rattle.bar_judge.specs.TableFile.{HasLists, table_of};
 ghost use Rattle.bar_judge.specs.Verdicts.{plain_verdict};
-ghost use Rattle.bar_cli.specs.Judging.{IsTableOf, evidence_of, lists_of, place_of};
+ghost use Rattle.bar_cli.specs.Judging.{IsTableOf, lists_of, place_of};
 
 use bar_bytes::Steps;
 use bar_hss::SessionVerifier;
 use bar_judge::{TableFault, Verdict, read_table, verdict};
 use bar_roster::Session;
 use bar_terms::Table;
-use bar_wire::{EvidenceView, split_evidence};
+use bar_wire::EvidenceView;
 use std::alloc::Global;
 use std::marker::Brand;
 use std::sync::ledger::{Blank, Ledger};
@@ -50,15 +50,8 @@ pub fn read_lists(alloc: Global, bytes: &[u8], session: &Session) -> Result<Tabl
     read_counted::<Brand>(alloc, bytes, session, Blank::new(1))
 }
 
-/// The datagrams of an evidence file.
-pub fn read_evidence(bytes: &[u8]) -> Option<EvidenceView<'_>>
-    ensures { option_map datagrams_of result ≡ evidence_of bytes.now }
-{
-    split_evidence(bytes).ok()
-}
-
 /// The verifier of a session's signatures.
-pub fn verifier_of(session: &Session) -> SessionVerifier
+pub(crate) fn verifier_of(session: &Session) -> SessionVerifier
     ensures verifies { IsVerifierOf session.now (accepted_with result) }
     ensures names { NamesLeavesOf session.now (leaf_with result) (length_with result) }
 {

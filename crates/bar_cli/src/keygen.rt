@@ -1,8 +1,6 @@
 //! The commands `keygen` and `hsskeygen`.
 ghost use Rattle.std.specs.Prelude.{◌≡◌, ◌≢◌, ◌↔◌, ◌++◌, ◌∷◌, ℕ, List, Ok, Err, [], Some, None, false, length, IfOk, IfSome, IsTrue, option_map, string_bytes};
 ghost use Rattle.bar_outside.specs.Plan.{Outside, with_files, with_out};
-ghost use Rattle.bar_outside.specs.Plan.Action.{create, append, show};
-ghost use Rattle.bar_outside.specs.Follows.{Follows};
 ghost use Rattle.bar_outside.specs.Ends.{EndsWith};
 ghost use Rattle.bar_lms.specs.Params.{lms_type};
 ghost use Rattle.bar_roster.specs.KeyText.{key_text_of};
@@ -12,22 +10,14 @@ ghost use Rattle.bar_cli.specs.Status.{code_of_run, said_by_run, is_keygen_end};
 ghost use Rattle.bar_cli.specs.Views.{keygen_view};
 
 use crate::keygen_words::KeygenWords;
+use crate::making::{Made, make_file};
 use crate::status::Status;
 use bar_hss::HssKey;
 use bar_lms::{Height, Params, SecretKey};
-use bar_outside::{Fault, Files, Sink, append_file, create_file, read_file, show_bytes};
+use bar_outside::{Fault, Files, Sink, read_file};
 use bar_roster::{KeyData, SessionFault, check_leaves, leaves_of};
 use bar_seeds::SeedChain;
 use std::alloc::{AllocError, Global};
-
-/// What is written and printed of a key.
-#[derive(Drop)]
-struct MadeKey {
-    /// The text of the key file.
-    text: Vec<u8>,
-    /// What a session's text says of the party.
-    lines: String,
-}
 
 /// Refuses too few leaves, and goes on.
 pub fn keygen<F: Files, K: Sink>(
@@ -77,7 +67,7 @@ fn keygen_by_secret<F: Files, K: Sink>(
         return Ok(Status::SecretRefused(bytes.len()));
     };
     let made = made_key(alloc, asked, &secret)?;
-    write_key(&made, asked.key, files, out)?;
+    make_file(&made, asked.key, files, out)?;
     Ok(Status::Done)
 }
 
@@ -87,24 +77,6 @@ fn secret_of(bytes: &[u8]) -> Option<[u8; 32]>
     ensures none { result ≡ None → secret_of bytes.now ≡ Err (length bytes.now) }
 {
     <[u8; 32]>::try_from(bytes).ok()
-}
-
-// Creates and writes the key file, and prints the lines.
-fn write_key<F: Files, K: Sink>(
-    made: &MadeKey,
-    key: &str,
-    files: &mut F,
-    out: &mut K,
-) -> Result<(), Fault>
-    ensures unprinted { result ≡ Err Fault.File → K.stream out.new ≡ K.stream out.old }
-    ensures follows { (w : Outside) →
-        Follows (create key.now ∷ append key.now made.now.text.items ∷ show (string_bytes made.now.lines) ∷ [])
-        (with_out (with_files w (F.disk files.old)) (K.stream out.old))
-        (with_out (with_files w (F.disk files.new)) (K.stream out.new)) result }
-{
-    create_file(files, key)?;
-    append_file(files, key, &made.text)?;
-    show_bytes(out, made.lines.as_bytes())
 }
 
 // The LMS type of the upper tree, where there is one.
@@ -134,18 +106,18 @@ fn key_made(asked: &KeygenWords<'_>, secret: &[u8; 32]) -> KeyData
     }
 }
 
-// The key of a secret.
+// What is written and printed of the key of a secret: the text of the key file, and what a session's text says of the party.
 fn made_key(
     alloc: Global,
     asked: &KeygenWords<'_>,
     secret: &[u8; 32],
-) -> Result<MadeKey, AllocError>
-    ensures text { IfOk result (λ made. made.text.items ≡ key_text_of (key_made (keygen_view asked.now) secret.now)) }
+) -> Result<Made, AllocError>
+    ensures text { IfOk result (λ made. made.bytes.items ≡ key_text_of (key_made (keygen_view asked.now) secret.now)) }
     ensures lines { IfOk result (λ made. string_bytes made.lines ≡ lines_of (keygen_view asked.now) secret.now) }
 {
-    let text = key_made(asked, secret).text(alloc)?;
+    let bytes = key_made(asked, secret).text(alloc)?;
     let lines = lines_of(alloc, asked, secret)?;
-    Ok(MadeKey { text, lines })
+    Ok(Made { bytes, lines })
 }
 
 // The line of the public key, and for a peer that of the anchor.

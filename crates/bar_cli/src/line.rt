@@ -3,16 +3,18 @@ ghost use Rattle.std.specs.Prelude.{◌≡◌, ◌≤◌, Some, None, Err, IfOk,
 ghost use Rattle.std.specs.Option.{option_map};
 ghost use Rattle.bar_words.specs.Options.{texts};
 ghost use Rattle.bar_words.specs.declared.options.WordsFault.TheVariants.{Usage};
-ghost use Rattle.bar_cli.specs.Line.{audit_line, audit_values, broadcaster_line, broadcaster_values, asked_by, hsskeygen_line, hsskeygen_values, judge_files, judge_line, keygen_line, keygen_values, line_of, peer_line, peer_values, replay_files, replay_line, session_line, session_values, simulate_line, simulate_values};
+ghost use Rattle.bar_cli.specs.Line.{audit_line, audit_values, broadcaster_line, broadcaster_values, asked_by, hsskeygen_line, hsskeygen_values, judge_files, judge_line, keygen_line, keygen_values, line_of, peer_line, peer_values, replay_files, replay_line, session_line, session_values, simulate_line, simulate_values, pack_files, pack_line, verify_files, verify_line};
 ghost use Rattle.bar_cli.specs.Words.{types_view};
 ghost use Rattle.bar_roster.specs.NumberRanges.{most_long_rounds};
-ghost use Rattle.bar_cli.specs.Views.{asked_view, audited_view, broadcaster_view, command_view, judged_view, peer_view, replay_view, seed_view, session_view};
+ghost use Rattle.bar_cli.specs.Views.{asked_view, audited_view, broadcaster_view, command_view, judged_view, peer_view, replay_view, seed_view, session_view, packed_view, verified_view};
 
 use crate::audit_names::AuditNames;
 use crate::judge_names::JudgeNames;
 use crate::key_types::KeyTypes;
 use crate::keygen_words::KeygenWords;
+use crate::pack_names::PackNames;
 use crate::replay_names::ReplayNames;
+use crate::verify_names::VerifyNames;
 use crate::words::{levels_of, types_of};
 use bar_children::SessionNames;
 use bar_live::{CasterNames, PeerNames};
@@ -30,6 +32,8 @@ pub enum Command<'a> {
     Keygen(KeygenWords<'a>),
     Audit(AuditNames<'a>),
     Judge(JudgeNames<'a>),
+    Pack(PackNames<'a>),
+    Verify(VerifyNames<'a>),
     Session(SessionNames<'a>),
     /// The simulation of a seed.
     Simulate(u64),
@@ -48,6 +52,10 @@ const HSSKEYGEN_OPTIONS: [&str; 7] = ["party", "id", "rounds", "top", "ots", "se
 const AUDIT_OPTIONS: [&str; 4] = ["session", "results", "first", "last"];
 
 const JUDGE_OPTIONS: [&str; 3] = ["session", "table", "evidence"];
+
+const PACK_OPTIONS: [&str; 4] = ["session", "table", "evidence", "proof"];
+
+const VERIFY_OPTIONS: [&str; 2] = ["session", "proof"];
 
 const SIMULATE_OPTIONS: [&str; 1] = ["seed"];
 
@@ -73,6 +81,8 @@ pub fn command_of(alloc: Global, words: &[String]) -> Result<Command<'_>, WordsF
         "hsskeygen" => Ok(Command::Keygen(hsskeygen_words(alloc, options)?)),
         "audit" => Ok(Command::Audit(audit_words(alloc, options)?)),
         "judge" => Ok(Command::Judge(judge_words(alloc, options)?)),
+        "pack" => Ok(Command::Pack(pack_words(alloc, options)?)),
+        "verify" => Ok(Command::Verify(verify_words(alloc, options)?)),
         "session" => Ok(Command::Session(session_words(alloc, options)?)),
         "simulate" => Ok(Command::Simulate(simulate_words(alloc, options)?)),
         _ => Err(WordsFault::Usage),
@@ -274,6 +284,47 @@ fn judge_words(alloc: Global, words: &[String]) -> Result<JudgeNames<'_>, WordsF
 {
     let values = option_values(alloc, &JUDGE_OPTIONS, words)?;
     judge_of(&values).ok_or(WordsFault::Usage)
+}
+
+/// The files of `pack`, from the values of its options.
+fn pack_of<'a>(values: &[&'a str]) -> Option<PackNames<'a>>
+    ensures { option_map packed_view result ≡ pack_files (texts values.now) }
+{
+    let [session, table, evidence, proof] = *values else {
+        return None;
+    };
+    Some(PackNames {
+        session,
+        table,
+        evidence,
+        proof,
+    })
+}
+
+fn pack_words(alloc: Global, words: &[String]) -> Result<PackNames<'_>, WordsFault>
+    ensures line { IfOk result (λ names. pack_line (map string_bytes words.now) ≡ Some (packed_view names)) }
+    ensures usage { result ≡ Err Usage → pack_line (map string_bytes words.now) ≡ None }
+{
+    let values = option_values(alloc, &PACK_OPTIONS, words)?;
+    pack_of(&values).ok_or(WordsFault::Usage)
+}
+
+/// The files of `verify`, from the values of its options.
+fn verify_of<'a>(values: &[&'a str]) -> Option<VerifyNames<'a>>
+    ensures { option_map verified_view result ≡ verify_files (texts values.now) }
+{
+    let [session, proof] = *values else {
+        return None;
+    };
+    Some(VerifyNames { session, proof })
+}
+
+fn verify_words(alloc: Global, words: &[String]) -> Result<VerifyNames<'_>, WordsFault>
+    ensures line { IfOk result (λ names. verify_line (map string_bytes words.now) ≡ Some (verified_view names)) }
+    ensures usage { result ≡ Err Usage → verify_line (map string_bytes words.now) ≡ None }
+{
+    let values = option_values(alloc, &VERIFY_OPTIONS, words)?;
+    verify_of(&values).ok_or(WordsFault::Usage)
 }
 
 /// What a session is made of, from the values of its options. The time is handed on as its word.

@@ -20,6 +20,8 @@ ghost use Rattle.bar_cli.specs.KeygenPlan.{HasFewLeaves, Keygen, KeyMade};
 ghost use Rattle.bar_cli.specs.AuditPlan.{AuditFiles};
 ghost use Rattle.bar_cli.specs.Audited.{AuditStays, HasAudited};
 ghost use Rattle.bar_cli.specs.JudgePlan.{HasJudged, JudgeFiles};
+ghost use Rattle.bar_cli.specs.PackPlan.{PackFiles, PackStands};
+ghost use Rattle.bar_cli.specs.VerifyPlan.{VerifyFiles, VerifyStands};
 ghost use Rattle.bar_outside.specs.Stages.{HasShown};
 ghost use Rattle.bar_world.specs.Ends.{sim_end};
 ghost use Rattle.bar_cli.specs.SimulatePlan.{simulation_text};
@@ -31,10 +33,12 @@ use crate::judge::judge;
 use crate::keygen::keygen;
 use crate::laws::a_replay_keeps_the_rules;
 use crate::line::{Command, command_of};
+use crate::pack::pack;
 use crate::replay::replay;
 use crate::session::session;
 use crate::simulating::simulate_seed;
 use crate::status::{Status, report, status_of, status_of_live};
+use crate::verify::verify;
 use bar_laws::balance::balanced;
 use bar_laws::evidence::{bad_keys_leave_evidence, kept_evidence_is_shown};
 use bar_laws::framing::no_framing;
@@ -47,6 +51,7 @@ use bar_live::{
 };
 use bar_outside::{Files, Link, Sink, Spawner, plans_go_in_order};
 use bar_peer::rules_give_the_run;
+use bar_proof::laws::what_is_shown_is_packed;
 use bar_roster::laws::{accepted_secrets_are_held, accepted_sessions_are_in_range};
 use bar_words::WordsFault;
 use bar_world::laws::honest_peers_stay;
@@ -225,6 +230,20 @@ pub fn bar_run<F: Files, L: Link, K: Sink, S: Spawner>(
     // whatever its status, a judge changes no file
     ensures only_reads { (names : JudgeFiles) → line_of (map string_bytes words.now) ≡ Some (line.judge names) →
         IsTrue (F.disk files.old).told → (F.disk files.new).content ≡ (F.disk files.old).content }
+
+    // whatever its status, `pack` stands so: at 0 the proof file has exactly what is packed and its length was printed, at 1 the reason was
+    // printed why nothing is shown, and no file but the proof file is changed, and it only where a fault is shown
+    ensures packed { (names : PackFiles) → line_of (map string_bytes words.now) ≡ Some (line.pack names) →
+        IsTrue (F.disk files.old).told → PackStands names
+        (outside (F.disk files.old) (K.stream out.old) (L.wire link.old))
+        (outside (F.disk files.new) (K.stream out.new) (L.wire link.new)) result }
+
+    // whatever its status, `verify` stands so: at 0 and at 1 it has printed the line of the rules' verdict on the proof file under its own
+    // table, which says a fault at 0 and none at 1, and no file is changed
+    ensures verified { (names : VerifyFiles) → line_of (map string_bytes words.now) ≡ Some (line.verify names) →
+        IsTrue (F.disk files.old).told → VerifyStands names
+        (outside (F.disk files.old) (K.stream out.old) (L.wire link.old))
+        (outside (F.disk files.new) (K.stream out.new) (L.wire link.new)) result }
 {
     a_bound_broadcaster_has_spent_its_key();
     a_bound_peer_has_spent_its_key();
@@ -248,6 +267,7 @@ pub fn bar_run<F: Files, L: Link, K: Sink, S: Spawner>(
     plans_go_in_order();
     rules_give_the_run();
     signed_by_rule();
+    what_is_shown_is_packed();
     let status = run_words(alloc, words, files, link, out, spawn);
     report(alloc, &status, err)
 }
@@ -319,6 +339,8 @@ fn run_command<F: Files, L: Link, K: Sink, S: Spawner>(
         Command::Keygen(asked) => status_of(keygen(alloc, asked, files, out)),
         Command::Audit(names) => status_of(audit(alloc, names, files, out)),
         Command::Judge(names) => status_of(judge(alloc, names, files, out)),
+        Command::Pack(names) => status_of(pack(alloc, names, files, out)),
+        Command::Verify(names) => status_of(verify(alloc, names, files, out)),
         Command::Session(names) => status_of(session(alloc, names, files, out, spawn)),
         Command::Simulate(seed) => status_of(simulate_seed(alloc, *seed, out)),
     }

@@ -1,7 +1,7 @@
 //! How the program ends, and what it says of it.
 ghost use Rattle.std.specs.Prelude.{◌≡◌, ◌⊎◌, ℕ, List, IfOk, Err, string_bytes};
 ghost use Rattle.bar_outside.specs.Ends.{Prints};
-ghost use Rattle.bar_cli.specs.Refusals.{session_refused, key_refused, record_fault_text, recording_refused, stream_refused, secret_refused, table_refused};
+ghost use Rattle.bar_cli.specs.Refusals.{session_refused, key_refused, record_fault_text, recording_refused, stream_refused, proof_fault_text, proof_refused, secret_refused, table_refused};
 ghost use Rattle.bar_live.specs.Views.{code_of as live_code_of, said_at as live_said_at, code_of_run as live_code_of_run, said_by_run as live_said_by_run};
 ghost use Rattle.bar_children.specs.Outcomes.{code_of as outcome_code};
 ghost use Rattle.bar_cli.specs.SessionPlan.{line_of_end};
@@ -10,6 +10,7 @@ ghost use Rattle.bar_cli.specs.Status.{code_of, said_at, code_of_run, said_by_ru
 use bar_children::Outcome;
 use bar_live::Ended;
 use bar_outside::{Fault, Sink, SinkFault};
+use bar_proof::ProofFault;
 use bar_record::RecordFault;
 use bar_roster::{KeyFileFault, SessionFault};
 use std::alloc::{AllocError, Global};
@@ -22,7 +23,7 @@ const NO_MEMORY: u8 = 70;
 pub enum Status {
     /// The command was done.
     Done,
-    /// The judge finds no fault.
+    /// `judge`, `pack` or `verify` finds no fault.
     NoFault,
     /// An audited exchange isn't balanced.
     Unbalanced,
@@ -44,6 +45,7 @@ pub enum Status {
     /// The table has a bad entry at this place.
     TableRefused(u64),
     EvidenceRefused,
+    ProofRefused(ProofFault),
     /// A child wasn't started or waited for, or ended with another status than 0.
     ChildFailed,
     NoMemory,
@@ -70,6 +72,7 @@ impl Status {
             Status::SecretRefused(_) => 8,
             Status::TableRefused(_) => 8,
             Status::EvidenceRefused => 8,
+            Status::ProofRefused(_) => 8,
             Status::ChildFailed => 9,
             Status::NoMemory => NO_MEMORY,
         }
@@ -214,6 +217,25 @@ fn table_refusal(alloc: Global, at: u64) -> Result<String, AllocError>
     format!(in alloc; "bar: input refused: table at {at}\n")
 }
 
+/// The fault of a proof file, with its place where it has one.
+fn proof_fault_text(alloc: Global, fault: ProofFault) -> Result<String, AllocError>
+    ensures { IfOk result (λ text. string_bytes text ≡ proof_fault_text fault) }
+{
+    match fault {
+        ProofFault::BadHead => String::from_str(alloc, "BadHead"),
+        ProofFault::BadManifest { at } => format!(in alloc; "manifest at {at}"),
+        ProofFault::BadEvidence => String::from_str(alloc, "evidence"),
+        ProofFault::NoMemory => String::from_str(alloc, "NoMemory"),
+    }
+}
+
+fn proof_refusal(alloc: Global, fault: ProofFault) -> Result<String, AllocError>
+    ensures { IfOk result (λ line. string_bytes line ≡ proof_refused fault) }
+{
+    let fault = proof_fault_text(alloc, fault)?;
+    format!(in alloc; "bar: input refused: proof {fault}\n")
+}
+
 /// Prints the line of the status. A failed write changes nothing; want of memory makes it 70.
 pub fn report<K: Sink>(alloc: Global, status: &Status, err: &mut K) -> u8
     ensures code { (result ≡ code_of status.now) ⊎ (result ≡ 70) }
@@ -239,6 +261,7 @@ pub fn report<K: Sink>(alloc: Global, status: &Status, err: &mut K) -> u8
         Status::SecretRefused(len) => print_text(secret_refusal(alloc, *len), code, err),
         Status::TableRefused(at) => print_text(table_refusal(alloc, *at), code, err),
         Status::EvidenceRefused => print_line(b"bar: input refused: evidence\n", code, err),
+        Status::ProofRefused(fault) => print_text(proof_refusal(alloc, *fault), code, err),
         Status::ChildFailed => print_line(b"bar: child failed\n", code, err),
         Status::NoMemory => print_line(b"bar: no memory\n", code, err),
     }

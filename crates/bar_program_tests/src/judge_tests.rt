@@ -12,14 +12,19 @@ use std::test::Fail;
 const ID: [u8; 8] = [0x00, 0x11, 0x22, 0x33, 0x44, 0x55, 0x66, 0x77];
 
 /// What signs with a secret of 32 times one byte, by the types of a session.
-fn scheme_of(alloc: Global, session: &str, secret: u8) -> Result<LmsScheme, Fail> {
+pub(crate) fn scheme_of(alloc: Global, session: &str, secret: u8) -> Result<LmsScheme, Fail> {
     let session = Session::read(alloc, session.as_bytes())?;
     let signer = SecretKey::make(alloc, session.params(), &ID, &[secret; 32])?;
     Ok(LmsScheme::new(signer))
 }
 
 /// What a datagram begins with, up to its round.
-fn front(alloc: Global, kind: u8, parties: [u8; 4], round: u8) -> Result<Vec<u8>, AllocError> {
+pub(crate) fn front(
+    alloc: Global,
+    kind: u8,
+    parties: [u8; 4],
+    round: u8,
+) -> Result<Vec<u8>, AllocError> {
     let mut bytes = [0xba, 0x47, 1, kind].to_vec(alloc)?;
     bytes.extend_from_slice(&ID)?;
     bytes.extend_from_slice(&parties)?;
@@ -27,17 +32,18 @@ fn front(alloc: Global, kind: u8, parties: [u8; 4], round: u8) -> Result<Vec<u8>
     Ok(bytes)
 }
 
-/// Adds the signature of a message to it.
-fn sign(
+/// Adds the signature of a message to it, by a leaf.
+pub(crate) fn sign(
     rt: &impl Abort,
     alloc: Global,
     scheme: &LmsScheme,
+    leaf: u32,
     message: &mut Vec<u8>,
 ) -> Result<(), AllocError> {
     let leaves = scheme.leaves();
-    assert!(rt; 0 < leaves);
+    assert!(rt; leaf < leaves);
     let mut sig = vec![in alloc; 0; scheme.sig_len()]?;
-    scheme.sign(0, message, &mut sig);
+    scheme.sign(leaf, message, &mut sig);
     message.extend_from_slice(&sig)
 }
 
@@ -51,7 +57,7 @@ fn request(
     let mut bytes = front(alloc, 3, [0, 2, 0, 1], 1)?;
     bytes.extend_from_slice(&[0; 32])?;
     bytes.extend_from_slice(&[commitment; 32])?;
-    sign(rt, alloc, scheme, &mut bytes)?;
+    sign(rt, alloc, scheme, 0, &mut bytes)?;
     Ok(bytes)
 }
 
@@ -59,7 +65,7 @@ fn request(
 fn response(rt: &impl Abort, alloc: Global, scheme: &LmsScheme) -> Result<Vec<u8>, AllocError> {
     let mut bytes = front(alloc, 4, [0, 2, 0, 1], 1)?;
     bytes.extend_from_slice(&[0; 32])?;
-    sign(rt, alloc, scheme, &mut bytes)?;
+    sign(rt, alloc, scheme, 0, &mut bytes)?;
     Ok(bytes)
 }
 
@@ -72,7 +78,7 @@ fn manifest(
 ) -> Result<Vec<u8>, AllocError> {
     let mut bytes = front(alloc, 1, [0, 0, 0xff, 0xff], round)?;
     bytes.push(0)?;
-    sign(rt, alloc, scheme, &mut bytes)?;
+    sign(rt, alloc, scheme, 0, &mut bytes)?;
     Ok(bytes)
 }
 
@@ -85,14 +91,14 @@ fn changed(mut datagram: Vec<u8>) -> Vec<u8> {
 }
 
 /// Adds a datagram behind its length.
-fn add_entry(bytes: &mut Vec<u8>, datagram: &[u8]) -> Result<(), AllocError> {
+pub(crate) fn add_entry(bytes: &mut Vec<u8>, datagram: &[u8]) -> Result<(), AllocError> {
     let len = u16::try_from(datagram.len()).unwrap_or(0);
     bytes.extend_from_slice(&len.to_be_bytes())?;
     bytes.extend_from_slice(datagram)
 }
 
 /// Evidence of one datagram, or of two.
-fn evidence(alloc: Global, one: &[u8], two: Option<&[u8]>) -> Result<Vec<u8>, AllocError> {
+pub(crate) fn evidence(alloc: Global, one: &[u8], two: Option<&[u8]>) -> Result<Vec<u8>, AllocError> {
     let count = if two.is_some() { 2 } else { 1 };
     let mut bytes = [count].to_vec(alloc)?;
     add_entry(&mut bytes, one)?;
@@ -119,8 +125,8 @@ fn judge(
     run(alloc, line, outside_of(alloc, files, fail_out, &[])?)
 }
 
-/// Checks how a judge ended: its status, what it printed, and what standard error has.
-fn check_end(rt: &impl Abort, left: &Left, status: u8, out: &str, err: &str) {
+/// Checks how a run ended: its status, what it printed, and what standard error has.
+pub(crate) fn check_end(rt: &impl Abort, left: &Left, status: u8, out: &str, err: &str) {
     assert_eq!(rt; left.status, status);
     assert_eq!(rt; left.outside.out.bytes(), out.as_bytes());
     assert_eq!(rt; left.outside.err.bytes(), err.as_bytes());

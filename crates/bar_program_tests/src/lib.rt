@@ -24,6 +24,8 @@ mod outcome;
 #[cfg(test)]
 mod outside_tests;
 #[cfg(test)]
+mod proof_tests;
+#[cfg(test)]
 mod session_tests;
 #[cfg(test)]
 mod texts;

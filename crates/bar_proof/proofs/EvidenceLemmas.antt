@@ -25,6 +25,7 @@ stand-there bytes ds of =
 
 -- what bytes are made of is what they are as evidence
 pub spelled : (bytes : List ℕ) (ds : List (List ℕ)) → IsEvidence bytes ds → evidence_of bytes ≡ Some ds
+unfolding evidence_of
 spelled bytes ds of =
     ap (λ (x : List (List ℕ)). then_some (are_datagrams_in_range x && bytes_eq (evidence_bytes x) bytes) x) (stand-there bytes ds of)
     ∙ ap (λ (b : Bool). then_some b ds)
@@ -32,6 +33,7 @@ spelled bytes ds of =
     ((bytes_eq-Decides (evidence_bytes ds) bytes).1 (sym of.is)))
 
 pub is-spelled : (bytes : List ℕ) (ds : List (List ℕ)) → evidence_of bytes ≡ Some ds → IsEvidence bytes ds
+unfolding evidence_of
 is-spelled bytes ds h = by_test (are_datagrams_in_range (datagrams_at bytes) && bytes_eq (evidence_bytes (datagrams_at bytes)) bytes) refl h
   where
     by_test : (b : Bool) → (are_datagrams_in_range (datagrams_at bytes) && bytes_eq (evidence_bytes (datagrams_at bytes)) bytes) ≡ b

@@ -4,9 +4,9 @@ use Rattle.bar_terms.specs.Table.{Table, Lists, Extends, no_lists, digests_of}
 use Rattle.bar_wire.specs.Grammar.{AreDatagramsInRange}
 use Rattle.bar_rules.specs.Member.{Session}
 use Rattle.bar_rules.specs.Judge.Verdict.{Fault, Shown, verdict}
-use Rattle.bar_judge.specs.TableFile.{lists_of}
+use Rattle.bar_judge.specs.TableFile.{lists_of, table_bytes, table_of}
 use Rattle.bar_proof.specs.Needs.{is_shown, needs, needed}
-use Rattle.bar_proof.specs.ProofFile.{Proof, AreShort, manifests_for, most_manifests, proof_bytes, proof_of}
+use Rattle.bar_proof.specs.ProofFile.{Proof, AreShort, manifests_for, manifests_in, most_manifests, proof_bytes, proof_of}
 
 -- Evidence that is shown under a table is shown, of the same party and fault, under the one list that it needs.
 abbrev pub NeededIsEnough : Type 0
@@ -49,3 +49,9 @@ abbrev pub ProofsAreSpelled : Type 0
 ProofsAreSpelled =
     (s : Session) (bytes : List ℕ) (proof : Proof) → ((i : ℕ) → slice_index bytes i < 256) → proof_of s bytes ≡ Ok proof
     → IsProofFile s bytes proof
+
+-- What is read as a table file is that of its manifests, with no byte besides.
+abbrev pub TablesAreSpelled : Type 0
+TablesAreSpelled =
+    (s : Session) (bytes : List ℕ) (lists : Lists) → ((i : ℕ) → slice_index bytes i < 256) → table_of s bytes ≡ Ok lists
+    → bytes ≡ table_bytes (manifests_in lists bytes)

@@ -3,37 +3,48 @@ use Rattle.std.specs.Prelude.{◌≡◌, ℕ, List, Some, None, Ok, Err}
 use Rattle.bar_terms.specs.Table.{Lists, digests_of}
 use Rattle.bar_rules.specs.Member.{Session}
 use Rattle.bar_rules.specs.Judge.Verdict.{Fault, Shown, NotShown as NothingShown, verdict}
-use Rattle.bar_judge.specs.TableFile.{lists_of, table_bytes, table_of}
+use Rattle.bar_roster.specs.Sessions.{IsSession}
+use Rattle.bar_judge.specs.TableFile.{lists_of, table_of}
 use Rattle.bar_judge.specs.Verdicts.{plain_why}
 use Rattle.bar_judge.specs.declared.table_fault.TableFault.{TableFault}
 use Rattle.bar_judge.specs.declared.table_fault.TableFault.TheVariants as tables
 use Rattle.bar_proof.specs.declared.pack_fault.PackFault.{PackFault}
 use Rattle.bar_proof.specs.declared.pack_fault.PackFault.TheVariants.{Table, Evidence, NotShown, NoMemory}
 use Rattle.bar_proof.specs.Needs.{needs}
-use Rattle.bar_proof.specs.ProofFile.{evidence_of, manifests_for, proof_bytes, proof_verdict}
+use Rattle.bar_proof.specs.ProofFile.{evidence_of, manifests_for, manifests_in, proof_bytes, proof_verdict}
 use Rattle.bar_proof.specs.Laws.{Carry}
 
--- The manifests of a table file that evidence needs.
-abbrev pub needed_manifests : Session → Lists → List (List ℕ) → List (List ℕ) → List (List ℕ)
-needed_manifests s lists manifests datagrams = manifests_for s (needs s (digests_of lists) datagrams) manifests
+-- the manifests that evidence needs of a table file, which has these lists
+abbrev pub needed_manifests : Session → Lists → List ℕ → List (List ℕ) → List (List ℕ)
+needed_manifests s lists table datagrams = manifests_for s (needs s (digests_of lists) datagrams) (manifests_in lists table)
+
+-- what is packed of them: the evidence with what it needs of the table file
+unfoldable pub packed_bytes : Session → Lists → List ℕ → List (List ℕ) → List ℕ
+packed_bytes s lists table datagrams = proof_bytes (needed_manifests s lists table datagrams) datagrams
 
 -- The bytes are a proof file of evidence, which a table file shows, and of what it needs of that file's manifests.
 pub record IsPacked (s : Session) (table evidence bytes : List ℕ) : Type 0 where
-  -- the table file is that of some manifests, and the evidence that of some datagrams, which show a fault under it
-  pub manifests : List (List ℕ)
+  -- the table file has some lists, which are those of its manifests, and the evidence is that of some datagrams, which show a fault under it
   pub lists : Lists
-  pub table_is : table ≡ table_bytes manifests
-  pub lists_are : lists_of s 0 manifests ≡ Some lists
+  pub table_is : table_of s table ≡ Ok lists
+  pub lists_are : lists_of s 0 (manifests_in lists table) ≡ Some lists
   pub datagrams : List (List ℕ)
   pub evidence_is : evidence_of evidence ≡ Some datagrams
   pub party : ℕ
   pub fault : Fault
   pub shown : verdict s (digests_of lists) datagrams ≡ Shown party fault
   -- the file has the evidence and what it needs: one manifest at most, and none where the evidence is shown without
-  pub is : bytes ≡ proof_bytes (needed_manifests s lists manifests datagrams) datagrams
-  pub carried : Carry s datagrams party fault (needed_manifests s lists manifests datagrams)
+  pub is : bytes ≡ packed_bytes s lists table datagrams
+  pub carried : Carry s datagrams party fault (needed_manifests s lists table datagrams)
   -- it is judged alike
   pub judged : proof_verdict s bytes ≡ Ok (Shown party fault)
+
+-- What is packed of a table file of a session and of evidence, which shows a fault under it, is so.
+abbrev pub ShownIsPacked : Type 0
+ShownIsPacked =
+    (s : Session) (table evidence : List ℕ) (lists : Lists) (datagrams : List (List ℕ)) (party : ℕ) (fault : Fault) → IsSession s
+    → table_of s table ≡ Ok lists → evidence_of evidence ≡ Some datagrams → verdict s (digests_of lists) datagrams ≡ Shown party fault
+    → IsPacked s table evidence (packed_bytes s lists table datagrams)
 
 -- This is the first cause why nothing is packed.
 abbrev pub IsRefused : Session → List ℕ → List ℕ → PackFault → Type 0

@@ -40,6 +40,10 @@ proof_bytes manifests datagrams = file_bytes manifests (evidence_bytes datagrams
 abbrev pub AreShort : List (List ℕ) → Type 0
 AreShort manifests = AllByRecursion (λ m. length m < 2 ^ 16) manifests
 
+-- the manifests of a table file that has these lists: as many entries, by the lengths that stand before them
+abbrev pub manifests_in : Lists → List ℕ → List (List ℕ)
+manifests_in lists table = entries (length lists) table
+
 -- the manifest of the round, among those of a table file
 abbrev pub is_of_round : Session → ℕ → List ℕ → Bool
 is_of_round s round manifest = option_map_or (λ d. is_manifest_of round d.message.body) (datagram_of s manifest) false
@@ -75,7 +79,7 @@ abbrev pub datagrams_at : List ℕ → List (List ℕ)
 datagrams_at bytes = entries (slice_index bytes 0) (drop 1 bytes)
 
 -- The one or two datagrams that bytes are as evidence: those that stand there, where they spell these bytes again.
-abbrev pub evidence_of : List ℕ → Option (List (List ℕ))
+unfoldable pub evidence_of : List ℕ → Option (List (List ℕ))
 evidence_of bytes =
     then_some (are_datagrams_in_range (datagrams_at bytes) && bytes_eq (evidence_bytes (datagrams_at bytes)) bytes) (datagrams_at bytes)
 

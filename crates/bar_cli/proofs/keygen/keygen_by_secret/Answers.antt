@@ -2,10 +2,11 @@ use Rattle.std.proofs.Common.{◌≡◌, ◌∙◌, [], Ok, Err, refl, ap, sym, 
 use Rattle.std.proofs.lemmas.Result.{err_from_is_err_and}
 use Rattle.bar_outside.specs.Plan.{with_out}
 use Rattle.bar_outside.proofs.Ending.{EndsWith-reading, EndsWith-accepted, EndsWith-refused, EndsWith-doing, EndsWith-ending, EndsWith-memory, EndsWith-unread}
-use Rattle.bar_cli.specs.KeygenPlan.{keygen_actions}
+use Rattle.bar_roster.specs.KeyText.{key_text_of}
+use Rattle.bar_cli.specs.KeygenPlan.{key_made, keygen_actions, lines_of}
 use Rattle.bar_cli.specs.Refusals.{secret_refused}
 use Rattle.bar_cli.specs.Views.{keygen_view}
-use Rattle.bar_cli.proofs.KeygenLemmas.{can-keygen, as-asked}
+use Rattle.bar_cli.proofs.MadeFiles.{can-make, made-of}
 use Rattle.bar_cli.proofs.StatusLemmas.{never-link, no-refusal, quiet, unprinted-at}
 use Rattle.bar_cli.proofs.keygen.keygen_by_secret.Goals as goal
 
@@ -15,18 +16,19 @@ returns-in_err-bytes-clause-ends g c = λ w.
     let r = c.in_err-bytes.ensures in
     rw (p.1, p.2, r.2) (EndsWith-unread _ _ _ _ (with_out w (g.K.Sink.stream c.args.out.now)) r.0 r.1)
 
-pub returns-in_err-write_key-clause-ends : goal.returns-in_err-write_key-clause-ends
-returns-in_err-write_key-clause-ends g c = λ w.
-    let p = err_from_is_err_and c.from_residual-in_err-write_key.result c.from_residual-in_err-write_key.ensures.1 in
+pub returns-in_err-make_file-clause-ends : goal.returns-in_err-make_file-clause-ends
+returns-in_err-make_file-clause-ends g c = λ w.
+    let p = err_from_is_err_and c.from_residual-in_err-make_file.result c.from_residual-in_err-make_file.ensures.1 in
     let accepted = rw c.deref.ensures.value at c.in-Some.ensures.some in
     rw (p.1, p.2) (EndsWith-reading _ _ (g.F.Files.disk c.args.files.now) (g.F.Files.disk c.read_file.new.files)
     (with_out w (g.K.Sink.stream c.args.out.now))
     _ c.in_ok-bytes.bytes _ _ c.in_ok-bytes.ensures (EndsWith-accepted _ _ _ _ _ _ _ _ accepted
     (EndsWith-doing (keygen_actions (keygen_view c.args.asked.now) c.in-Some.secret) 0 [] _ _
-    (λ told. can-keygen (keygen_view c.args.asked.now) c.in-Some.secret (g.F.Files.disk c.read_file.new.files).created_here) refl
-    (Err c.in_err-write_key.field-0.0)
-    (as-asked (keygen_view c.args.asked.now) c.in-Some.secret _ _ _ _ _ c.in_ok-made.ensures.text c.in_ok-made.ensures.lines
-    (c.in_err-write_key.ensures.follows w)))))
+    (λ told. can-make c.args.asked.now.key.now (key_text_of (key_made (keygen_view c.args.asked.now) c.in-Some.secret))
+    (lines_of (keygen_view c.args.asked.now) c.in-Some.secret) (g.F.Files.disk c.read_file.new.files).created_here) refl
+    (Err c.in_err-make_file.field-0.0)
+    (made-of c.args.asked.now.key.now _ _ _ _ _ _ _ c.in_ok-made.ensures.text c.in_ok-made.ensures.lines
+    (c.in_err-make_file.ensures.follows w)))))
 
 pub returns-clause-ends : goal.returns-clause-ends
 returns-clause-ends g c = λ w.
@@ -35,25 +37,26 @@ returns-clause-ends g c = λ w.
     (with_out w (g.K.Sink.stream c.args.out.now))
     _ c.in_ok-bytes.bytes _ _ c.in_ok-bytes.ensures (EndsWith-accepted _ _ _ _ _ _ _ _ accepted
     (EndsWith-doing (keygen_actions (keygen_view c.args.asked.now) c.in-Some.secret) 0 [] _ _
-    (λ told. can-keygen (keygen_view c.args.asked.now) c.in-Some.secret (g.F.Files.disk c.read_file.new.files).created_here) refl
+    (λ told. can-make c.args.asked.now.key.now (key_text_of (key_made (keygen_view c.args.asked.now) c.in-Some.secret))
+    (lines_of (keygen_view c.args.asked.now) c.in-Some.secret) (g.F.Files.disk c.read_file.new.files).created_here) refl
     (Ok tt)
-    (as-asked (keygen_view c.args.asked.now) c.in-Some.secret _ _ _ _ _ c.in_ok-made.ensures.text c.in_ok-made.ensures.lines
-    (c.in_ok-write_key.ensures.follows w))))
+    (made-of c.args.asked.now.key.now _ _ _ _ _ _ _ c.in_ok-made.ensures.text c.in_ok-made.ensures.lines
+    (c.in_ok-make_file.ensures.follows w))))
 
 pub returns-in_err-bytes-clause-enough : goal.returns-in_err-bytes-clause-enough
 returns-in_err-bytes-clause-enough g c =
     let p = err_from_is_err_and c.from_residual.result c.from_residual.ensures.1 in rw p.1 (no-refusal p.0)
 
-pub returns-in_err-write_key-clause-enough : goal.returns-in_err-write_key-clause-enough
-returns-in_err-write_key-clause-enough g c =
-    let p = err_from_is_err_and c.from_residual-in_err-write_key.result c.from_residual-in_err-write_key.ensures.1 in
+pub returns-in_err-make_file-clause-enough : goal.returns-in_err-make_file-clause-enough
+returns-in_err-make_file-clause-enough g c =
+    let p = err_from_is_err_and c.from_residual-in_err-make_file.result c.from_residual-in_err-make_file.ensures.1 in
     rw p.1 (no-refusal p.0)
 
-pub returns-in_err-write_key-clause-unprinted : goal.returns-in_err-write_key-clause-unprinted
-returns-in_err-write_key-clause-unprinted g c =
-    let p = err_from_is_err_and c.from_residual-in_err-write_key.result c.from_residual-in_err-write_key.ensures.1 in
-    rw p.1 (unprinted-at p.0 _ (λ e. c.in_err-write_key.ensures.unprinted (ap Err (sym p.2 ∙ e)))
-    (λ e. absurd (never-link _ _ _ _ refl refl (c.in_err-write_key.ensures.follows quiet) (ap Err (sym p.2 ∙ e)))))
+pub returns-in_err-make_file-clause-unprinted : goal.returns-in_err-make_file-clause-unprinted
+returns-in_err-make_file-clause-unprinted g c =
+    let p = err_from_is_err_and c.from_residual-in_err-make_file.result c.from_residual-in_err-make_file.ensures.1 in
+    rw p.1 (unprinted-at p.0 _ (λ e. c.in_err-make_file.ensures.unprinted (ap Err (sym p.2 ∙ e)))
+    (λ e. absurd (never-link _ _ _ _ refl refl (c.in_err-make_file.ensures.follows quiet) (ap Err (sym p.2 ∙ e)))))
 
 pub returns-in_default-clause-ends : goal.returns-in_default-clause-ends
 returns-in_default-clause-ends g c = λ w.

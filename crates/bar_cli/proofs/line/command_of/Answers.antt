@@ -11,4 +11,5 @@ returns-in_default-as_str-clause-usage c = λ _.
     ∙ no-command (string_bytes c.in-Some.name.now) (map string_bytes c.in-Some.options.now) (λ e. other.not-peer (is ∙ e))
     (λ e. other.not-broadcaster (is ∙ e)) (λ e. other.not-replay (is ∙ e)) (λ e. other.not-keygen (is ∙ e))
     (λ e. other.not-hsskeygen (is ∙ e)) (λ e. other.not-audit (is ∙ e)) (λ e. other.not-judge (is ∙ e))
+    (λ e. other.not-pack (is ∙ e)) (λ e. other.not-verify (is ∙ e))
     (λ e. other.not-session (is ∙ e)) (λ e. other.not-simulate (is ∙ e))

@@ -4,17 +4,22 @@ use Rattle.bar_cli.specs.Headline.{KeepsTheRules}
 use Rattle.bar_cli.specs.AuditPlan.{audit_plan}
 use Rattle.bar_cli.specs.JudgePlan.{judge_plan}
 use Rattle.bar_cli.specs.KeygenPlan.{keygen_plan}
-use Rattle.bar_cli.specs.Line.{Line, peer, broadcaster, replay, keygen, audit, judge, simulate, has_plan, is_status_of, reads_nothing}
+use Rattle.bar_cli.specs.Line.{Line, peer, broadcaster, replay, keygen, audit, judge, simulate, has_plan, is_status_of, reads_nothing, pack, verify}
+use Rattle.bar_cli.specs.PackPlan.{pack_plan}
 use Rattle.bar_cli.specs.ReplayPlan.{replay_plan}
+use Rattle.bar_cli.specs.VerifyPlan.{verify_plan}
 use Rattle.bar_cli.proofs.JudgeRows.{judged_so, outcome, same_files}
 use Rattle.bar_cli.proofs.KeygenRows as making
 use Rattle.bar_cli.proofs.MemberLemmas.{keeps-rules}
+use Rattle.bar_cli.proofs.PackFronts as packed
+use Rattle.bar_cli.proofs.PackRows as packing
 use Rattle.bar_cli.proofs.Rows as replaying
 use Rattle.bar_cli.proofs.RunLemmas.{ends-as, run-ends, run-said}
 use Rattle.bar_cli.proofs.SessionLemmas.{session-said}
 use Rattle.bar_cli.proofs.SimulateLemmas.{has-shown}
 use Rattle.bar_cli.proofs.Spoken.{peer-headline}
 use Rattle.bar_cli.proofs.StatusLemmas.{no-line, or-memory, said-at_two, unprinted-by}
+use Rattle.bar_cli.proofs.VerifyRows as verifying
 use Rattle.bar_cli.proofs.run.bar_run.Goals as goal
 
 -- ---- statuses
@@ -199,3 +204,19 @@ returns-clause-only_reads g c = λ names is told.
     let ends = (ends-as _ (judge names) _ _ _ _ _ is c.report.ensures.code (c.run_words-status.ensures.ends (ap has_plan is))).ends in
     same_files names _ _ c.report.result
     (outcome law.reads law.ends law.shows names _ _ _ told (law.went (judge_plan names) _ _ _ ends told))
+
+-- ---- `pack` and `verify`
+
+pub returns-clause-packed : goal.returns-clause-packed
+returns-clause-packed g c = λ names is told.
+    let law = c.plans_go_in_order.ensures in
+    let ends = (ends-as _ (pack names) _ _ _ _ _ is c.report.ensures.code (c.run_words-status.ensures.ends (ap has_plan is))).ends in
+    packed.stands c.what_is_shown_is_packed.ensures c.accepted_sessions_are_in_range.ensures names _ _ c.report.result told
+    (packing.outcome law.reads law.ends law.shows names _ _ _ told (law.went (pack_plan names) _ _ _ ends told))
+
+pub returns-clause-verified : goal.returns-clause-verified
+returns-clause-verified g c = λ names is told.
+    let law = c.plans_go_in_order.ensures in
+    let ends = (ends-as _ (verify names) _ _ _ _ _ is c.report.ensures.code (c.run_words-status.ensures.ends (ap has_plan is))).ends in
+    verifying.stands names _ _ c.report.result
+    (verifying.outcome law.reads law.ends law.shows names _ _ _ told (law.went (verify_plan names) _ _ _ ends told))

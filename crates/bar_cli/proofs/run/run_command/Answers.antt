@@ -8,16 +8,20 @@ use Rattle.bar_children.specs.Views.{names_view as family_view}
 use Rattle.bar_cli.specs.KeygenPlan.{Keygen, HasFewLeaves}
 use Rattle.bar_cli.specs.AuditPlan.{AuditFiles}
 use Rattle.bar_cli.specs.JudgePlan.{JudgeFiles}
-use Rattle.bar_cli.specs.Line.{Line, peer, broadcaster, replay, keygen, audit, judge, session_run, simulate}
+use Rattle.bar_cli.specs.Line.{Line, peer, broadcaster, replay, keygen, audit, judge, session_run, simulate, pack, verify}
 use Rattle.bar_cli.specs.ReplayPlan.{ReplayFiles}
 use Rattle.bar_cli.specs.Status.{code_of_run}
-use Rattle.bar_cli.specs.Views.{names_view, keygen_view, audit_view, judge_view, command_view}
+use Rattle.bar_cli.specs.Views.{names_view, keygen_view, audit_view, judge_view, command_view, packing_view, verify_view}
 use Rattle.bar_cli.proofs.AuditEnds as auditing
+use Rattle.bar_cli.specs.PackPlan.{PackFiles}
+use Rattle.bar_cli.specs.VerifyPlan.{VerifyFiles}
 use Rattle.bar_cli.proofs.JudgeRows as judging
 use Rattle.bar_cli.proofs.KeygenRows as making
+use Rattle.bar_cli.proofs.PackRows as packing
+use Rattle.bar_cli.proofs.VerifyRows as verifying
 use Rattle.bar_cli.proofs.Rows as replaying
 use Rattle.bar_cli.proofs.RunLemmas.{few-leaves, over-no_link}
-use Rattle.bar_cli.proofs.StatusLemmas.{never-linked, never-six, quiet, peer-statuses, broadcaster-statuses, replay-statuses, keygen-statuses, audit-statuses, judge-statuses, never-filed, simulate-statuses}
+use Rattle.bar_cli.proofs.StatusLemmas.{never-linked, never-six, quiet, peer-statuses, broadcaster-statuses, replay-statuses, keygen-statuses, audit-statuses, judge-statuses, never-filed, simulate-statuses, pack-statuses, verify-statuses}
 use Rattle.bar_cli.proofs.run.run_command.Goals as goal
 
 -- the other commands are not `keygen`
@@ -36,6 +40,12 @@ audit-other names asked e = cc
 
 judge-other : (names : JudgeFiles) (asked : Keygen) → ◌≡◌ {A = Line} (judge names) (keygen asked) → ⊥
 judge-other names asked e = cc
+
+pack-other : (names : PackFiles) (asked : Keygen) → ◌≡◌ {A = Line} (pack names) (keygen asked) → ⊥
+pack-other names asked e = cc
+
+verify-other : (names : VerifyFiles) (asked : Keygen) → ◌≡◌ {A = Line} (verify names) (keygen asked) → ⊥
+verify-other names asked e = cc
 
 session-other : (names : SessionNames) (asked : Keygen) → ◌≡◌ {A = Line} (session_run names) (keygen asked) → ⊥
 session-other names asked e = cc
@@ -59,6 +69,12 @@ audit-no_session names family e = cc
 
 judge-no_session : (names : JudgeFiles) (family : SessionNames) → ◌≡◌ {A = Line} (judge names) (session_run family) → ⊥
 judge-no_session names family e = cc
+
+pack-no_session : (names : PackFiles) (family : SessionNames) → ◌≡◌ {A = Line} (pack names) (session_run family) → ⊥
+pack-no_session names family e = cc
+
+verify-no_session : (names : VerifyFiles) (family : SessionNames) → ◌≡◌ {A = Line} (verify names) (session_run family) → ⊥
+verify-no_session names family e = cc
 
 simulate-other : (seed : ℕ) (asked : Keygen) → ◌≡◌ {A = Line} (simulate seed) (keygen asked) → ⊥
 simulate-other seed asked e = cc
@@ -245,6 +261,64 @@ returns-in-Audit-clause-session g c =
 pub returns-in-Judge-clause-session : goal.returns-in-Judge-clause-session
 returns-in-Judge-clause-session g c =
     λ family is. absurd (judge-no_session (judge_view c.in-Judge.names) family (sym (ap command_view c.in-Judge.is) ∙ is))
+
+-- `pack`
+
+pub returns-in-Pack-clause-ends : goal.returns-in-Pack-clause-ends
+returns-in-Pack-clause-ends g c =
+    rw (c.in-Pack.is, c.status_of-in-Pack.ensures.code, c.status_of-in-Pack.ensures.line)
+    (λ plan. over-no_link _ _ _ _ _ (g.L.Link.wire c.args.link.now) _ _ (packing.unlinked-plan (packing_view c.in-Pack.names))
+    (never-six _ _ _ _ _ refl refl (c.pack.ensures.ends quiet))
+    (c.pack.ensures.ends (with_wire quiet (g.L.Link.wire c.args.link.now))))
+
+pub returns-in-Pack-clause-statuses : goal.returns-in-Pack-clause-statuses
+returns-in-Pack-clause-statuses g c =
+    rw (c.in-Pack.is, c.status_of-in-Pack.ensures.code)
+    (pack-statuses (packing_view c.in-Pack.names) c.pack.result c.pack.ensures.answers
+    (never-linked _ _ _ _ _ refl refl (c.pack.ensures.ends quiet)))
+
+pub returns-in-Pack-clause-leaves : goal.returns-in-Pack-clause-leaves
+returns-in-Pack-clause-leaves g c =
+    λ asked is. absurd (pack-other (packing_view c.in-Pack.names) asked (sym (ap command_view c.in-Pack.is) ∙ is))
+
+pub returns-in-Pack-clause-unread : goal.returns-in-Pack-clause-unread
+returns-in-Pack-clause-unread g c = rw c.in-Pack.is (λ alone. absurd (true≢false (sym alone)))
+
+pub returns-in-Pack-clause-unprinted : goal.returns-in-Pack-clause-unprinted
+returns-in-Pack-clause-unprinted g c = rw (c.in-Pack.is, c.status_of-in-Pack.ensures.code) c.pack.ensures.unprinted
+
+pub returns-in-Pack-clause-session : goal.returns-in-Pack-clause-session
+returns-in-Pack-clause-session g c =
+    λ family is. absurd (pack-no_session (packing_view c.in-Pack.names) family (sym (ap command_view c.in-Pack.is) ∙ is))
+
+-- `verify`
+
+pub returns-in-Verify-clause-ends : goal.returns-in-Verify-clause-ends
+returns-in-Verify-clause-ends g c =
+    rw (c.in-Verify.is, c.status_of-in-Verify.ensures.code, c.status_of-in-Verify.ensures.line)
+    (λ plan. over-no_link _ _ _ _ _ (g.L.Link.wire c.args.link.now) _ _ (verifying.unlinked-plan (verify_view c.in-Verify.names))
+    (never-six _ _ _ _ _ refl refl (c.verify.ensures.ends quiet))
+    (c.verify.ensures.ends (with_wire quiet (g.L.Link.wire c.args.link.now))))
+
+pub returns-in-Verify-clause-statuses : goal.returns-in-Verify-clause-statuses
+returns-in-Verify-clause-statuses g c =
+    rw (c.in-Verify.is, c.status_of-in-Verify.ensures.code)
+    (verify-statuses (verify_view c.in-Verify.names) c.verify.result c.verify.ensures.answers
+    (never-linked _ _ _ _ _ refl refl (c.verify.ensures.ends quiet)))
+
+pub returns-in-Verify-clause-leaves : goal.returns-in-Verify-clause-leaves
+returns-in-Verify-clause-leaves g c =
+    λ asked is. absurd (verify-other (verify_view c.in-Verify.names) asked (sym (ap command_view c.in-Verify.is) ∙ is))
+
+pub returns-in-Verify-clause-unread : goal.returns-in-Verify-clause-unread
+returns-in-Verify-clause-unread g c = rw c.in-Verify.is (λ alone. absurd (true≢false (sym alone)))
+
+pub returns-in-Verify-clause-unprinted : goal.returns-in-Verify-clause-unprinted
+returns-in-Verify-clause-unprinted g c = rw (c.in-Verify.is, c.status_of-in-Verify.ensures.code) c.verify.ensures.unprinted
+
+pub returns-in-Verify-clause-session : goal.returns-in-Verify-clause-session
+returns-in-Verify-clause-session g c =
+    λ family is. absurd (verify-no_session (verify_view c.in-Verify.names) family (sym (ap command_view c.in-Verify.is) ∙ is))
 
 -- `session`
 

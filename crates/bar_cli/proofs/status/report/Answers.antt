@@ -1,4 +1,4 @@
-use Rattle.bar_cli.specs.Refusals.{session_refused, key_refused, recording_refused, stream_refused, secret_refused, table_refused}
+use Rattle.bar_cli.specs.Refusals.{session_refused, key_refused, recording_refused, stream_refused, proof_refused, secret_refused, table_refused}
 use Rattle.bar_cli.proofs.status.report.Goals as goal
 
 pub returns-in-SessionRefused-clause-said : goal.returns-in-SessionRefused-clause-said
@@ -32,3 +32,7 @@ returns-in-TableRefused-clause-said g c =
 
 pub returns-in-EvidenceRefused-clause-said : goal.returns-in-EvidenceRefused-clause-said
 returns-in-EvidenceRefused-clause-said g c = rw c.in-EvidenceRefused.is c.print_line-in-EvidenceRefused.ensures.said
+
+pub returns-in-ProofRefused-clause-said : goal.returns-in-ProofRefused-clause-said
+returns-in-ProofRefused-clause-said g c =
+    rw c.in-ProofRefused.is (c.print_text-in-ProofRefused.ensures.said (proof_refused c.in-ProofRefused.fault) c.proof_refusal.ensures)

@@ -7,10 +7,9 @@ use Rattle.bar_rules.specs.Judge.Verdict.{Shown, verdict}
 use Rattle.bar_judge.specs.TableFile.{table_of}
 use Rattle.bar_judge.specs.Verdicts.{plain_fault}
 use Rattle.bar_proof.specs.Needs.{needs}
-use Rattle.bar_proof.specs.ProofFile.{file_bytes, is_of_round, manifests_for}
-use Rattle.bar_proof.specs.Packing.{needed_manifests}
+use Rattle.bar_proof.specs.ProofFile.{AreShort, file_bytes, is_of_round, manifests_for}
 use Rattle.bar_proof.proofs.PackedFiles.{packed}
-use Rattle.bar_proof.proofs.TableManifests.{IsTableFile, found-short, has-lists, manifest-found, table-file}
+use Rattle.bar_proof.proofs.TableManifests.{IsTableFile, cut-off, found-short, has-lists, listed, manifest-found, table-file}
 use Rattle.bar_proof.proofs.packing.pack.Goals.{in-Some-2, in-None}
 use Rattle.bar_proof.proofs.packing.pack.Goals as goal
 
@@ -48,11 +47,14 @@ returns-clause-ok g c =
     let fault = plain_fault c.in_default-verdict.field-1 in
     let told : verdict s (digests_of read.0) datagrams ≡ Shown party fault = ap (λ table. verdict s table datagrams) (sym read.2) ∙ sym c.in_default-verdict.ensures.exact in
     let round : c.in_ok-round.field-0 ≡ needs s (digests_of read.0) datagrams = c.in_ok-round.ensures.exact ∙ ap (λ table. needs s table datagrams) read.2 in
-    let chosen : option_to_list (option_copied c.match-branch-3.manifest) ≡ needed_manifests s read.0 f.manifests datagrams = elim c.match-branch-3.branch [
+    let cut = cut-off s c.args.table.now read.0 f in
+    let chosen : option_to_list (option_copied c.match-branch-3.manifest) ≡ manifests_for s (needs s (digests_of read.0) datagrams) f.manifests = elim c.match-branch-3.branch [
       | in-Some-2 w ↦ ap option_to_list (ap option_copied w.manifest-is ∙ w.manifest_of-manifest.ensures f.manifests f.short f.is)
           ∙ (sym (manifest-found s w.in-Some-2.round f.manifests read.0 f.lists_are)
           ∙ ap (λ o. manifests_for s o f.manifests) (sym w.in-Some-2.is ∙ round))
       | in-None w ↦ ap (λ m. option_to_list (option_copied m)) w.manifest-is ∙ ap (λ o. manifests_for s o f.manifests) (sym w.in-None.is ∙ round)
     ] in
-    packed c.what_is_packed_is_shown.ensures c.proofs_are_read_back.ensures s c.args.table.now c.args.evidence.now c.in_ok-file.file.items read.0 datagrams party fault f
-    (sym c.in-Some.ensures) told (c.in_ok-file.ensures ∙ ap (λ manifests. file_bytes manifests c.args.evidence.now) chosen)
+    packed c.what_is_packed_is_shown.ensures c.proofs_are_read_back.ensures s c.args.table.now c.args.evidence.now c.in_ok-file.file.items read.0 datagrams party fault
+    read.1 (listed s c.args.table.now read.0 read.1) (subst AreShort (sym cut) f.short) (sym c.in-Some.ensures) told
+    (c.in_ok-file.ensures ∙ ap (λ manifests. file_bytes manifests c.args.evidence.now)
+    (chosen ∙ ap (manifests_for s (needs s (digests_of read.0) datagrams)) (sym cut)))

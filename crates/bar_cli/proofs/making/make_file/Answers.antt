@@ -4,29 +4,29 @@ use Rattle.bar_outside.specs.Plan.{with_files, with_out}
 use Rattle.bar_outside.specs.Plan.Action.{create, append, show}
 use Rattle.bar_outside.proofs.Following.{followed, stopped}
 use Rattle.bar_cli.proofs.StatusLemmas.{never-file}
-use Rattle.bar_cli.proofs.keygen.write_key.Goals as goal
+use Rattle.bar_cli.proofs.making.make_file.Goals as goal
 
 pub returns-in_err-create_file-clause-follows : goal.returns-in_err-create_file-clause-follows
 returns-in_err-create_file-clause-follows g c = λ w.
     let p = err_from_is_err_and c.from_residual.result c.from_residual.ensures.1 in
-    rw (p.1, p.2) (stopped (create c.args.key.now ∷ [])
-    (append c.args.key.now c.args.made.now.text.items ∷ show (string_bytes c.args.made.now.lines) ∷ []) _ _ _
+    rw (p.1, p.2) (stopped (create c.args.path.now ∷ [])
+    (append c.args.path.now c.args.made.now.bytes.items ∷ show (string_bytes c.args.made.now.lines) ∷ []) _ _ _
     (c.in_err-create_file.ensures (with_out w (g.K.Sink.stream c.args.out.now))))
 
 pub returns-in_err-append_file-clause-follows : goal.returns-in_err-append_file-clause-follows
 returns-in_err-append_file-clause-follows g c = λ w.
     let p = err_from_is_err_and c.from_residual-in_err-append_file.result c.from_residual-in_err-append_file.ensures.1 in
     rw (p.1, p.2, ← c.deref.ensures.value)
-    (stopped (create c.args.key.now ∷ append c.args.key.now c.deref.result.now ∷ []) (show (string_bytes c.args.made.now.lines) ∷ []) _ _ _
-    (followed (create c.args.key.now ∷ []) (append c.args.key.now c.deref.result.now ∷ []) _ _ _ _
+    (stopped (create c.args.path.now ∷ append c.args.path.now c.deref.result.now ∷ []) (show (string_bytes c.args.made.now.lines) ∷ []) _ _ _
+    (followed (create c.args.path.now ∷ []) (append c.args.path.now c.deref.result.now ∷ []) _ _ _ _
     (c.in_ok-create_file.ensures (with_out w (g.K.Sink.stream c.args.out.now))) _
     (c.in_err-append_file.ensures (with_out w (g.K.Sink.stream c.args.out.now)))))
 
 pub returns-clause-follows : goal.returns-clause-follows
 returns-clause-follows g c = λ w.
     rw (← c.deref.ensures.value, ← c.as_bytes.ensures.value)
-    (followed (create c.args.key.now ∷ append c.args.key.now c.deref.result.now ∷ []) (show c.as_bytes.result.now ∷ []) _ _ _ _
-    (followed (create c.args.key.now ∷ []) (append c.args.key.now c.deref.result.now ∷ []) _ _ _ _
+    (followed (create c.args.path.now ∷ append c.args.path.now c.deref.result.now ∷ []) (show c.as_bytes.result.now ∷ []) _ _ _ _
+    (followed (create c.args.path.now ∷ []) (append c.args.path.now c.deref.result.now ∷ []) _ _ _ _
     (c.in_ok-create_file.ensures (with_out w (g.K.Sink.stream c.args.out.now))) _
     (c.in_ok-append_file.ensures (with_out w (g.K.Sink.stream c.args.out.now)))) _
     (c.show_bytes.ensures (with_files w (g.F.Files.disk c.append_file.new.files))))

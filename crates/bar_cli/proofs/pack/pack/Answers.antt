@@ -1,0 +1,48 @@
+use Rattle.std.proofs.Common.{◌≡◌, ◌⊎◌, Err, refl, inl, inr, rules}
+use Rattle.bar_roster.specs.declared.fault.SessionFault.{SessionFault}
+use Rattle.bar_roster.specs.declared.fault.SessionFault.TheVariants.{NoMemory}
+use Rattle.std.proofs.lemmas.Result.{err_from_is_err_and}
+use Rattle.bar_outside.specs.Plan.{with_out}
+use Rattle.bar_outside.proofs.Ending.{EndsWith-reading, EndsWith-accepted, EndsWith-refused, EndsWith-ending, EndsWith-memory, EndsWith-unread}
+use Rattle.bar_cli.specs.Refusals.{session_refused}
+use Rattle.bar_live.specs.Accepting.{session_of}
+use Rattle.bar_cli.proofs.pack.pack.Goals as goal
+
+pub returns-in-Ok-clause-ends : goal.returns-in-Ok-clause-ends
+returns-in-Ok-clause-ends g c = λ w.
+    let accepted = rw c.deref.ensures.value at c.in-Ok.ensures.ok in
+    EndsWith-reading _ _ (g.F.Files.disk c.args.files.now) (g.F.Files.disk c.read_file.new.files)
+    (with_out w (g.K.Sink.stream c.args.out.now))
+    _ c.in_ok-text.text _ _ c.in_ok-text.ensures (EndsWith-accepted _ _ _ _ _ _ _ _ accepted (c.pack_session.ensures.ends w))
+
+pub returns-in_err-text-clause-ends : goal.returns-in_err-text-clause-ends
+returns-in_err-text-clause-ends g c = λ w.
+    let p = err_from_is_err_and c.from_residual.result c.from_residual.ensures.1 in
+    let r = c.in_err-text.ensures in
+    rw (p.1, p.2, r.2) (EndsWith-unread _ _ _ _ (with_out w (g.K.Sink.stream c.args.out.now)) r.0 r.1)
+
+pub returns-in-Err-NoMemory-clause-ends : goal.returns-in-Err-NoMemory-clause-ends
+returns-in-Err-NoMemory-clause-ends g c = λ w.
+    EndsWith-reading _ _ (g.F.Files.disk c.args.files.now) (g.F.Files.disk c.read_file.new.files)
+    (with_out w (g.K.Sink.stream c.args.out.now))
+    _ c.in_ok-text.text _ _ c.in_ok-text.ensures (EndsWith-memory _ _)
+
+-- a fault that isn't want of memory
+is-other : (fault : SessionFault) (P : Type 0) → (fault ≡ NoMemory) ⊎ P → (fault ≡ NoMemory → ⊥) → P
+is-other fault P (inl e) other = absurd (other e)
+is-other fault P (inr p) other = p
+
+pub returns : goal.returns
+returns g c =
+    let told : session_of c.in_ok-text.text.items ≡ Err c.in-Err.fault =
+    rw c.deref.ensures.value at (is-other c.in-Err.fault _ c.in-Err.ensures.err (search rules))
+    in
+    record {
+      ends = λ w.
+          EndsWith-reading _ _ (g.F.Files.disk c.args.files.now) (g.F.Files.disk c.read_file.new.files)
+          (with_out w (g.K.Sink.stream c.args.out.now))
+          _ c.in_ok-text.text _ _ c.in_ok-text.ensures
+          (EndsWith-refused _ c.in-Err.fault _ _ _ _ _ _ told (EndsWith-ending 4 (session_refused c.in-Err.fault) _ refl));
+      answers = refl;
+      unprinted = λ quiet. refl;
+    }

@@ -1,0 +1,8 @@
+//! What `verify` is asked for.
+
+/// The files of `verify`.
+#[derive(Clone, Copy, Debug)]
+pub struct VerifyNames<'a> {
+    pub session: &'a str,
+    pub proof: &'a str,
+}
