@@ -107,11 +107,7 @@ fn key_made(asked: &KeygenWords<'_>, secret: &[u8; 32]) -> KeyData
 }
 
 // What is written and printed of the key of a secret: the text of the key file, and what a session's text says of the party.
-fn made_key(
-    alloc: Global,
-    asked: &KeygenWords<'_>,
-    secret: &[u8; 32],
-) -> Result<Made, AllocError>
+fn made_key(alloc: Global, asked: &KeygenWords<'_>, secret: &[u8; 32]) -> Result<Made, AllocError>
     ensures text { IfOk result (λ made. made.bytes.items ≡ key_text_of (key_made (keygen_view asked.now) secret.now)) }
     ensures lines { IfOk result (λ made. string_bytes made.lines ≡ lines_of (keygen_view asked.now) secret.now) }
 {

@@ -55,13 +55,14 @@ pub use laws::{
     refusals_change_nothing, session_refused_exactly,
 };
 pub use pack_laws::{
-    a_bad_session_is_not_packed, a_bad_table_or_evidence_is_not_packed, a_front_of_the_proof_is_made,
-    a_proof_is_packed, a_proof_is_packed_where_all_is_accepted, only_the_proof_is_changed,
-    output_fails_behind_the_proof, packing_fails_only, refused_packing_changes_nothing,
+    a_bad_session_is_not_packed, a_bad_table_or_evidence_is_not_packed,
+    a_front_of_the_proof_is_made, a_proof_is_packed, a_proof_is_packed_where_all_is_accepted,
+    only_the_proof_is_changed, output_fails_behind_the_proof, packing_fails_only,
+    refused_packing_changes_nothing,
 };
 pub use run::bar_run;
 pub use verify_laws::{
-    a_bad_proof_is_refused, a_bad_session_is_not_verified, a_front_of_the_proofs_verdict_is_printed,
-    the_proof_is_judged, the_proof_is_judged_where_all_is_accepted, verifying_changes_nothing,
-    verifying_fails_only,
+    a_bad_proof_is_refused, a_bad_session_is_not_verified,
+    a_front_of_the_proofs_verdict_is_printed, the_proof_is_judged,
+    the_proof_is_judged_where_all_is_accepted, verifying_changes_nothing, verifying_fails_only,
 };

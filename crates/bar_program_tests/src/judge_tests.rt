@@ -98,7 +98,11 @@ pub(crate) fn add_entry(bytes: &mut Vec<u8>, datagram: &[u8]) -> Result<(), Allo
 }
 
 /// Evidence of one datagram, or of two.
-pub(crate) fn evidence(alloc: Global, one: &[u8], two: Option<&[u8]>) -> Result<Vec<u8>, AllocError> {
+pub(crate) fn evidence(
+    alloc: Global,
+    one: &[u8],
+    two: Option<&[u8]>,
+) -> Result<Vec<u8>, AllocError> {
     let count = if two.is_some() { 2 } else { 1 };
     let mut bytes = [count].to_vec(alloc)?;
     add_entry(&mut bytes, one)?;

@@ -114,14 +114,7 @@ fn what_is_packed_is_verified(rt: HostRuntime) -> Result<(), Fail> {
 /// A table, evidence, the failing calls of the files, and the status, what was printed and what standard error has.
 const UNPACKED: [(&[u8], &[u8], &[u64], u8, &str, &str); 5] = [
     (b"", MALFORMED, &[], 1, "no fault: Malformed\n", ""),
-    (
-        b"\0",
-        b"",
-        &[],
-        8,
-        "",
-        "bar: input refused: table at 0\n",
-    ),
+    (b"\0", b"", &[], 8, "", "bar: input refused: table at 0\n"),
     (b"", b"", &[], 8, "", "bar: input refused: evidence\n"),
     // the evidence is read before a table is refused
     (b"\0", b"", &[3], 3, "", "bar: file failed\n"),
