@@ -7,6 +7,6 @@ invariant-lanes l = record {
   done :
       (i : ℕ) → i < l.j
       → slice_index_or l.buffers i []
-        ≡ (if slice_index l.counts i == l.n then slice_index_or l.seconds i [] else slice_index_or l.initial.buffers i []);
+      ≡ (if slice_index l.counts i == l.n then slice_index_or l.seconds i [] else slice_index_or l.initial.buffers i []);
   rest : (i : ℕ) → l.j ≤ i → slice_index_or l.buffers i [] ≡ slice_index_or l.initial.buffers i [];
 }

@@ -7,6 +7,6 @@ invariant-lanes l = record {
   done :
       (i : ℕ) → i < l.j
       → slice_index_or l.ends i []
-        ≡ (if slice_index l.counts i == l.n then drop 23 (slice_index_or l.buffers i []) else slice_index_or l.initial.ends i []);
+      ≡ (if slice_index l.counts i == l.n then drop 23 (slice_index_or l.buffers i []) else slice_index_or l.initial.ends i []);
   rest : (i : ℕ) → l.j ≤ i → slice_index_or l.ends i [] ≡ slice_index_or l.initial.ends i [];
 }
