@@ -17,7 +17,7 @@ from barsession import LOOPBACK
 from barwatching import Growing
 
 # how many seconds lie between two looks, how many datagrams are sent in one at most, and how many of those that were seen are kept
-LOOK, BURST, SEEN = 0.002, 200, 3000
+LOOK, BURST, SEEN = 0.005, 200, 3000
 
 # the largest datagram, and how long those are that are random
 LARGEST, LONGEST_RANDOM = 65_507, 3000
