@@ -34,13 +34,16 @@ fn take_sixteen<L: Ledger>(
     steps: &mut Steps<L>,
 )
     requires inside { (j : ℕ) → j < 8 → (slice_index first j < 265) × (slice_index second j < 265) }
-    requires first { (j : ℕ) → j < 8 → slice_index legs.now.from (slice_index first j) + slice_index legs.now.counts (slice_index first j) ≤ 256 }
+    requires first { (j : ℕ) → j < 8
+        → slice_index legs.now.from (slice_index first j) + slice_index legs.now.counts (slice_index first j) ≤ 256 }
     requires second { (j : ℕ) → j < 8
         → slice_index legs.now.from (slice_index second j) + slice_index legs.now.counts (slice_index second j) ≤ 256 }
     ensures kept { (i : ℕ) → slice_index_or row.old i [] ≡ reached ident.now q legs.now i
         → slice_index_or row.new i [] ≡ reached ident.now q legs.now i }
-    ensures first { (j : ℕ) → j < 8 → slice_index_or row.new (slice_index first j) [] ≡ reached ident.now q legs.now (slice_index first j) }
-    ensures second { (j : ℕ) → j < 8 → slice_index_or row.new (slice_index second j) [] ≡ reached ident.now q legs.now (slice_index second j) }
+    ensures first { (j : ℕ) → j < 8
+        → slice_index_or row.new (slice_index first j) [] ≡ reached ident.now q legs.now (slice_index first j) }
+    ensures second { (j : ℕ) → j < 8
+        → slice_index_or row.new (slice_index second j) [] ≡ reached ident.now q legs.now (slice_index second j) }
     ensures cost { steps.new ≡ steps.old
         + 8 * most_of (λ j. steps_at legs.now.counts first j + steps_at legs.now.counts second j) 0 8 }
 {
