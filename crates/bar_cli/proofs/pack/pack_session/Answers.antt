@@ -23,7 +23,7 @@ returns-clause-ends g c = λ w.
     EndsWith-reading _ _ (g.F.Files.disk c.args.files.now) (g.F.Files.disk c.read_file.new.files)
     (with_out w (g.K.Sink.stream c.args.out.now))
     _ c.in_ok-table.table _ _ c.in_ok-table.ensures
-    (EndsWith-reading _ _ (g.F.Files.disk c.read_file.new.files) (g.F.Files.disk c.read_file-evidence.new.files)
+    (EndsWith-reading _ _ (g.F.Files.disk c.read_file.new.files) (g.F.Files.disk c.read_file-2.new.files)
     (with_out w (g.K.Sink.stream c.args.out.now))
     _ c.in_ok-evidence.evidence _ _ c.in_ok-evidence.ensures
-    (rw (c.deref.ensures.value, c.deref-evidence.ensures.value) at (c.pack_inputs.ensures.ends w)))
+    (rw (c.deref.ensures.value, c.deref-2.ensures.value) at (c.pack_inputs.ensures.ends w)))
