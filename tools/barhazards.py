@@ -1,7 +1,7 @@
 """Trouble that a process is started in: small, full and read-only folders, and limits of the system.
 
-What a machine doesn't allow is skipped. Each is told as words that stand before those of the process. The folders are mounted in a namespace
-of the process alone, so that nothing is mounted behind it.
+What a machine doesn't allow is skipped. Each is told as words that stand before those of the process. The folders are mounted in a
+namespace of the process alone, so that nothing is mounted behind it.
 """
 import functools
 import os
