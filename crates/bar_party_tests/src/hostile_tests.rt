@@ -188,7 +188,7 @@ fn evidence_of(alloc: Global, datagram: &[u8]) -> Result<Vec<u8>, AllocError> {
 /// The EVICT of round 2 that names peer 2.
 fn eviction_of(rt: &impl Abort, alloc: Global, text: &str, like: &[u8]) -> Result<Vec<u8>, Fail> {
     let session = Session::read(alloc, text.as_bytes())?;
-    let scheme = key_of(alloc, &session, 0, 7)?.scheme;
+    let scheme = key_of(alloc, &session, true, 0, 7)?.scheme;
     let body = [0, 0, 0, 2, 1, 0, 2];
     let mut bytes = headed(alloc, like, Kind::Evict, [0, 0, 0xff, 0xff], &body)?;
     let mut sig = vec![in alloc; 0; scheme.sig_len()]?;

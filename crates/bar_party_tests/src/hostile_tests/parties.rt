@@ -21,7 +21,7 @@ pub struct Parties {
 /// The broadcaster of a session, whose stream fills its rounds.
 fn caster_of(rt: &impl Abort, alloc: Global, text: &str) -> Result<Caster<SessionScheme>, Fail> {
     let session = Session::read(alloc, text.as_bytes())?;
-    let key = key_of(alloc, &session, 0, 7)?;
+    let key = key_of(alloc, &session, true, 0, 7)?;
     let stream = vec![in alloc; 7; 24_528]?;
     match Caster::of_key(alloc, session, key, stream) {
         Ok(caster) => Ok(caster),

@@ -1,5 +1,6 @@
 //! Peers, and all that they give out.
-ghost use Rattle.std.specs.Prelude.{◌≡◌, ◌<◌, []};
+ghost use Rattle.std.specs.Prelude.{◌≡◌, ◌<◌, [], IfOk};
+ghost use Rattle.bar_hss.specs.Files.{IsPartyKeyOf};
 ghost use Rattle.bar_store.specs.Orders.{left_in};
 ghost use Rattle.bar_peer.specs.StandsFor.{contents_left};
 
@@ -48,10 +49,18 @@ fn text_of(
     }
 }
 
-/// The key of a party, whose secret is 32 times one byte.
-pub fn key_of(alloc: Global, session: &Session, party: u16, secret: u8) -> Result<PartyKey, Fail> {
+/// The key of the broadcaster or of a peer of a session, whose secret is 32 times one byte.
+pub fn key_of(
+    alloc: Global,
+    session: &Session,
+    caster: bool,
+    party: u16,
+    secret: u8,
+) -> Result<PartyKey, Fail>
+    ensures { IfOk result (IsPartyKeyOf session.now caster) }
+{
     let text = text_of(alloc, session, party, secret)?;
-    Ok(PartyKey::read(alloc, &text, session, party == 0, false)?)
+    Ok(PartyKey::read(alloc, &text, session, caster, false)?)
 }
 
 /// A peer of a session whose secret is 32 times one byte.
@@ -62,7 +71,7 @@ pub fn peer_of(
     secret: u8,
 ) -> Result<Peer<SessionScheme>, Fail> {
     let session = Session::read(alloc, session.as_bytes())?;
-    let key = key_of(alloc, &session, u16::from(party), secret)?;
+    let key = key_of(alloc, &session, false, u16::from(party), secret)?;
     Ok(Peer::of_key(alloc, session, key)?)
 }
 
