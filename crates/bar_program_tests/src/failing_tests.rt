@@ -140,18 +140,36 @@ fn is_front(left: &Left, whole: &Left, path: &str) -> bool {
     }
 }
 
-/// Checks the end of a run in which a call failed: what it printed, played and recorded are fronts of what a whole run does.
+/// Checks that what was printed is a front of what a whole run prints.
+fn check_printed(rt: &impl Abort, left: &Left, whole: &Left, number: u64) {
+    let printed = left.outside.out.bytes();
+    let all = whole.outside.out.bytes();
+    assert!(rt; all.starts_with(printed), "at {number}");
+}
+
+/// Checks that each child that was started is waited for: three starts come first, and a refused one is no call.
+fn check_waited(rt: &impl Abort, left: &Left, number: u64) {
+    let calls = match number {
+        1 => 0,
+        2 => 2,
+        3 => 4,
+        _ => 6,
+    };
+    assert!(rt; left.outside.spawn.calls().len() == calls, "at {number}");
+}
+
+/// Checks the end of a run in which a call failed: what it played, recorded and printed are fronts of what a whole run does. A session prints
+/// nothing of a child whose start or wait failed, and goes on with those that were started.
 fn check_stopped(rt: &impl Abort, left: &Left, whole: &Left, object: Object, number: u64) {
     let (status, line) = object.end();
     assert!(rt; left.status == status, "at {number}");
     assert!(rt; left.outside.err.bytes() == line.as_bytes(), "at {number}");
     assert!(rt; is_front(left, whole, "p"), "at {number}");
     assert!(rt; is_front(left, whole, "r"), "at {number}");
-    let printed = left.outside.out.bytes();
-    assert!(rt;
-        whole.outside.out.bytes().starts_with(printed),
-        "at {number}"
-    );
+    match object {
+        Object::Spawner => check_waited(rt, left, number),
+        Object::Files | Object::Link | Object::Output => check_printed(rt, left, whole, number),
+    }
 }
 
 /// More calls than a short run makes.
