@@ -7,6 +7,7 @@ use bar_hss::SessionVerifier;
 use bar_lms::SecretKey;
 use bar_record::{Items, head, read};
 use bar_roster::Session;
+use bar_samples::sessions::{ID, session_of_short_chains};
 use bar_seal::{LmsScheme, Scheme, Verifier};
 use bar_window::{Exchange, XKind};
 use std::alloc::{AllocError, Global};
@@ -14,17 +15,6 @@ use std::marker::Brand;
 use std::process::Abort;
 use std::sync::ledger::{Blank, Ledger};
 use std::test::Fail;
-
-const ID: [u8; 8] = [0x00, 0x11, 0x22, 0x33, 0x44, 0x55, 0x66, 0x77];
-
-/// A session of two peers and ten rounds, whose secrets are 32 times 8 and 9. That of its broadcaster is 32 times 7.
-const SESSION: &str = "version = 1\nid = \"0011223344556677\"\nrounds = 10\nlife = 4\ncap = 4\n\
-    per_round = 8\nfanout = 1\nport = 20000\ntick_ms = 20\nlms = 6\nots = 1\n\
-    key = \"00000006000000018d1e3644fdcc75d960cb49ec946968481554a91f1289fa02a0336e795ad4b25490e95e447533fc4da8ff8806af933922\"\n\n[[peer]]\n\
-    key = \"00000006000000012ef17295b2b2463d8d9beef9c2b84a1588e44acc6e2efaa4ccc770a8e5c237a6264b1ba299000f8607cc9b43de9271c5\"\n\
-    anchor = \"0f6658ab7e90dda684f49951ffa7345a50488289b1681527c9b1fba610ef4502\"\n\n[[peer]]\n\
-    key = \"0000000600000001d87398929b1937843f54974546a2b8d69290230c2d8089b9aee1c81336271d5c67dd566098385c583070d2ad05ddd8b1\"\n\
-    anchor = \"22d984a93475a329dd35bccd254007ee8d81f582aaf64ee95e3bfea93bfbea63\"\n";
 
 /// The number of the session's last tick.
 const LAST: u32 = 120;
@@ -194,7 +184,7 @@ fn expect(
 #[test]
 fn what_was_received_is_told(rt: HostRuntime) -> Result<(), Fail> {
     let alloc = rt.alloc();
-    let session = Session::read(alloc, SESSION.as_bytes())?;
+    let session = Session::read(alloc, session_of_short_chains().as_bytes())?;
     let one = scheme_of(alloc, &session, 8)?;
     let two = scheme_of(alloc, &session, 9)?;
     let case = case_of(&rt, alloc, &one, 1)?;
@@ -216,7 +206,7 @@ fn what_was_received_is_told(rt: HostRuntime) -> Result<(), Fail> {
 #[test]
 fn an_exchange_of_one_recording_is_not_told(rt: HostRuntime) -> Result<(), Fail> {
     let alloc = rt.alloc();
-    let session = Session::read(alloc, SESSION.as_bytes())?;
+    let session = Session::read(alloc, session_of_short_chains().as_bytes())?;
     let one = scheme_of(alloc, &session, 8)?;
     let case = case_of(&rt, alloc, &one, 1)?;
     let bytes = recording_of(alloc, 2, &[&case])?;

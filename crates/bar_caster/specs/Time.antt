@@ -15,7 +15,8 @@ use Rattle.bar_rules.specs.Broadcaster.Sending.{caster_step, caster_take, caster
 use Rattle.bar_rules.specs.Broadcaster.Sending.{send_all, send_block, send_blocks, served}
 use Rattle.bar_rules.specs.Broadcaster.Stream.{caster_table, is_in_fanout, manifest_list, round_blocks}
 use Rattle.bar_rules.specs.Judge.Verdict.{Verdict, Shown, NotShown, verdict}
-use Rattle.bar_rules.specs.Member.{Member, last_tick, slot_after}
+use Rattle.bar_roster.specs.Time.{last_tick, slot_after}
+use Rattle.bar_rules.specs.Member.{Member}
 use Rattle.bar_rules.specs.Peer.Log.{Log, Ticked, Said, Kept, first_said, has_kind_and_round, kept, round_now, ticks}
 use Rattle.bar_rules.specs.Runs.{Outcome, begun, sending, state_after}
 use Rattle.bar_rules.specs.Values.{datagram_of, unsigned}

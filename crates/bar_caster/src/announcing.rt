@@ -11,10 +11,7 @@ ghost use Rattle.bar_rules.specs.Broadcaster.Sending.{caster_message};
 
 use bar_bytes::put_u16;
 use bar_roster::Session;
-use bar_wire::{Body, EVERYONE, encode};
-
-/// The broadcaster's number.
-pub const BROADCASTER: u16 = 0;
+use bar_wire::{BROADCASTER, Body, EVERYONE, encode};
 
 /// Writes the message of a body to all peers, which is all before the signature, to the front of `out`, and answers its length.
 fn write_to_all(session: &Session, body: &Body<'_>, out: &mut [u8]) -> usize

@@ -12,7 +12,6 @@ ghost use Rattle.bar_caster.specs.Orders.{datagram_now};
 ghost use Rattle.bar_caster.specs.StandsFor.{Inputs, StandsFor, AreLeft};
 ghost use Rattle.bar_caster.specs.declared.item.Item.TheVariants.{Block};
 
-use crate::announcing::BROADCASTER;
 use crate::caster::Caster;
 use crate::item::Item;
 use crate::memory::Memory;
@@ -20,7 +19,7 @@ use crate::order::Order;
 use bar_bytes::put;
 use bar_laws::broadcasting::signs_once_a_round;
 use bar_seal::Scheme;
-use bar_wire::{Body, encode};
+use bar_wire::{BROADCASTER, Body, encode};
 
 impl Memory {
     /// Writes the block with this index of this round's, for a peer, to the front of a buffer, and answers the length of the datagram.

@@ -1,14 +1,14 @@
 ghost use Rattle.std.specs.Prelude.{◌≡◌, ◌+◌, ◌≤◌, length};
 ghost use Rattle.bar_wire.specs.declared.kind.Kind.TheVariants.{Manifest, Evict};
 ghost use Rattle.bar_rules.specs.Broadcaster.Party.{IsBroadcaster};
-ghost use Rattle.bar_rules.specs.Member.{round_after, last_tick};
+ghost use Rattle.bar_roster.specs.Time.{last_tick, round_after};
 ghost use Rattle.bar_rules.specs.Members.{member_by};
 ghost use Rattle.bar_rules.specs.Peer.Sizes.{largest, most_evidence};
 
 use crate::evictions::Evictions;
 use crate::stream::Stream;
 use bar_bytes::{Room, Rooms};
-use bar_roster::Session;
+use bar_roster::{Session, round_after};
 use bar_seeds::Secrets;
 use bar_terms::Table;
 
@@ -42,20 +42,19 @@ pub struct Memory {
 
 impl Memory {
     ghost use Rattle.std.specs.Prelude.{◌≡◌, nat_le};
-    ghost use Rattle.bar_rules.specs.Member.{round_after, last_tick};
+    ghost use Rattle.bar_roster.specs.Time.{last_tick, round_after};
 
     /// This round.
     pub fn round(&self) -> u32
         ensures { result ≡ round_after self.now.ticks }
     {
-        (self.ticks + 7) / 8
+        round_after(self.ticks)
     }
 
     /// Whether the last tick was taken.
     pub fn is_over(&self) -> bool
         ensures { result ≡ nat_le (last_tick self.now.session) self.now.ticks }
     {
-        let shape = self.session.shape();
-        self.ticks >= 8 * (shape.rounds + u32::from(shape.life) + 1)
+        self.ticks >= self.session.last_tick()
     }
 }

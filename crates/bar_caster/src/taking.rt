@@ -5,7 +5,7 @@ ghost use Rattle.bar_wire.specs.Evidence.{IsEvidence};
 ghost use Rattle.bar_wire.specs.Inputs.{Tick};
 ghost use Rattle.bar_wire.specs.Inputs.{Datagram as Arrival};
 ghost use Rattle.bar_rules.specs.Broadcaster.Sending.{caster_take, judge_body, judge_datagram};
-ghost use Rattle.bar_rules.specs.Member.{last_tick};
+ghost use Rattle.bar_roster.specs.Time.{last_tick};
 ghost use Rattle.bar_rules.specs.Peer.Log.{Log};
 ghost use Rattle.bar_rules.specs.Values.{datagram_of};
 ghost use Rattle.bar_rules.specs.Verifiers.{IsVerifierOf, NamesLeavesOf};
@@ -23,6 +23,7 @@ use crate::sending::{send_blocks, send_to_all};
 use bar_bytes::Steps;
 use bar_judge::{Verdict, verdict};
 use bar_laws::broadcasting::{shown_evidence_is_short, signs_once_a_round};
+use bar_roster::slot_after;
 use bar_seal::{Scheme, Verifier};
 use bar_store::HEADER_LEN;
 use bar_wire::{Body, bytes_spell_one, decode, split_evidence};
@@ -133,7 +134,7 @@ impl<S: Scheme> Caster<S> {
         if self.memory.round() > self.memory.session.shape().rounds {
             return;
         }
-        match (self.memory.ticks + 7) % 8 {
+        match slot_after(self.memory.ticks) {
             1 | 5 => send_blocks(&self.memory, &mut self.ranks, &mut self.orders, steps),
             4 => send_to_all(&self.memory, &mut self.orders, Item::Manifest),
             _ => {}

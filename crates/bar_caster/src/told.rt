@@ -5,7 +5,7 @@ ghost use Rattle.bar_wire.specs.Evidence.{evidence_bytes};
 ghost use Rattle.bar_wire.specs.declared.kind.Kind.TheVariants.{Manifest};
 ghost use Rattle.bar_roster.specs.Sessions.{IsSession};
 ghost use Rattle.bar_rules.specs.Broadcaster.Sending.{evicted};
-ghost use Rattle.bar_rules.specs.Member.{last_tick};
+ghost use Rattle.bar_roster.specs.Time.{last_tick};
 ghost use Rattle.bar_rules.specs.Peer.Log.{kept, ticks};
 ghost use Rattle.bar_rules.specs.Values.{datagram_bytes};
 ghost use Rattle.bar_caster.specs.Memory.{said_of};

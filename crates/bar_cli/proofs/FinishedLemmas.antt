@@ -16,7 +16,8 @@ use Rattle.bar_roster.specs.SessionText.{SessionData}
 use Rattle.bar_record.specs.declared.fault.RecordFault.{RecordFault}
 use Rattle.bar_record.specs.Pacing.{StaysPaced, paced}
 use Rattle.bar_record.specs.Recording.{IsInRange, ReadsBack, recording_bytes}
-use Rattle.bar_rules.specs.Member.{Member, last_tick}
+use Rattle.bar_roster.specs.Time.{last_tick}
+use Rattle.bar_rules.specs.Member.{Member}
 use Rattle.bar_rules.specs.Members.{member_by}
 use Rattle.bar_rules.specs.Peer.Run.{played_by, sends_of}
 use Rattle.bar_node.specs.Runs.{inputs_of, taken_of}

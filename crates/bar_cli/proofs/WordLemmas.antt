@@ -6,6 +6,7 @@ use Rattle.std.specs.Borrow.{Bor}
 use Rattle.std.specs.Option.{ok_or, option_and_then, option_map}
 use Rattle.bar_lms.specs.declared.params.Height.{Height}
 use Rattle.bar_lms.specs.declared.params.Params.{Params}
+use Rattle.bar_roster.specs.NumberRanges.{most_peers}
 use Rattle.bar_words.specs.Numbers.{id_of, number_in}
 use Rattle.bar_words.specs.Options.{texts}
 use Rattle.bar_words.specs.declared.options.WordsFault.{WordsFault}
@@ -108,7 +109,7 @@ not-seven-levels (p ∷ i ∷ r ∷ l ∷ o ∷ s ∷ k ∷ x ∷ xs) h = refl
 -- what they ask for, where each is in its range
 pub keygen-asked : (most : ℕ) (types : Option (Option Height × Params)) (party_word id_word rounds_word secret key : List ℕ)
     (party : ℕ) (id : List ℕ) (rounds : ℕ) (levels : Option Height × Params) →
-    Some party ≡ number_in 0 200 party_word → Some id ≡ id_of id_word → Some rounds ≡ number_in 1 most rounds_word → Some levels ≡ types →
+    Some party ≡ number_in 0 most_peers party_word → Some id ≡ id_of id_word → Some rounds ≡ number_in 1 most rounds_word → Some levels ≡ types →
     Some (keygen (record { party = party; id = id; rounds = rounds; top = levels.0; params = levels.1; secret = secret; key = key }))
     ≡ asked_by most types party_word id_word rounds_word secret key
 keygen-asked most types party_word id_word rounds_word secret key party id rounds levels p i r t =

@@ -7,7 +7,7 @@ use Rattle.bar_outside.specs.Plan.{Plan, ending}
 use Rattle.bar_outside.specs.Wire.{Arrival}
 use Rattle.bar_lms.specs.declared.params.Height.{Height}
 use Rattle.bar_lms.specs.declared.params.Params.{Params}
-use Rattle.bar_roster.specs.NumberRanges.{most_long_rounds, most_rounds}
+use Rattle.bar_roster.specs.NumberRanges.{most_long_rounds, most_peers, most_rounds}
 use Rattle.bar_words.specs.Numbers.{id_of, number_in}
 use Rattle.bar_words.specs.Options.{values_of}
 use Rattle.bar_children.specs.Names.{SessionNames}
@@ -88,7 +88,7 @@ keygen_options = codes "party" ∷ codes "id" ∷ codes "rounds" ∷ codes "lms"
 -- the numbers are in their ranges, with so many rounds at the most, and an id has sixteen hex digits
 abbrev pub asked_by : ℕ → Option (Option Height × Params) → List ℕ → List ℕ → List ℕ → List ℕ → List ℕ → Option Line
 asked_by most types party_word id_word rounds_word secret key = do
-  party ← number_in 0 200 party_word
+  party ← number_in 0 most_peers party_word
   id ← id_of id_word
   rounds ← number_in 1 most rounds_word
   levels ← types
@@ -118,8 +118,8 @@ audit_options = codes "session" ∷ codes "results" ∷ codes "first" ∷ codes 
 
 abbrev pub audit_values : List (List ℕ) → Option Line
 audit_values (session ∷ results ∷ first_word ∷ last_word ∷ []) = do
-  first ← number_in 0 200 first_word
-  last ← number_in 0 200 last_word
+  first ← number_in 0 most_peers first_word
+  last ← number_in 0 most_peers last_word
   Some (audit (record { session = session; results = results; first = first; last = last }))
 audit_values _ = None
 

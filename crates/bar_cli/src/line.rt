@@ -18,7 +18,7 @@ use crate::verify_names::VerifyNames;
 use crate::words::{levels_of, types_of};
 use bar_children::SessionNames;
 use bar_live::{CasterNames, PeerNames};
-use bar_roster::{MOST_LONG_ROUNDS, MOST_ROUNDS};
+use bar_roster::{MOST_LONG_ROUNDS, MOST_PEERS, MOST_ROUNDS};
 use bar_words::{WordsFault, id_of, number_in, option_values};
 use std::alloc::Global;
 
@@ -175,7 +175,7 @@ fn asked_of<'a>(
     requires { most ≤ most_long_rounds }
     ensures { option_map asked_view result ≡ asked_by most (option_map types_view types) party.now id.now rounds.now secret.now key.now }
 {
-    let party = number_in(party, 0, 200)? as u16;
+    let party = number_in(party, 0, MOST_PEERS)? as u16;
     let id = id_of(id)?;
     let rounds = number_in(rounds, 1, most)? as u32;
     let types = types?;
@@ -251,8 +251,8 @@ fn audit_of<'a>(values: &[&'a str]) -> Option<AuditNames<'a>>
     Some(AuditNames {
         session,
         results,
-        first: number_in(first, 0, 200)? as u16,
-        last: number_in(last, 0, 200)? as u16,
+        first: number_in(first, 0, MOST_PEERS)? as u16,
+        last: number_in(last, 0, MOST_PEERS)? as u16,
     })
 }
 

@@ -3,7 +3,7 @@ ghost use Rattle.std.specs.Prelude.{◌≡◌, ◌≤◌, ◌⊎◌, Ok, Err, If
 ghost use Rattle.bar_record.specs.Inputs.{inputs_left};
 ghost use Rattle.bar_record.specs.Pacing.{paced};
 ghost use Rattle.bar_hss.specs.Files.{IsPartyKeyOf};
-ghost use Rattle.bar_rules.specs.Member.{last_tick};
+ghost use Rattle.bar_roster.specs.Time.{last_tick};
 ghost use Rattle.bar_cli.specs.AuditPlan.{inputs_listed};
 ghost use Rattle.bar_cli.specs.Replay.{recording_of, secrets_of_key};
 
@@ -22,15 +22,6 @@ pub fn read_key(alloc: Global, bytes: &[u8], session: &Session) -> Result<PartyK
     PartyKey::read(alloc, bytes, session, false, false)
 }
 
-/// The last tick of a session.
-fn last_tick(session: &Session) -> u32
-    ensures value { result ≡ last_tick session.now }
-    ensures few { result ≤ 57736 }
-{
-    let shape = session.shape();
-    8 * (shape.rounds + u32::from(shape.life) + 1)
-}
-
 /// The inputs of a party's recording that bytes spell under a session, as they stand in it.
 #[tactic(auto, unfolding(crate::specs::AuditPlan::inputs_listed, crate::specs::Replay::recording_of))]
 pub fn read_recording<'a>(
@@ -44,5 +35,5 @@ pub fn read_recording<'a>(
     ensures refused { IfErr result (λ fault. inputs_listed session.now party bytes.now ≡ Err fault) }
 {
     let shape = session.shape();
-    read(bytes, &shape.id, party, last_tick(session))
+    read(bytes, &shape.id, party, session.last_tick())
 }

@@ -5,7 +5,8 @@ use Rattle.std.proofs.lemmas.Bool.{cases_Bool}
 use Rattle.bar_window.specs.declared.exchange.Exchange.{Exchange}
 use Rattle.bar_window.specs.declared.exchange.XKind.{XKind}
 use Rattle.bar_window.specs.Exchange.{same_exchange}
-use Rattle.bar_rules.specs.Member.{Member, round_after}
+use Rattle.bar_roster.specs.Time.{round_after}
+use Rattle.bar_rules.specs.Member.{Member}
 use Rattle.bar_rules.specs.Peer.Agreement.{IsRecent}
 use Rattle.bar_rules.specs.Peer.Knowledge.{Knowledge}
 use Rattle.bar_ledger.specs.declared.ledger.Ledger.{Ledger}

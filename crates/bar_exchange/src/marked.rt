@@ -10,7 +10,7 @@ use bar_wire::Kind;
 fn is_said(kind: Kind, entry: &Entry) -> bool
     ensures { result ≡ is_said kind entry.now }
 {
-    let opens = kind.code() == opening_kind(entry.x.kind, entry.role).code();
+    let opens = kind == opening_kind(entry.x.kind, entry.role);
     match kind {
         Kind::Case => entry.case_said,
         Kind::Key => entry.key_said,
@@ -32,7 +32,7 @@ pub fn has_said(ledger: &Ledger, x: Exchange, kind: Kind, role: Role) -> bool
     ensures { result ≡ said_in ledger.now kind x role }
 {
     match ledger.find(x) {
-        Some(entry) => role.code() == entry.role.code() && is_said(kind, entry),
+        Some(entry) => role == entry.role && is_said(kind, entry),
         None => false,
     }
 }

@@ -6,7 +6,7 @@ ghost use Rattle.bar_ledger.specs.Naming.{names};
 ghost use Rattle.bar_exchange.specs.Naming.{passing_as, passing_in, passing_beside, passing_among, side_beside};
 
 use crate::recall::heard_from;
-use bar_ledger::{Ledger, is_same, names, opening_kind};
+use bar_ledger::{Ledger, names, opening_kind};
 use bar_seal::Verifier;
 use bar_window::{Exchange, Role, XKind};
 use bar_wire::Kind;
@@ -68,7 +68,7 @@ fn naming_beside<'a, V: Verifier>(
 ) -> Option<&'a [u8]>
     ensures { option_copied result ≡ passing_beside (names (V.leaf_named verifier.now) (V.signature_len verifier.now) leaf) ledger.now x y }
 {
-    if is_same(x, y) {
+    if x == y {
         return None;
     }
     naming_in(verifier, ledger, y, side_beside(ledger.me(), y), leaf)

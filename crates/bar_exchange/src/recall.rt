@@ -50,7 +50,7 @@ pub fn heard_from(ledger: &Ledger, x: Exchange, kind: Kind, role: Role) -> Optio
 {
     match ledger.find(x) {
         Some(entry) => {
-            if role.code() == entry.role.other().code() {
+            if role == entry.role.other() {
                 ledger.heard(x, kind)
             } else {
                 None
@@ -65,7 +65,7 @@ pub fn has_said_case(ledger: &Ledger, x: Exchange, role: Role) -> bool
     ensures { result ≡ said_in ledger.now Case x role }
 {
     match ledger.find(x) {
-        Some(entry) => role.code() == entry.role.code() && entry.case_said,
+        Some(entry) => role == entry.role && entry.case_said,
         None => false,
     }
 }

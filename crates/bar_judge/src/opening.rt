@@ -43,7 +43,7 @@ fn is_key_for(m: &View<'_>, case: &Briefcase<'_>, n: &View<'_>, key: &GivenKey<'
 {
     let of_case = case.exchange(m.from, m.to);
     let of_key = exchange_by(key.round, key.kind, key.role, n.from, n.to);
-    m.to == n.to && of_case == of_key && case.role.code() == key.role.code()
+    m.to == n.to && of_case == of_key && case.role == key.role
 }
 
 /// What a key shows of a briefcase of an exchange, where its terms are valid and its counts are those of its sender's promise.

@@ -1,15 +1,8 @@
 -- The order of exchanges, and the least one of some.
-use Rattle.std.specs.Prelude.{◌≡◌, Bool, true, ◌==◌, ◌&&◌, ◌||◌, nat_lt, List, [], ◌∷◌, filter, Option, Some, None, if◌then◌else◌}
+use Rattle.std.specs.Prelude.{◌≡◌, Bool, true, ◌&&◌, List, [], ◌∷◌, filter, Option, Some, None, if◌then◌else◌}
 use Rattle.std.specs.List.{find}
 use Rattle.bar_window.specs.declared.exchange.Exchange.{Exchange}
-use Rattle.bar_window.specs.Exchange.{kind_code, same_kind}
 use Rattle.bar_rules.specs.Peer.Exchanges.{precedes}
-
--- the order of the exchanges of one round
-abbrev pub parties_precede : Exchange → Exchange → Bool
-parties_precede x y =
-    nat_lt (kind_code x.kind) (kind_code y.kind)
-    || same_kind x.kind y.kind && (nat_lt x.initiator y.initiator || (x.initiator == y.initiator) && nat_lt x.responder y.responder)
 
 -- whether an exchange stands above another one, where there is one
 abbrev pub is_above : Option Exchange → Exchange → Bool

@@ -1,45 +1,18 @@
-//! How exchanges are told apart and ordered, and which kind of datagram opens one.
+//! Which exchange is the next, and which kind of datagram opens one.
 ghost use Rattle.std.specs.Prelude.{◌≡◌, Some};
-ghost use Rattle.bar_window.specs.Exchange.{same_exchange};
-ghost use Rattle.bar_rules.specs.Peer.Exchanges.{opening_kind, precedes};
+ghost use Rattle.bar_rules.specs.Peer.Exchanges.{opening_kind};
 ghost use Rattle.bar_ledger.specs.Hearing.{hears, is_opening};
 ghost use Rattle.bar_ledger.specs.Naming.{is_beside};
-ghost use Rattle.bar_ledger.specs.Order.{parties_precede, is_above, is_below, best_with};
+ghost use Rattle.bar_ledger.specs.Order.{is_above, is_below, best_with};
 
 use bar_window::{Exchange, Role, XKind};
 use bar_wire::Kind;
-
-/// Whether two exchanges are one.
-pub fn is_same(x: Exchange, y: Exchange) -> bool
-    ensures { result ≡ same_exchange x y }
-{
-    x.round == y.round
-        && x.kind.code() == y.kind.code()
-        && x.initiator == y.initiator
-        && x.responder == y.responder
-}
 
 /// Whether an exchange is another one than the first, and one of its parties is this.
 pub(crate) fn is_beside(x: Exchange, party: u16, y: Exchange) -> bool
     ensures { result ≡ is_beside x party y }
 {
-    !is_same(x, y) && (y.initiator == party || y.responder == party)
-}
-
-fn precedes_in_round(x: Exchange, y: Exchange) -> bool
-    ensures { result ≡ parties_precede x y }
-{
-    x.kind.code() < y.kind.code()
-        || (x.kind.code() == y.kind.code()
-            && (x.initiator < y.initiator
-                || (x.initiator == y.initiator && x.responder < y.responder)))
-}
-
-/// Whether one exchange stands before another, by round, kind, initiator and responder in turn.
-fn precedes(x: Exchange, y: Exchange) -> bool
-    ensures { result ≡ precedes x y }
-{
-    x.round < y.round || (x.round == y.round && precedes_in_round(x, y))
+    x != y && (y.initiator == party || y.responder == party)
 }
 
 /// The kind of a side's first signed datagram.
@@ -58,7 +31,7 @@ pub fn opening_kind(kind: XKind, role: Role) -> Kind
 pub(crate) fn opens(kind: Kind, x: Exchange, role: Role) -> bool
     ensures { result ≡ is_opening kind x.kind role }
 {
-    kind.code() == opening_kind(x.kind, role.other()).code()
+    kind == opening_kind(x.kind, role.other())
 }
 
 /// Whether a side of an exchange hears a kind.
@@ -101,7 +74,7 @@ fn is_above(after: Option<Exchange>, x: Exchange) -> bool
     ensures { result ≡ is_above after x }
 {
     match after {
-        Some(y) => precedes(y, x),
+        Some(y) => y < x,
         None => true,
     }
 }
@@ -110,7 +83,7 @@ fn is_below(x: Exchange, best: Option<Exchange>) -> bool
     ensures { result ≡ is_below x best }
 {
     match best {
-        Some(y) => precedes(x, y),
+        Some(y) => x < y,
         None => true,
     }
 }

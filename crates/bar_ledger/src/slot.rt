@@ -13,7 +13,7 @@ ghost use Rattle.bar_ledger.specs.Slots.{HasRooms, size_for};
 ghost use Rattle.bar_ledger.specs.Totals.{totals_by, no_totals, CanTotal, AreSound};
 
 use crate::entry::Entry;
-use crate::exchanges::{is_beside, is_same, opens};
+use crate::exchanges::{is_beside, opens};
 use crate::sizes::{largest, most_first};
 use crate::totals::Totals;
 use bar_bytes::Room;
@@ -64,7 +64,7 @@ impl Slot {
         ensures { result ≡ option_map_or (is_for x) (kept_of self.now) false }
     {
         match &self.entry {
-            Some(entry) => is_same(entry.x, x),
+            Some(entry) => entry.x == x,
             None => false,
         }
     }
@@ -83,8 +83,8 @@ impl Slot {
         match &self.entry {
             Some(entry) => {
                 self.is_live(life, now)
-                    && entry.role.code() == Role::Responder.code()
-                    && entry.x.kind.code() == kind.code()
+                    && entry.role == Role::Responder
+                    && entry.x.kind == kind
                     && entry.x.round == round
             }
             None => false,

@@ -1,4 +1,5 @@
 pub mod Params
+pub mod Domains
 pub mod Chains
 pub mod Lanes
 pub mod Order

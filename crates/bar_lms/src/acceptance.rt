@@ -12,6 +12,7 @@ ghost use Rattle.bar_lms.specs.Acceptance.{Accepts, is_well_formed, is_accepted,
 
 use crate::all_chains::all_chains;
 use crate::digits::digits_of;
+use crate::domains::{D_INTR, D_LEAF, D_MESG, D_PBLC};
 use crate::key::PublicKey;
 use crate::legs::{Legs, Row};
 use crate::params::{Height, Ots, Params};
@@ -59,7 +60,7 @@ pub(crate) fn parent<L: Ledger>(
     ensures value { result ≡ parent ident.now r left.now right.now }
     ensures cost { steps.new ≡ steps.old + 1 }
 {
-    let mut hasher = head(ident, r, 0x8383, steps);
+    let mut hasher = head(ident, r, D_INTR, steps);
     hasher.update(left);
     hasher.update(right);
     hasher.finalize()
@@ -90,7 +91,7 @@ pub(crate) fn leaf_node<L: Ledger>(
     ensures value { result ≡ leaf_node ident.now r key.now }
     ensures cost { steps.new ≡ steps.old + 1 }
 {
-    let mut hasher = head(ident, r, 0x8282, steps);
+    let mut hasher = head(ident, r, D_LEAF, steps);
     hasher.update(key.as_slice());
     hasher.finalize()
 }
@@ -188,7 +189,7 @@ fn key_of_ends<L: Ledger>(
 {
     let mut ends = [[0u8; 32]; 265];
     put_ends(ident, q, hash, values, ots, &mut ends, steps);
-    let mut hasher = head(ident, q, 0x8080, steps);
+    let mut hasher = head(ident, q, D_PBLC, steps);
     add_row(&mut hasher, &ends, ots.chains());
     hasher.finalize()
 }
@@ -212,7 +213,7 @@ pub(crate) fn message_hash<L: Ledger>(
     ensures value { result ≡ message_hash ident.now q randomizer.now message.now }
     ensures cost { steps.new ≡ steps.old + 1 }
 {
-    let mut hasher = head(ident, q, 0x8181, steps);
+    let mut hasher = head(ident, q, D_MESG, steps);
     hasher.update(randomizer);
     hasher.update(message);
     hasher.finalize()

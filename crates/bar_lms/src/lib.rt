@@ -19,6 +19,7 @@ mod bytes;
 mod chain_values;
 mod chains;
 mod digits;
+mod domains;
 mod groups;
 mod key;
 mod laws;

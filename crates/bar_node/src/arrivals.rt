@@ -4,7 +4,7 @@ ghost use Rattle.std.specs.Option.{option_map};
 ghost use Rattle.bar_wire.specs.Inputs as plain;
 ghost use Rattle.bar_wire.specs.Limits.{largest_datagram};
 ghost use Rattle.bar_outside.specs.Wire.{arrival_of, largest_packet, len_of};
-ghost use Rattle.bar_record.specs.Recording.{IsInRange};
+ghost use Rattle.bar_record.specs.Recording.{IsInRange, largest_entry};
 ghost use Rattle.bar_core.specs.Face.{IsIdle};
 ghost use Rattle.bar_node.specs.Taking.{layout_of};
 ghost use Rattle.bar_node.specs.Runs.{input_of, RanInputs};
@@ -44,7 +44,7 @@ pub fn run_inputs<C: Core, L: Link, F: Files>(
     requires stands { C.stands core.old [] }
     requires idle { IsIdle (C.face core.old) }
     requires inbox { largest_datagram ≤ length inbox.old }
-    requires outbox { 65510 ≤ length outbox.old }
+    requires outbox { largest_entry ≤ length outbox.old }
     ensures ran { RanInputs (layout_of kept.now) (C.stands core.new) (C.face core.old).rules
         (F.disk files.old) (F.disk files.new) (L.wire link.old) (L.wire link.new) result }
     ensures rules { OnOk result ((C.face core.new).rules ≡ (C.face core.old).rules) }

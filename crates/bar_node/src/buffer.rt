@@ -3,9 +3,6 @@ ghost use Rattle.std.specs.Prelude.{◌≡◌, IfOk, vec_len};
 
 use std::alloc::{AllocError, Global};
 
-/// The bytes of the largest datagram's entry in a recording.
-pub const LARGEST_ENTRY: usize = 65_510;
-
 /// A buffer of so many bytes.
 pub fn buffer(alloc: Global, len: usize) -> Result<Vec<u8>, AllocError>
     ensures { IfOk result (λ buffer. vec_len buffer ≡ len) }

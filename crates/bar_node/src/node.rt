@@ -4,7 +4,7 @@ ghost use Rattle.std.specs.Option.{option_copied};
 ghost use Rattle.bar_wire.specs.Inputs as plain;
 ghost use Rattle.bar_outside.specs.Plan.{Outside, with_files, with_wire};
 ghost use Rattle.bar_outside.specs.Follows.{Follows};
-ghost use Rattle.bar_record.specs.Recording.{entry_bytes, IsInRange};
+ghost use Rattle.bar_record.specs.Recording.{entry_bytes, IsInRange, largest_entry};
 ghost use Rattle.bar_record.specs.Pacing.{due, is_datagram, run_after};
 ghost use Rattle.bar_core.specs.Face.{IsIdle};
 ghost use Rattle.bar_node.specs.Turns.{kept, turns};
@@ -35,7 +35,7 @@ fn keep_entry<F: Files>(
     input: &Input<'_>,
     buf: &mut [u8],
 ) -> Result<(), Fault>
-    requires room { 65510 ≤ length buf.old }
+    requires room { largest_entry ≤ length buf.old }
     requires datagram { IsInRange (plain.plain_input input.now) }
     ensures { (w : Outside) → Follows (kept (option_copied recording.entry) (entry_bytes (plain.plain_input input.now)))
         (with_files w (F.disk files.old)) (with_files w (F.disk files.new)) result }
@@ -59,7 +59,7 @@ pub fn take_input<C: Core, L: Link, F: Files>(
     buf: &mut [u8],
 ) -> Result<Counts, Fault>
     requires idle { IsIdle (C.face core.old) }
-    requires room { 65510 ≤ length buf.old }
+    requires room { largest_entry ≤ length buf.old }
     requires datagram { IsInRange (plain.plain_input input) }
     ensures follows { (before : List plain.Input) → C.stands core.old before → (w : Outside) →
         Follows (turns (layout_of kept.now) (C.face core.old).rules before (plain.plain_input input.entry ∷ []))
@@ -93,7 +93,7 @@ pub fn take_paced<C: Core, L: Link, F: Files>(
 ) -> Result<Counts, Fault>
     requires idle { IsIdle (C.face core.old) }
     requires goes { (C.face core.old).ticks < (C.face core.old).rules.last }
-    requires room { 65510 ≤ length buf.old }
+    requires room { largest_entry ≤ length buf.old }
     requires datagram { IsInRange (plain.plain_input input) }
     ensures follows { (before : List plain.Input) → C.stands core.old before → (w : Outside) →
         Follows (turns (layout_of kept.now) (C.face core.old).rules before

@@ -8,7 +8,7 @@ ghost use Rattle.bar_core.specs.Face.{IsIdle};
 ghost use Rattle.bar_node.specs.Runs.{RanNode, closing};
 
 use crate::arrivals::run_inputs;
-use crate::buffer::{LARGEST_ENTRY, buffer};
+use crate::buffer::buffer;
 use crate::found::write_found;
 use crate::giving::keep_bytes;
 use crate::kept::Kept;
@@ -16,6 +16,7 @@ use crate::paths::Paths;
 use crate::summary::Summary;
 use bar_core::Core;
 use bar_outside::{Fault, Files, Link};
+use bar_record::LARGEST_ENTRY;
 use bar_wire::LARGEST_DATAGRAM;
 use std::alloc::Global;
 

@@ -1,15 +1,14 @@
 //! Whole broadcasters: what they send and whom they evict, worked out by hand from the rules.
 
 pub mod casters;
-mod sessions;
 
 use bar_caster::{Caster, CasterFault};
 use bar_hss::SessionScheme;
+use bar_samples::sessions::{ID, long_session, session, session_of_seven};
 use bar_seal::LmsScheme;
 use casters::{
-    ID, Sent, caster_by, caster_of, count, counts, scheme_of, signed, start, tell, ticks,
+    Sent, caster_by, caster_of, count, counts, scheme_of, signed, start, tell, ticks,
 };
-use sessions::{long_session, session, session_of_seven};
 use std::alloc::{AllocError, Global};
 use std::process::Abort;
 use std::test::Fail;

@@ -4,10 +4,10 @@ mod datagrams;
 mod evidence;
 mod pair;
 pub mod peers;
-mod sessions;
 
 use bar_hss::SessionScheme;
 use bar_peer::Peer;
+use bar_samples::sessions::{session, session_of_five, small_session};
 use bar_seal::LmsScheme;
 use bar_window::{Exchange, XKind};
 use bar_wire::Kind;
@@ -20,7 +20,6 @@ use peers::{
     Sent, answers, check_count, check_played, peer_of, scheme_of, sent_at_tick, tell, tell_fronts,
     ticks,
 };
-use sessions::{session, session_of_five, small_session};
 use std::alloc::{AllocError, Global};
 use std::process::Abort;
 use std::test::Fail;

@@ -1,6 +1,6 @@
 //! What a peer asks for at the first slot of a round.
 ghost use Rattle.std.specs.Prelude.{◌≡◌, ◌+◌, ◌≤◌, length};
-ghost use Rattle.bar_rules.specs.Member.{round_after};
+ghost use Rattle.bar_roster.specs.Time.{round_after};
 ghost use Rattle.bar_peer.specs.Ticking.{AsksPartner, AsksPartners};
 
 use crate::memory::Memory;

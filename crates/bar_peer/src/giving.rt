@@ -19,7 +19,6 @@ ghost use Rattle.bar_rules.specs.Giving.{GivesNext};
 use crate::memory::Memory;
 use crate::order::Order;
 use crate::peer::Peer;
-use crate::reports::BROADCASTER;
 use bar_exchange::{Say, Sources, side};
 use bar_laws::leaves::leaf_discipline;
 use bar_laws::memories::logs_are_sound;
@@ -29,7 +28,7 @@ use bar_laws::rooms::evidence_fits_its_room;
 use bar_ledger::Ledger;
 use bar_seal::{Scheme, leaf_for};
 use bar_window::{Exchange, Role, XKind};
-use bar_wire::SEATS_A_ROUND;
+use bar_wire::{BROADCASTER, SEATS_A_ROUND};
 
 /// The responder's seat in an exchange, and 0 where it has none.
 fn seat_of(ledger: &Ledger, x: Exchange) -> u8

@@ -1,12 +1,13 @@
 ghost use Rattle.std.specs.Prelude.{◌≡◌, ◌+◌, ◌≤◌, length};
 ghost use Rattle.bar_wire.specs.declared.kind.Kind.TheVariants.{Manifest};
-ghost use Rattle.bar_rules.specs.Member.{round_after, last_tick};
+ghost use Rattle.bar_roster.specs.Time.{last_tick, round_after};
 ghost use Rattle.bar_rules.specs.Peer.Sizes.{largest, most_evidence};
 
 use crate::credentials::Credentials;
 use crate::evictions::Evictions;
 use bar_bytes::Rooms;
 use bar_ledger::Ledger;
+use bar_roster::round_after;
 use bar_store::Store;
 use bar_window::Exchange;
 
@@ -45,7 +46,7 @@ impl Memory {
     pub fn round(&self) -> u32
         ensures { result ≡ round_after self.now.ticks }
     {
-        (self.ticks + 7) / 8
+        round_after(self.ticks)
     }
 
     /// This peer's partner in an exchange.

@@ -11,10 +11,7 @@ ghost use Rattle.bar_peer.specs.Ticking.{is_reported, Reports};
 use crate::memory::Memory;
 use crate::order::Order;
 use bar_store::{HEADER_LEN, Orders};
-use bar_wire::{Body, encode, split_evidence};
-
-/// The broadcaster's number.
-pub const BROADCASTER: u16 = 0;
+use bar_wire::{BROADCASTER, Body, encode, split_evidence};
 
 impl Memory {
     /// Whether a report is due of the evidence against a party: some is kept, and the party isn't announced evicted.

@@ -4,7 +4,7 @@ ghost use Rattle.bar_seeds.specs.Checkpoints.{MovesOn};
 ghost use Rattle.bar_roster.specs.Points.{AreSeeds};
 ghost use Rattle.bar_seal.specs.Memo.{has_pair};
 ghost use Rattle.bar_wire.specs.Inputs.{plain_input};
-ghost use Rattle.bar_rules.specs.Member.{last_tick};
+ghost use Rattle.bar_roster.specs.Time.{last_tick};
 ghost use Rattle.bar_rules.specs.Peer.Knowledge.{known};
 ghost use Rattle.bar_rules.specs.Peer.Log.{Log};
 ghost use Rattle.bar_rules.specs.Peer.Run.{log_after, step};
@@ -29,6 +29,7 @@ use bar_bytes::Steps;
 use bar_laws::ignoring::ignored_datagrams_change_nothing;
 use bar_laws::knowing::knowledge_is_enough;
 use bar_laws::obedience::signed_by_rule;
+use bar_roster::slot_after;
 use bar_seal::{Checker, Scheme, Verifier};
 use bar_seeds::Checkpoints;
 use bar_store::Orders;
@@ -40,9 +41,7 @@ impl Memory {
     pub fn is_over(&self) -> bool
         ensures { result ≡ nat_le (last_tick self.now.who.session) self.now.ticks }
     {
-        let session = &self.who.session;
-        let shape = session.shape();
-        self.ticks >= 8 * (shape.rounds + u32::from(shape.life) + 1)
+        self.ticks >= self.who.session.last_tick()
     }
 }
 
@@ -103,7 +102,7 @@ impl Memory {
         let session = &self.who.session;
         let shape = session.shape();
         let round = self.round().saturating_sub(u32::from(shape.life));
-        if (self.ticks + 7) % 8 != 0 || round < 1 || round > shape.rounds {
+        if slot_after(self.ticks) != 0 || round < 1 || round > shape.rounds {
             return Playing::none();
         }
         Playing::of_round(round, shape.per_round)

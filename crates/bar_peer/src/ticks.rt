@@ -1,6 +1,6 @@
 //! What a peer sends at a tick.
 ghost use Rattle.std.specs.Prelude.{◌≡◌, ◌==◌, ◌+◌, ◌<◌, ◌≤◌, ◌∷◌, [], length};
-ghost use Rattle.bar_rules.specs.Member.{last_tick, slot_after};
+ghost use Rattle.bar_roster.specs.Time.{last_tick, slot_after};
 ghost use Rattle.bar_rules.specs.Peer.Agreement.{IsRecent};
 ghost use Rattle.bar_rules.specs.Peer.Knowledge.{Knowledge, known};
 ghost use Rattle.bar_rules.specs.Peer.Log.{Log, Ticked};
@@ -18,6 +18,7 @@ use crate::reports::report_all;
 use bar_exchange::{Say, Says};
 use bar_laws::knowing::knowledge_is_enough;
 use bar_laws::memories::logs_are_sound;
+use bar_roster::{SLOTS_A_ROUND, round_after, slot_after};
 use bar_store::Orders;
 use bar_window::{Exchange, XKind};
 
@@ -31,7 +32,7 @@ impl Memory {
     {
         knowledge_is_enough();
         self.ticks += 1;
-        let round = (self.ticks + 7) / 8;
+        let round = round_after(self.ticks);
         self.store.forget(round);
         self.ledger.forget(round);
     }
@@ -41,14 +42,14 @@ impl Memory {
         ensures { result ≡ is_first_slot self.now.who.session self.now.ticks }
     {
         let round = self.round();
-        (self.ticks + 7) % 8 == 0 && 1 <= round && round <= self.who.session.shape().rounds
+        slot_after(self.ticks) == 0 && 1 <= round && round <= self.who.session.shape().rounds
     }
 
     /// Whether this is the last slot of a round.
     fn is_last_slot(&self) -> bool
         ensures { result ≡ (slot_after self.now.ticks == 7) }
     {
-        (self.ticks + 7) % 8 == 7
+        slot_after(self.ticks) == SLOTS_A_ROUND - 1
     }
 
     /// What is said again of an open exchange: nothing where its partner is announced evicted.

@@ -5,7 +5,7 @@ ghost use Rattle.bar_terms.specs.Windows.{AreAligned};
 ghost use Rattle.bar_ledger.specs.Totals.{AreSound};
 ghost use Rattle.bar_wire.specs.Evidence.{evidence_bytes};
 ghost use Rattle.bar_roster.specs.Sessions.{IsSession};
-ghost use Rattle.bar_rules.specs.Member.{last_tick};
+ghost use Rattle.bar_roster.specs.Time.{last_tick};
 ghost use Rattle.bar_rules.specs.Values.{datagram_bytes};
 ghost use Rattle.bar_rules.specs.Peer.Knowledge.{Knowledge, known};
 ghost use Rattle.bar_rules.specs.Peer.Run.{log_after};

@@ -1,10 +1,10 @@
 //! Audits of one exchange, over files and sinks in memory. The public keys and anchors are by a program that shares nothing with this one.
 use crate::outcome::{Left, outside_of, run};
-use crate::texts::audited_session;
 use bar_lms::SecretKey;
 use bar_outside::MemFiles;
 use bar_record::head;
 use bar_roster::Session;
+use bar_samples::sessions::session_of_short_chains;
 use bar_seal::{LmsScheme, Scheme, Verifier};
 use std::alloc::{AllocError, Global};
 use std::process::Abort;
@@ -14,7 +14,7 @@ const ID: [u8; 8] = [0x00, 0x11, 0x22, 0x33, 0x44, 0x55, 0x66, 0x77];
 
 /// What signs with a secret of 32 times one byte.
 fn scheme_of(alloc: Global, secret: u8) -> Result<LmsScheme, Fail> {
-    let session = Session::read(alloc, audited_session().as_bytes())?;
+    let session = Session::read(alloc, session_of_short_chains().as_bytes())?;
     let signer = SecretKey::make(alloc, session.params(), &ID, &[secret; 32])?;
     Ok(LmsScheme::new(signer))
 }
@@ -110,7 +110,7 @@ fn recording(alloc: Global, party: u16, datagrams: &[&Vec<u8>]) -> Result<Vec<u8
 /// An audit of these recordings of both peers, by the words of its parties.
 fn audit(alloc: Global, one: &[u8], two: &[u8], parties: &str) -> Result<Left, AllocError> {
     let mut files = MemFiles::make(alloc, Vec::new(alloc));
-    files.put("s", audited_session().as_bytes())?;
+    files.put("s", session_of_short_chains().as_bytes())?;
     files.put("r.1.recording", one)?;
     files.put("r.2.recording", two)?;
     let line = format!(in alloc; "audit --results r --session s {parties}")?;

@@ -3,8 +3,9 @@ ghost use Rattle.std.specs.Prelude.{◌≡◌, true};
 ghost use Rattle.bar_outside.specs.MemTaken.{are_small};
 
 use crate::outcome::{Left, Outside, outside_of, run};
-use crate::texts::{small_caster_key, small_key, small_session};
 use bar_outside::{MemFiles, MemLink, MemSpawner, MemTaken};
+use bar_samples::keys::{small_caster_key, small_key};
+use bar_samples::sessions::small_session;
 use std::alloc::{AllocError, Global};
 use std::process::Abort;
 use std::test::Fail;

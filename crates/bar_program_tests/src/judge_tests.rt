@@ -1,9 +1,9 @@
 //! Verdicts over files and sinks in memory. The public keys and anchors are by a program that shares nothing with this one.
 use crate::outcome::{Left, outside_of, run};
-use crate::texts::{small_session, three_rounds};
 use bar_lms::SecretKey;
 use bar_outside::MemFiles;
 use bar_roster::Session;
+use bar_samples::sessions::{small_session, three_rounds};
 use bar_seal::{LmsScheme, Scheme, Verifier};
 use std::alloc::{AllocError, Global};
 use std::process::Abort;

@@ -28,6 +28,4 @@ mod proof_tests;
 #[cfg(test)]
 mod session_tests;
 #[cfg(test)]
-mod texts;
-#[cfg(test)]
 mod words_tests;

@@ -3,8 +3,9 @@ ghost use Rattle.std.specs.Prelude.{◌≡◌, true};
 ghost use Rattle.bar_outside.specs.MemTaken.{are_small};
 
 use crate::outcome::{Left, outside_of, run};
-use crate::texts::{caster_key, peer_key, session, spent_caster_key, spent_peer_key};
 use bar_outside::{MemFiles, MemLink, MemTaken};
+use bar_samples::keys::{caster_key, peer_key, spent_caster_key, spent_peer_key};
+use bar_samples::sessions::session;
 use std::alloc::{AllocError, Global};
 use std::process::Abort;
 use std::test::Fail;

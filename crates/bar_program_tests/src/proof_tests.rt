@@ -1,8 +1,8 @@
 //! Proof files over files and sinks in memory, in a session of two peers and ten rounds.
 use crate::judge_tests::{add_entry, check_end, evidence, front, scheme_of, sign};
 use crate::outcome::{Left, outside_of, run};
-use crate::texts::session;
 use bar_outside::MemFiles;
+use bar_samples::sessions::session;
 use bar_seal::LmsScheme;
 use std::alloc::{AllocError, Global};
 use std::process::Abort;

@@ -1,7 +1,7 @@
 //! Sessions over files, sinks and a spawner in memory.
 use crate::outcome::{Left, outside_of, run};
-use crate::texts::session;
 use bar_outside::{MemFiles, MemSpawner};
+use bar_samples::sessions::session;
 use std::alloc::{AllocError, Global};
 use std::test::Fail;
 

@@ -4,7 +4,7 @@ use Rattle.bar_terms.specs.Table.{Lists, digests_of}
 use Rattle.bar_rules.specs.Member.{Session}
 use Rattle.bar_rules.specs.Judge.Verdict.{Fault, Shown, NotShown as NothingShown, verdict}
 use Rattle.bar_roster.specs.Sessions.{IsSession}
-use Rattle.bar_judge.specs.TableFile.{lists_of, table_of}
+use Rattle.bar_judge.specs.TableFile.{lists_of, table_bytes, table_of}
 use Rattle.bar_judge.specs.Verdicts.{plain_why}
 use Rattle.bar_judge.specs.declared.table_fault.TableFault.{TableFault}
 use Rattle.bar_judge.specs.declared.table_fault.TableFault.TheVariants as tables
@@ -38,6 +38,10 @@ pub record IsPacked (s : Session) (table evidence bytes : List ℕ) : Type 0 whe
   pub carried : Carry s datagrams party fault (needed_manifests s lists table datagrams)
   -- it is judged alike
   pub judged : proof_verdict s bytes ≡ Ok (Shown party fault)
+
+-- The bytes of a table file that is read are those of its manifests, with no byte besides.
+abbrev pub IsSpelled : Session → List ℕ → Type 0
+IsSpelled s table = (lists : Lists) → table_of s table ≡ Ok lists → table ≡ table_bytes (manifests_in lists table)
 
 -- What is packed of a table file of a session and of evidence, which shows a fault under it, is so.
 abbrev pub ShownIsPacked : Type 0

@@ -1,12 +1,12 @@
 //! Packing evidence with the manifest that it needs.
 ghost use Rattle.std.specs.Prelude.{◌≡◌, ◌+◌, ◌*◌, ◌≤◌, IfOk, IfErr};
 ghost use Rattle.bar_rules.specs.Verifiers.{IsVerifierOf, NamesLeavesOf};
-ghost use Rattle.bar_proof.specs.Packing.{IsPacked, IsRefused};
+ghost use Rattle.bar_proof.specs.Packing.{IsPacked, IsRefused, IsSpelled};
 
 use crate::PackFault;
 use crate::evidence::read_evidence;
 use crate::finding::manifest_of;
-use crate::laws::{proofs_are_read_back, what_is_packed_is_shown};
+use crate::laws::{proofs_are_read_back, tables_are_spelled, what_is_packed_is_shown};
 use crate::needs::needs;
 use crate::writing::proof_file;
 use bar_bytes::Steps;
@@ -15,6 +15,14 @@ use bar_roster::Session;
 use bar_seal::Verifier;
 use std::alloc::Global;
 use std::sync::ledger::Ledger;
+
+/// The bytes of a table file are those of its manifests, with no byte besides.
+fn table_is_spelled(session: &Session, table: &[u8])
+    ensures { IsSpelled session.now table.now }
+{
+    tables_are_spelled();
+    let _table = table;
+}
 
 /// The proof file of evidence that is shown under the table of a table file, with the one manifest of it that the evidence needs, or with
 /// none. It reads the table file once and once more for the manifest, checks each signature once, and counts each hash of the signatures
@@ -31,11 +39,13 @@ pub fn pack<V: Verifier, L: Ledger>(
     requires leaves { NamesLeavesOf session.now (V.leaf_named verifier.now) (V.signature_len verifier.now) }
     ensures ok { IfOk result (λ file. IsPacked session.now table.now evidence.now file.items) }
     ensures err { IfErr result (IsRefused session.now table.now evidence.now) }
+    ensures spelled { IsSpelled session.now table.now }
     ensures cost { steps.new ≤ steps.old
         + (session.now.shape.rounds * V.most_steps verifier.now + (2 * V.most_steps verifier.now + session.now.shape.rounds)) }
 {
     what_is_packed_is_shown();
     proofs_are_read_back();
+    table_is_spelled(session, table);
     let lists = read_table(alloc, table, session, verifier, steps)?;
     let Some(view) = read_evidence(evidence) else {
         return Err(PackFault::Evidence);

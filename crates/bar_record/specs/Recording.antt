@@ -20,6 +20,10 @@ abbrev pub entry_bytes : Input → List ℕ
 entry_bytes event.Tick = 1 ∷ []
 entry_bytes (event.Datagram bytes) = 2 ∷ (u16_bytes (length bytes) ++ bytes)
 
+-- the most bytes of an entry: its mark, the length of a datagram, and the datagram
+abbrev pub largest_entry : ℕ
+largest_entry = 3 + largest_datagram
+
 -- a datagram has no more bytes than one can have
 abbrev pub IsInRange : Input → Type 0
 IsInRange event.Tick = Unit {0}

@@ -5,7 +5,10 @@ ghost use Rattle.bar_wire.specs.Limits.{largest_datagram};
 ghost use Rattle.bar_record.specs.Recording.{entry_bytes, IsInRange};
 
 use bar_bytes::{put, put_u8, put_u16};
-use bar_wire::Input;
+use bar_wire::{Input, LARGEST_DATAGRAM};
+
+/// The most bytes of an entry: its mark, the length of a datagram, and the datagram.
+pub const LARGEST_ENTRY: usize = 3 + LARGEST_DATAGRAM as usize;
 
 /// Writes the entry of an input to the front of `out`, and answers how many bytes it has: one for a tick, and three more than a datagram.
 /// A datagram has at most 65,507 bytes.

@@ -22,7 +22,7 @@ use Rattle.toml.specs.Text.{IsLinesText, IsValueText}
 use Rattle.toml.proofs.Turns.{document_some}
 use Rattle.toml.proofs.ReadLines.{run, AllPrinted, read_lines}
 use Rattle.toml.proofs.OnLiterals.{toml_on_literals}
-use Rattle.bar_roster.specs.NumberRanges.{IsTop, first_ots_by, last_lms_by, rounds_by}
+use Rattle.bar_roster.specs.NumberRanges.{IsTop, first_ots_by, last_lms_by, most_peers, rounds_by}
 use Rattle.bar_roster.specs.declared.key_fields.KeyData.{KeyData}
 use Rattle.bar_roster.specs.KeyText.{IsInRange, any_key_data, key_text_of, key_read, key_fields, names_top, truth}
 use Rattle.bar_roster.proofs.Levels.{lms_most, rounds_most}
@@ -255,7 +255,7 @@ module _ (party : ℕ) (id : List ℕ) (rounds lms ots : ℕ) (secret : List ℕ
       let id_is : decode_sized (encode_lower id) 8 ≡ Ok id = decode_sized-encode_lower id 8 h.id_length h.id_bytes in
       let secret_is : decode_sized (encode_lower secret) 32 ≡ Ok secret = decode_sized-encode_lower secret 32 h.secret_length h.secret_bytes in
       let party_low : nat_le 0 party ≡ true = grind (arith, nat_tests) in
-      let party_high : nat_le party 200 ≡ true = grind (arith, nat_tests, h.range.party) in
+      let party_high : nat_le party most_peers ≡ true = grind (arith, nat_tests, h.range.party) in
       let rounds_low : nat_le 1 rounds ≡ true = grind (arith, nat_tests, h.range.rounds_low) in
       let rounds_high : nat_le rounds (rounds_by (is_some top)) ≡ true = grind (arith, nat_tests, h.range.rounds_high) in
       let lms_low : nat_le 5 lms ≡ true = grind (arith, nat_tests, h.range.lms_low) in
@@ -265,7 +265,7 @@ module _ (party : ℕ) (id : List ℕ) (rounds lms ots : ℕ) (secret : List ℕ
       by_top top h.range.top id_is secret_is party_low party_high rounds_low rounds_high lms_low lms_high ots_low ots_high
     where
       by_top : (top : Option ℕ) → IsTop top → decode_sized (encode_lower id) 8 ≡ Ok id → decode_sized (encode_lower secret) 32 ≡ Ok secret
-          → nat_le 0 party ≡ true → nat_le party 200 ≡ true → nat_le 1 rounds ≡ true → nat_le rounds (rounds_by (is_some top)) ≡ true
+          → nat_le 0 party ≡ true → nat_le party most_peers ≡ true → nat_le 1 rounds ≡ true → nat_le rounds (rounds_by (is_some top)) ≡ true
           → nat_le 5 lms ≡ true → nat_le lms (last_lms_by (is_some top)) ≡ true → nat_le (first_ots_by (is_some top)) ots ≡ true → nat_le ots 4 ≡ true
           → key_fields (is_some top) (members top) ≡ Some (key top)
       by_top None ranged id_is secret_is a b c d e f g i = simp (id_is, secret_is, a, b, c, d, e, f, g, i)

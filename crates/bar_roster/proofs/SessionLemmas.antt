@@ -16,7 +16,7 @@ use Rattle.bar_roster.specs.declared.fault.SessionFault.{SessionFault}
 use Rattle.bar_roster.specs.declared.fault.SessionFault.TheVariants.{NotToml, BadValue, TooFewLeaves}
 use Rattle.bar_roster.specs.declared.numbers.Numbers.{Numbers}
 use Rattle.bar_roster.specs.Fields.{◌>>=◌, of_kind, field, field_if_there, if_there, some_of, number_in, bytes_of, key_of, are_tables, peers_of, count_of, document}
-use Rattle.bar_roster.specs.NumberRanges.{AreInRange, IsTop, first_ots_by, last_lms_by, most_per_round, rounds_by}
+use Rattle.bar_roster.specs.NumberRanges.{AreInRange, IsTop, first_ots_by, last_lms_by, most_peers, most_per_round, rounds_by}
 use Rattle.bar_roster.specs.SessionText.{SessionData, numbers_of, types_of, peer_of, peers_from, front_of, listed_in, enough_leaves, session_data, parties_of, session_of}
 use Rattle.bar_roster.specs.Sessions.{IsSession}
 use Rattle.bar_roster.specs.Shapes.{height_of, params_of, is_shaped, shaped, shape_by, shape_of}
@@ -69,17 +69,17 @@ there_range : (key : Key) (o : Option Data) (top : Option ℕ) → if_there (num
 there_range key None top e = let same : None ≡ top = cc in subst IsTop same tt
 there_range key (Some d) top e = there_by key d top (number_in 5 7 d) refl e
 
-entries_by : (es ds : Items) (b : Bool) → ((nat_le 2 (count_of es) && nat_le (count_of es) 200) && are_tables es) ≡ b
-    → cond b (Some es) None ≡ Some ds → (2 ≤ count_of ds) × (count_of ds ≤ 200)
+entries_by : (es ds : Items) (b : Bool) → ((nat_le 2 (count_of es) && nat_le (count_of es) most_peers) && are_tables es) ≡ b
+    → cond b (Some es) None ≡ Some ds → (2 ≤ count_of ds) × (count_of ds ≤ most_peers)
 entries_by es ds true is e =
-    let tests = and_parts (nat_le 2 (count_of es) && nat_le (count_of es) 200) (are_tables es) is in
-    let parts = and_parts (nat_le 2 (count_of es)) (nat_le (count_of es) 200) tests.0 in
+    let tests = and_parts (nat_le 2 (count_of es) && nat_le (count_of es) most_peers) (are_tables es) is in
+    let parts = and_parts (nat_le 2 (count_of es)) (nat_le (count_of es) most_peers) tests.0 in
     let same : es ≡ ds = cc in
-    rw (sym same) (leb-true 2 (count_of es) parts.0, leb-true (count_of es) 200 parts.1)
+    rw (sym same) (leb-true 2 (count_of es) parts.0, leb-true (count_of es) most_peers parts.1)
 entries_by es ds false is e = cc
 
 -- entries that are read are 2 to 200
-entries_range : (d : Data) (ds : Items) → peers_of d ≡ Some ds → (2 ≤ count_of ds) × (count_of ds ≤ 200)
+entries_range : (d : Data) (ds : Items) → peers_of d ≡ Some ds → (2 ≤ count_of ds) × (count_of ds ≤ most_peers)
 entries_range (array es) ds e = entries_by es ds _ refl e
 entries_range _ ds e = cc
 
@@ -165,7 +165,7 @@ parties_counted front keys anchors (item d ds) parties h =
 -- how many there are of a text's rows
 record Counted (rows : List (List ℕ) × List (List ℕ) × ℕ) : Type 0 where
   low : 2 ≤ rows.2
-  high : rows.2 ≤ 200
+  high : rows.2 ≤ most_peers
   keys : length rows.0 ≡ 1 + rows.2
   anchors : length rows.1 ≡ rows.2
 

@@ -18,7 +18,7 @@ use Rattle.bar_roster.specs.Fields.{bytes_of, document, number_in}
 use Rattle.bar_roster.specs.KeyAnew.{longest_text, text_of}
 use Rattle.bar_roster.specs.KeyFile.{checked_key, fits, is_of_session, key_file_of, named_key, secrets_in, session_key_of}
 use Rattle.bar_roster.specs.KeyText.{any_key_data, first_lines, key_fields, key_read, key_text_of, last_lines, names_top, own_levels, table_read, top_in, top_line, truth}
-use Rattle.bar_roster.specs.NumberRanges.{IsTop, first_ots_by, last_lms_by, rounds_by}
+use Rattle.bar_roster.specs.NumberRanges.{IsTop, first_ots_by, last_lms_by, most_peers, rounds_by}
 use Rattle.bar_roster.specs.SessionText.{SessionData}
 use Rattle.bar_roster.specs.declared.key_fault.KeyFileFault.{KeyFileFault}
 use Rattle.bar_roster.specs.declared.key_fault.KeyFileFault.TheVariants.{NotInRoster}
@@ -75,7 +75,7 @@ fields-writable : (two : Bool) (ms : Members) (d : KeyData) → key_fields two m
 fields-writable two ms d h =
     let v = found-before (option_and_then (number_in 1 1) (get_member (codes "version") ms)) _ d h in
     let id = found-before (option_and_then (bytes_of 8) (get_member (codes "id") ms)) _ d v.2 in
-    let party = found-before (option_and_then (number_in 0 200) (get_member (codes "party") ms)) _ d id.2 in
+    let party = found-before (option_and_then (number_in 0 most_peers) (get_member (codes "party") ms)) _ d id.2 in
     let rounds = found-before (option_and_then (number_in 1 (rounds_by two)) (get_member (codes "rounds") ms)) _ d party.2 in
     let lms = found-before (option_and_then (number_in 5 (last_lms_by two)) (get_member (codes "lms") ms)) _ d rounds.2 in
     let ots = found-before (option_and_then (number_in (first_ots_by two) 4) (get_member (codes "ots") ms)) _ d lms.2 in
@@ -83,7 +83,7 @@ fields-writable two ms d h =
     let secret = found-before (option_and_then (bytes_of 32) (get_member (codes "secret") ms)) _ d top.2 in
     let spent = found-before (option_and_then as_bool (get_member (codes "spent") ms)) _ d secret.2 in
     let same : any_key_data party.0 id.0 rounds.0 lms.0 ots.0 top.0 secret.0 spent.0 ≡ d = same-some _ d spent.2 in
-    let party_in = number-read 0 200 party.0 (get_member (codes "party") ms) party.1 in
+    let party_in = number-read 0 most_peers party.0 (get_member (codes "party") ms) party.1 in
     let rounds_in = number-read 1 (rounds_by two) rounds.0 (get_member (codes "rounds") ms) rounds.1 in
     let lms_in = number-read 5 (last_lms_by two) lms.0 (get_member (codes "lms") ms) lms.1 in
     let ots_in = number-read (first_ots_by two) 4 ots.0 (get_member (codes "ots") ms) ots.1 in

@@ -6,7 +6,7 @@ use Rattle.toml.specs.Data.{Members, get_member, as_bool}
 use Rattle.bar_roster.specs.declared.key_fault.KeyFileFault.{KeyFileFault}
 use Rattle.bar_roster.specs.declared.key_fault.KeyFileFault.TheVariants.{NotToml, BadValue, NotInRoster}
 use Rattle.bar_roster.specs.declared.key_fields.KeyData.{KeyData}
-use Rattle.bar_roster.specs.NumberRanges.{IsTop, first_ots_by, last_lms_by, rounds_by}
+use Rattle.bar_roster.specs.NumberRanges.{IsTop, first_ots_by, last_lms_by, most_peers, rounds_by}
 use Rattle.bar_roster.specs.Fields.{document, number_in, bytes_of}
 
 -- what a key text says: whose key it is, in which session, the types of its signatures, the party's secret, and whether it was used
@@ -24,7 +24,7 @@ hss_key_data party id rounds top ots secret spent = any_key_data party id rounds
 
 -- the numbers are in the ranges of a key text
 pub record IsInRange (k : KeyData) : Type 0 where
-  pub party : k.party ≤ 200
+  pub party : k.party ≤ most_peers
   pub rounds_low : 1 ≤ k.rounds
   pub rounds_high : k.rounds ≤ rounds_by (is_some k.top)
   pub lms_low : 5 ≤ k.lms
@@ -76,7 +76,7 @@ abbrev pub key_fields : Bool → Members → Option KeyData
 key_fields two ms = do
   version ← get_member (codes "version") ms >>= number_in 1 1
   id ← get_member (codes "id") ms >>= bytes_of 8
-  party ← get_member (codes "party") ms >>= number_in 0 200
+  party ← get_member (codes "party") ms >>= number_in 0 most_peers
   rounds ← get_member (codes "rounds") ms >>= number_in 1 (rounds_by two)
   lms ← get_member (codes "lms") ms >>= number_in 5 (last_lms_by two)
   ots ← get_member (codes "ots") ms >>= number_in (first_ots_by two) 4

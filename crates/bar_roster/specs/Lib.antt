@@ -4,6 +4,7 @@ pub mod SessionText
 pub mod FaultText
 pub mod NumberRanges
 pub mod Sessions
+pub mod Time
 pub mod KeyText
 pub mod KeyFile
 pub mod KeyFaultText

@@ -8,7 +8,7 @@ ghost use Rattle.bar_roster.specs.KeyText.{key_fields, names_top, top_in};
 ghost use Rattle.bar_roster.specs.NumberRanges.{rounds_by};
 
 use crate::fields::{bytes, number};
-use crate::numbers::{first_ots_by, last_lms_by, rounds_by};
+use crate::numbers::{MOST_PEERS, first_ots_by, last_lms_by, rounds_by};
 use toml::{Table, Value};
 
 /// What a key text says: whose key it is, in which session, the types of its signatures, the party's secret, and whether it was used.
@@ -72,7 +72,7 @@ pub(crate) fn key_fields_at(table: &Table, two: bool) -> Option<KeyData>
     let _version = number_in(table, "version", 1, 1)?;
     Some(KeyData {
         id: bytes_in::<8>(table, "id")?,
-        party: number_in(table, "party", 0, 200)? as u16,
+        party: number_in(table, "party", 0, MOST_PEERS)? as u16,
         rounds: number_in(table, "rounds", 1, rounds_by(two))? as u32,
         lms: number_in(table, "lms", 5, last_lms_by(two))? as u32,
         ots: number_in(table, "ots", first_ots_by(two), 4)? as u32,

@@ -16,6 +16,7 @@ mod numbers;
 mod parties;
 mod session;
 mod text;
+mod time;
 mod types;
 
 pub use fault::{Key, SessionFault};
@@ -24,6 +25,7 @@ pub use key_fields::KeyData;
 pub use key_file::KeyFile;
 pub use key_reading::read_key;
 pub use key_writer::key_text;
-pub use numbers::{MOST_LONG_ROUNDS, MOST_ROUNDS};
+pub use numbers::{MOST_LONG_ROUNDS, MOST_PEERS, MOST_ROUNDS};
 pub use session::Session;
+pub use time::{SLOTS_A_ROUND, round_after, slot_after};
 pub use types::{check_leaves, leaves_of};

@@ -5,12 +5,12 @@ ghost use Rattle.toml.specs.Data.{as_table};
 ghost use Rattle.toml.specs.View.{array_view, items_view, table_view, view};
 ghost use Rattle.bar_roster.specs.Fields.{count_of, field, key_of, peers_of};
 ghost use Rattle.bar_roster.specs.Held.{rows_of};
-ghost use Rattle.bar_roster.specs.NumberRanges.{AreInRange};
+ghost use Rattle.bar_roster.specs.NumberRanges.{AreInRange, most_peers};
 ghost use Rattle.bar_roster.specs.SessionText.{front_of, listed_in, peer_of, peers_from};
 
 use crate::fields::{bytes, bytes_at, needed};
 use crate::keys::Keys;
-use crate::numbers::Numbers;
+use crate::numbers::{MOST_PEERS, Numbers};
 use crate::{Key, SessionFault};
 use std::alloc::Global;
 use toml::value::Array;
@@ -61,7 +61,7 @@ fn peer<const N: usize>(
     earlier: &[[u8; N]],
 ) -> Result<([u8; N], [u8; 32]), SessionFault>
     requires front { length front.now + 48 ≡ N }
-    requires few { length earlier.now ≤ 200 }
+    requires few { length earlier.now ≤ most_peers }
     ensures { result ≡ peer_of front.now earlier.now (view value.now) }
 {
     let table = value.as_table().ok_or(SessionFault::BadValue(Key::Peers))?;
@@ -81,7 +81,7 @@ fn peers<const N: usize>(
     entries: &[Value],
 ) -> Result<(Vec<[u8; N]>, Vec<[u8; 32]>), SessionFault>
     requires front { length front.now + 48 ≡ N }
-    requires few { length entries.now ≤ 200 }
+    requires few { length entries.now ≤ most_peers }
     ensures ok { IfOk result (λ p. peers_from front.now (caster.entry ∷ []) [] (items_view entries.now) ≡ Ok (p.0.items, p.1.items)) }
     ensures err { IfErr result (λ e. (e ≡ SessionFault.NoMemory)
         ⊎ (peers_from front.now (caster.entry ∷ []) [] (items_view entries.now) ≡ Err e)) }
@@ -109,11 +109,11 @@ fn has_tables_alone(values: &[Value]) -> bool
 fn peer_entries(value: &Value) -> Option<&Array>
     ensures value { option_map (λ v. array_view v.now) result ≡ peers_of (view value.now) }
     ensures count { IfSome result (λ v. (count_of (array_view v.now) ≡ length v.now.items) × (2 ≤ length v.now.items) ×
-        (length v.now.items ≤ 200)) }
+        (length v.now.items ≤ most_peers)) }
 {
     let entries = value.as_array()?;
     let count = entries.len();
-    if 2 <= count && count <= 200 && has_tables_alone(entries) {
+    if 2 <= count && count <= MOST_PEERS as usize && has_tables_alone(entries) {
         Some(entries)
     } else {
         None
@@ -125,7 +125,7 @@ fn entries_at(table: &Table) -> Result<&Array, SessionFault>
     ensures ok { IfOk result (λ v. field peers_of Key.Peers (codes "peer") (table_view table.now) ≡ Ok (array_view v.now)) }
     ensures err { IfErr result (λ e. field peers_of Key.Peers (codes "peer") (table_view table.now) ≡ Err e) }
     ensures count { IfOk result (λ v. (count_of (array_view v.now) ≡ length v.now.items) × (2 ≤ length v.now.items) ×
-        (length v.now.items ≤ 200)) }
+        (length v.now.items ≤ most_peers)) }
 {
     peer_entries(needed(table, Key::Peers, "peer")?).ok_or(SessionFault::BadValue(Key::Peers))
 }
@@ -140,7 +140,7 @@ fn rows_at<const N: usize>(
     ensures ok { IfOk result (λ rows. listed_in front.now (table_view table.now) ≡ Ok (rows.0.items, rows.1.items, rows.2)) }
     ensures err { IfErr result (λ e. (e ≡ SessionFault.NoMemory) ⊎ (listed_in front.now (table_view table.now) ≡ Err e)) }
     ensures counts { IfOk result (λ rows. (length rows.0.items ≡ rows.2 + 1) × (length rows.1.items ≡ rows.2)
-        × (2 ≤ rows.2) × (rows.2 ≤ 200)) }
+        × (2 ≤ rows.2) × (rows.2 ≤ most_peers)) }
 {
     let caster = caster_key::<N>(table, front)?;
     let entries = entries_at(table)?;
@@ -158,7 +158,7 @@ pub(crate) fn keys_at(
     ensures ok { IfOk result (λ rows. listed_in (front_of numbers.now) (table_view table.now) ≡ Ok (rows_of rows.0, rows.1.items, rows.2)) }
     ensures err { IfErr result (λ e. (e ≡ SessionFault.NoMemory) ⊎ (listed_in (front_of numbers.now) (table_view table.now) ≡ Err e)) }
     ensures counts { IfOk result (λ rows. (length (rows_of rows.0) ≡ rows.2 + 1) × (length rows.1.items ≡ rows.2)
-        × (2 ≤ rows.2) × (rows.2 ≤ 200)) }
+        × (2 ≤ rows.2) × (rows.2 ≤ most_peers)) }
 {
     match numbers.top {
         None => {

@@ -4,14 +4,13 @@ ghost use Rattle.std.specs.Prelude.{◌≡◌, ◌<◌};
 
 mod vectors;
 
-use crate::verdict_tests::{
-    ID, case_of, changed, front, key_of, scheme_of, session, session_of, sign,
-};
+use crate::verdict_tests::{case_of, changed, front, key_of, scheme_of, session_of, sign};
 use bar_bytes::Steps;
 use bar_hss::SessionVerifier;
 use bar_judge::{Verdict, Why};
 use bar_proof::{PackFault, ProofFault, judge_proof, pack};
 use bar_roster::Session;
+use bar_samples::sessions::{ID, session};
 use bar_seal::LmsScheme;
 use std::alloc::{AllocError, Global};
 use std::marker::Brand;

@@ -6,6 +6,7 @@ use bar_hss::SessionVerifier;
 use bar_judge::{TableFault, add_entry, read_table};
 use bar_lms::SecretKey;
 use bar_roster::Session;
+use bar_samples::sessions::{ID, three_rounds};
 use bar_seal::{LmsScheme, Scheme, Verifier};
 use bar_terms::{Digest, Table};
 use bar_window::UpdateId;
@@ -14,17 +15,6 @@ use std::marker::Brand;
 use std::process::Abort;
 use std::sync::ledger::{Blank, Ledger};
 use std::test::Fail;
-
-const ID: [u8; 8] = [0x00, 0x11, 0x22, 0x33, 0x44, 0x55, 0x66, 0x77];
-
-/// A session of two peers and three rounds, whose broadcaster's secret is 32 times 7.
-const SESSION: &str = "version = 1\nid = \"0011223344556677\"\nrounds = 3\nlife = 4\ncap = 4\n\
-    per_round = 8\nfanout = 1\nport = 20000\ntick_ms = 20\nlms = 6\nots = 1\n\
-    key = \"00000006000000018d1e3644fdcc75d960cb49ec946968481554a91f1289fa02a0336e795ad4b25490e95e447533fc4da8ff8806af933922\"\n\n[[peer]]\n\
-    key = \"0000000600000001000000000000000000000000000000000000000000000000000000000000000000000000000000000000000000000001\"\n\
-    anchor = \"0000000000000000000000000000000000000000000000000000000000000001\"\n\n[[peer]]\n\
-    key = \"0000000600000001000000000000000000000000000000000000000000000000000000000000000000000000000000000000000000000002\"\n\
-    anchor = \"0000000000000000000000000000000000000000000000000000000000000002\"\n";
 
 /// A part of a table file.
 #[derive(Clone, Copy)]
@@ -160,7 +150,7 @@ const ROWS: [(&[Part], Option<u64>); 11] = [
 #[test]
 fn a_table_file_is_read_up_to_a_bad_entry(rt: HostRuntime) -> Result<(), Fail> {
     let alloc = rt.alloc();
-    let session = Session::read(alloc, SESSION.as_bytes())?;
+    let session = Session::read(alloc, three_rounds().as_bytes())?;
     let signer = SecretKey::make(alloc, session.params(), &ID, &[7; 32])?;
     let caster = LmsScheme::new(signer);
     for (parts, place) in ROWS {

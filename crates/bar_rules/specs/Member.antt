@@ -1,5 +1,5 @@
--- A session, and one party of it with its secret; rounds and slots.
-use Rattle.std.specs.Prelude.{ℕ, ◌+◌, ◌-◌, ◌*◌, ◌/◌, ◌%◌, Bool, List, [], nat_lt, unwrap_or, slice_get}
+-- A session, and one party of it with its secret.
+use Rattle.std.specs.Prelude.{ℕ, ◌+◌, ◌-◌, Bool, List, [], nat_lt, unwrap_or, slice_get}
 use Rattle.bar_roster.specs.SessionText.{SessionData}
 use Rattle.bar_roster.specs.Sessions.{IsSession}
 use Rattle.bar_roster.specs.KeyFile.{Fits}
@@ -26,17 +26,6 @@ key_of_party s party = unwrap_or (slice_get s.keys party) []
 -- the anchor of a peer
 abbrev pub anchor_of_peer : Session → ℕ → List ℕ
 anchor_of_peer s peer = unwrap_or (slice_get s.anchors (peer - 1)) []
-
--- Ticks are counted from 1. Each round has eight of them, in slots 0 to 7; before the first tick the round is 0. Divisions round down.
-abbrev pub round_after : ℕ → ℕ
-round_after ticks = (ticks + 7) / 8
-
-abbrev pub slot_after : ℕ → ℕ
-slot_after ticks = (ticks + 7) % 8
-
--- The last tick that a core takes, the last one of a round. The last updates are played in the round before, at its first slot.
-abbrev pub last_tick : Session → ℕ
-last_tick s = 8 * (s.shape.rounds + s.shape.life + 1)
 
 -- an update of this round is alive in that round
 abbrev pub is_alive : Session → ℕ → ℕ → Bool

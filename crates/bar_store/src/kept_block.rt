@@ -1,5 +1,4 @@
 ghost use Rattle.std.specs.Prelude.{◌≡◌, option_copied};
-ghost use Rattle.bar_window.specs.Updates.{same_update};
 ghost use Rattle.bar_store.specs.Rooms.{block_if};
 
 use bar_window::UpdateId;
@@ -11,19 +10,13 @@ pub struct KeptBlock {
     pub block: [u8; 1024],
 }
 
-fn is_same(u: UpdateId, v: UpdateId) -> bool
-    ensures { result ≡ same_update u v }
-{
-    u.round == v.round && u.index == v.index
-}
-
 /// The block in a room, where it is that of the update.
 pub(crate) fn block_if(id: UpdateId, room: &Option<KeptBlock>) -> Option<&[u8; 1024]>
     ensures { option_copied result ≡ block_if id room.now }
 {
     match room {
         Some(kept) => {
-            if is_same(id, kept.id) {
+            if id == kept.id {
                 Some(&kept.block)
             } else {
                 None

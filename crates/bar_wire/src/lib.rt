@@ -30,7 +30,9 @@ pub use laws::{
     a_datagram_has_one_spelling, bytes_spell_one, no_spelling_begins_another,
     the_datagram_is_spelled, the_test_tells_a_datagram,
 };
-pub use limits::{EVERYONE, LARGEST_CONTENT, LARGEST_DATAGRAM, LEAVES_A_ROUND, SEATS_A_ROUND};
+pub use limits::{
+    BROADCASTER, EVERYONE, LARGEST_CONTENT, LARGEST_DATAGRAM, LEAVES_A_ROUND, SEATS_A_ROUND,
+};
 pub use place::{Place, exchange_by, place_of};
 pub use reading::decode;
 pub use shape::Shape;

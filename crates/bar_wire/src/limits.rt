@@ -1,6 +1,9 @@
 /// The most bytes of a datagram.
 pub const LARGEST_DATAGRAM: u16 = 65_507;
 
+/// The broadcaster's number.
+pub const BROADCASTER: u16 = 0;
+
 /// The receiver that means all peers.
 pub const EVERYONE: u16 = 65_535;
 

@@ -6,7 +6,8 @@ use Rattle.bar_wire.specs.Limits.{leaves_a_round}
 use Rattle.bar_wire.specs.Bodies.{evidence_in}
 use Rattle.bar_rules.specs.Runs.{begun, sending}
 use Rattle.bar_rules.specs.Peer.Log.{kept, Entry, Heard, Log, Ticked, Said, Kept, first_said, has_kind_and_round, ticks, round_now}
-use Rattle.bar_rules.specs.Member.{Session, Member, last_tick}
+use Rattle.bar_roster.specs.Time.{last_tick}
+use Rattle.bar_rules.specs.Member.{Session, Member}
 use Rattle.bar_rules.specs.Peer.Run.{Out}
 use Rattle.bar_rules.specs.Values.{datagram_of, is_signed_by, unsigned}
 use Rattle.bar_rules.specs.Judge.Verdict.{Verdict, Shown, NotShown, Fault, verdict}

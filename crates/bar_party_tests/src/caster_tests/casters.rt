@@ -7,6 +7,7 @@ use bar_caster::{Caster, CasterFault};
 use bar_hss::{PartyKey, SessionScheme};
 use bar_lms::SecretKey;
 use bar_roster::{Session, key_text};
+use bar_samples::sessions::ID;
 use bar_seal::{LmsScheme, Scheme, Verifier};
 use bar_wire::{Input, LARGEST_DATAGRAM};
 use std::alloc::{AllocError, Global};
@@ -14,8 +15,6 @@ use std::marker::Brand;
 use std::process::Abort;
 use std::sync::ledger::{Blank, Ledger};
 use std::test::Fail;
-
-pub const ID: [u8; 8] = [0x00, 0x11, 0x22, 0x33, 0x44, 0x55, 0x66, 0x77];
 
 /// A datagram and its receiver.
 #[derive(Drop)]

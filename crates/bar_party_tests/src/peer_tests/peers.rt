@@ -4,12 +4,12 @@ ghost use Rattle.bar_hss.specs.Files.{IsPartyKeyOf};
 ghost use Rattle.bar_store.specs.Orders.{left_in};
 ghost use Rattle.bar_peer.specs.StandsFor.{contents_left};
 
-use super::sessions::ID;
 use bar_bytes::Steps;
 use bar_hss::{PartyKey, SessionScheme, hss_key_text};
 use bar_lms::SecretKey;
 use bar_peer::Peer;
 use bar_roster::{Session, key_text};
+use bar_samples::sessions::ID;
 use bar_seal::LmsScheme;
 use bar_wire::{Input, LARGEST_DATAGRAM};
 use std::alloc::{AllocError, Global};

@@ -1,10 +1,10 @@
 use Rattle.std.proofs.Common.{◌≤◌, length, arith, length-append}
 use Rattle.bar_wire.specs.Inputs.{Input, Tick, Datagram, plain_input}
 use Rattle.bar_bytes.specs.Bytes.{u16_bytes}
-use Rattle.bar_record.specs.Recording.{entry_bytes, IsInRange}
+use Rattle.bar_record.specs.Recording.{entry_bytes, IsInRange, largest_entry}
 use Rattle.bar_node.proofs.node.keep_entry.Goals as goal
 
-entry-fits : (input : Input) → IsInRange input → length (entry_bytes input) ≤ 65510
+entry-fits : (input : Input) → IsInRange input → length (entry_bytes input) ≤ largest_entry
 unfolding u16_bytes
 entry-fits Tick h = omega arith
 entry-fits (Datagram bytes) h = let e = length-append (u16_bytes (length bytes)) bytes in omega arith

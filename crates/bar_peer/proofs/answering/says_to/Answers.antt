@@ -1,7 +1,7 @@
 use Rattle.std.proofs.Common.{◌≡◌, ◌∙◌, true, Some, None, refl, sym, ap}
 use Rattle.std.specs.Prelude.{option_map}
 use Rattle.bar_wire.specs.Views.{plain}
-use Rattle.bar_rules.specs.Member.{round_after}
+use Rattle.bar_roster.specs.Time.{round_after}
 use Rattle.bar_wire.specs.Datagram.{place_by, part_of}
 use Rattle.bar_balanced.specs.Parts.{is_balanced}
 use Rattle.bar_push.specs.Parts.{is_push}

@@ -6,7 +6,8 @@ use Rattle.bar_bytes.specs.Rooms.{kept_in}
 use Rattle.bar_wire.specs.Datagram.{Datagram}
 use Rattle.bar_wire.specs.Limits.{largest_datagram}
 use Rattle.bar_wire.specs.declared.kind.Kind.TheVariants as kinds
-use Rattle.bar_rules.specs.Member.{Session, round_after}
+use Rattle.bar_roster.specs.Time.{round_after}
+use Rattle.bar_rules.specs.Member.{Session}
 use Rattle.bar_rules.specs.Peer.Log.{round_now}
 use Rattle.bar_rules.specs.Values.{datagram_bytes}
 use Rattle.bar_caster.specs.Memory.{member_of, said_of, stream_of}

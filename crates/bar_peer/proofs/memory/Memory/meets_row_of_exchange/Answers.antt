@@ -1,6 +1,6 @@
 use Rattle.std.proofs.Common.{◌≡◌, ◌∙◌, sym, ap, refl}
 use Rattle.bar_wire.specs.Views.{plain}
-use Rattle.bar_rules.specs.Member.{round_after}
+use Rattle.bar_roster.specs.Time.{round_after}
 use Rattle.bar_rules.specs.Peer.Knowledge.{this_round}
 use Rattle.bar_peer.specs.Memory.{member_of}
 use Rattle.bar_peer.proofs.Rows.{of_balanced, of_push}

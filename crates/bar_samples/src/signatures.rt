@@ -1,42 +1,6 @@
-//! Sessions, key files and signatures. The keys, anchors and signatures are by a Python program written from RFC 8554. Each text stands in a
-//! function of its own, since a proof is longer with each place that names it.
+//! Signatures of the sessions' broadcasters.
 
-/// A session of two peers and ten rounds, whose secrets are 32 times 8 and 9. That of its broadcaster is 32 times 7.
-pub fn session() -> &'static str {
-    "version = 1\nid = \"0011223344556677\"\nrounds = 10\nlife = 4\ncap = 4\n\
-    per_round = 8\nfanout = 1\nport = 20000\ntick_ms = 20\nlms = 6\nots = 4\n\
-    key = \"00000006000000048d1e3644fdcc75d960cb49ec94696848dd05823833a56f5ac63061df7770db1bfbc282df417853c4907357eccb7c925f\"\n\n[[peer]]\n\
-    key = \"00000006000000042ef17295b2b2463d8d9beef9c2b84a153262ffbbedd3314d59ffebcd595202b00e84ed977495ad7ce89a0968f687295f\"\n\
-    anchor = \"0f6658ab7e90dda684f49951ffa7345a50488289b1681527c9b1fba610ef4502\"\n\n[[peer]]\n\
-    key = \"0000000600000004d87398929b1937843f54974546a2b8d69b190ddc534c8aa140c0cb0e6ff6b6ad588117979b2c07fdc2c8b5349e811f42\"\n\
-    anchor = \"22d984a93475a329dd35bccd254007ee8d81f582aaf64ee95e3bfea93bfbea63\"\n"
-}
-
-/// The key file of its second peer.
-pub fn peer_key() -> &'static str {
-    "version = 1\nid = \"0011223344556677\"\nparty = 2\nrounds = 10\nlms = 6\nots = 4\n\
-    secret = \"0909090909090909090909090909090909090909090909090909090909090909\"\nspent = false\n"
-}
-
-/// The same when it is spent.
-pub fn spent_peer_key() -> &'static str {
-    "version = 1\nid = \"0011223344556677\"\nparty = 2\nrounds = 10\nlms = 6\nots = 4\n\
-    secret = \"0909090909090909090909090909090909090909090909090909090909090909\"\nspent = true\n"
-}
-
-/// The key file of its broadcaster.
-pub fn caster_key() -> &'static str {
-    "version = 1\nid = \"0011223344556677\"\nparty = 0\nrounds = 10\nlms = 6\nots = 4\n\
-    secret = \"0707070707070707070707070707070707070707070707070707070707070707\"\nspent = false\n"
-}
-
-/// The same when it is spent.
-pub fn spent_caster_key() -> &'static str {
-    "version = 1\nid = \"0011223344556677\"\nparty = 0\nrounds = 10\nlms = 6\nots = 4\n\
-    secret = \"0707070707070707070707070707070707070707070707070707070707070707\"\nspent = true\n"
-}
-
-/// The broadcaster's signature of the manifest of round 1 with a block that holds `hi`.
+/// The signature of the manifest of round 1 of `session`, with a block that holds `hi`.
 pub fn signature() -> &'static str {
     "0000000000000004615ea58a222c2d5164948c0753ac7f993577798d57946bcc64d639115f8bbc606d209e892be1944a\
     255512d52dab798d7b028bb0d38b43f3d2270a3e428c564d2d647dc8fdd89f3ece86d2f36bdd395fed89b10e9bffb730\
@@ -71,50 +35,7 @@ pub fn signature() -> &'static str {
     f8f2249d16039aaf647f0406"
 }
 
-/// The same session with types that make short chains.
-pub fn audited_session() -> &'static str {
-    "version = 1\nid = \"0011223344556677\"\nrounds = 10\nlife = 4\ncap = 4\n\
-    per_round = 8\nfanout = 1\nport = 20000\ntick_ms = 20\nlms = 6\nots = 1\n\
-    key = \"00000006000000018d1e3644fdcc75d960cb49ec946968481554a91f1289fa02a0336e795ad4b25490e95e447533fc4da8ff8806af933922\"\n\n[[peer]]\n\
-    key = \"00000006000000012ef17295b2b2463d8d9beef9c2b84a1588e44acc6e2efaa4ccc770a8e5c237a6264b1ba299000f8607cc9b43de9271c5\"\n\
-    anchor = \"0f6658ab7e90dda684f49951ffa7345a50488289b1681527c9b1fba610ef4502\"\n\n[[peer]]\n\
-    key = \"0000000600000001d87398929b1937843f54974546a2b8d69290230c2d8089b9aee1c81336271d5c67dd566098385c583070d2ad05ddd8b1\"\n\
-    anchor = \"22d984a93475a329dd35bccd254007ee8d81f582aaf64ee95e3bfea93bfbea63\"\n"
-}
-
-/// A session of one round with a small tree, whose keys are quickly made, of the same secrets.
-pub fn small_session() -> &'static str {
-    "version = 1\nid = \"0011223344556677\"\nrounds = 1\nlife = 4\ncap = 4\n\
-    per_round = 8\nfanout = 1\nport = 20000\ntick_ms = 20\nlms = 5\nots = 4\n\
-    key = \"00000005000000048d1e3644fdcc75d960cb49ec9469684855d80022f946f6a3fe6e69fd38c4e6da8abc3355c589089eab49998762e7de01\"\n\n[[peer]]\n\
-    key = \"00000005000000042ef17295b2b2463d8d9beef9c2b84a15d83df9a99f5b121d9021a8715332dcdcbc69f029b3dced28192a8c46128f3ed3\"\n\
-    anchor = \"5d6a62cf004c1b80701330f5616ac970374c1888c96a47915e57cf54d60241f9\"\n\n[[peer]]\n\
-    key = \"0000000500000004d87398929b1937843f54974546a2b8d6d2221cbe51c92bd40c40c2996d8e8adf1ba5f6298bd1b7957edb7d343317f01c\"\n\
-    anchor = \"4d31893edc44a4dcff2b4a2837c85d4dd4385677072cca05466f250426f8080d\"\n"
-}
-
-/// The key file of its second peer.
-pub fn small_key() -> &'static str {
-    "version = 1\nid = \"0011223344556677\"\nparty = 2\nrounds = 1\n\
-    lms = 5\nots = 4\n\
-    secret = \"0909090909090909090909090909090909090909090909090909090909090909\"\nspent = false\n"
-}
-
-/// The same when it is spent.
-pub fn small_spent_key() -> &'static str {
-    "version = 1\nid = \"0011223344556677\"\nparty = 2\nrounds = 1\n\
-    lms = 5\nots = 4\n\
-    secret = \"0909090909090909090909090909090909090909090909090909090909090909\"\nspent = true\n"
-}
-
-/// The key file of its broadcaster.
-pub fn small_caster_key() -> &'static str {
-    "version = 1\nid = \"0011223344556677\"\nparty = 0\nrounds = 1\n\
-    lms = 5\nots = 4\n\
-    secret = \"0707070707070707070707070707070707070707070707070707070707070707\"\nspent = false\n"
-}
-
-/// Its broadcaster's signature of the manifest of round 1 with a block that holds `hi`.
+/// The same of `small_session`.
 pub fn small_signature() -> &'static str {
     "0000000000000004615ea58a222c2d5164948c0753ac7f993577798d57946bcc64d639115f8bbc606d209e892be1944a\
     255512d52dab798d7b028bb0d38b43f3d2270a3e428c564d2d647dc8fdd89f3ece86d2f36bdd395fed89b10e9bffb730\
@@ -145,7 +66,7 @@ pub fn small_signature() -> &'static str {
     23e63753faab98c459442972368fb574ea7a8780ed023207258598d822577706bc434241f49eeeb3acd1b717"
 }
 
-/// And of the manifest of round 1 with a block that holds `ho`, and one whose length is above the most.
+/// And there of a manifest of round 1 with a block that holds `ho`, and one whose length is above the most.
 pub fn other_signature() -> &'static str {
     "0000000000000004615ea58a222c2d5164948c0753ac7f993577798d57946bcc64d639115f8bbc60d820a8571b4b06d4\
     4975a9344358c0b42bc4bb8b4ac4021e2de5e26eaf34b25ab213a4424bcec7ed7bf58ea382c09acfd0036911ed3f4bd6\
@@ -174,15 +95,4 @@ pub fn other_signature() -> &'static str {
     9f92d063111a8a2c450ac330c48ef017773518d5e9a95c6f5f975959006016a0c6c98809992c58221ce6f0a432b7457e\
     8e0473e8b2f923c208f87256d323ff0a65cfc1d3921c6d87501437eeab1979e64a049527d3797b976cb77ed0d96c7485\
     23e63753faab98c459442972368fb574ea7a8780ed023207258598d822577706bc434241f49eeeb3acd1b717"
-}
-
-/// A session of three rounds, whose broadcaster's secret is 32 times 7 and whose types make short chains.
-pub fn three_rounds() -> &'static str {
-    "version = 1\nid = \"0011223344556677\"\nrounds = 3\nlife = 4\ncap = 4\n\
-    per_round = 8\nfanout = 1\nport = 20000\ntick_ms = 20\nlms = 6\nots = 1\n\
-    key = \"00000006000000018d1e3644fdcc75d960cb49ec946968481554a91f1289fa02a0336e795ad4b25490e95e447533fc4da8ff8806af933922\"\n\n[[peer]]\n\
-    key = \"0000000600000001000000000000000000000000000000000000000000000000000000000000000000000000000000000000000000000001\"\n\
-    anchor = \"0000000000000000000000000000000000000000000000000000000000000001\"\n\n[[peer]]\n\
-    key = \"0000000600000001000000000000000000000000000000000000000000000000000000000000000000000000000000000000000000000002\"\n\
-    anchor = \"0000000000000000000000000000000000000000000000000000000000000002\"\n"
 }

@@ -1,0 +1,18 @@
+-- The time of a session: rounds, and the slots of each.
+use Rattle.std.specs.Prelude.{ℕ, ◌+◌, ◌-◌, ◌*◌, ◌/◌, ◌%◌}
+use Rattle.bar_roster.specs.SessionText.{SessionData}
+
+-- how many ticks a round has, each a slot of its own, from 0 on
+abbrev pub slots_a_round : ℕ
+slots_a_round = 8
+
+-- Ticks are counted from 1. Before the first tick the round is 0. Divisions round down.
+abbrev pub round_after : ℕ → ℕ
+round_after ticks = (ticks + (slots_a_round - 1)) / slots_a_round
+
+abbrev pub slot_after : ℕ → ℕ
+slot_after ticks = (ticks + (slots_a_round - 1)) % slots_a_round
+
+-- The last tick that a party takes, the last one of a round. The last updates are played in the round before, at its first slot.
+abbrev pub last_tick : SessionData → ℕ
+last_tick s = slots_a_round * (s.shape.rounds + s.shape.life + 1)
