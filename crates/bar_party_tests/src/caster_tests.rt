@@ -6,9 +6,7 @@ use bar_caster::{Caster, CasterFault};
 use bar_hss::SessionScheme;
 use bar_samples::sessions::{ID, long_session, session, session_of_seven};
 use bar_seal::LmsScheme;
-use casters::{
-    Sent, caster_by, caster_of, count, counts, scheme_of, signed, start, tell, ticks,
-};
+use casters::{Sent, caster_by, caster_of, count, counts, scheme_of, signed, start, tell, ticks};
 use std::alloc::{AllocError, Global};
 use std::process::Abort;
 use std::test::Fail;

@@ -1,10 +1,10 @@
 //! Replays, and a peer, over files, links and sinks in memory. The keys and the signatures are by a Python program written from RFC 8554.
 use crate::outcome::{Left, outside_of, run};
 use bar_outside::MemFiles;
-use sha2::{Digest, Sha256};
 use bar_samples::keys::{peer_key, small_caster_key, small_key, small_spent_key};
 use bar_samples::sessions::{session, small_session};
 use bar_samples::signatures::{other_signature, signature, small_signature};
+use sha2::{Digest, Sha256};
 use std::alloc::{AllocError, Global};
 use std::test::Fail;
 
