@@ -1,8 +1,8 @@
 -- The exits of a run over what a link gives.
-use Rattle.std.proofs.Common.{◌≡◌, ◌≤◌, ◌<◌, ℕ, nat_le, min, cond, Bool, true, false, List, [], ◌∷◌, ◌++◌, refl, sym, ap, ◌∙◌, subst, append-nil, IsTrue, IfSome, Some, None, Result, Ok, Err}
+use Rattle.std.proofs.Common.{◌≡◌, ◌≤◌, ◌<◌, ℕ, ◌+◌, ◌*◌, ◌^◌, length, arith, nat_le, min, cond, Bool, true, false, List, [], ◌∷◌, ◌++◌, refl, sym, ap, ◌∙◌, subst, append-nil, IsTrue, IfSome, Some, None, Result, Ok, Err}
 use Rattle.std.proofs.lemmas.Bool.{or_from, or_left, or_right}
 use Rattle.bar_wire.specs.Inputs.{Input}
-use Rattle.bar_record.specs.Pacing.{due, is_datagram, run_after, ticks_of}
+use Rattle.bar_record.specs.Pacing.{due, is_datagram, most_in_a_row, run_after, ticks_of}
 use Rattle.bar_outside.specs.Disk.{Disk}
 use Rattle.bar_outside.specs.Wire.{Wire, Arrival, Tick, Datagram, End}
 use Rattle.bar_outside.specs.declared.fault.Fault.{Fault}
@@ -17,7 +17,7 @@ use Rattle.bar_core.specs.Rules.{Rules}
 use Rattle.bar_core.specs.Face.{Face, IsIdle}
 use Rattle.bar_node.specs.Turns.{Layout, turns}
 use Rattle.bar_node.specs.Taking.{Took}
-use Rattle.bar_node.specs.Counting.{both}
+use Rattle.bar_node.specs.Counting.{both, capped}
 use Rattle.bar_node.specs.Runs.{input_of, has_end, due_if, run_if, node_from, is_ended, taken_of, HasDone, IsGiven, RanInputs}
 use Rattle.bar_node.specs.declared.counts.Counts.{Counts}
 use Rattle.bar_node.proofs.Turning.{took-both, took-along}
@@ -41,6 +41,17 @@ pub record Arrived (lay : Layout) (now : List Input → Type 0) (r : Rules) (at 
   pub follows : (w : Outside) → Follows {T = Unit {0}} (node_from lay r [] 0 given)
       (with_wire (with_files w files) wire) (with_wire (with_files w files_at) wire_at) (Ok tt)
   pub gave : IsTrue wire.told → Heard given wire wire_at
+
+-- ---- the count of what was taken, which is exact
+
+exact : (inputs n last : ℕ) → inputs ≡ capped n → n ≤ (most_in_a_row + 1) * last → last < 2 ^ 32 → (inputs ≡ n) × (inputs + 2 < 2 ^ 64)
+exact inputs n last e few small = (omega arith, omega arith)
+
+pub count-given : (lay : Layout) (now : List Input → Type 0) (r : Rules) (at : Face) (run : ℕ) (files files_at : Disk) (wire wire_at : Wire)
+    (counts : Counts) (i : Arrived lay now r at run files files_at wire wire_at counts) → r.last < 2 ^ 32
+    → (counts.inputs ≡ length (taken_of r i.given)) × (counts.inputs + 2 < 2 ^ 64)
+count-given lay now r at run files files_at wire wire_at counts i small =
+    exact counts.inputs (length (taken_of r i.given)) r.last (ap (λ (k : Counts). k.inputs) i.took.counted) i.is_given.few small
 
 -- ---- whether the run is at its end
 

@@ -1,9 +1,10 @@
 -- What a core is after it took inputs.
-use Rattle.std.specs.Prelude.{◌≡◌, List, ◌++◌}
+use Rattle.std.specs.Prelude.{◌≡◌, ℕ, List, ◌++◌}
 use Rattle.std.specs.Option.{option_copied}
 use Rattle.bar_wire.specs.Inputs.{Input}
-use Rattle.bar_core.specs.Rules.{Rules}
-use Rattle.bar_node.specs.Turns.{Layout, node_layout}
+use Rattle.bar_outside.specs.Plan.{Action}
+use Rattle.bar_core.specs.Rules.{Rules, Send}
+use Rattle.bar_node.specs.Turns.{Layout, layout_by}
 use Rattle.bar_node.specs.Counting.{counts_over}
 use Rattle.bar_node.specs.declared.counts.Counts.{Counts}
 use Rattle.bar_node.specs.declared.kept.Kept.{Kept}
@@ -13,5 +14,6 @@ pub record Took (before : List Input) (now : List Input → Type 0) (r : Rules) 
   pub stands : now (before ++ inputs)
   pub counted : counts ≡ counts_over r before inputs
 
-abbrev pub layout_of : Kept → Layout
-layout_of kept = node_layout (option_copied kept.recording) (option_copied kept.played)
+-- the layout of a run that keeps these files, and gives out datagrams in this way
+abbrev pub layout_of : Kept → (ℕ → Send → List Action) → Layout
+layout_of kept give = layout_by (option_copied kept.recording) (option_copied kept.played) give

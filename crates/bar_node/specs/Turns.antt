@@ -35,9 +35,13 @@ kept (Some path) bytes = append path bytes ∷ []
 abbrev pub sent : ℕ → Send → List Action
 sent number next = link (send next.0 next.1) ∷ []
 
+-- a recording and what is played are kept in files, where these are kept, and datagrams are given out in one way
+abbrev pub layout_by : Option (List ℕ) → Option (List ℕ) → (ℕ → Send → List Action) → Layout
+layout_by recording played give = record { enter = λ input. kept recording (entry_bytes input); play = kept played; give = give }
+
 -- a node sends; a peer keeps a recording and plays into a file, and a broadcaster does neither
 abbrev pub node_layout : Option (List ℕ) → Option (List ℕ) → Layout
-node_layout recording played = record { enter = λ input. kept recording (entry_bytes input); play = kept played; give = sent }
+node_layout recording played = layout_by recording played sent
 
 -- The line of a datagram in a transcript: the number of its input and its receiver, each with a blank behind it, its bytes in hex, and a
 -- newline.
@@ -49,4 +53,4 @@ shown_line number next = show (line_of_bytes number next.0 next.1) ∷ []
 
 -- a replay plays into a file and prints a transcript
 abbrev pub replay_layout : List ℕ → Layout
-replay_layout played = record { enter = λ input. []; play = λ content. append played content ∷ []; give = shown_line }
+replay_layout played = layout_by None (Some played) shown_line

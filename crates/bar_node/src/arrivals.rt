@@ -7,11 +7,13 @@ ghost use Rattle.bar_outside.specs.Wire.{arrival_of, largest_packet, len_of};
 ghost use Rattle.bar_record.specs.Recording.{IsInRange, largest_entry};
 ghost use Rattle.bar_core.specs.Face.{IsIdle};
 ghost use Rattle.bar_node.specs.Taking.{layout_of};
+ghost use Rattle.bar_node.specs.Turns.{sent};
 ghost use Rattle.bar_node.specs.Runs.{input_of, RanInputs};
 
 use crate::counts::Counts;
 use crate::kept::Kept;
-use crate::node::take_paced;
+use crate::sending::Sending;
+use crate::turn::take_paced;
 use bar_core::Core;
 use bar_outside::{Fault, Files, Link, Taken, receive_next};
 use bar_record::Paced;
@@ -45,7 +47,7 @@ pub fn run_inputs<C: Core, L: Link, F: Files>(
     requires idle { IsIdle (C.face core.old) }
     requires inbox { largest_datagram ≤ length inbox.old }
     requires outbox { largest_entry ≤ length outbox.old }
-    ensures ran { RanInputs (layout_of kept.now) (C.stands core.new) (C.face core.old).rules
+    ensures ran { RanInputs (layout_of kept.now sent) (C.stands core.new) (C.face core.old).rules
         (F.disk files.old) (F.disk files.new) (L.wire link.old) (L.wire link.new) result }
     ensures rules { OnOk result ((C.face core.new).rules ≡ (C.face core.old).rules) }
 {
@@ -56,7 +58,17 @@ pub fn run_inputs<C: Core, L: Link, F: Files>(
         let Some(input) = input_of(taken, inbox) else {
             return Ok(counts);
         };
-        let more = take_paced(core, input, &mut paced, link, files, kept, outbox)?;
+        let more = take_paced(
+            core,
+            input,
+            counts.inputs,
+            &mut paced,
+            &Sending,
+            link,
+            files,
+            kept,
+            outbox,
+        )?;
         counts = counts.with(more);
     }
     Ok(counts)

@@ -1,18 +1,19 @@
 //! Giving out what an input plays and sends.
-ghost use Rattle.std.specs.Prelude.{◌≡◌, ◌≤◌, ℕ, [], List, length, IfOk, OnOk};
+ghost use Rattle.std.specs.Prelude.{◌≡◌, ◌≤◌, [], List, length, IfOk, OnOk};
 ghost use Rattle.std.specs.List.{concat, flat_map};
 ghost use Rattle.std.specs.Option.{option_copied};
-ghost use Rattle.bar_outside.specs.Plan.{Outside, with_files, with_wire};
+ghost use Rattle.bar_outside.specs.Plan.{Outside, with_files};
 ghost use Rattle.bar_outside.specs.Follows.{Follows};
 ghost use Rattle.bar_wire.specs.Inputs as plain;
 ghost use Rattle.bar_wire.specs.Limits.{largest_content, largest_datagram};
 ghost use Rattle.bar_core.specs.Face.{Keeps};
 ghost use Rattle.bar_core.specs.Rules.{Send};
-ghost use Rattle.bar_node.specs.Turns.{kept, sent};
+ghost use Rattle.bar_node.specs.Turns.{kept};
 ghost use Rattle.bar_node.specs.Counting.{capped};
 
+use crate::outlet::Outlet;
 use bar_core::Core;
-use bar_outside::{Fault, Files, Link, append_file, send_datagram};
+use bar_outside::{Fault, Files, append_file};
 
 /// Adds bytes to a file, where one is kept.
 pub fn keep_bytes<F: Files>(files: &mut F, path: Option<&str>, bytes: &[u8]) -> Result<(), Fault>
@@ -50,12 +51,17 @@ pub fn play_all<C: Core, F: Files>(
     Ok(count)
 }
 
-/// Sends the datagrams of the last input that are still to be given out, and answers how many they are.
-pub fn send_all<C: Core, L: Link>(core: &mut C, link: &mut L, buf: &mut [u8]) -> Result<u64, Fault>
+/// Gives out the datagrams of the last input, which has this number, that are still to be given out, and answers how many they are.
+pub fn give_all<C: Core, T, O: Outlet<T>>(
+    core: &mut C,
+    number: u64,
+    outlet: &O,
+    target: &mut T,
+    buf: &mut [u8],
+) -> Result<u64, Fault>
     requires { largest_datagram ≤ length buf.old }
     ensures follows { (inputs : List plain.Input) (sends : List Send) → C.stands core.old inputs → C.owes core.old inputs sends →
-        (w : Outside) (number : ℕ) → Follows (flat_map (sent number) sends)
-        (with_wire w (L.wire link.old)) (with_wire w (L.wire link.new)) result }
+        (w : Outside) → Follows (flat_map (O.given number) sends) (O.placed w target.old) (O.placed w target.new) result }
     ensures count { (inputs : List plain.Input) (sends : List Send) → C.stands core.old inputs → C.owes core.old inputs sends →
         IfOk result (λ count. count ≡ capped (length sends)) }
     ensures keeps { OnOk result (Keeps (C.stands core.old) (C.stands core.new) (C.face core.old) (C.face core.new)) }
@@ -64,7 +70,7 @@ pub fn send_all<C: Core, L: Link>(core: &mut C, link: &mut L, buf: &mut [u8]) ->
 {
     let mut count: u64 = 0;
     'datagrams: while let Some((to, len)) = core.give_datagram(buf) {
-        send_datagram(link, to, &buf[..len])?;
+        outlet.give(target, number, to, &buf[..len])?;
         count = count.saturating_add(1);
     }
     Ok(count)

@@ -8,12 +8,14 @@ mod found;
 mod giving;
 mod kept;
 mod laws;
-mod node;
+mod outlet;
 mod paths;
 mod recorded;
 mod running;
+mod sending;
 mod showing;
 mod summary;
+mod turn;
 
 pub use laws::{
     a_part_of_a_peer_kept, a_part_of_a_run_sent, a_peer_keeps, a_run_changes_its_files,

@@ -1,10 +1,10 @@
 //! Runs over a recording.
 ghost use Rattle.std.specs.Prelude.{◌≡◌, ◌≤◌, [], length, IfOk, OnOk};
-ghost use Rattle.bar_wire.specs.Limits.{largest_datagram};
 ghost use Rattle.bar_outside.specs.Plan.{Outside, with_files, with_out};
 ghost use Rattle.bar_outside.specs.Follows.{Follows};
 ghost use Rattle.bar_record.specs.Inputs.{inputs_left};
 ghost use Rattle.bar_record.specs.Pacing.{paced};
+ghost use Rattle.bar_record.specs.Recording.{largest_entry};
 ghost use Rattle.bar_core.specs.Face.{IsIdle};
 ghost use Rattle.bar_node.specs.Runs.{replay_plan, summary_of};
 ghost use Rattle.bar_node.specs.Taking.{Took};
@@ -13,12 +13,13 @@ ghost use Rattle.bar_node.specs.Turns.{replay_layout, turns};
 use crate::buffer::buffer;
 use crate::counts::Counts;
 use crate::found::write_found;
-use crate::showing::show_paced;
+use crate::kept::Kept;
+use crate::showing::Showing;
 use crate::summary::Summary;
+use crate::turn::take_paced;
 use bar_core::Core;
 use bar_outside::{Fault, Files, Sink};
-use bar_record::{Items, Paced};
-use bar_wire::LARGEST_DATAGRAM;
+use bar_record::{Items, LARGEST_ENTRY, Paced};
 use std::alloc::Global;
 
 /// Takes the inputs of a recording, paced, in order, each with its turn.
@@ -33,7 +34,7 @@ fn show_inputs<C: Core, F: Files, K: Sink>(
 ) -> Result<Counts, Fault>
     requires stands { C.stands core.old [] }
     requires idle { IsIdle (C.face core.old) }
-    requires room { largest_datagram ≤ length buf.old }
+    requires room { largest_entry ≤ length buf.old }
     ensures follows { (w : Outside) → Follows (turns (replay_layout played.now) (C.face core.old).rules []
         (paced (C.face core.old).rules.last (inputs_left items.entry)))
         (with_out (with_files w (F.disk files.old)) (K.stream out.old))
@@ -42,21 +43,25 @@ fn show_inputs<C: Core, F: Files, K: Sink>(
         (paced (C.face core.old).rules.last (inputs_left items.entry))) }
     ensures rules { OnOk result ((C.face core.new).rules ≡ (C.face core.old).rules) }
 {
+    let kept = Kept {
+        recording: None,
+        played: Some(played),
+    };
     let mut paced = Paced::new();
     let mut counts = Counts::none();
     for input in items {
         if core.is_over() {
             return Ok(counts);
         }
-        let more = show_paced(
-            alloc,
+        let more = take_paced(
             core,
             input,
             counts.inputs,
             &mut paced,
-            files,
-            played,
+            &Showing { alloc },
             out,
+            files,
+            &kept,
             buf,
         )?;
         counts = counts.with(more);
@@ -89,7 +94,7 @@ pub fn replay<C: Core, F: Files, K: Sink>(
     ensures stands { OnOk result (C.stands core.new (paced (C.face core.old).rules.last (inputs_left items.entry))) }
     ensures rules { OnOk result ((C.face core.new).rules ≡ (C.face core.old).rules) }
 {
-    let mut buf = buffer(alloc, usize::from(LARGEST_DATAGRAM))?;
+    let mut buf = buffer(alloc, LARGEST_ENTRY)?;
     let counts = show_inputs(alloc, core, items, files, played, out, &mut buf)?;
     write_found(alloc, core, found, files)?;
     Ok(Summary {

@@ -9,7 +9,7 @@ use Rattle.bar_core.specs.Rules.{Rules}
 use Rattle.bar_node.proofs.Turning.{took-none}
 use Rattle.bar_node.proofs.Receiving.{heard-none, quiet-turns}
 use Rattle.bar_node.proofs.Doing.{given-none}
-use Rattle.bar_node.proofs.RunSteps.{failed-receiving, at-last, at-end, failed-taking, arrived-more}
+use Rattle.bar_node.proofs.RunSteps.{count-given, failed-receiving, at-last, at-end, failed-taking, arrived-more}
 use Rattle.bar_node.proofs.arrivals.run_inputs.Goals as goal
 
 pub arrivals-init : goal.arrivals-init
@@ -42,6 +42,10 @@ returns-in_default-clause-ran g c =
     (quiet-turns (option_copied c.args.kept.now.recording) (option_copied c.args.kept.now.played)) _
     (arrival_of c.receive_next.new.buf c.in_ok-taken.taken) _ c.in_ok-taken.ensures.follows c.arrivals-test.ensures c.in_default.ensures.is
 
+pub take_paced-requires-clause-few : goal.take_paced-requires-clause-few
+take_paced-requires-clause-few g c =
+    (count-given _ _ _ _ _ _ _ _ _ _ c.arrivals.invariant (g.met.C.Core.few c.args.core.now)).1
+
 pub returns-in_err-more-clause-ran : goal.returns-in_err-more-clause-ran
 returns-in_err-more-clause-ran g c =
     let p = err_from_is_err_and c.from_residual-in_err-more.result c.from_residual-in_err-more.ensures.1 in
@@ -51,7 +55,7 @@ returns-in_err-more-clause-ran g c =
     (quiet-turns (option_copied c.args.kept.now.recording) (option_copied c.args.kept.now.played)) _
     (arrival_of c.receive_next.new.buf c.in_ok-taken.taken) _ c.in_ok-taken.ensures.follows
     (plain_input c.in-Some.input) c.in-Some.ensures.is c.in-Some.ensures.within c.arrivals-test.ensures _ _ _ _
-    (c.in_err-more.ensures.follows _ i.took.stands))
+    (c.in_err-more.ensures.follows _ i.took.stands (count-given _ _ _ _ _ _ _ _ _ _ i (g.met.C.Core.few c.args.core.now)).0))
 
 pub arrivals-preserved : goal.arrivals-preserved
 arrivals-preserved g c =
@@ -61,7 +65,7 @@ arrivals-preserved g c =
     (quiet-turns (option_copied c.args.kept.now.recording) (option_copied c.args.kept.now.played)) _
     (arrival_of c.receive_next.new.buf c.in_ok-taken.taken) _ c.in_ok-taken.ensures.follows
     (plain_input c.in-Some.input) c.in-Some.ensures.is c.in-Some.ensures.within c.arrivals-test.ensures _ _ _ _ _ _
-    (c.in_ok-more.ensures.follows _ i.took.stands) (c.in_ok-more.ensures.took _ i.took.stands) c.in_ok-more.ensures.idle
+    (c.in_ok-more.ensures.follows _ i.took.stands (count-given _ _ _ _ _ _ _ _ _ _ i (g.met.C.Core.few c.args.core.now)).0) (c.in_ok-more.ensures.took _ i.took.stands) c.in_ok-more.ensures.idle
     c.in_ok-more.ensures.rules c.in_ok-more.ensures.run)
 
 pub arrivals-smaller : goal.arrivals-smaller

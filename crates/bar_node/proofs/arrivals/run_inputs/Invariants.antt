@@ -1,12 +1,13 @@
 use Rattle.std.proofs.Common.{◌+◌, ◌-◌, ◌*◌}
 use Rattle.bar_node.specs.Taking.{layout_of}
+use Rattle.bar_node.specs.Turns.{sent}
 use Rattle.bar_node.proofs.RunSteps.{Arrived}
 use Rattle.bar_node.proofs.arrivals.run_inputs.Given as goal
 
 -- the arrivals so far, and what was done over them
 abbrev pub invariant-arrivals : goal.invariant-arrivals
 invariant-arrivals g l =
-    Arrived (layout_of l.fn.kept) (g.C.Core.stands l.core) (g.C.Core.face l.fn.core).rules (g.C.Core.face l.core) l.paced
+    Arrived (layout_of l.fn.kept sent) (g.C.Core.stands l.core) (g.C.Core.face l.fn.core).rules (g.C.Core.face l.core) l.paced
     (g.F.Files.disk l.fn.files) (g.F.Files.disk l.files) (g.L.Link.wire l.fn.link) (g.L.Link.wire l.link) l.counts
 
 abbrev pub decreases-arrivals : goal.decreases-arrivals

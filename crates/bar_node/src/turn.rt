@@ -1,8 +1,8 @@
-//! What a node does with an input.
-ghost use Rattle.std.specs.Prelude.{◌≡◌, ◌≤◌, ◌<◌, ◌∷◌, [], List, length, IfOk, OnOk};
+//! The turn of an input.
+ghost use Rattle.std.specs.Prelude.{◌≡◌, ◌≤◌, ◌<◌, ◌+◌, ◌^◌, ◌∷◌, [], List, length, is_some, true, IfOk, OnOk};
 ghost use Rattle.std.specs.Option.{option_copied};
 ghost use Rattle.bar_wire.specs.Inputs as plain;
-ghost use Rattle.bar_outside.specs.Plan.{Outside, with_files, with_wire};
+ghost use Rattle.bar_outside.specs.Plan.{Outside, with_files};
 ghost use Rattle.bar_outside.specs.Follows.{Follows};
 ghost use Rattle.bar_record.specs.Recording.{entry_bytes, IsInRange, largest_entry};
 ghost use Rattle.bar_record.specs.Pacing.{due, is_datagram, run_after};
@@ -11,10 +11,11 @@ ghost use Rattle.bar_node.specs.Turns.{kept, turns};
 ghost use Rattle.bar_node.specs.Taking.{Took, layout_of};
 
 use crate::counts::Counts;
-use crate::giving::{play_all, send_all};
+use crate::giving::{give_all, play_all};
 use crate::kept::Kept;
+use crate::outlet::Outlet;
 use bar_core::Core;
-use bar_outside::{Fault, Files, Link, append_file};
+use bar_outside::{Fault, Files, append_file};
 use bar_record::{Paced, entry};
 use bar_wire::Input;
 
@@ -36,7 +37,7 @@ fn keep_entry<F: Files>(
     buf: &mut [u8],
 ) -> Result<(), Fault>
     requires room { largest_entry ≤ length buf.old }
-    requires datagram { IsInRange (plain.plain_input input.now) }
+    requires datagram { is_some recording.entry ≡ true → IsInRange (plain.plain_input input.now) }
     ensures { (w : Outside) → Follows (kept (option_copied recording.entry) (entry_bytes (plain.plain_input input.now)))
         (with_files w (F.disk files.old)) (with_files w (F.disk files.new)) result }
 {
@@ -49,22 +50,23 @@ fn keep_entry<F: Files>(
     }
 }
 
-/// Takes an input: its entry is kept, what it plays is kept, and what it sends is sent.
-pub fn take_input<C: Core, L: Link, F: Files>(
+/// Takes an input with this number: its entry is kept, what it plays is kept, and what it sends is given out.
+fn take_input<C: Core, T, O: Outlet<T>, F: Files>(
     core: &mut C,
     input: Input<'_>,
-    link: &mut L,
+    number: u64,
+    outlet: &O,
+    target: &mut T,
     files: &mut F,
     kept: &Kept<'_>,
     buf: &mut [u8],
 ) -> Result<Counts, Fault>
     requires idle { IsIdle (C.face core.old) }
     requires room { largest_entry ≤ length buf.old }
-    requires datagram { IsInRange (plain.plain_input input) }
-    ensures follows { (before : List plain.Input) → C.stands core.old before → (w : Outside) →
-        Follows (turns (layout_of kept.now) (C.face core.old).rules before (plain.plain_input input.entry ∷ []))
-        (with_wire (with_files w (F.disk files.old)) (L.wire link.old))
-        (with_wire (with_files w (F.disk files.new)) (L.wire link.new)) result }
+    requires datagram { is_some kept.now.recording ≡ true → IsInRange (plain.plain_input input) }
+    ensures follows { (before : List plain.Input) → C.stands core.old before → number ≡ length before + 1 → (w : Outside) →
+        Follows (turns (layout_of kept.now O.given) (C.face core.old).rules before (plain.plain_input input.entry ∷ []))
+        (with_files (O.placed w target.old) (F.disk files.old)) (with_files (O.placed w target.new) (F.disk files.new)) result }
     ensures took { (before : List plain.Input) → C.stands core.old before →
         IfOk result (Took before (C.stands core.new) (C.face core.old).rules (plain.plain_input input.entry ∷ [])) }
     ensures idle { OnOk result (IsIdle (C.face core.new)) }
@@ -73,7 +75,7 @@ pub fn take_input<C: Core, L: Link, F: Files>(
     keep_entry(files, kept.recording, &input, buf)?;
     core.take(input);
     let played = play_all(core, files, kept.played, buf)?;
-    let sent = send_all(core, link, buf)?;
+    let sent = give_all(core, number, outlet, target, buf)?;
     Ok(Counts {
         inputs: 1,
         sent,
@@ -81,12 +83,14 @@ pub fn take_input<C: Core, L: Link, F: Files>(
     })
 }
 
-/// Takes an input that came, with a tick before it where one is due. After the last tick nothing is taken.
-pub fn take_paced<C: Core, L: Link, F: Files>(
+/// Takes an input behind so many others, with a tick before it where one is due. After the last tick nothing is taken.
+pub fn take_paced<C: Core, T, O: Outlet<T>, F: Files>(
     core: &mut C,
     input: Input<'_>,
+    taken: u64,
     paced: &mut Paced,
-    link: &mut L,
+    outlet: &O,
+    target: &mut T,
     files: &mut F,
     kept: &Kept<'_>,
     buf: &mut [u8],
@@ -94,12 +98,12 @@ pub fn take_paced<C: Core, L: Link, F: Files>(
     requires idle { IsIdle (C.face core.old) }
     requires goes { (C.face core.old).ticks < (C.face core.old).rules.last }
     requires room { largest_entry ≤ length buf.old }
-    requires datagram { IsInRange (plain.plain_input input) }
-    ensures follows { (before : List plain.Input) → C.stands core.old before → (w : Outside) →
-        Follows (turns (layout_of kept.now) (C.face core.old).rules before
+    requires few { taken + 2 < 2 ^ 64 }
+    requires datagram { is_some kept.now.recording ≡ true → IsInRange (plain.plain_input input) }
+    ensures follows { (before : List plain.Input) → C.stands core.old before → taken ≡ length before → (w : Outside) →
+        Follows (turns (layout_of kept.now O.given) (C.face core.old).rules before
         (due (C.face core.old).rules.last (C.face core.old).ticks paced.old (plain.plain_input input.entry)))
-        (with_wire (with_files w (F.disk files.old)) (L.wire link.old))
-        (with_wire (with_files w (F.disk files.new)) (L.wire link.new)) result }
+        (with_files (O.placed w target.old) (F.disk files.old)) (with_files (O.placed w target.new) (F.disk files.new)) result }
     ensures took { (before : List plain.Input) → C.stands core.old before →
         IfOk result (Took before (C.stands core.new) (C.face core.old).rules
         (due (C.face core.old).rules.last (C.face core.old).ticks paced.old (plain.plain_input input.entry))) }
@@ -108,12 +112,21 @@ pub fn take_paced<C: Core, L: Link, F: Files>(
     ensures run { OnOk result (paced.new ≡ run_after paced.old (is_datagram (plain.plain_input input.entry))) }
 {
     if !paced.due(is_datagram(&input)) {
-        return take_input(core, input, link, files, kept, buf);
+        return take_input(core, input, taken + 1, outlet, target, files, kept, buf);
     }
-    let first = take_input(core, Input::Tick, link, files, kept, buf)?;
+    let first = take_input(
+        core,
+        Input::Tick,
+        taken + 1,
+        outlet,
+        target,
+        files,
+        kept,
+        buf,
+    )?;
     if core.is_over() {
         return Ok(first);
     }
-    let second = take_input(core, input, link, files, kept, buf)?;
+    let second = take_input(core, input, taken + 2, outlet, target, files, kept, buf)?;
     Ok(first.with(second))
 }

@@ -1,53 +1,63 @@
 use Rattle.std.proofs.Common.{◌+◌, [], ◌∷◌, ◌++◌, length}
 use Rattle.std.proofs.lemmas.Result.{err_from_is_err_and}
 use Rattle.bar_wire.specs.Inputs.{plain_input}
-use Rattle.bar_outside.specs.Plan.{with_files, with_wire}
+use Rattle.bar_outside.specs.Plan.{with_files}
 use Rattle.bar_outside.proofs.Following.{answered, handed}
 use Rattle.bar_node.specs.Taking.{layout_of}
 use Rattle.bar_node.proofs.Turning.{counted-one, stopped-entering, stopped-playing, then-sending}
-use Rattle.bar_node.proofs.node.take_input.Goals as goal
+use Rattle.bar_node.proofs.turn.take_input.Goals as goal
 
 pub returns-in_err-keep_entry-clause-follows : goal.returns-in_err-keep_entry-clause-follows
-returns-in_err-keep_entry-clause-follows g c = λ before stands w.
+returns-in_err-keep_entry-clause-follows g c = λ before stands is w.
     let p = err_from_is_err_and c.from_residual.result c.from_residual.ensures.1 in
     rw (p.1, p.2)
-    (stopped-entering (layout_of c.args.kept.now) (g.C.Core.face c.args.core.now).rules before (plain_input c.args.input) _ _ _
-    (c.in_err-keep_entry.ensures (with_wire w (g.L.Link.wire c.args.link.now))))
+    (stopped-entering (layout_of c.args.kept.now g.O.Outlet.given) (g.C.Core.face c.args.core.now).rules before (plain_input c.args.input) _ _ _
+    (c.in_err-keep_entry.ensures (g.O.Outlet.placed w c.args.target.now)))
 
 pub returns-in_err-played-clause-follows : goal.returns-in_err-played-clause-follows
-returns-in_err-played-clause-follows g c = λ before stands w.
+returns-in_err-played-clause-follows g c = λ before stands is w.
     let p = err_from_is_err_and c.from_residual-in_err-played.result c.from_residual-in_err-played.ensures.1 in
     rw (p.1, p.2)
-    (stopped-playing (layout_of c.args.kept.now) (g.C.Core.face c.args.core.now).rules before (plain_input c.args.input) _ _ _ _ _ _
+    (stopped-playing (layout_of c.args.kept.now g.O.Outlet.given) (g.C.Core.face c.args.core.now).rules before (plain_input c.args.input) _ _ _ _ _ _
     (c.take.ensures.plays before stands)
-    (c.in_ok-keep_entry.ensures (with_wire w (g.L.Link.wire c.args.link.now)))
-    (c.in_err-played.ensures.follows (with_wire w (g.L.Link.wire c.args.link.now))))
+    (c.in_ok-keep_entry.ensures (g.O.Outlet.placed w c.args.target.now))
+    (c.in_err-played.ensures.follows (g.O.Outlet.placed w c.args.target.now)))
 
 pub returns-in_err-sent-clause-follows : goal.returns-in_err-sent-clause-follows
-returns-in_err-sent-clause-follows g c = λ before stands w.
+returns-in_err-sent-clause-follows g c = λ before stands is w.
     let p = err_from_is_err_and c.from_residual-in_err-sent.result c.from_residual-in_err-sent.ensures.1 in
     rw (p.1, p.2)
-    (then-sending (layout_of c.args.kept.now) (g.C.Core.face c.args.core.now).rules before (plain_input c.args.input) _ _ _ _ _ _ _ _
+    (then-sending (layout_of c.args.kept.now g.O.Outlet.given) (g.C.Core.face c.args.core.now).rules before (plain_input c.args.input) _ _ _ _ _ _ _ _
     (c.take.ensures.plays before stands)
-    (c.in_ok-keep_entry.ensures (with_wire w (g.L.Link.wire c.args.link.now)))
-    (c.in_ok-played.ensures.follows (with_wire w (g.L.Link.wire c.args.link.now)))
-    (handed _ _ _ _ (c.in_err-sent.ensures.follows (before ++ plain_input c.args.input ∷ [])
+    (c.in_ok-keep_entry.ensures (g.O.Outlet.placed w c.args.target.now))
+    (c.in_ok-played.ensures.follows (g.O.Outlet.placed w c.args.target.now))
+    (handed _ _ _ _ (rw (
+      is,
+      g.met.O.Outlet.apart w (g.F.Files.disk c.play_all.new.files) c.args.target.now,
+      g.met.O.Outlet.apart w (g.F.Files.disk c.play_all.new.files) c.give_all.new.target,
+    ) at
+    (c.in_err-sent.ensures.follows (before ++ plain_input c.args.input ∷ [])
     ((g.C.Core.face c.args.core.now).rules.sends before (plain_input c.args.input))
     (c.in_ok-played.ensures.keeps.stands _ (c.take.ensures.stands before stands))
     (c.in_ok-played.ensures.owes _ _ (c.take.ensures.sends before stands))
-    (with_files w (g.F.Files.disk c.play_all.new.files)) (length before + 1))))
+    (with_files w (g.F.Files.disk c.play_all.new.files))))))
 
 pub returns-clause-follows : goal.returns-clause-follows
-returns-clause-follows g c = λ before stands w.
-    then-sending (layout_of c.args.kept.now) (g.C.Core.face c.args.core.now).rules before (plain_input c.args.input) _ _ _ _ _ _ _ _
+returns-clause-follows g c = λ before stands is w.
+    then-sending (layout_of c.args.kept.now g.O.Outlet.given) (g.C.Core.face c.args.core.now).rules before (plain_input c.args.input) _ _ _ _ _ _ _ _
     (c.take.ensures.plays before stands)
-    (c.in_ok-keep_entry.ensures (with_wire w (g.L.Link.wire c.args.link.now)))
-    (c.in_ok-played.ensures.follows (with_wire w (g.L.Link.wire c.args.link.now)))
-    (answered _ _ _ _ _ (c.in_ok-sent.ensures.follows (before ++ plain_input c.args.input ∷ [])
+    (c.in_ok-keep_entry.ensures (g.O.Outlet.placed w c.args.target.now))
+    (c.in_ok-played.ensures.follows (g.O.Outlet.placed w c.args.target.now))
+    (answered _ _ _ _ _ (rw (
+      is,
+      g.met.O.Outlet.apart w (g.F.Files.disk c.play_all.new.files) c.args.target.now,
+      g.met.O.Outlet.apart w (g.F.Files.disk c.play_all.new.files) c.give_all.new.target,
+    ) at
+    (c.in_ok-sent.ensures.follows (before ++ plain_input c.args.input ∷ [])
     ((g.C.Core.face c.args.core.now).rules.sends before (plain_input c.args.input))
     (c.in_ok-played.ensures.keeps.stands _ (c.take.ensures.stands before stands))
     (c.in_ok-played.ensures.owes _ _ (c.take.ensures.sends before stands))
-    (with_files w (g.F.Files.disk c.play_all.new.files)) (length before + 1)))
+    (with_files w (g.F.Files.disk c.play_all.new.files)))))
 
 pub returns-clause-took : goal.returns-clause-took
 returns-clause-took g c = λ before stands.

@@ -2,7 +2,7 @@ use Rattle.std.proofs.Common.{◌≤◌, length, arith, length-append}
 use Rattle.bar_wire.specs.Inputs.{Input, Tick, Datagram, plain_input}
 use Rattle.bar_bytes.specs.Bytes.{u16_bytes}
 use Rattle.bar_record.specs.Recording.{entry_bytes, IsInRange, largest_entry}
-use Rattle.bar_node.proofs.node.keep_entry.Goals as goal
+use Rattle.bar_node.proofs.turn.keep_entry.Goals as goal
 
 entry-fits : (input : Input) → IsInRange input → length (entry_bytes input) ≤ largest_entry
 unfolding u16_bytes
