@@ -3,6 +3,7 @@ use crate::outlet::Outlet;
 use bar_outside::{Fault, Link, send_datagram};
 
 /// Datagrams are sent over a link.
+#[derive(Clone, Copy)]
 pub struct Sending;
 
 impl<L: Link> Outlet<L> for Sending {

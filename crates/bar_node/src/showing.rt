@@ -32,6 +32,7 @@ fn show_line<K: Sink>(
 }
 
 /// Datagrams are shown as the lines of a transcript.
+#[derive(Clone, Copy)]
 pub struct Showing {
     pub alloc: Global,
 }
