@@ -241,6 +241,21 @@ fn the_first_fault_is_told(rt: HostRuntime) -> Result<(), Fail> {
     Ok(())
 }
 
+// A key file whose writing was stopped, at whatever byte, is no fresh key.
+#[test]
+fn no_front_of_a_spent_key_text_is_a_fresh_key(rt: HostRuntime) -> Result<(), Fail> {
+    let alloc = rt.alloc();
+    let session = session(alloc, KEY, ANCHOR)?;
+    let spent = text(alloc, 2, SECRET, 1, true)?;
+    assert!(rt; session.top().is_none());
+    for len in 0..spent.len() {
+        let front = spent.get(..len).unwrap_or(b"");
+        let read = KeyFile::read(alloc, front, &session, false, true);
+        assert!(rt; matches!(read, Err(_)), "at {len}");
+    }
+    Ok(())
+}
+
 #[test]
 fn another_party_and_other_rounds_are_not_in_the_roster(rt: HostRuntime) -> Result<(), Fail> {
     let alloc = rt.alloc();

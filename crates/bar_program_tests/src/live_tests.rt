@@ -3,7 +3,7 @@ ghost use Rattle.std.specs.Prelude.{◌≡◌, true};
 ghost use Rattle.bar_outside.specs.MemTaken.{are_small};
 
 use crate::outcome::{Left, outside_of, run};
-use bar_outside::{MemFiles, MemLink, MemTaken};
+use bar_outside::{MemFiles, MemLink, MemTaken, Sent};
 use bar_samples::keys::{caster_key, peer_key, spent_caster_key, spent_peer_key};
 use bar_samples::sessions::session;
 use std::alloc::{AllocError, Global};
@@ -11,6 +11,8 @@ use std::process::Abort;
 use std::test::Fail;
 
 const PEER: &str = "peer --session s --key k --begin 5000 --played p --recording r --found f";
+
+const REPLAY: &str = "replay --session s --key k --recording in --played p --found f";
 
 const CASTER: &str = "broadcaster --session s --key k --begin 5000 --stream t --found f";
 
@@ -111,15 +113,35 @@ fn a_peer_alone_asks_in_vain(rt: HostRuntime) -> Result<(), Fail> {
     Ok(())
 }
 
-/// The third send fails, which is the seventh call of the link.
+/// Checks that what was sent is the REQUEST of round 1, twice.
+fn check_sent_twice(rt: &impl Abort, sent: &[Sent]) {
+    let [one, two] = sent else {
+        panic!(rt; "so many were sent: {}", sent.len());
+    };
+    assert!(rt; (one.to, two.to) == (1, 1) && one.bytes == two.bytes);
+    assert!(rt; one.bytes.starts_with(&[0xba, 0x47, 1, 3]));
+}
+
+/// The third send fails, which is the seventh call of the link. What was recorded up to there has no end, and isn't replayed.
 #[test]
 fn a_failed_call_of_the_link_stops_a_peer(rt: HostRuntime) -> Result<(), Fail> {
     let alloc = rt.alloc();
     let link = link_of(alloc, 120, 0, &[7])?;
     let left = run_over(alloc, PEER, prepared(alloc, peer_key())?, link)?;
     check_end(&rt, &left, 6, "", "bar: link failed\n");
-    assert_eq!(rt; left.outside.link.sent().len(), 2);
-    assert_eq!(rt; left.outside.files.get("r").map(<[u8]>::len), Some(18));
+    check_sent_twice(&rt, left.outside.link.sent());
+    let recording = left.outside.files.get("r").unwrap_or(b"");
+    assert_eq!(rt; recording.len(), 18);
+    let mut files = prepared(alloc, peer_key())?;
+    files.put("in", recording)?;
+    let refused = run(alloc, REPLAY, outside_of(alloc, files, &[], &[])?)?;
+    check_end(
+        &rt,
+        &refused,
+        8,
+        "",
+        "bar: input refused: recording NoEnd\n",
+    );
     Ok(())
 }
 
