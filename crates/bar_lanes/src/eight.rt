@@ -96,13 +96,11 @@ fn initial_hash() -> [u32x8; 8]
 fn hashes(blocks: &[[u8; 64]; 8]) -> [[u32; 8]; 8]
     ensures { (j : ℕ) → j < 8 → hash_lane j result ≡ compress initial_hash_256 (slice_index_or blocks.now j []) }
 {
-    let mut words = [u32x8::splat(0); 16];
+    let mut words = [u32x8::splat(0); 64];
     'load: for k in 0..16 {
         words[k] = words_at(blocks, k);
     }
-    let mut hash = initial_hash();
-    compress(&mut hash, &words);
-    lanes_of(hash)
+    lanes_of(compress(&initial_hash(), &mut words))
 }
 
 /// Writes the SHA-256 of each of eight messages of 55 bytes, digest j being that of message j (FIPS 180-4, 6.2).
