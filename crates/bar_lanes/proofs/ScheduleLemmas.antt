@@ -1,10 +1,10 @@
 -- The schedules of eight blocks side by side.
-use Rattle.std.proofs.Common.{◌≡◌, ℕ, ◌+◌, ◌-◌, ◌*◌, ◌<◌, ◌≤◌, List, [], length, slice_index, slice_index_or, slice_set, arith, ◌∙◌, refl, ap, sym, inl, inr}
+use Rattle.std.proofs.Common.{◌≡◌, ℕ, ◌+◌, ◌-◌, ◌*◌, ◌<◌, ◌≤◌, List, [], length, take, zero, suc, slice_index, slice_set, arith, ◌∙◌, refl, ap, sym, inl, inr}
 use Rattle.std.proofs.lemmas.Bool.{cases_eq}
-use Rattle.std.proofs.lemmas.List.{get_or-set_same, get_or-set_other}
-use Rattle.sha2.specs.Sha256.{schedule, next_word, word_at, rounds, round, round_constants}
-use Rattle.sha2.proofs.Schedule256.{slice_index-schedule_first, slice_index-schedule_next, rounds_next}
-use Rattle.bar_lanes.specs.Lane.{lane, lane_at, hash_lane, IsScheduled}
+use Rattle.std.proofs.lemmas.List.{get_or-set_same, get_or-set_other, get_or-take}
+use Rattle.sha2.specs.Sha256.{schedule, next_word, word_at, add32, small_sigma1}
+use Rattle.sha2.proofs.Schedule256.{slice_index-schedule_first, slice_index-schedule_next}
+use Rattle.bar_lanes.specs.Lane.{lane, lane_at, IsScheduled, late_at}
 use Rattle.bar_lanes.proofs.LaneLemmas.{slice_index-lane}
 
 -- a block's own words
@@ -37,3 +37,35 @@ scheduled_more block j t words word room is held k below =
       | inr other ↦
           ap (λ (v : List ℕ). slice_index v j) (get_or-set_other words t k word [] other) ∙ held k (omega (arith, below, other))
     ]
+
+add32_assoc : (x y z : ℕ) → add32 (add32 x y) z ≡ add32 x (add32 y z)
+add32_assoc x y z = omega arith
+
+-- word 16 + k of a schedule, its last two summands taken together
+pub late_word_is : (block : List ℕ) (k : ℕ) → k < 4
+    → add32 (add32 (small_sigma1 (slice_index (schedule block 48) (k + 14))) (slice_index (schedule block 48) (k + 9))) (late_at block k)
+    ≡ slice_index (schedule block 48) (16 + k)
+late_word_is block k below =
+    let ws = schedule block 48 in
+    let two : 16 + k - 2 ≡ k + 14 = omega arith in
+    let seven : 16 + k - 7 ≡ k + 9 = omega arith in
+    let fifteen : 16 + k - 15 ≡ k + 1 = omega arith in
+    let sixteen : 16 + k - 16 ≡ k = omega arith in
+    sym (slice_index-schedule_next block 48 (16 + k) (omega arith) (omega arith)
+    ∙ rw (two, seven, fifteen, sixteen) (add32_assoc (add32 (small_sigma1 (slice_index ws (k + 14))) (slice_index ws (k + 9))) _ (slice_index ws k)))
+
+-- a word of what a block begins with
+pub word_of_head : (block bytes : List ℕ) (k : ℕ) → k < 5 → take 20 block ≡ bytes → word_at bytes (4 * k) ≡ word_at block (4 * k)
+word_of_head block bytes k below same =
+    let at : (i : ℕ) → i < 20 → slice_index bytes i ≡ slice_index block i =
+    λ i few. ap (λ (b : List ℕ). slice_index b i) (sym same) ∙ get_or-take 20 block i 0 few
+    in
+    rw (at (4 * k) (omega arith), at (4 * k + 1) (omega arith), at (4 * k + 2) (omega arith), at (4 * k + 3) (omega arith)) refl
+
+-- what holds of the first four numbers
+pub below_four : (P : ℕ → Type 0) → P 0 → P 1 → P 2 → P 3 → (k : ℕ) → k < 4 → P k
+below_four P p0 p1 p2 p3 zero h = p0
+below_four P p0 p1 p2 p3 (suc zero) h = p1
+below_four P p0 p1 p2 p3 (suc (suc zero)) h = p2
+below_four P p0 p1 p2 p3 (suc (suc (suc zero))) h = p3
+below_four P p0 p1 p2 p3 (suc (suc (suc (suc n)))) h = absurd (omega arith)

@@ -59,7 +59,7 @@ fn big_sigma1(x: u32x8) -> u32x8
 
 // The function σ0 (FIPS 180-4, 4.1.2).
 #[inline(always)]
-fn small_sigma0(x: u32x8) -> u32x8
+pub(crate) fn small_sigma0(x: u32x8) -> u32x8
     ensures { (j : ℕ) → j < 8 → slice_index result j ≡ small_sigma0 (slice_index x j) }
 {
     let both = xor(x, rotate_right(x, 11));
@@ -68,7 +68,7 @@ fn small_sigma0(x: u32x8) -> u32x8
 
 // The function σ1 (FIPS 180-4, 4.1.2).
 #[inline(always)]
-fn small_sigma1(x: u32x8) -> u32x8
+pub(crate) fn small_sigma1(x: u32x8) -> u32x8
     ensures { (j : ℕ) → j < 8 → slice_index result j ≡ small_sigma1 (slice_index x j) }
 {
     let both = xor(x, rotate_right(x, 2));

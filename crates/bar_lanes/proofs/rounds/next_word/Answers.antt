@@ -1,4 +1,4 @@
-use Rattle.std.proofs.Common.{◌≡◌, ◌-◌, arith, refl}
+use Rattle.std.proofs.Common.{◌-◌, arith, refl}
 use Rattle.bar_lanes.proofs.LaneLemmas.{slice_index-lane}
 use Rattle.bar_lanes.proofs.rounds.next_word.Goals as goal
 

@@ -1,4 +1,3 @@
-use Rattle.std.proofs.Common.{◌≡◌, arith, refl, sym}
 use Rattle.sha2.specs.Sha256.{schedule}
 use Rattle.sha2.proofs.Schedule256.{rounds_next}
 use Rattle.bar_lanes.proofs.rounds.step.Goals as goal
