@@ -1,13 +1,13 @@
 -- The bits that are set in a row of words, summed in lanes.
-use Rattle.std.proofs.Common.{◌≡◌, ◌∙◌, ℕ, ◌+◌, ◌<◌, ◌≤◌, ◌^◌, List, [], ◌∷◌, length, take, slice_index_or, map, count_ones, sum_by, refl, sym, Fits, arith}
+use Rattle.std.proofs.Common.{◌≡◌, ◌∙◌, ℕ, ◌+◌, ◌≤◌, List, [], ◌∷◌, length, take, slice_index_or, map, count_ones, sum_by, refl, sym, Fits, arith}
 use Rattle.std.specs.Int.{w64}
 use Rattle.std.proofs.lemmas.List.{length-map}
 use Rattle.std.proofs.lemmas.List.Elements.{All-from_get_or}
 use Rattle.std.proofs.lemmas.List.Sums.{sum_by-append, sum_by-cons, sum_by-le, sum_by-take-le}
 use Rattle.std.proofs.lemmas.Nat.{ones-le}
-use Rattle.std.proofs.lemmas.Simd.{adds_fit, length-chunk, length-zip2, sum-zip2, Each2-of}
+use Rattle.std.proofs.lemmas.Simd.{length-chunk}
 use Rattle.std.proofs.Math.Seq.{take-add}
-use lib.Lanes.{Each2, zip2, chunk, sum_l}
+use lib.Lanes.{chunk, sum_l}
 
 -- the bits of each word, as numbers of 64 bits
 abbrev pub bits_of : List ℕ → List ℕ

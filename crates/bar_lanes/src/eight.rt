@@ -11,7 +11,7 @@ use std::simd::u32x8;
 const PADDING: [u8; 9] = [0x80, 0, 0, 0, 0, 0, 0, 0x01, 0xb8];
 
 // The block of a message (FIPS 180-4, 5.1.1).
-fn block(message: &[u8; 55]) -> [u8; 64]
+pub(crate) fn block(message: &[u8; 55]) -> [u8; 64]
     ensures padded { result ≡ padded_message message.now }
     ensures length { length message.now ≡ 55 }
 {
@@ -30,7 +30,7 @@ fn word(block: &[u8; 64], at: usize) -> u32
 }
 
 // Word k of each block, a lane for each.
-fn words_at(blocks: &[[u8; 64]; 8], k: usize) -> u32x8
+pub(crate) fn words_at(blocks: &[[u8; 64]; 8], k: usize) -> u32x8
     requires { k < 16 }
     ensures { (j : ℕ) → j < 8 → slice_index result j ≡ word_at (slice_index_or blocks.now j []) (4 * k) }
 {
@@ -47,7 +47,7 @@ fn words_at(blocks: &[[u8; 64]; 8], k: usize) -> u32x8
 }
 
 // The digest of lane j: its eight words, the highest byte of each first (FIPS 180-4, 6.2.2).
-fn digest_at(hash: &[[u32; 8]; 8], j: usize) -> [u8; 32]
+pub(crate) fn digest_at(hash: &[[u32; 8]; 8], j: usize) -> [u8; 32]
     requires { j < 8 }
     ensures { result ≡ digest_bytes (hash_lane j hash.now) 8 }
 {
@@ -60,7 +60,7 @@ fn digest_at(hash: &[[u32; 8]; 8], j: usize) -> [u8; 32]
 }
 
 // The lanes of each word.
-fn lanes_of(hash: [u32x8; 8]) -> [[u32; 8]; 8]
+pub(crate) fn lanes_of(hash: [u32x8; 8]) -> [[u32; 8]; 8]
     ensures { result ≡ hash }
 {
     let [a, b, c, d, e, f, g, h] = hash;
@@ -77,7 +77,7 @@ fn lanes_of(hash: [u32x8; 8]) -> [[u32; 8]; 8]
 }
 
 // The initial hash value in each lane (FIPS 180-4, 5.3.3).
-fn initial_hash() -> [u32x8; 8]
+pub(crate) fn initial_hash() -> [u32x8; 8]
     ensures { (j : ℕ) → j < 8 → hash_lane j result ≡ initial_hash_256 }
 {
     [
@@ -96,13 +96,11 @@ fn initial_hash() -> [u32x8; 8]
 fn hashes(blocks: &[[u8; 64]; 8]) -> [[u32; 8]; 8]
     ensures { (j : ℕ) → j < 8 → hash_lane j result ≡ compress initial_hash_256 (slice_index_or blocks.now j []) }
 {
-    let mut words = [u32x8::splat(0); 16];
+    let mut words = [u32x8::splat(0); 64];
     'load: for k in 0..16 {
         words[k] = words_at(blocks, k);
     }
-    let mut hash = initial_hash();
-    compress(&mut hash, &words);
-    lanes_of(hash)
+    lanes_of(compress(&initial_hash(), &mut words))
 }
 
 /// Writes the SHA-256 of each of eight messages of 55 bytes, digest j being that of message j (FIPS 180-4, 6.2).

@@ -1,12 +1,15 @@
 //! The rounds of SHA-256 on eight blocks side by side (FIPS 180-4, 6.2.2).
 
-ghost use Rattle.std.specs.Prelude.{◌≡◌, ℕ, ◌+◌, ◌*◌, ◌<◌, ◌≤◌, slice_index, slice_set, List};
+ghost use Rattle.std.specs.Prelude.{◌≡◌, ℕ, ◌+◌, ◌*◌, ◌<◌, ◌≤◌, slice_index, List};
 ghost use Rattle.sha2.specs.Sha256.{big_sigma0, big_sigma1, small_sigma0, small_sigma1, ch, maj, round};
-ghost use Rattle.sha2.specs.Sha256.{rounds, schedule, compress, word_at, IsWindow, IsRoundsAt, window_word};
-ghost use Rattle.bar_lanes.specs.Lane.{lane, lane_at, hash_lane};
+ghost use Rattle.sha2.specs.Sha256.{rounds, schedule, compress, word_at, next_word, add_state};
+ghost use Rattle.bar_lanes.specs.Lane.{lane, lane_at, hash_lane, IsScheduled};
 
 use crate::vectors::{add, and, not, rotate_right, shift_right, xor};
 use std::simd::u32x8;
+
+/// The words of eight schedules (FIPS 180-4, 6.2.2), a vector for each.
+pub(crate) type Words = [u32x8; 64];
 
 // The round constants (FIPS 180-4, 4.2.2).
 const ROUND_CONSTANTS: [u32; 64] = [
@@ -36,15 +39,13 @@ fn maj(a: u32x8, b: u32x8, c: u32x8) -> u32x8
     xor(xor(and(a, b), and(a, c)), and(b, c))
 }
 
-// The function Σ0 (FIPS 180-4, 4.1.2).
+// The function Σ0 (FIPS 180-4, 4.1.2). Here and below each rotation stands within the next, which takes fewer copies.
 #[inline(always)]
 fn big_sigma0(x: u32x8) -> u32x8
     ensures { (j : ℕ) → j < 8 → slice_index result j ≡ big_sigma0 (slice_index x j) }
 {
-    xor(
-        xor(rotate_right(x, 2), rotate_right(x, 13)),
-        rotate_right(x, 22),
-    )
+    let near = xor(x, rotate_right(x, 9));
+    rotate_right(xor(x, rotate_right(near, 11)), 2)
 }
 
 // The function Σ1 (FIPS 180-4, 4.1.2).
@@ -52,32 +53,26 @@ fn big_sigma0(x: u32x8) -> u32x8
 fn big_sigma1(x: u32x8) -> u32x8
     ensures { (j : ℕ) → j < 8 → slice_index result j ≡ big_sigma1 (slice_index x j) }
 {
-    xor(
-        xor(rotate_right(x, 6), rotate_right(x, 11)),
-        rotate_right(x, 25),
-    )
+    let near = xor(x, rotate_right(x, 14));
+    rotate_right(xor(x, rotate_right(near, 5)), 6)
 }
 
 // The function σ0 (FIPS 180-4, 4.1.2).
 #[inline(always)]
-fn small_sigma0(x: u32x8) -> u32x8
+pub(crate) fn small_sigma0(x: u32x8) -> u32x8
     ensures { (j : ℕ) → j < 8 → slice_index result j ≡ small_sigma0 (slice_index x j) }
 {
-    xor(
-        xor(rotate_right(x, 7), rotate_right(x, 18)),
-        shift_right(x, 3),
-    )
+    let both = xor(x, rotate_right(x, 11));
+    xor(rotate_right(both, 7), shift_right(x, 3))
 }
 
 // The function σ1 (FIPS 180-4, 4.1.2).
 #[inline(always)]
-fn small_sigma1(x: u32x8) -> u32x8
+pub(crate) fn small_sigma1(x: u32x8) -> u32x8
     ensures { (j : ℕ) → j < 8 → slice_index result j ≡ small_sigma1 (slice_index x j) }
 {
-    xor(
-        xor(rotate_right(x, 17), rotate_right(x, 19)),
-        shift_right(x, 10),
-    )
+    let both = xor(x, rotate_right(x, 2));
+    xor(rotate_right(both, 17), shift_right(x, 10))
 }
 
 // One round on the eight working variables, with its constant and its schedule word.
@@ -92,64 +87,59 @@ fn round(working: [u32x8; 8], constant: u32, word: u32x8) -> [u32x8; 8]
     [add(first, second), a, b, c, add(d, first), e, f, g]
 }
 
-// Puts the next schedule word into the window of the last sixteen, over the word sixteen before it, and returns it.
+// Word t of the schedule, from the words before it (FIPS 180-4, 6.2.2).
 #[inline(always)]
-fn next_word(window: &mut [u32x8; 16], place: usize) -> u32x8
-    requires { place < 16 }
-    ensures value { (j : ℕ) → j < 8 → slice_index result j ≡ window_word (lane j window.old) place }
-    ensures written { window.new ≡ slice_set window.old place result }
+fn next_word(words: &Words, t: usize) -> u32x8
+    requires low { 16 ≤ t }
+    requires high { t < 64 }
+    ensures { (j : ℕ) → j < 8 → slice_index result j ≡ next_word (lane j words.now) t }
 {
-    let near = add(
-        small_sigma1(window[(place + 14) % 16]),
-        window[(place + 9) % 16],
-    );
-    let far = add(near, small_sigma0(window[(place + 1) % 16]));
-    let word = add(far, window[place]);
-    window[place] = word;
-    word
+    let near = add(small_sigma1(words[t - 2]), words[t - 7]);
+    let far = add(near, small_sigma0(words[t - 15]));
+    add(far, words[t - 16])
 }
 
-// Round t of the first sixteen, whose schedule words are the block's.
+// Writes the schedule's words from word `first` on, behind those that are there.
+pub(crate) fn fill_words(words: &mut Words, first: usize)
+    requires low { 16 ≤ first }
+    requires high { first ≤ 64 }
+    ensures { (j : ℕ) (block : List ℕ) → j < 8 → IsScheduled block j words.old first → IsScheduled block j words.new 64 }
+{
+    'words: for t in first..64 {
+        words[t] = next_word(words, t);
+    }
+}
+
+// Round t, with the schedule's word t.
 #[inline(always)]
-fn first_step(window: &[u32x8; 16], working: [u32x8; 8], t: usize) -> [u32x8; 8]
-    requires { t < 16 }
-    ensures { (j : ℕ) (block start : List ℕ) → j < 8 → IsWindow (lane j window.now) (schedule block 48) 16
+pub(crate) fn step(words: &Words, working: [u32x8; 8], t: usize) -> [u32x8; 8]
+    requires { t < 64 }
+    ensures { (j n : ℕ) (block start : List ℕ) → j < 8 → t < n → IsScheduled block j words.now n
         → hash_lane j working ≡ rounds start (schedule block 48) t
         → hash_lane j result ≡ rounds start (schedule block 48) (t + 1) }
 {
-    round(working, ROUND_CONSTANTS[t], window[t])
+    round(working, ROUND_CONSTANTS[t], words[t])
 }
 
-// Round `16 * turn + place`, from round 16 on, with the next schedule word.
+// Rounds t to t + 3.
 #[inline(always)]
-fn step(window: &mut [u32x8; 16], working: [u32x8; 8], turn: usize, place: usize) -> [u32x8; 8]
-    requires low { 1 ≤ turn }
-    requires high { turn < 4 }
-    requires place { place < 16 }
-    ensures { (j : ℕ) (block start : List ℕ) → j < 8
-        → IsRoundsAt block start (lane j window.old) (hash_lane j working) (16 * turn + place)
-        → IsRoundsAt block start (lane j window.new) (hash_lane j result) (16 * turn + (place + 1)) }
+fn four_steps(words: &Words, working: [u32x8; 8], t: usize) -> [u32x8; 8]
+    requires { t + 4 ≤ 64 }
+    ensures { (j : ℕ) (block start : List ℕ) → j < 8 → IsScheduled block j words.now 64
+        → hash_lane j working ≡ rounds start (schedule block 48) t
+        → hash_lane j result ≡ rounds start (schedule block 48) (t + 4) }
 {
-    let word = next_word(window, place);
-    round(working, ROUND_CONSTANTS[16 * turn + place], word)
+    let working = step(words, working, t);
+    let working = step(words, working, t + 1);
+    let working = step(words, working, t + 2);
+    step(words, working, t + 3)
 }
 
-// Takes eight hash values of eight words past a block each, which is given by its sixteen words.
-pub(crate) fn compress(hash: &mut [u32x8; 8], words: &[u32x8; 16])
-    ensures { (j : ℕ) (block : List ℕ) → j < 8 → ((k : ℕ) → k < 16 → lane_at words.now k j ≡ word_at block (4 * k))
-        → hash_lane j hash.new ≡ compress (hash_lane j hash.old) block }
+// The sums of the words of eight hash values and eight states.
+pub(crate) fn add_states(hash: &[u32x8; 8], working: &[u32x8; 8]) -> [u32x8; 8]
+    ensures { (j : ℕ) → j < 8 → hash_lane j result ≡ add_state (hash_lane j hash.now) (hash_lane j working.now) }
 {
-    let mut window = *words;
-    let mut working = *hash;
-    'first: for t in 0..16 {
-        working = first_step(&window, working, t);
-    }
-    'turns: for turn in 1..4 {
-        'places: for place in 0..16 {
-            working = step(&mut window, working, turn, place);
-        }
-    }
-    *hash = [
+    [
         add(hash[0], working[0]),
         add(hash[1], working[1]),
         add(hash[2], working[2]),
@@ -158,5 +148,28 @@ pub(crate) fn compress(hash: &mut [u32x8; 8], words: &[u32x8; 16])
         add(hash[5], working[5]),
         add(hash[6], working[6]),
         add(hash[7], working[7]),
-    ];
+    ]
+}
+
+// Takes all rounds from round `4 * first` on, and adds the hash values that they began with.
+pub(crate) fn last_steps(words: &Words, start: [u32x8; 8], first: usize, hash: &[u32x8; 8]) -> [u32x8; 8]
+    requires { first ≤ 16 }
+    ensures { (j : ℕ) (block : List ℕ) → j < 8 → IsScheduled block j words.now 64
+        → hash_lane j start ≡ rounds (hash_lane j hash.now) (schedule block 48) (4 * first)
+        → hash_lane j result ≡ compress (hash_lane j hash.now) block }
+{
+    let mut working = start;
+    'fours: for four in first..16 {
+        working = four_steps(words, working, 4 * four);
+    }
+    add_states(hash, &working)
+}
+
+// Takes eight hash values of eight words past a block each, whose sixteen words are the first of these.
+pub(crate) fn compress(hash: &[u32x8; 8], words: &mut Words) -> [u32x8; 8]
+    ensures { (j : ℕ) (block : List ℕ) → j < 8 → ((k : ℕ) → k < 16 → lane_at words.old k j ≡ word_at block (4 * k))
+        → hash_lane j result ≡ compress (hash_lane j hash.now) block }
+{
+    fill_words(words, 16);
+    last_steps(words, *hash, 0, hash)
 }

@@ -1,13 +1,13 @@
 -- Lanes that take two chains, one after the other.
-use Rattle.std.proofs.Common.{◌≡◌, ℕ, suc, ◌+◌, ◌-◌, ◌%◌, ◌≤◌, ◌<◌, ◌==◌, ◌++◌, ◌∷◌, length, take, drop, List, [], refl, arith, ap, ◌∙◌, min, slice_index, slice_index_or, nat_lt, if◌then◌else◌, true, false, inl, inr}
+use Rattle.std.proofs.Common.{◌≡◌, ℕ, ◌+◌, ◌-◌, ◌%◌, ◌≤◌, ◌<◌, ◌==◌, ◌++◌, ◌∷◌, length, take, drop, List, [], refl, arith, ap, ◌∙◌, min, slice_index, slice_index_or, nat_lt, if◌then◌else◌, true, false, inl, inr}
 use Rattle.std.proofs.lemmas.Bool.{cases_lt, cases_eq, eq-eqb, ne_eqb, lt-ltb, le-ltb}
 use Rattle.sha2.specs.Sha256.{sha256}
-use Rattle.bar_lms.specs.Chains.{chain, chain_buffer}
+use Rattle.bar_lms.specs.Chains.{chain_buffer}
 use Rattle.bar_lms.specs.declared.legs.Legs.{Legs}
 use Rattle.bar_lms.specs.declared.legs.Eight.{Eight}
 use Rattle.bar_lms.specs.Lanes.{Leg, leg_at, leg_of, leg_end, lane_held, lane_begun}
 use Rattle.bar_lms.specs.Order.{reached}
-use Rattle.bar_lms.proofs.ChainLemmas.{buffer_none, buffer_value, buffer_more}
+use Rattle.bar_lms.proofs.ChainLemmas.{buffer_none, buffer_value, buffer_more, buffer_head}
 
 -- before any step
 pub held_none : (a b : Leg) (n : ℕ) (now : List ℕ) → a.from < 256 → n ≡ 0 → now ≡ a.at ++ a.from ∷ a.value → now ≡ lane_held a b n
@@ -54,6 +54,22 @@ end_kept a b n now before end long held had is over =
       | inr other ↦
           let test : (a.count == n) ≡ false = ne_eqb a.count n other in
           (rw test at is) ∙ had (omega (arith, over, other))
+    ]
+
+-- all buffers of a lane begin alike
+pub begun_head : (a b : Leg) (n : ℕ) (now head : List ℕ) → length a.at ≡ 22 → length b.at ≡ 22 → take 20 a.at ≡ head → take 20 b.at ≡ head
+    → now ≡ lane_begun a b n → take 20 now ≡ head
+unfolding lane_begun
+begun_head a b n now head long_a long_b head_a head_b begun =
+    elim (cases_lt n a.count) [
+      | inl on ↦
+          let goes : nat_lt n a.count ≡ true = lt-ltb n a.count on in
+          let is : now ≡ chain_buffer a.at a.from n a.value = rw goes at begun in
+          rw is (buffer_head a.at a.from n a.value long_a ∙ head_a)
+      | inr past ↦
+          let goes : nat_lt n a.count ≡ false = le-ltb n a.count past in
+          let is : now ≡ chain_buffer b.at b.from (min (n - a.count) b.count) b.value = rw goes at begun in
+          rw is (buffer_head b.at b.from (min (n - a.count) b.count) b.value long_b ∙ head_b)
     ]
 
 -- one step more

@@ -1,14 +1,16 @@
 //! Chains of LM-OTS side by side, in eight lanes.
 
 ghost use Rattle.std.specs.Prelude.{◌≡◌, ℕ, ◌+◌, ◌*◌, ◌%◌, ◌^◌, ◌==◌, ◌≤◌, ◌<◌, ◌++◌, ◌∷◌, [], List, length, take, drop, slice_index, slice_index_or, if◌then◌else◌, nat_lt};
+ghost use Rattle.std.specs.Int.{w32, to_be_bytes};
 ghost use Rattle.sha2.specs.Hashers.{Holds256};
 ghost use Rattle.bar_lms.specs.Chains.{place, chain, most_of};
 ghost use Rattle.bar_lms.specs.Lanes.{leg_of, leg_end, lane_steps};
 
+use crate::bytes::put;
 use crate::chains::{Buffer, buffer};
 use crate::legs::Eight;
 use bar_bytes::Steps;
-use bar_lanes::sha_eight;
+use bar_lanes::Head;
 use sha2::{Digest, Sha256};
 use std::sync::ledger::Ledger;
 
@@ -37,6 +39,16 @@ fn first_buffers(
         buffers[j] = first_buffer(ident, q, numbers[j], from[j], &value);
     }
     buffers
+}
+
+// What each step of leaf q begins with.
+fn head_of(ident: &[u8; 16], q: u32) -> Head
+    ensures { result ≡ ident.now ++ to_be_bytes w32 q }
+{
+    let mut bytes = [0u8; 20];
+    put(&mut bytes, 0, ident);
+    put(&mut bytes, 16, &q.to_be_bytes());
+    Head::new(&bytes)
 }
 
 // Takes the step of a buffer whose hash this is, where its chain goes on.
@@ -159,6 +171,7 @@ pub(crate) fn sixteen_chains<L: Ledger>(
     ensures second { (j : ℕ) → j < 8 → slice_index_or result j [] ≡ leg_end (leg_of ident.now q second.now j) }
     ensures cost { steps.new ≡ steps.old + 8 * most_of (lane_steps first.now second.now) 0 8 }
 {
+    let head = head_of(ident, q);
     let mut buffers = first_buffers(ident, q, &first.numbers, &first.from, &first.starts);
     let seconds = first_buffers(ident, q, &second.numbers, &second.from, &second.starts);
     let firsts = lane_steps(&first.counts, &[0; 8]);
@@ -168,7 +181,7 @@ pub(crate) fn sixteen_chains<L: Ledger>(
     'steps: for n in 0..most {
         keep_ends(ends, &buffers, &firsts, n);
         begin_seconds(&mut buffers, &seconds, &firsts, n);
-        sha_eight(&buffers, &mut hashes);
+        head.sha_eight(&buffers, &mut hashes);
         steps.eight();
         take_steps(&mut buffers, &hashes, &counts, n);
     }

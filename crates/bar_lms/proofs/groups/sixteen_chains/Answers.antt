@@ -2,9 +2,9 @@ use Rattle.std.proofs.Common.{◌≡◌, ◌+◌, ◌≤◌, arith, ◌∙◌, r
 use Rattle.std.proofs.lemmas.List.{get_or-replicate}
 use Rattle.bar_lms.specs.Chains.{most_of}
 use Rattle.bar_lms.specs.Lanes.{Leg, leg_of, lane_steps}
-use Rattle.bar_lms.proofs.ChainLemmas.{place_length}
+use Rattle.bar_lms.proofs.ChainLemmas.{place_length, place_head}
 use Rattle.bar_lms.proofs.GroupLemmas.{most_above, most_same}
-use Rattle.bar_lms.proofs.LaneLemmas.{held_none, begun_by, end_kept, held_more, second_whole}
+use Rattle.bar_lms.proofs.LaneLemmas.{held_none, begun_by, begun_head, end_kept, held_more, second_whole}
 use Rattle.bar_lms.proofs.groups.sixteen_chains.Goals as goal
 
 pub steps-init : goal.steps-init
@@ -16,6 +16,24 @@ steps-init g c = record {
   ended = λ j below less. absurd (omega (arith, less));
   cost = omega arith;
 }
+
+pub sha_eight-requires : goal.sha_eight-requires
+sha_eight-requires g c = λ j below.
+    let a : Leg = leg_of c.args.ident.now c.args.q c.args.first.now j in
+    let b : Leg = leg_of c.args.ident.now c.args.q c.args.second.now j in
+    let none : slice_index (replicate 8 0) j ≡ 0 = get_or-replicate 8 j 0 0 below in
+    let firsts : slice_index c.lane_steps-firsts.result j ≡ a.count = omega (arith, c.lane_steps-firsts.ensures j below, none) in
+    let begun =
+    begun_by a b c.steps.n (slice_index_or c.steps.buffers j []) (slice_index_or c.first_buffers-seconds.result j [])
+    (slice_index_or c.begin_seconds.new.buffers j []) (c.first_buffers-seconds.ensures.bytes j below) (c.steps.invariant.held j below)
+    (c.first_buffers-seconds.ensures.held j below) (rw firsts at (c.begin_seconds.ensures j below))
+    in
+    let of_first = slice_index c.args.first.now.numbers j in
+    let of_second = slice_index c.args.second.now.numbers j in
+    rw c.head_of-head.ensures
+    (begun_head a b c.steps.n (slice_index_or c.begin_seconds.new.buffers j []) _
+    (place_length c.args.ident.now c.args.q of_first (omega arith)) (place_length c.args.ident.now c.args.q of_second (omega arith))
+    (place_head c.args.ident.now c.args.q of_first (omega arith)) (place_head c.args.ident.now c.args.q of_second (omega arith)) begun)
 
 pub steps-preserved : goal.steps-preserved
 steps-preserved g c = record {
