@@ -36,12 +36,7 @@ fn head_word(bytes: &[u8; 20], k: usize) -> u32x8
     ensures { (j : ℕ) (block : List ℕ) → j < 8 → take 20 block ≡ bytes.now → slice_index result j ≡ word_at block (4 * k) }
 {
     let at = 4 * k;
-    u32x8::splat(u32::from_be_bytes([
-        bytes[at],
-        bytes[at + 1],
-        bytes[at + 2],
-        bytes[at + 3],
-    ]))
+    u32x8::splat(u32::from_be_bytes([bytes[at], bytes[at + 1], bytes[at + 2], bytes[at + 3]]))
 }
 
 // Writes the words of what messages begin with.

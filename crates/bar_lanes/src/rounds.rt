@@ -152,7 +152,12 @@ pub(crate) fn add_states(hash: &[u32x8; 8], working: &[u32x8; 8]) -> [u32x8; 8]
 }
 
 // Takes all rounds from round `4 * first` on, and adds the hash values that they began with.
-pub(crate) fn last_steps(words: &Words, start: [u32x8; 8], first: usize, hash: &[u32x8; 8]) -> [u32x8; 8]
+pub(crate) fn last_steps(
+    words: &Words,
+    start: [u32x8; 8],
+    first: usize,
+    hash: &[u32x8; 8],
+) -> [u32x8; 8]
     requires { first ≤ 16 }
     ensures { (j : ℕ) (block : List ℕ) → j < 8 → IsScheduled block j words.now 64
         → hash_lane j start ≡ rounds (hash_lane j hash.now) (schedule block 48) (4 * first)
