@@ -1,6 +1,6 @@
 //! Worked values, and each public call once.
 
-use bar_lanes::{and_not, count, sha_eight, xor_into};
+use bar_lanes::{Head, and_not, count, sha_eight, xor_into};
 use sha2::{Digest, Sha256};
 
 // From Python's hashlib, of the messages below.
@@ -80,6 +80,23 @@ fn eight_hashes_are_those_of_one_at_a_time(rt: HostRuntime) {
         let message = messages[j];
         let digest = Sha256::digest(message.as_slice());
         assert_eq!(rt; digests[j].as_slice(), digest.as_slice());
+    }
+}
+
+// From Python's hashlib, of 55 bytes of 7.
+const OF_SEVENS: [u8; 32] = [
+    0x94, 0x3c, 0xc6, 0x18, 0x60, 0x77, 0x6c, 0xa8, 0xe7, 0x8a, 0x36, 0x5d, 0x98, 0x80, 0x36,
+    0xed, 0x2a, 0xde, 0x2c, 0xa4, 0xac, 0xa3, 0x23, 0x6d, 0xd9, 0x50, 0x1a, 0xdc, 0x4f, 0xbb,
+    0xaa, 0x27,
+];
+
+#[test]
+fn messages_that_begin_alike_have_the_hash_of_others(rt: HostRuntime) {
+    let messages = [[7; 55]; 8];
+    let mut digests = [[0u8; 32]; 8];
+    Head::new(&[7; 20]).sha_eight(&messages, &mut digests);
+    for j in 0..8 {
+        assert_eq!(rt; digests[j], OF_SEVENS);
     }
 }
 
