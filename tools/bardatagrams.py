@@ -6,7 +6,7 @@ import dataclasses
 import struct
 import typing
 
-from barformats import BLOCK, CASE, DIVULGE, EVICT, EVIDENCE, KEY, MANIFEST, QUERY, REPLY, REQUEST, RESPONSE, head_of
+from barformats import BLOCK, CASE, DIVULGE, EVICT, EVIDENCE, KEY, KEYREQ, MANIFEST, QUERY, REPLY, REQUEST, RESPONSE, head_of
 from bargrammar import DIGEST_SIZE, GRAMMAR, WORD, Layout, window_words
 
 # the receiver that means all peers
@@ -14,6 +14,10 @@ EVERYONE = 0xFFFF
 
 # the kinds of an exchange's first messages: whether it's a push, and whether the initiator sends them. Others have two fields for it
 FIRST_MESSAGES = {REQUEST: (0, 1), RESPONSE: (0, 0), DIVULGE: (0, 1), QUERY: (1, 1), REPLY: (1, 0)}
+
+
+# all kinds of an exchange
+MESSAGES = {*FIRST_MESSAGES, CASE, KEYREQ, KEY}
 
 
 def number_at(datagram, at, size=4):
@@ -166,14 +170,26 @@ class Reader:
 
     def message(self, kind, sender, receiver, values, rest):
         """A datagram of an exchange."""
+        place = self.place(kind, sender, receiver, values)
+        if place and kind == CASE:
+            return self.case(place, values, rest)
+        return place and (Key(*place, values["key"]) if kind == KEY else Message(*place))
+
+    def place(self, kind, sender, receiver, values):
+        """The kind, the exchange and whether the initiator is the sender, of a datagram of an exchange; or None where it names none."""
         push, by_initiator = FIRST_MESSAGES.get(kind) or (values["exchange kind"], 1 - values["role"])
         if sender == receiver or sender not in self.peers or receiver not in self.peers or push > 1 or by_initiator < 0:
             return None
         sides = (sender, receiver) if by_initiator else (receiver, sender)
-        place = kind, Exchange(values["round"], push == 1, *sides), by_initiator == 1
-        if kind == CASE:
-            return self.case(place, values, rest)
-        return Key(*place, values["key"]) if kind == KEY else Message(*place)
+        return kind, Exchange(values["round"], push == 1, *sides), by_initiator == 1
+
+    def exchange_of(self, datagram):
+        """The exchange of a datagram, whatever it promises, or None where it's of none."""
+        head = head_of(datagram, self.session)
+        if not head or head[0] not in MESSAGES or len(datagram) != self.layout.length_of(head[0], datagram):
+            return None
+        place = self.place(*head, self.layout.values(head[0], datagram)[0])
+        return place and place[1]
 
     def case(self, place, values, rest):
         """A CASE, or None where its counts aren't those of its promise."""
