@@ -89,7 +89,9 @@ class UpdateRow:
 
 @dataclasses.dataclass(frozen=True)
 class ExchangeRow:
-    """An exchange. `complete` is whether each side got the other's key, `audit` what the auditor found, `evidence` how many peers have some."""
+    """An exchange. `complete` is whether each side whose log is known gave its key and got the other's, `audit` what the auditor found,
+    and `evidence` how many parties keep some that is of it.
+    """
 
     round: int
     kind: str
@@ -180,13 +182,18 @@ class LossRow:
 
 @dataclasses.dataclass
 class TrafficRow:
-    """The datagrams of a kind that a party sent and took, with the bytes of them, and how many of them it had sent or taken before."""
+    """The datagrams of a kind that a party sent and took, with the bytes of them, and how many of them it had sent or taken before.
+
+    Of those that it sent, `known` went to parties that have logs, so that it's known whether they were taken, and `lost` weren't.
+    """
 
     party: int
     kind: str
     sent: int = 0
     bytes_sent: int = 0
     sent_again: int = 0
+    known: int = 0
+    lost: int = 0
     taken: int = 0
     bytes_taken: int = 0
     taken_again: int = 0

@@ -127,9 +127,8 @@ def exchange_rows(accounts, audit, evidence):
     kept = collections.Counter((row.round, row.kind, row.initiator, row.responder) for row in evidence)
     for exchange in sorted(sides):
         found = "unbalanced" if audit and exchange in audit.unbalanced else "balanced" if exchange in audited else None
-        complete = len(sides[exchange]) == 2 and all(side.was_paid is not None for side in sides[exchange])
         names = exchange_names(exchange)
-        yield ExchangeRow(*names, complete, found, kept[names])
+        yield ExchangeRow(*names, all(map(is_complete, sides[exchange])), found, kept[names])
 
 
 # ---- evidence and evictions

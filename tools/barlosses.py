@@ -84,9 +84,14 @@ class Losses:
         """Counts the datagrams and bytes of a flow, as far as it's sure what was sent."""
         for party, side, ticks in ((flow.sender, "sent", flow.sent if is_sure else ()), (flow.receiver, "taken", flow.taken)):
             if ticks:
-                row = self.traffic.setdefault((party, flow.kind), TrafficRow(party, flow.kind))
-                for name, more in ((side, len(ticks)), (f"bytes_{side}", flow.size * len(ticks)), (f"{side}_again", len(ticks) - 1)):
-                    setattr(row, name, getattr(row, name) + more)
+                counts = {side: len(ticks), f"bytes_{side}": flow.size * len(ticks), f"{side}_again": len(ticks) - 1}
+                self.add(party, flow.kind, counts)
+
+    def add(self, party, kind, counts):
+        """Adds to what is counted of a party's datagrams of a kind."""
+        row = self.traffic.setdefault((party, kind), TrafficRow(party, kind))
+        for name, more in counts.items():
+            setattr(row, name, getattr(row, name) + more)
 
     def compare(self, flow):
         """Counts what of a flow was lost, came more often than it was sent, and wasn't sent at all."""
@@ -96,6 +101,7 @@ class Losses:
         pair[:] = [one + more for one, more in zip(pair, counts)]
         self.lost_by_round.update((flow.receiver, round_of(tick)) for tick in lost)
         self.lost_by_peer[flow.receiver] += len(lost)
+        self.add(flow.sender, flow.kind, {"known": sent, "lost": len(lost)})
 
     def rows(self):
         """A row for each pair and kind of which something was lost, came more often or wasn't sent."""

@@ -1,10 +1,325 @@
-"""Draws a run as one page that needs nothing else."""
-from barpicture import DRAWING_STYLE, MOST_COLUMNS, Chart, panel, tag
+"""Draws a run as one page that needs nothing else: an overview of all peers, and the exchanges of one peer when it is chosen.
+
+All of it is the run's data. Figures and tables are in the page as they stand; the script in tools/page draws the overview and a peer's
+exchanges, of the same data in a closer form.
+"""
+import collections
+import html
+import json
+import pathlib
+
+from bardata import BALANCED_WAY, BLOCK_WAY, PUSH_WAY, TrafficRow, columns_of
+from barpicture import FONT, tag
+from barscript import counted, listed
+
+PARTS = pathlib.Path(__file__).resolve().parent / "page"
+
+# up to how many peers all are shown at once
+SMALL = 6
+
+# how many pairs of parties with the most losses are told
+WORST = 8
+
+WAYS = {BLOCK_WAY: "b", BALANCED_WAY: "x", PUSH_WAY: "p"}
+
+READING = (
+    """The overview has a row for each peer and a column for each round, and above it the part of the updates due in a round that all peers
+together played, by the way in which these came. Move over it, or go to it by Tab and then by the arrow keys, to read a cell in words; a
+click or Enter opens that peer’s exchanges, whose rounds the arrow keys walk through too. A red dot is the first notice of an eviction.""",
+    """Of one peer, a coloured sign is its side of an exchange, and the number in it is the partner. Blue are the balanced exchanges, one
+update for one; amber are the pushes, in which fresh updates are offered for old ones or for junk. A full sign, the first on its line, is
+the exchange that the peer started; behind it stand those in which it answered.""",
+    """Both partners first send what they promise in sealed briefcases, and then the keys to these: giving the key is paying. The arrow
+above a sign says that this peer paid, and the arrow below it that it was paid, by a key that opens what was promised. A pale sign came to
+nothing: one of the two lacked nothing that the other had, the offer was not wanted, or no answer came.""",
+    """The marks at the foot of a round are the updates that are played in it, in order, and in several lines where they are many; an update
+is played {life} rounds after its own. A mark is grey where the update came from the broadcaster, which sends each to {fanout}, and green
+where it came by a trade; of both ways the first counts.""",
+)
+
+
+def part_of(part, whole, format_=".1%"):
+    return f"{part / whole:{format_}}" if whole else "–"
+
+
+def table(names, lines, label, text=()):
+    """A table that can be moved sideways where it is wide. The columns with these numbers have words."""
+    classes = [{"class_": "text"} if at in text else {} for at in range(len(names))]
+    head = tag("tr", *(tag("th", name, scope="col", **more) for name, more in zip(names, classes)))
+    rows = [tag("tr", *(tag("td", cell_of(it), **more) for it, more in zip(line, classes))) for line in lines]
+    return tag("div", tag("table", tag("thead", head), tag("tbody", *rows)), class_="wide", tabindex="0", role="region", aria_label=label)
+
+
+def cell_of(value):
+    return f"{value:,}" if isinstance(value, int) else html.escape(str(value))
+
+
+# ---- the data of the page
+
+
+def ways_of(arrivals, releases):
+    """A letter for each update: how it came. One that wasn't played has a capital letter, one that came too late an l, any other a dot."""
+    for release in releases:
+        row = arrivals.get((release.round, release.index))
+        letter = WAYS[row.way] if row and row.in_time else "l" if row else "."
+        yield letter.upper() if row and row.in_time and not row.played else letter
+
+
+def side_of(side, is_unbalanced):
+    """A side of an exchange in ten numbers."""
+    flags = (side.kind == "push") + 2 * side.asks + 4 * side.answered + 8 * is_unbalanced
+    promises = len(side.gives), side.gives_junk, len(side.gets), side.gets_junk
+    return [side.round, flags, side.partner, *promises, side.key_given or 0, side.key_got or 0, side.wrong_key or 0]
+
+
+def closer(run, peer, rows, unbalanced):
+    """What the page's script takes of a peer, of its rows of each table and the exchanges that are unbalanced."""
+    names = "peer", "lies", "ticks", "bytes_played", "started", "answered", "traded"
+    told = {name: getattr(peer, name) for name in names}
+    if peer.refused:
+        return told
+    arrivals = {(row.round, row.index): row for row in rows["updates"][peer.peer]}
+    came = [arrivals.get((release.round, release.index)) for release in run.releases]
+    fields = "due", "played", "came", "started", "answered", "traded", "lost", "accuses"
+    return told | {
+        "rounds": [int(getattr(row, field)) for row in rows["rounds"][peer.peer] for field in fields],
+        "ways": "".join(ways_of(arrivals, run.releases)),
+        "comes": [row.tick if row else 0 for row in came],
+        "senders": [row.sender if row else 0 for row in came],
+        "sides": [side_of(side, side.exchange in unbalanced) for side in rows["sides"][peer.peer]],
+    }
+
+
+def data_of(run):
+    """What the page's script takes."""
+    rows = {name: collections.defaultdict(list) for name in ("rounds", "updates", "sides")}
+    for name, by_peer in rows.items():
+        for row in getattr(run, name):
+            by_peer[row.peer].append(row)
+    unbalanced = {(row.round, row.kind, row.initiator, row.responder) for row in run.exchanges if row.audit == "unbalanced"}
+    return {
+        "session": run.session,
+        "stream": run.stream,
+        "small": len(run.peers) <= SMALL,
+        "transcripts": bool(run.replays["replayed"]),
+        "evictions": {row.party: row.round for row in run.evictions if row.round},
+        "releases": [[row.round, row.index, row.straight] for row in run.releases],
+        "peers": [closer(run, peer, rows, unbalanced) for peer in run.peers],
+    }
+
+
+# ---- what stands in the page
+
+
+def subtitle(run):
+    """The session's numbers, in words."""
+    numbers = run.session
+    told = [counted(numbers["peers"], "peer"), counted(numbers["rounds"], "round")]
+    told += [f"{counted(numbers['per_round'], 'update')} a round, each to {counted(numbers['fanout'], 'peer')}"]
+    told += [f"an update lives {numbers['life']} rounds", f"an exchange trades at most {numbers['cap']}", f"a tick has {numbers['tick_ms']} ms"]
+    signed = f"signatures of two levels, top {numbers['top']}" if numbers.get("top") else f"LMS type {numbers['lms']}"
+    told += [f"version {numbers['version']}", f"{signed}, LM-OTS type {numbers['ots']}", f"id {numbers['id']}"]
+    return html.escape(" · ".join(told))
+
+
+def figures(run):
+    """The run in a few numbers."""
+    replayed = [peer for peer in run.peers if not peer.refused]
+    ended = [peer for peer in replayed if peer.ticks >= run.session["ticks"]] or replayed
+    parts = [peer.bytes_played / run.stream if run.stream else 0 for peer in ended]
+    whose = "on average" if len(ended) == len(run.peers) else "on average by those that ran to the end"
+    played, traded = sum(peer.played for peer in replayed), sum(peer.played_by_balanced + peer.played_by_push for peer in replayed)
+    sent, lost = losses_of(run)
+    told = [(f"{sum(parts) / len(parts):.1%}", f"of the stream was played, {whose}; at least {min(parts):.1%}")] if parts else []
+    told += [
+        (part_of(traded, played), "of the updates that were played came by trades"),
+        (f"{sum(row.complete for row in run.exchanges):,} of {len(run.exchanges):,}", "exchanges ended with both keys given"),
+        (part_of(lost, sent, ".2%"), f"of the datagrams to peers were lost: {lost:,} of {sent:,}"),
+        (f"{len(run.evictions):,}", f"evicted; {counted(max((peer.gap for peer in ended), default=0), 'round')} in a row not wholly played at most"),
+    ]
+    return tag("div", *(tag("div", tag("b", number), tag("span", said)) for number, said in told), class_="figures")
+
+
+def kinds_of(run):
+    """By kind what was sent and taken, and again, what of it was lost, came more often and wasn't sent."""
+    kinds = collections.defaultdict(collections.Counter)
+    for row in run.traffic:
+        kinds[row.kind].update({name: getattr(row, name) for name in columns_of(TrafficRow)[2:]})
+    for row in run.losses:
+        kinds[row.kind].update({name: getattr(row, name) for name in ("copies", "unsent")})
+    return dict(sorted(kinds.items()))
+
+
+def losses_of(run):
+    """Of how many datagrams it's known whether they were taken, and how many of them were lost."""
+    return sum(row.known for row in run.traffic), sum(row.lost for row in run.traffic)
+
+
+def losses(run):
+    """The datagrams by kind, and the pairs of parties between which most were lost."""
+    names = ["kind", "sent", "again", "bytes", "taken", "again", "bytes", "lost", "share lost", "came more often", "not sent"]
+    columns = "sent", "sent_again", "bytes_sent", "taken", "taken_again", "bytes_taken", "lost"
+    lines = [[kind, *(it[name] for name in columns), part_of(it["lost"], it["known"], ".2%"), it["copies"], it["unsent"]] for kind, it in kinds_of(run).items()]
+    pairs = collections.Counter()
+    for row in run.losses:
+        pairs[row.sender, row.receiver] += row.lost
+    worst = [f"{sender} to {receiver}: {count:,}" for (sender, receiver), count in pairs.most_common(WORST) if count]
+    told = "What was sent and not taken is lost, with what came behind a peer’s end. " + (f"Most between: {'; '.join(worst)}." if worst else "Nothing was lost.")
+    told += "" if run.casts else " What the broadcaster sent isn’t known, so its losses aren’t counted."
+    return [tag("h2", "Datagrams and losses"), tag("p", told, class_="soft"), table(names, lines, "datagrams by kind")]
+
+
+def audited(audit):
+    """What an auditor found."""
+    if audit["refused"]:
+        return f"The recordings weren’t audited: {audit['refused']}."
+    told = f"An auditor, who has the public keys alone, read the {counted(audit['recordings'], 'recording')}"
+    if audit["named"]:
+        number, kind, initiator, responder = audit["named"]
+        which = f"the {'push' if kind == 'push' else 'balanced exchange'} of round {number} that peer {initiator} started with peer {responder}"
+        return f"{told} and found {which} unbalanced: {audit['cause']}. A red frame stands around the signs of exchanges that are unbalanced."
+    count = audit["exchanges"]
+    balanced = "each peer that gave its key holds its partner’s briefcase, by which both promise equally many items"
+    found = f"all {counted(count, 'exchange')}" if count != 1 else "the one exchange"
+    return f"{told} and found {found} balanced: {balanced}." if count else f"{told} and found no exchange."
+
+
+def notes(run):
+    """Lines on the audit, on replays, and on peers that stand out."""
+    lines = [(audited(run.audit), bool(run.audit["named"]))] if run.audit else []
+    agree = f"{run.replays['agree']} of {counted(run.replays['replayed'], 'replay')} agree with what the peers left."
+    lines.append((agree, run.replays["agree"] < run.replays["replayed"]))
+    lines += [(f"Peer {peer.peer} has no row, since {peer.refused}.", True) for peer in run.peers if peer.refused]
+    lines += [(f"Peer {peer.peer}: {listed(peer.differs)}.", True) for peer in run.peers if peer.differs]
+    lines += [(f"{listed(f'peer {peer.peer}' for peer in run.peers if peer.lies)} lied on purpose.".capitalize(), True)] if any(peer.lies for peer in run.peers) else []
+    return [tag("p", html.escape(said), class_="warn") if warns else tag("p", html.escape(said)) for said, warns in lines]
+
+
+def evidence(run):
+    """Who was evicted, and the evidence that is kept."""
+    parts = []
+    if run.evictions:
+        lines = [[row.party, row.fault or "–", row.round or "–", row.told] for row in run.evictions]
+        parts += [tag("h2", "Evictions"), table(["peer", "fault", "first notice in round", "peers that took a notice"], lines, "evictions")]
+    if run.evidence:
+        lines = [
+            [row.accused, "the broadcaster" if row.keeper == 0 else f"peer {row.keeper}", row.fault or row.verdict or "–", " and ".join(row.datagrams), exchange_in_words(row)]
+            for row in sorted(run.evidence, key=lambda row: (row.accused, row.keeper))
+        ]
+        names = ["against peer", "kept by", "fault by the judge", "its datagrams", "of"]
+        parts += [tag("h2", "Evidence"), table(names, lines, "evidence", text=(1, 2, 3, 4))]
+    return parts
+
+
+def exchange_in_words(row):
+    if row.round is None:
+        return "–"
+    return f"round {row.round}, {row.kind}, started by peer {row.initiator} with peer {row.responder}"
+
+
+PEER_COLUMNS = {
+    "peer": "peer",
+    "bytes played": "bytes_played",
+    "part of the stream": None,
+    "longest gap in rounds": "gap",
+    "blocks first from the broadcaster": "blocks",
+    "played, from the broadcaster": "played_by_block",
+    "played, by balanced exchanges": "played_by_balanced",
+    "played, by pushes": "played_by_push",
+    "came too late": "late",
+    "exchanges started": "started",
+    "answered": "answered",
+    "with both keys": "traded",
+    "keys given": "keys_given",
+    "keys got that open well": "keys_got",
+    "datagrams sent": "sent",
+    "bytes sent": "bytes_sent",
+    "datagrams taken": "taken",
+    "bytes taken": "bytes_taken",
+    "lost on the way to it": "lost",
+}
+
+
+def peers_table(run):
+    """Each peer's totals."""
+    lines = [[getattr(peer, name) if name else part_of(peer.bytes_played, run.stream) for name in PEER_COLUMNS.values()] for peer in run.peers if not peer.refused]
+    return table(list(PEER_COLUMNS), lines, "totals of each peer")
+
+
+def icon(width, *parts):
+    return tag("svg", *parts, width=width, height=26, aria_hidden="true")
+
+
+def sign(push, asks, traded=True, paid=False, was_paid=False):
+    """A sign for the legend."""
+    parts = [tag("rect", class_="sign", x=0.5, y=6.5, width=15, height=13, rx=3.5), tag("text", "3", class_="partner", x=8, y=16.5)]
+    parts += [tag("path", class_="key", d="M4 4.5L12 4.5L8 0Z")] if paid else []
+    parts += [tag("path", class_="key", d="M4 21.5L12 21.5L8 26Z")] if was_paid else []
+    classes = "push" if push else "balanced", "asks" if asks else "asked", "traded" if traded else "idle"
+    return icon(16, tag("g", *parts, class_=" ".join(classes)))
+
+
+def mark(class_):
+    return icon(9, tag("rect", class_=class_, x=0.5, y=8.5, width=8, height=9))
+
+
+def legend(*entries):
+    return tag("div", *(tag("span", drawn, said) for drawn, said in entries), class_="legend")
+
+
+def radio(value, said):
+    """A choice of what the overview shows, of which the first is chosen."""
+    chosen = ' checked="checked"' if value == "played" else ""
+    return f'<label><input type="radio" name="measure" value="{value}"{chosen}/>{said}</label>'
+
+
+def overview():
+    """The overview, which the script draws."""
+    ways = legend(
+        (mark("straight"), "played, came from the broadcaster"),
+        (mark("traded"), "by balanced exchanges"),
+        (mark("pushed"), "by pushes"),
+        (mark("field"), "due and not played"),
+        (mark("gone"), "stopped"),
+    )
+    shown = [("played", "what it played of what was due"), ("traded", "its exchanges with both keys"), ("lost", "datagrams to it that were lost")]
+    controls = tag("div", f'<fieldset><legend class="soft">A row shows</legend>{"".join(radio(*it) for it in shown)}</fieldset>', class_="controls")
+    grid = tag("div", id="grid", tabindex="0", role="application", aria_label="overview of peers by rounds", aria_describedby="cell")
+    cell = tag("p", "Go to the overview and use the arrow keys, or point at it; Enter opens a peer.", id="cell", aria_live="polite", class_="soft")
+    script = tag("noscript", tag("p", "The overview and the peers’ exchanges are drawn by a script in this page.", class_="warn"))
+    return [tag("h2", "All peers by rounds"), ways, controls, script, grid, cell]
+
+
+def one_peer(run):
+    """The place of one peer's exchanges, with what chooses it."""
+    options = ['<option value="all">all</option>'] if len(run.peers) <= SMALL else ['<option value="" selected="selected">none</option>']
+    options += [f'<option value="{peer.peer}">{peer.peer}</option>' for peer in run.peers if not peer.refused]
+    choice = f'<label>peer <select id="peer">{"".join(options)}</select></label>'
+    signs = legend(
+        (sign(False, True), "asks peer 3 for a balanced exchange"),
+        (sign(False, False), "is asked by peer 3"),
+        (sign(True, True), "offers updates to peer 3"),
+        (sign(True, False), "is offered some by peer 3"),
+        (sign(False, True, traded=False), "came to nothing"),
+        (sign(False, True, paid=True), "paid: gave its key"),
+        (sign(False, True, was_paid=True), "was paid: was given the key"),
+        (mark("straight"), "played, came from the broadcaster"),
+        (mark("traded"), "played, came by a trade"),
+        (mark("missed"), "not played"),
+    )
+    return [tag("h2", "One peer’s exchanges"), tag("div", choice, class_="controls"), signs, tag("div", id="lanes")]
 
 
 def page(run):
     """The page of a run."""
-    firsts = range(1, run.session["ends"] + 1, MOST_COLUMNS)
-    charts = [Chart(run, range(first, min(first + MOST_COLUMNS, run.session["ends"] + 1))) for first in firsts]
-    body = tag("main", *(tag("figure", panel(chart)) for chart in charts))
-    return f'<!doctype html>\n<html lang="en"><head><meta charset="utf-8">{tag("style", DRAWING_STYLE)}</head>\n<body>{body}</body></html>\n'
+    style, script = ((PARTS / name).read_text() for name in ("page.css", "page.js"))
+    parts = [tag("h1", "A session, as its peers recorded it"), tag("p", subtitle(run), class_="soft"), figures(run), *notes(run)]
+    life, fanout = run.session["life"], counted(run.session["fanout"], "peer")
+    reading = [tag("p", said.format(life=life, fanout=fanout)) for said in READING]
+    parts += [*overview(), *one_peer(run), *evidence(run), *losses(run), tag("h2", "Each peer"), peers_table(run)]
+    parts += [tag("h2", "How to read it"), tag("div", *reading, class_="reading")]
+    head = '<meta charset="utf-8"><meta name="viewport" content="width=device-width, initial-scale=1">'
+    head += f"<title>Session {html.escape(run.session['id'])}</title>{tag('style', style.replace('FONT', FONT))}"
+    data = json.dumps(data_of(run), separators=(",", ":")).replace("<", "\\u003c")
+    scripts = f'<script type="application/json" id="run">{data}</script>\n<script>\n{script}</script>'
+    return f'<!doctype html>\n<html lang="en"><head>{head}</head>\n<body>{tag("main", *parts)}\n{scripts}</body></html>\n'
