@@ -74,8 +74,8 @@ def side_of(side, is_unbalanced):
 
 def closer(run, peer, rows, unbalanced):
     """What the page's script takes of a peer, of its rows of each table and the exchanges that are unbalanced."""
-    names = "peer", "lies", "ticks", "bytes_played", "started", "answered", "traded"
-    told = {name: getattr(peer, name) for name in names}
+    names = "peer", "lies", "ticks", "started", "answered", "traded"
+    told = {name: getattr(peer, name) for name in names} | {"part": part_of(peer.bytes_played, run.stream)}
     if peer.refused:
         return told
     arrivals = {(row.round, row.index): row for row in rows["updates"][peer.peer]}
@@ -99,7 +99,6 @@ def data_of(run):
     unbalanced = {(row.round, row.kind, row.initiator, row.responder) for row in run.exchanges if row.audit == "unbalanced"}
     return {
         "session": run.session,
-        "stream": run.stream,
         "small": len(run.peers) <= SMALL,
         "transcripts": bool(run.replays["replayed"]),
         "evictions": {row.party: row.round for row in run.evictions if row.round},

@@ -5,7 +5,6 @@ const run = JSON.parse(document.getElementById("run").textContent), session = ru
 const SLOTS = 8, STRIP = 58, TOKEN = 16, FIELDS = 8;
 const element = id => document.getElementById(id);
 const counted = (count, word) => `${count.toLocaleString("en")} ${word}${count === 1 ? "" : "s"}`;
-const percent = (part, whole) => whole ? `${(100 * part / whole).toFixed(1)}%` : "–";
 const peers = run.peers.filter(peer => peer.rounds), byNumber = new Map(peers.map(peer => [peer.peer, peer]));
 // the places of a round's updates among all
 const starts = new Map(), counts = new Map();
@@ -153,7 +152,7 @@ function gridRow(peer, row) {
   if (row % often === 0 || row === peers.length - 1) {
     const middle = y + Math.min(place.height, 14) - 3;
     parts.push(text("label end", place.left - 6, middle, peer.peer));
-    parts.push(text("label end", place.width - 2, middle, percent(peer.bytes_played, run.stream)));
+    parts.push(text("label end", place.width - 2, middle, peer.part));
   }
   if (evicted) {
     const x = place.left + place.step * (Math.floor((evicted - 1) / place.each) + 0.5);
@@ -169,7 +168,7 @@ function drawGrid() {
     .map(column => text("label middle", place.left + place.step * (column + 0.5), 64, roundsAt(column)[0]));
   const said = [text("label", 0, 64, "peer"), text("label end", place.width - 2, 64, "played")];
   element("grid").innerHTML = `<svg class="of-${measure}" width="${place.width}" height="${place.bottom}" aria-hidden="true">` +
-    columns.map(chartColumn).join("") + numbers.join("") + said.join("") + peers.map(gridRow).join("") + '<rect id="cursor" rx="1"/></svg>';
+    `<g class="chart">${columns.map(chartColumn).join("")}</g>` + numbers.join("") + said.join("") + peers.map(gridRow).join("") + '<rect id="cursor" rx="1"/></svg>';
   moveTo(cursor.row, cursor.column, false);
 }
 
@@ -260,7 +259,7 @@ function prepare(peer) {
 function lane(peer) {
   prepare(peer);
   const rounds = [...Array(session.ends).keys()].map(at => roundButton(peer, at + 1));
-  const told = `${percent(peer.bytes_played, run.stream)} played, ${counted(peer.started, "exchange")} started, ${peer.answered} answered, ` +
+  const told = `${peer.part} played, ${counted(peer.started, "exchange")} started, ${peer.answered} answered, ` +
     `${peer.traded} ended with both keys`;
   return `<section class="peer" data-peer="${peer.peer}"><h3>Peer ${peer.peer}${peer.lies ? ", who lies" : ""} <span class="soft">${told}</span></h3>` +
     `<div class="rounds" role="group" aria-label="rounds of peer ${peer.peer}">${rounds.join("")}</div>` +

@@ -1,0 +1,120 @@
+"""The page of a run in a real browser, against the run's data; skipped where there is no chromium."""
+import html.parser
+import pathlib
+import shutil
+import subprocess
+import sys
+import tempfile
+import unittest
+
+sys.path.insert(0, str(pathlib.Path(__file__).resolve().parent.parent))
+
+from made_runs import busy_run
+
+import bartimeline
+from bardata import Run
+
+BROWSER = shutil.which("chromium") or shutil.which("chromium-browser")
+OPTIONS = ["--headless", "--no-sandbox", "--disable-gpu", "--disable-dev-shm-usage", "--no-first-run", "--virtual-time-budget=2000", "--dump-dom"]
+VOID = {"input", "meta", "br", "link"}
+PEER, ROUND = 4, 9
+
+
+class Elements(html.parser.HTMLParser):
+    """The elements of a document, each with its name, its attributes and all text in it."""
+
+    def __init__(self, text):
+        super().__init__()
+        self.all, self.open = [], []
+        self.feed(text)
+
+    def handle_starttag(self, name, attributes):
+        it = {"name": name, "text": "", "in": [*self.open], **dict(attributes)}
+        self.all.append(it)
+        if name not in VOID:
+            self.open.append(it)
+
+    def handle_endtag(self, name):
+        while self.open and self.open.pop()["name"] != name:
+            pass
+
+    def handle_data(self, data):
+        for it in self.open:
+            it["text"] += data
+
+    def of_class(self, class_, name=None):
+        return [it for it in self.all if class_ in (it.get("class") or "").split() and name in (None, it["name"])]
+
+    def with_id(self, id_):
+        return next(it for it in self.all if it.get("id") == id_)
+
+
+@unittest.skipUnless(BROWSER, "there is no chromium")
+class Browser(unittest.TestCase):
+    @classmethod
+    def setUpClass(cls):
+        # what is drawn is compared with what is read of session.json
+        cls.run_ = Run.of_json(busy_run(9, 10).to_json())
+        with tempfile.TemporaryDirectory() as room:
+            path = pathlib.Path(room) / "timeline.html"
+            path.write_text(bartimeline.page(cls.run_))
+            address = f"{path.as_uri()}#peer={PEER}&round={ROUND}&show=lost"
+            words = [BROWSER, *OPTIONS, f"--user-data-dir={room}/profile", address]
+            ran = subprocess.run(words, stdout=subprocess.PIPE, stderr=subprocess.PIPE, timeout=60)
+        cls.elements = Elements(ran.stdout.decode())
+
+    def rows(self, name):
+        return [row for row in getattr(self.run_, name) if row.peer == PEER]
+
+    def test_the_overview_has_a_cell_for_each_round_with_losses(self):
+        lost = [row for row in self.run_.rounds if row.lost]
+        self.assertEqual(len(self.elements.of_class("cell", "rect")), len(lost))
+        percents = [it["text"] for it in self.elements.of_class("end", "text") if "%" in it["text"]]
+        self.assertEqual(percents, [f"{peer.bytes_played / self.run_.stream:.1%}" for peer in self.run_.peers])
+
+    def test_the_chart_adds_up_to_what_was_played(self):
+        # above the overview each column has the parts of what was due that came in each way, of 46 in all
+        (chart,) = self.elements.of_class("chart", "g")
+        due = self.run_.session["per_round"] * len(self.run_.peers)
+        for class_, field in (("straight", "played_by_block"), ("traded", "played_by_balanced"), ("pushed", "played_by_push")):
+            drawn = sum(float(it["height"]) for it in self.elements.of_class(class_, "rect") if chart in it["in"]) * due / 46
+            self.assertAlmostEqual(drawn, sum(getattr(peer, field) for peer in self.run_.peers), delta=0.05 * due)
+
+    def test_a_cell_is_told(self):
+        row = next(row for row in self.rows("rounds") if row.round == ROUND)
+        told = f"Peer {PEER}, round {ROUND}: played {row.played} of {row.due} updates; {row.came} updates came; started {row.started}"
+        told += f" and answered {row.answered} exchanges, of which {row.traded} ended with both keys; "
+        self.assertTrue(self.elements.with_id("cell")["text"].startswith(told), self.elements.with_id("cell")["text"])
+
+    def test_the_exchanges_of_the_peer_are_drawn(self):
+        (section,) = [it for it in self.elements.all if it["name"] == "section"]
+        self.assertEqual(section["data-peer"], str(PEER))
+        signs = [it for it in self.elements.of_class("sign", "rect") if section in it["in"]]
+        self.assertEqual(len(signs), len(self.rows("sides")))
+        arrows = [it for it in self.elements.of_class("key", "path") if section in it["in"]]
+        self.assertEqual(len(arrows), sum((row.key_given is not None) + (row.key_got is not None) for row in self.rows("sides")))
+        marks = {name: [it for it in self.elements.of_class(name, "rect") if section in it["in"]] for name in ("straight", "traded", "missed")}
+        played = [row for row in self.rows("updates") if row.played]
+        straight = sum(row.way == "block" for row in played)
+        self.assertEqual((len(marks["straight"]), len(marks["traded"])), (straight, len(played) - straight))
+        self.assertEqual(sum(map(len, marks.values())), len(self.run_.releases))
+
+    def test_the_round_is_told_in_words(self):
+        (words,) = self.elements.of_class("words")
+        lines = [it["text"] for it in self.elements.all if it["name"] == "li" and words in it["in"]]
+        sides, due = [row for row in self.rows("sides") if row.round == ROUND], ROUND - self.run_.session["life"]
+        self.assertEqual(len(lines), len(sides) + sum(row.round == due for row in self.run_.releases))
+        partners = [f"peer {row.partner}, promises {row.promised} update" for row in sides]
+        self.assertTrue(all(told in line for told, line in zip(partners, lines)))
+        came = {f"update {row.index + 1} of round {row.round}: played" for row in self.rows("updates") if row.round == due}
+        self.assertEqual({line.split(",")[0] for line in lines[len(sides) :] if "not played" not in line}, came)
+
+    def test_one_round_of_the_peer_can_be_reached_by_tab(self):
+        buttons = [it for it in self.elements.all if it["name"] == "button"]
+        self.assertEqual(len(buttons), self.run_.session["ends"])
+        self.assertEqual([it["data-round"] for it in buttons if it["tabindex"] == "0"], [str(ROUND)])
+        self.assertEqual(self.elements.with_id("grid")["tabindex"], "0")
+
+
+if __name__ == "__main__":
+    unittest.main()
