@@ -1,4 +1,5 @@
 """The page of a run in a real browser, against the run's data; skipped where there is no chromium."""
+import html
 import html.parser
 import pathlib
 import shutil
@@ -16,6 +17,9 @@ from bardata import Run
 
 BROWSER = shutil.which("chromium") or shutil.which("chromium-browser")
 OPTIONS = ["--headless", "--no-sandbox", "--disable-gpu", "--disable-dev-shm-usage", "--no-first-run", "--virtual-time-budget=2000", "--dump-dom"]
+DARK = ["--blink-settings=preferredColorScheme=0"]
+# a browser without a screen has windows of 500 pixels at least, so a page that is as wide as a phone stands in a frame
+PHONE = 390
 VOID = {"input", "meta", "br", "link"}
 PEER, ROUND = 4, 9
 
@@ -49,19 +53,71 @@ class Elements(html.parser.HTMLParser):
         return next(it for it in self.all if it.get("id") == id_)
 
 
+def browsed(page, address="", options=()):
+    """The elements of a page when a browser has read it."""
+    with tempfile.TemporaryDirectory(ignore_cleanup_errors=True) as room:
+        path = pathlib.Path(room) / "timeline.html"
+        path.write_text(page)
+        words = [BROWSER, *OPTIONS, *options, f"--user-data-dir={room}/profile", f"{path.as_uri()}{address}"]
+        ran = subprocess.run(words, stdout=subprocess.PIPE, stderr=subprocess.PIPE, timeout=60)
+    return Elements(ran.stdout.decode())
+
+
+# presses keys: in the overview two peers down and eight rounds to the right, then Enter, then in the peer's rounds one to the left
+PRESSES = """<script>
+const press = key => document.activeElement.dispatchEvent(new KeyboardEvent("keydown", {key, bubbles: true, cancelable: true}));
+const told = {};
+document.getElementById("grid").focus();
+["ArrowDown", "ArrowDown", ...Array(8).fill("ArrowRight")].forEach(press);
+told.cell = document.getElementById("cell").textContent;
+press("Enter");
+told.opened = document.activeElement.dataset.round;
+press("ArrowLeft");
+told.left = document.activeElement.dataset.round;
+press("End");
+told.end = document.activeElement.dataset.round;
+told.paper = getComputedStyle(document.body).backgroundColor;
+told.ink = getComputedStyle(document.body).color;
+told.peers = [...document.querySelectorAll("section")].map(section => section.dataset.peer);
+told.pressed = [...document.querySelectorAll("button[aria-pressed=true]")].map(button => button.dataset.round);
+told.widths = [innerWidth, document.documentElement.scrollWidth <= innerWidth];
+for (const name in told) parent.document.body.dataset[name] = told[name];
+</script></body>"""
+
+
+@unittest.skipUnless(BROWSER, "there is no chromium")
+class Keys(unittest.TestCase):
+    @classmethod
+    def setUpClass(cls):
+        cls.run_ = busy_run(9, 10)
+        page = html.escape(bartimeline.page(cls.run_).replace("</body>", PRESSES))
+        frame = f'<iframe srcdoc="{page}" width="{PHONE}" height="800" style="border: 0"></iframe>'
+        elements = browsed(f"<!doctype html><html><body>{frame}</body></html>", options=DARK)
+        cls.body = next(it for it in elements.all if it["name"] == "body")
+
+    def test_arrows_go_over_the_overview_and_enter_opens_a_peer(self):
+        row = next(row for row in self.run_.rounds if (row.peer, row.round) == (3, 9))
+        self.assertTrue(self.body["data-cell"].startswith(f"Peer 3, round 9: played {row.played} of {row.due} updates; "), self.body["data-cell"])
+        self.assertEqual((self.body["data-peers"], self.body["data-opened"]), ("3", "9"))
+
+    def test_arrows_go_over_the_rounds_of_a_peer(self):
+        self.assertEqual((self.body["data-left"], self.body["data-end"]), ("8", str(self.run_.session["ends"])))
+        self.assertEqual(self.body["data-pressed"], self.body["data-end"])
+
+    def test_it_is_dark_where_that_is_preferred(self):
+        self.assertEqual((self.body["data-paper"], self.body["data-ink"]), ("rgb(20, 24, 29)", "rgb(228, 233, 238)"))
+
+    def test_it_is_no_wider_than_a_phone(self):
+        self.assertEqual(self.body["data-widths"], f"{PHONE},true")
+
+
 @unittest.skipUnless(BROWSER, "there is no chromium")
 class Browser(unittest.TestCase):
     @classmethod
     def setUpClass(cls):
         # what is drawn is compared with what is read of session.json
         cls.run_ = Run.of_json(busy_run(9, 10).to_json())
-        with tempfile.TemporaryDirectory() as room:
-            path = pathlib.Path(room) / "timeline.html"
-            path.write_text(bartimeline.page(cls.run_))
-            address = f"{path.as_uri()}#peer={PEER}&round={ROUND}&show=lost"
-            words = [BROWSER, *OPTIONS, f"--user-data-dir={room}/profile", address]
-            ran = subprocess.run(words, stdout=subprocess.PIPE, stderr=subprocess.PIPE, timeout=60)
-        cls.elements = Elements(ran.stdout.decode())
+        cls.elements = browsed(bartimeline.page(cls.run_), f"#peer={PEER}&round={ROUND}&show=lost")
 
     def rows(self, name):
         return [row for row in getattr(self.run_, name) if row.peer == PEER]

@@ -12,7 +12,7 @@ sys.path.insert(0, str(pathlib.Path(__file__).resolve().parent.parent))
 
 import made_sessions as made
 from made_sessions import LONG, SESSION, WIDE, WIDE_PLAIN, Diary, Trade
-from support import RoomCase
+from support import ROOT, RoomCase, run_script
 from test_data import small_run
 
 import barcaptures
@@ -69,6 +69,25 @@ class Packets(unittest.TestCase):
     def test_a_recording_of_another_session_is_refused(self):
         with self.assertRaises(Malformed):
             captured({1: b"BARL\1" + bytes(11)})
+
+
+class Script(RoomCase):
+    def test_a_session_is_exported(self):
+        (self.room / "session.toml").write_bytes((ROOT / "examples/first-path/one-block/session.toml").read_bytes())
+        recording = (ROOT / "examples/first-path/one-block/recording").read_bytes()
+        (self.room / "party.1.recording").write_bytes(recording)
+        status, out, err = run_script("export-pcap", self.room, self.room / "f.pcap", "--dissector", self.room / "bar.lua")
+        packets = packets_in((self.room / "f.pcap").read_bytes())
+        self.assertEqual((status, out), (0, [f"OK: {len(packets)} packets of 1 peer in {self.room}/f.pcap"]), err)
+        self.assertEqual([it[28:] for _, it in packets], [it for it in entries_of(recording)[0] if it is not None])
+        self.assertIn('Proto("bar", ', (self.room / "bar.lua").read_text())
+
+    def test_what_is_refused(self):
+        status, _, err = run_script("export-pcap", self.room, self.room / "f.pcap")
+        self.assertEqual(status, 2, err)
+        (self.room / "session.toml").write_bytes((ROOT / "examples/first-path/one-block/session.toml").read_bytes())
+        status, _, err = run_script("export-pcap", self.room, self.room / "f.pcap")
+        self.assertEqual((status, err), (2, [f"REFUSED: {self.room} has no recording: name the folder of a session that was run"]))
 
 
 @unittest.skipUnless(TSHARK, "there is no tshark")
