@@ -57,7 +57,8 @@ def write_capture(file, session, recordings, begin=0):
             raise Malformed(f"the recording of party {party} is none of this session")
     count = 0
     file.write(HEAD)
-    for time, packet in heapq.merge(*(packets_of(session, party, recording) for party, recording in recordings.items()), key=lambda it: it[0]):
+    of_peers = [packets_of(session, party, recording) for party, recording in recordings.items()]
+    for time, packet in heapq.merge(*of_peers, key=lambda it: it[0]):
         file.write(record_of(1000 * begin + time, packet))
         count += 1
     return count

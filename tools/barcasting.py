@@ -59,7 +59,9 @@ def notices_of(session, logs, evicted):
 def casts_of(session, logs, secret, stream, table, evicted):
     """What was sent, by the broadcaster's secret, the stream, the table of its manifests and the parties that it evicted."""
     reader, notices, sent = Reader(session), notices_of(session, logs, evicted), []
-    first = {party: min((number for number, (parties, _) in notices.items() if party in parties), default=session.rounds + 1) for party in evicted}
+    first = dict.fromkeys(evicted, session.rounds + 1)
+    for number in sorted(notices, reverse=True):
+        first |= dict.fromkeys(notices[number][0], number)
     for _, datagram in manifests_of(table):
         manifest = reader.read(datagram)
         if not isinstance(manifest, Manifest):

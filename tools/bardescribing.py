@@ -200,8 +200,8 @@ def recording_told(data, datagrams):
     for number, entry in enumerate(entries, 1):
         tick += entry is None
         if entry is None:
-            place = (tick - 1) // SLOTS + 1, (tick - 1) % SLOTS
-            lines.append((f"tick {tick}: round {place[0]}, slot {place[1]}", {"input": number, "tick": tick, "round": place[0], "slot": place[1]}))
+            place = {"round": (tick - 1) // SLOTS + 1, "slot": (tick - 1) % SLOTS}
+            lines.append((f"tick {tick}: round {place['round']}, slot {place['slot']}", {"input": number, "tick": tick} | place))
         else:
             lines.append((f"<- {datagrams.line(entry)}", {"input": number, "behind tick": tick, "datagram": datagrams.data(entry)}))
     end = "whole" if whole else "up to its last whole entry, since it has no end"
@@ -210,8 +210,10 @@ def recording_told(data, datagrams):
 
 def transcript_told(data, datagrams):
     """A transcript: a line for each datagram that was sent."""
-    sends = sends_of(data.decode(errors="replace").splitlines())
-    lines = [(f"-> {datagrams.line(it, 'to')}, at input {number}", {"input": number, "to": to, "datagram": datagrams.data(it)}) for number, to, it in sends]
+    lines = []
+    for number, to, datagram in sends_of(data.decode(errors="replace").splitlines()):
+        line = f"-> {datagrams.line(datagram, 'to')}, at input {number}"
+        lines.append((line, {"input": number, "to": to, "datagram": datagrams.data(datagram)}))
     return Told("a transcript", lines)
 
 

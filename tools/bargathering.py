@@ -5,7 +5,20 @@ It is gathered of what every run leaves, a live one and a simulated one.
 import collections
 import re
 
-from bardata import BALANCED_WAY, BLOCK_WAY, PUSH_WAY, EvictionRow, EvidenceRow, ExchangeRow, PeerRow, ReleaseRow, RoundRow, Run, SideRow, UpdateRow
+from bardata import (
+    BALANCED_WAY,
+    BLOCK_WAY,
+    PUSH_WAY,
+    EvictionRow,
+    EvidenceRow,
+    ExchangeRow,
+    PeerRow,
+    ReleaseRow,
+    RoundRow,
+    Run,
+    SideRow,
+    UpdateRow,
+)
 from bardatagrams import Reader
 from barexchanges import Account, round_of
 from barformats import CONTENT, SLOTS, Malformed, head_of, parts_of

@@ -16,7 +16,8 @@ import bartimeline
 from bardata import Run
 
 BROWSER = shutil.which("chromium") or shutil.which("chromium-browser")
-OPTIONS = ["--headless", "--no-sandbox", "--disable-gpu", "--disable-dev-shm-usage", "--no-first-run", "--virtual-time-budget=2000", "--dump-dom"]
+OPTIONS = ["--headless", "--no-sandbox", "--disable-gpu", "--disable-dev-shm-usage", "--no-first-run"]
+OPTIONS += ["--virtual-time-budget=2000", "--dump-dom"]
 DARK = ["--blink-settings=preferredColorScheme=0"]
 # a browser without a screen has windows of 500 pixels at least, so a page that is as wide as a phone stands in a frame
 PHONE = 390
@@ -97,7 +98,8 @@ class Keys(unittest.TestCase):
 
     def test_arrows_go_over_the_overview_and_enter_opens_a_peer(self):
         row = next(row for row in self.run_.rounds if (row.peer, row.round) == (3, 9))
-        self.assertTrue(self.body["data-cell"].startswith(f"Peer 3, round 9: played {row.played} of {row.due} updates; "), self.body["data-cell"])
+        told = f"Peer 3, round 9: played {row.played} of {row.due} updates; "
+        self.assertTrue(self.body["data-cell"].startswith(told), self.body["data-cell"])
         self.assertEqual((self.body["data-peers"], self.body["data-opened"]), ("3", "9"))
 
     def test_arrows_go_over_the_rounds_of_a_peer(self):
@@ -149,7 +151,8 @@ class Browser(unittest.TestCase):
         self.assertEqual(len(signs), len(self.rows("sides")))
         arrows = [it for it in self.elements.of_class("key", "path") if section in it["in"]]
         self.assertEqual(len(arrows), sum((row.key_given is not None) + (row.key_got is not None) for row in self.rows("sides")))
-        marks = {name: [it for it in self.elements.of_class(name, "rect") if section in it["in"]] for name in ("straight", "traded", "missed")}
+        names = "straight", "traded", "missed"
+        marks = {name: [it for it in self.elements.of_class(name, "rect") if section in it["in"]] for name in names}
         played = [row for row in self.rows("updates") if row.played]
         straight = sum(row.way == "block" for row in played)
         self.assertEqual((len(marks["straight"]), len(marks["traded"])), (straight, len(played) - straight))

@@ -50,7 +50,8 @@ class Packets(unittest.TestCase):
         count, capture = captured({2: diary.recording()}, begin=1_000)
         tick, packets = 1000 * SESSION.tick_ms, packets_in(capture)
         self.assertEqual((count, struct.unpack_from("<IHH", capture), capture[20]), (3, (0xA1B2C3D4, 2, 4), 101))
-        self.assertEqual([time for time, _ in packets], [1_000_000 + it for it in (2 * tick + tick // 3, 2 * tick + 2 * tick // 3, 3 * tick + tick // 2)])
+        times = 2 * tick + tick // 3, 2 * tick + 2 * tick // 3, 3 * tick + tick // 2
+        self.assertEqual([time for time, _ in packets], [1_000_000 + time for time in times])
         self.assertEqual([struct.unpack_from(">HH", it, 20) for _, it in packets], [(21000, 21002), (0, 21002), (21000, 21002)])
         self.assertEqual([it[28:] for _, it in packets], [made.manifest(1), b"strange", made.block(2, Update(1, 0))])
 
@@ -90,6 +91,12 @@ class Script(RoomCase):
         self.assertEqual((status, err), (2, [f"REFUSED: {self.room} has no recording: name the folder of a session that was run"]))
 
 
+def trade_in(session, blocks):
+    """A balanced exchange in a session of these blocks, of an update for another."""
+    one, other = Update(1, 1), Update(1, 3)
+    return Trade.balanced(Exchange(2, False, 1, 2), [[one], [other]], [[other], [one]], blocks, session)
+
+
 @unittest.skipUnless(TSHARK, "there is no tshark")
 class Dissector(RoomCase):
     def read(self, session, recordings, *fields):
@@ -111,9 +118,8 @@ class Dissector(RoomCase):
 
     def test_sessions_of_version_2_and_of_two_levels(self):
         for session, blocks in ((WIDE, WIDE_PLAIN), (LONG, made.PLAIN)):
-            trade = Trade.balanced(Exchange(2, False, 1, 2), [[Update(1, 1)], [Update(1, 3)]], [[Update(1, 3)], [Update(1, 1)]], blocks, session)
-            diary = Diary(1, session)
-            diary.take(made.manifest(1, blocks, session), trade.request(), trade.case(False), trade.key(False), trade.key(False)[:-1] + b"\0\0")
+            trade, diary = trade_in(session, blocks), Diary(1, session)
+            diary.take(made.manifest(1, blocks, session), trade.request(), trade.case(False), trade.key(False), trade.key(False) + b"\0")
             read = self.read(session, {1: diary.recording()}, "bar.kind", "bar.updates", "bar.nonce", "bar.cut")
             kinds = ["1", "3", "8", "10", "10"]
             self.assertEqual([line[0] for line in read], kinds)
@@ -122,7 +128,7 @@ class Dissector(RoomCase):
             self.assertEqual([line[3] if len(line) > 3 else "" for line in read], [""] * 5)
 
     def test_evidence_and_what_is_cut(self):
-        case = Trade.balanced(Exchange(2, False, 1, 2), [[Update(1, 1)], [Update(1, 3)]], [[Update(1, 3)], [Update(1, 1)]])
+        case = trade_in(SESSION, made.PLAIN)
         evidence = made.datagram(EVIDENCE, 1, 0, made.evidence(case.case(True), b"no datagram of the session"))
         diary = Diary(1)
         diary.take(evidence, case.case(True)[:90], made.datagram(9, 1, 2, bytes(7)))

@@ -18,7 +18,7 @@ import barlosses
 import bartimeline
 from bardata import TABLES, Run
 from bardatagrams import Exchange, Update
-from barformats import BLOCK, CASE, KEY, KEYREQ, MANIFEST, SLOTS, Malformed
+from barformats import KEY, KEYREQ, SLOTS, Malformed
 from bargathering import run_of
 from bargrammar import NAMES
 
@@ -27,7 +27,6 @@ TRADE = Trade.balanced(Exchange(2, False, 1, 2), [[FIRST, FOURTH], [SECOND, THIR
 UNEVEN = Trade.balanced(Exchange(2, False, 1, 2), [[FIRST, FOURTH], [SECOND, THIRD, FOURTH]], [[SECOND], [FIRST]])
 PUSH = Trade.push(Exchange(3, True, 3, 1), [[Update(3, 0)], [], [Update(3, 0)], []], 1)
 LAST_TICK = SLOTS * SESSION.ends
-KINDS = {BLOCK: "BLOCK", CASE: "CASE", KEY: "KEY", KEYREQ: "KEYREQ", MANIFEST: "MANIFEST"}
 
 
 def diaries():
@@ -67,7 +66,8 @@ PLAYED = {1: played_by(FIRST, SECOND, FOURTH, Update(3, 0)), 2: played_by(FIRST,
 def small_run():
     """The recordings of the three peers by party, and what the run was."""
     written = {diary.party: diary for diary in diaries()}
-    return {party: it.recording() for party, it in written.items()}, run_of(SESSION, {party: it.log(played=PLAYED[party]) for party, it in written.items()})
+    logs = {party: diary.log(played=PLAYED[party]) for party, diary in written.items()}
+    return {party: diary.recording() for party, diary in written.items()}, run_of(SESSION, logs)
 
 
 class Count:
@@ -98,7 +98,8 @@ class Agreement(unittest.TestCase):
             count = Count(recordings[peer.peer])
             self.assertEqual((peer.ticks, peer.taken, peer.bytes_taken), (count.ticks, sum(count.kinds.values()), count.bytes))
             traffic = [row for row in run.traffic if row.party == peer.peer]
-            self.assertEqual({row.kind: row.taken for row in traffic if row.kind in KINDS.values() and row.taken}, {KINDS[it]: count.kinds[it] for it in KINDS if count.kinds[it]})
+            kinds = {row.kind: row.taken for row in traffic if row.taken}
+            self.assertEqual(kinds, {NAMES[kind]: number for kind, number in count.kinds.items()})
             self.assertEqual(sum(row.taken_again for row in traffic), count.again)
             own = [row for row in run.updates if row.peer == peer.peer and row.sender == 0]
             self.assertEqual({(row.round, row.index) for row in own if row.in_time}, count.blocks)
@@ -115,7 +116,8 @@ class Agreement(unittest.TestCase):
         diary.take(made.block(1, FIRST))
         diary.until(LAST_TICK)
         run, count = run_of(SESSION, {1: diary.log()}), Count(diary.recording())
-        self.assertEqual([(row.round, row.index, row.in_time, row.played) for row in run.updates], [(*it, False, False) for it in count.late])
+        came = [(row.round, row.index, row.in_time, row.played) for row in run.updates]
+        self.assertEqual(came, [(*update, False, False) for update in count.late])
         self.assertEqual((run.peers[0].late, run.peers[0].played), (1, 0))
 
     def test_totals_are_sums_of_rows(self):
@@ -136,18 +138,19 @@ class Agreement(unittest.TestCase):
 
     def test_sides_and_exchanges(self):
         _, run = small_run()
-        balanced, push, _ = run.exchanges
-        self.assertEqual((balanced.round, balanced.kind, balanced.initiator, balanced.responder, balanced.complete), (2, "balanced", 1, 2, True))
-        self.assertEqual((push.round, push.kind, push.initiator, push.responder, push.complete), (3, "push", 3, 1, True))
+        exchanges = [(row.round, row.kind, row.initiator, row.responder, row.complete) for row in run.exchanges]
+        self.assertEqual(exchanges[:2], [(2, "balanced", 1, 2, True), (3, "push", 3, 1, True)])
         side = next(row for row in run.sides if row.peer == 1 and row.kind == "push")
-        self.assertEqual((side.promised, side.received, side.opened, side.gives, side.gives_junk, side.gets), (1, 1, 1, [], 1, [Update(3, 0)]))
+        self.assertEqual((side.promised, side.received, side.opened), (1, 1, 1))
+        self.assertEqual((side.gives, side.gives_junk, side.gets), ([], 1, [Update(3, 0)]))
         self.assertEqual((side.since, side.key_got, side.key_given, side.wrong_key), (18, 19, 19, None))
 
     def test_the_page_has_the_same_numbers(self):
         logs = {diary.party: diary.log(played=PLAYED[diary.party]) for diary in diaries()}
         page, run = Page(logs), run_of(SESSION, logs)
-        names = {"bytes played": "bytes_played", "played, by pushes": "played_by_push", "datagrams taken": "taken", "bytes taken": "bytes_taken"}
-        names |= {"keys got that open well": "keys_got", "lost on the way to it": "lost", "longest gap in rounds": "gap"}
+        names = {"bytes played": "bytes_played", "played, by pushes": "played_by_push", "datagrams taken": "taken"}
+        names |= {"bytes taken": "bytes_taken", "keys got that open well": "keys_got"}
+        names |= {"lost on the way to it": "lost", "longest gap in rounds": "gap"}
         for line, peer in zip(page.table, run.peers, strict=True):
             self.assertEqual({name: line[name] for name in names}, {name: f"{getattr(peer, field):,}" for name, field in names.items()})
         for line in page.tables["datagrams by kind"]:
