@@ -8,7 +8,7 @@ import unittest
 sys.path.insert(0, str(pathlib.Path(__file__).resolve().parent.parent))
 
 import made_sessions as made
-from made_sessions import LONG, PLAIN, SESSION, WIDE, WIDE_PLAIN, Diary, Trade
+from made_sessions import LONG, SESSION, WIDE, WIDE_PLAIN, Diary, Trade
 from support import ROOT, RoomCase, run_script
 
 import bardescribing
