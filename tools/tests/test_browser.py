@@ -1,4 +1,5 @@
 """The page of a run in a real browser, against the run's data; skipped where there is no chromium."""
+import collections
 import html
 import html.parser
 import pathlib
@@ -13,7 +14,7 @@ sys.path.insert(0, str(pathlib.Path(__file__).resolve().parent.parent))
 from made_runs import busy_run
 
 import bartimeline
-from bardata import Run
+from bardata import EvictionRow, Run
 
 BROWSER = shutil.which("chromium") or shutil.which("chromium-browser")
 OPTIONS = ["--headless", "--no-sandbox", "--disable-gpu", "--disable-dev-shm-usage", "--no-first-run"]
@@ -22,7 +23,7 @@ DARK = ["--blink-settings=preferredColorScheme=0"]
 # a browser without a screen has windows of 500 pixels at least, so a page that is as wide as a phone stands in a frame
 PHONE = 390
 VOID = {"input", "meta", "br", "link"}
-PEER, ROUND = 4, 9
+PEER, ROUND, STOPPED = 4, 9, 2
 
 
 class Elements(html.parser.HTMLParser):
@@ -118,7 +119,10 @@ class Browser(unittest.TestCase):
     @classmethod
     def setUpClass(cls):
         # what is drawn is compared with what is read of session.json
-        cls.run_ = Run.of_json(busy_run(9, 10).to_json())
+        run = busy_run(9, 10)
+        run.evictions = [EvictionRow(PEER, "F1", ROUND, 8)]
+        run.rounds = [row for row in run.rounds if (row.peer, row.round) not in {(STOPPED, number) for number in range(12, 18)}]
+        cls.run_ = Run.of_json(run.to_json())
         cls.elements = browsed(bartimeline.page(cls.run_), f"#peer={PEER}&round={ROUND}&show=lost")
 
     def rows(self, name):
@@ -133,10 +137,22 @@ class Browser(unittest.TestCase):
     def test_the_chart_adds_up_to_what_was_played(self):
         # above the overview each column has the parts of what was due that came in each way, of 46 in all
         (chart,) = self.elements.of_class("chart", "g")
-        due = self.run_.session["per_round"] * len(self.run_.peers)
-        for class_, field in (("straight", "played_by_block"), ("traded", "played_by_balanced"), ("pushed", "played_by_push")):
-            drawn = sum(float(it["height"]) for it in self.elements.of_class(class_, "rect") if chart in it["in"]) * due / 46
-            self.assertAlmostEqual(drawn, sum(getattr(peer, field) for peer in self.run_.peers), delta=0.05 * due)
+        life, due = self.run_.session["life"], collections.Counter()
+        for row in self.run_.rounds:
+            due[row.round] += row.due
+        ran = {(row.peer, row.round) for row in self.run_.rounds}
+        for class_, way in (("straight", "block"), ("traded", "balanced"), ("pushed", "push")):
+            drawn = sum(float(it["height"]) for it in self.elements.of_class(class_, "rect") if chart in it["in"])
+            played = [row for row in self.run_.updates if row.way == way and row.played and (row.peer, row.round + life) in ran]
+            self.assertAlmostEqual(drawn, sum(46 / due[row.round + life] for row in played), delta=0.05 * len(due))
+
+    def test_an_eviction_and_a_stop_are_shown(self):
+        self.assertEqual(len(self.elements.of_class("evicted", "circle")), 1)
+        self.assertIn("; the first notice of its eviction.", self.elements.with_id("cell")["text"])
+        (line,) = [it["text"] for it in self.elements.all if it["name"] == "tr" and "F1" in it["text"]]
+        self.assertEqual(line, f"{PEER}F1{ROUND}8")
+        grid = self.elements.with_id("grid")
+        self.assertEqual(len([it for it in self.elements.of_class("gone", "rect") if grid in it["in"]]), self.run_.session["ends"] - 11)
 
     def test_a_cell_is_told(self):
         row = next(row for row in self.rows("rounds") if row.round == ROUND)
