@@ -300,7 +300,7 @@ def overview():
     told = "Go to the overview and use the arrow keys, or point at it; Enter opens a peer."
     cell = tag("p", told, id="cell", aria_live="polite", class_="soft")
     script = tag("noscript", tag("p", "The overview and the peers’ exchanges are drawn by a script in this page.", class_="warn"))
-    return [tag("h2", "All peers by rounds"), ways, controls, script, grid, cell]
+    return [tag("h2", "All peers by rounds"), ways, controls, script, tag("div", grid, cell)]
 
 
 def one_peer(run):
