@@ -6,7 +6,8 @@ A session's folder has these files:
   key.P             the key file of party P; party 0 is the broadcaster
   party.P.played, party.P.recording, party.P.table, party.P.Q
                     what party P played, what it took, the manifests that it knew, and its evidence against party Q
-  timeline.html     the session as a page
+  session.json      what the run was, as data
+  timeline.html     the run as a page
 """
 import collections
 import pathlib
@@ -32,6 +33,7 @@ class Folder:
         self.path = pathlib.Path(path).resolve()
         self.session = self.path / "session.toml"
         self.stream = self.path / "stream"
+        self.data = self.path / "session.json"
         self.page = self.path / "timeline.html"
         self.keys = self.path / "key"
         self.results = self.path / "party"
