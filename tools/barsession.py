@@ -6,6 +6,7 @@ A session's folder has these files:
   key.P             the key file of party P; party 0 is the broadcaster
   party.P.played, party.P.recording, party.P.table, party.P.Q
                     what party P played, what it took, the manifests that it knew, and its evidence against party Q
+  network.json      what a network did that loses, repeats or delays, and who lied, where the session was disturbed
   timeline.html     the session as a page
 """
 import collections
@@ -33,6 +34,7 @@ class Folder:
         self.session = self.path / "session.toml"
         self.stream = self.path / "stream"
         self.page = self.path / "timeline.html"
+        self.network = self.path / "network.json"
         self.keys = self.path / "key"
         self.results = self.path / "party"
 
@@ -65,10 +67,10 @@ def session_words(folder, program, begin):
     return [program, *words_of("session", **files, begin=begin, results=folder.results, program=program)]
 
 
-def party_words(folder, program, party, begin, results=None):
-    """The words of one party, which are those that a session starts it with, but for its results where these are to stand elsewhere."""
+def party_words(folder, program, party, begin, results=None, session=None):
+    """The words of one party, which are those that a session starts it with, but for its results and text where these stand elsewhere."""
     own = f"{results or folder.results}.{party}"
-    values = {"session": folder.session, "key": folder.key(party), "begin": begin, "stream": folder.stream}
+    values = {"session": session or folder.session, "key": folder.key(party), "begin": begin, "stream": folder.stream}
     values |= {"played": f"{own}.played", "recording": f"{own}.recording", "found": own}
     return [program, *words_of("peer" if party else "broadcaster", **values)]
 
