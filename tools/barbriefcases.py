@@ -2,7 +2,7 @@
 import hashlib
 import struct
 
-from bardatagrams import BLOCK_SIZE, JUNK_SIZE
+from bargrammar import BLOCK_SIZE, JUNK_SIZE
 
 # the first words of ChaCha20's state
 CONSTANTS = struct.unpack("<4I", b"expand 32-byte k")

@@ -6,38 +6,18 @@ import dataclasses
 import struct
 import typing
 
-from barformats import BLOCK, CASE, EVICT, KEY, KEYREQ, MANIFEST, QUERY, REPLY, REQUEST, RESPONSE, UPDATES, head_of
-
-# how many bytes the block of an update has, a junk item, a digest, and a nonce or a key
-BLOCK_SIZE, JUNK_SIZE, DIGEST_SIZE, SECRET_SIZE = 1024, 1280, 32, 32
-
-# how many bytes the public key of one tree has
-PUBLIC_KEY_SIZE = 56
-
-# how many updates a word of a window has a bit for
-WORD = 64
-
-# where a datagram's round stands, what follows the count or index of one of the broadcaster, and what follows the four numbers of a CASE
-ROUND_AT, REST_AT, TERMS_AT = 16, 21, 24
+from barformats import BLOCK, CASE, DIVULGE, EVICT, EVIDENCE, KEY, KEYREQ, MANIFEST, QUERY, REPLY, REQUEST, RESPONSE, head_of
+from bargrammar import DIGEST_SIZE, GRAMMAR, WORD, Layout, window_words
 
 # the receiver that means all peers
 EVERYONE = 0xFFFF
 
-# the kinds that tell their exchange's: whether it's a push, and whether the initiator sends them. Others have two bytes for it
-FIRST_MESSAGES = {REQUEST: (0, 1), RESPONSE: (0, 0), QUERY: (1, 1), REPLY: (1, 0)}
-
-# the levels of a tree by its LMS type, and the chains of a one-time signature by its LM-OTS type
-LEVELS = {5: 5, 6: 10, 7: 15}
-CHAINS = {1: 265, 2: 133, 3: 67, 4: 34}
+# the kinds of an exchange's first messages: whether it's a push, and whether the initiator sends them. Others have two fields for it
+FIRST_MESSAGES = {REQUEST: (0, 1), RESPONSE: (0, 0), DIVULGE: (0, 1), QUERY: (1, 1), REPLY: (1, 0)}
 
 
-def signature_size(lms, ots, top=None):
-    """How many bytes a signature has: its leaf, both types, a one-time signature and a path.
-
-    One of two levels has two of these, a number before them and the lower public key between them.
-    """
-    size = 12 + 32 * (1 + CHAINS[ots] + LEVELS[lms])
-    return 4 + signature_size(top, ots) + PUBLIC_KEY_SIZE + size if top else size
+# all kinds of an exchange
+MESSAGES = {*FIRST_MESSAGES, CASE, KEYREQ, KEY}
 
 
 def number_at(datagram, at, size=4):
@@ -133,7 +113,7 @@ class Block:
 
 @dataclasses.dataclass(frozen=True)
 class Message:
-    """A datagram of an exchange, from one side to the other: a REQUEST, RESPONSE, QUERY, REPLY or KEYREQ."""
+    """A datagram of an exchange, from one side to the other: a REQUEST, RESPONSE, DIVULGE, QUERY, REPLY or KEYREQ."""
 
     kind: int
     exchange: Exchange
@@ -159,79 +139,76 @@ class Key(Message):
 
 
 class Reader:
-    """Reads the datagrams of a session."""
+    """Reads the datagrams of a session, by the table of the grammar."""
 
     def __init__(self, session):
-        self.session = session
-        # how many words a window has for each round, and how many bytes in all
-        self.words = UPDATES[session.version] // WORD
-        self.window = 8 * self.words * session.life
-        self.terms_sizes = SECRET_SIZE + 2 * self.window, 4 * self.window + 1
-        self.signature = signature_size(session.lms, session.ots, session.top)
-        signed = {REQUEST: 84, RESPONSE: 20 + self.window, QUERY: 52 + 2 * self.window, REPLY: 21 + 2 * self.window, KEY: 54}
-        self.lengths = {BLOCK: REST_AT + BLOCK_SIZE, KEYREQ: 22} | {kind: size + self.signature for kind, size in signed.items()}
+        self.session, self.layout, self.words = session, Layout(session), window_words(session.version)
+        self.signature, self.peers = self.layout.signature, range(1, session.peers + 1)
 
     def read(self, datagram):
         """The datagram as a Manifest, Evict, Block or Message, or None where it's spelled as none of these."""
         head = head_of(datagram, self.session)
-        if not head or len(datagram) != self.length_of(head[0], datagram):
+        if not head or head[0] not in GRAMMAR or head[0] == EVIDENCE or len(datagram) != self.layout.length_of(head[0], datagram):
             return None
-        if not 1 <= number_at(datagram, ROUND_AT) <= self.session.rounds:
+        values, end = self.layout.values(head[0], datagram)
+        if not 1 <= values["round"] <= self.session.rounds:
             return None
-        return self.release(*head, datagram) if head[0] in (MANIFEST, BLOCK, EVICT) else self.message(*head, datagram)
+        call = self.release if head[0] in (MANIFEST, BLOCK, EVICT) else self.message
+        return call(*head, values, datagram[end:])
 
-    def length_of(self, kind, datagram):
-        """The length that a datagram of this kind has by its counts; None where its counts aren't there, and for a kind that isn't read."""
-        if kind in (MANIFEST, EVICT) and len(datagram) >= REST_AT:
-            return REST_AT + datagram[REST_AT - 1] * (DIGEST_SIZE if kind == MANIFEST else 2) + self.signature
-        if kind == CASE and len(datagram) >= TERMS_AT:
-            push, _, updates, junk = datagram[TERMS_AT - 4 : TERMS_AT]
-            return TERMS_AT + self.terms_sizes[push > 0] + BLOCK_SIZE * updates + JUNK_SIZE * junk + self.signature
-        return self.lengths.get(kind)
-
-    def release(self, kind, sender, receiver, datagram):
+    def release(self, kind, sender, receiver, values, rest):
         """A datagram of the broadcaster."""
-        number, count, rest = number_at(datagram, ROUND_AT), datagram[REST_AT - 1], datagram[REST_AT:]
         if sender != 0 or (kind != BLOCK and receiver != EVERYONE):
             return None
+        number = values["round"]
         if kind == BLOCK:
-            # the number in place of a count is the update's index
-            return Block(receiver, Update(number, count), rest)
+            return Block(receiver, Update(number, values["index"]), values["block"])
         if kind == EVICT:
-            return Evict(number, struct.unpack_from(f">{count}H", rest))
-        return Manifest(number, {Update(number, at): rest[DIGEST_SIZE * at : DIGEST_SIZE * (at + 1)] for at in range(count)})
+            return Evict(number, struct.unpack_from(f">{values['count']}H", rest))
+        digests = (rest[DIGEST_SIZE * at : DIGEST_SIZE * (at + 1)] for at in range(values["count"]))
+        return Manifest(number, {Update(number, at): digest for at, digest in enumerate(digests)})
 
-    def message(self, kind, sender, receiver, datagram):
+    def message(self, kind, sender, receiver, values, rest):
         """A datagram of an exchange."""
-        push, by_initiator = FIRST_MESSAGES.get(kind) or (datagram[20], 1 - datagram[21])
-        peers = range(1, self.session.peers + 1)
-        if sender == receiver or sender not in peers or receiver not in peers or push > 1 or by_initiator < 0:
+        place = self.place(kind, sender, receiver, values)
+        if place and kind == CASE:
+            return self.case(place, values, rest)
+        return place and (Key(*place, values["key"]) if kind == KEY else Message(*place))
+
+    def place(self, kind, sender, receiver, values):
+        """The kind, the exchange and whether the initiator is the sender, of a datagram of an exchange; or None where it names none."""
+        push, by_initiator = FIRST_MESSAGES.get(kind) or (values["exchange kind"], 1 - values["role"])
+        if sender == receiver or sender not in self.peers or receiver not in self.peers or push > 1 or by_initiator < 0:
             return None
         sides = (sender, receiver) if by_initiator else (receiver, sender)
-        place = kind, Exchange(number_at(datagram, ROUND_AT), push == 1, *sides), by_initiator == 1
-        if kind == CASE:
-            return self.case(place, datagram)
-        return Key(*place, datagram[22 : 22 + SECRET_SIZE]) if kind == KEY else Message(*place)
+        return kind, Exchange(values["round"], push == 1, *sides), by_initiator == 1
 
-    def case(self, place, datagram):
+    def exchange_of(self, datagram):
+        """The exchange of a datagram, whatever it promises, or None where it's of none."""
+        head = head_of(datagram, self.session)
+        if not head or head[0] not in MESSAGES or len(datagram) != self.layout.length_of(head[0], datagram):
+            return None
+        place = self.place(*head, self.layout.values(head[0], datagram)[0])
+        return place and place[1]
+
+    def case(self, place, values, rest):
         """A CASE, or None where its counts aren't those of its promise."""
         _, exchange, by_initiator = place
-        end = TERMS_AT + self.terms_sizes[exchange.push]
-        terms = self.terms_of(exchange, datagram[TERMS_AT:end])
+        terms = self.terms_of(exchange, values)
         promise = terms.promise(by_initiator, self.session.cap)
-        if (len(promise.updates), promise.junk) != tuple(datagram[TERMS_AT - 2 : TERMS_AT]):
+        if (len(promise.updates), promise.junk) != (values["updates"], values["junk"]):
             return None
-        return Case(*place, terms, promise, datagram[end : -self.signature])
+        return Case(*place, terms, promise, rest[: -self.signature])
 
-    def terms_of(self, exchange, written):
+    def terms_of(self, exchange, values):
         """The terms of a CASE of this exchange."""
-        first, count = (0, 4) if exchange.push else (SECRET_SIZE, 2)
-        windows = [self.window_at(exchange.round, written, first + self.window * at) for at in range(count)]
-        return PushTerms(*windows, written[-1]) if exchange.push else BalancedTerms(written[:SECRET_SIZE], *windows)
+        names = ("young", "aged", "wanted", "given") if exchange.push else ("initiator's", "responder's")
+        windows = [self.updates_in(exchange.round, values[name]) for name in names]
+        return PushTerms(*windows, values["junk by terms"]) if exchange.push else BalancedTerms(values["nonce"], *windows)
 
-    def window_at(self, number, written, at):
-        """The updates of a window of this round that stands at this place."""
-        first = max(1, number - self.session.life + 1)
-        words = enumerate(struct.unpack_from(f">{self.words * self.session.life}Q", written, at))
-        places = [WORD * place + bit for place, word in words for bit in range(WORD) if word >> bit & 1]
-        return frozenset(Update(first + place // (WORD * self.words), place % (WORD * self.words)) for place in places)
+    def updates_in(self, number, window):
+        """The updates of a window of this round."""
+        first, width = max(1, number - self.session.life + 1), WORD * self.words
+        words = enumerate(struct.unpack(f">{self.words * self.session.life}Q", window))
+        places = [WORD * place + bit for place, word in words if word for bit in range(WORD) if word >> bit & 1]
+        return frozenset(Update(first + place // width, place % width) for place in places)

@@ -23,6 +23,11 @@ def round_of(tick):
     return (tick + SLOTS - 1) // SLOTS
 
 
+def first_tick(number):
+    """The first tick of a round."""
+    return SLOTS * (number - 1) + 1
+
+
 def content_size(block):
     """How many bytes are played of a block: none where its length is too large."""
     size = number_at(block, 0, 2)
@@ -31,19 +36,24 @@ def content_size(block):
 
 @dataclasses.dataclass(frozen=True)
 class Arrival:
-    """How an update came to a peer: the tick, the sender (0 is the broadcaster), and how many bytes of it are to be played."""
+    """How an update came to a peer: the tick, the sender (0 is the broadcaster), how many bytes are to be played, and by which exchange."""
 
     tick: int
     sender: int
     content: int
+    exchange: Exchange | None = None
 
 
 @dataclasses.dataclass
 class Side:
-    """A peer's side of an exchange: its own CASE and the partner's that it admitted, and the ticks of what was done about the keys."""
+    """A peer's side of an exchange: its own CASE and the partner's that it admitted, and the ticks of what was done about the keys.
+
+    `since` is the tick in which it said something first.
+    """
 
     exchange: Exchange
     asks: bool
+    since: int = 0
     answered: bool = False
     own_case: Case | None = None
     case: Case | None = None
@@ -52,8 +62,6 @@ class Side:
     paid: int | None = None
     was_paid: int | None = None
     was_cheated: int | None = None
-    # whether an auditor found the exchange unbalanced
-    is_unbalanced: bool = False
 
     @property
     def partner(self):
@@ -95,8 +103,9 @@ class Account:
         self.session, self.party, self.log = session, party, log
         self.reader = Reader(session)
         self.manifests = {manifest for _, manifest in manifests_of(log.findings.get("table", b""))}
-        # the digests of updates, when an eviction was announced last, the sides of exchanges as they were entered, and how updates came
-        self.digests, self.evicted, self.sides, self.held = {}, {}, {}, {}
+        # the digests of updates; of the evicted the round of the first notice and the tick of the last; the sides of exchanges as they were
+        # entered; and how updates came first: those that are held, and those that came behind their deadline
+        self.digests, self.notices, self.evicted, self.sides, self.held, self.late = {}, {}, {}, {}, {}, {}
         self.read_sent()
         self.read_taken()
 
@@ -105,7 +114,7 @@ class Account:
         for tick, datagram in self.log.sent:
             message = self.reader.read(datagram)
             if message:
-                self.sides.setdefault(message.exchange, Side(message.exchange, message.by_initiator)).say(tick, message)
+                self.sides.setdefault(message.exchange, Side(message.exchange, message.by_initiator, tick)).say(tick, message)
 
     def read_taken(self):
         """Notes what the peer took and admitted."""
@@ -115,6 +124,7 @@ class Account:
                     self.digests |= manifest.digests
                 case Evict() as notice:
                     self.evicted |= dict.fromkeys(notice.parties, tick)
+                    self.notices = dict.fromkeys(notice.parties, notice.round) | self.notices
                 case Block(receiver=self.party) as sent:
                     self.hear_block(tick, sent)
                 case Message(receiver=self.party) as message if message.exchange in self.sides:
@@ -131,7 +141,7 @@ class Account:
     def hear_block(self, tick, sent):
         """Notes a BLOCK that has the digest that the table says."""
         if hashlib.sha256(sent.block).digest() == self.digests.get(sent.update):
-            self.hold(tick, 0, sent.update, sent.block)
+            self.hold(sent.update, Arrival(tick, 0, content_size(sent.block)))
 
     def hear(self, tick, message, side):
         """Notes a datagram of the partner."""
@@ -150,12 +160,12 @@ class Account:
             return
         side.was_paid = tick
         for update, block in blocks.items():
-            self.hold(tick, side.partner, update, block)
+            self.hold(update, Arrival(tick, side.partner, content_size(block), side.exchange))
 
-    def hold(self, tick, sender, update, block):
-        """Notes that an update came, where it's alive. What comes first counts."""
-        if self.is_alive(update.round, tick):
-            self.held.setdefault(update, Arrival(tick, sender, content_size(block)))
+    def hold(self, update, arrival):
+        """Notes that an update came: whether it's alive, and what comes first counts."""
+        into = self.held if self.is_alive(update.round, arrival.tick) else self.late
+        into.setdefault(update, arrival)
 
     @functools.cached_property
     def played(self):

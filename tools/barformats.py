@@ -390,6 +390,20 @@ def manifests_of(table):
         at = end
 
 
+def parts_of(evidence):
+    """The datagrams of an evidence file."""
+    parts, at = [], 1
+    for number in range(1, evidence[0] + 1 if evidence else 1):
+        size = int.from_bytes(evidence[at : at + 2], "big")
+        parts.append(evidence[at + 2 : at + 2 + size])
+        if len(evidence) < at + 2 + size:
+            raise Malformed(f"the evidence is cut in its datagram {number}")
+        at += 2 + size
+    if not parts or at != len(evidence):
+        raise Malformed("the evidence has no datagram" if not parts else f"bytes follow the evidence at {at}")
+    return parts
+
+
 def finding_of(name):
     """The party whose finding has this name, and what it is: `table`, or the number of the accused. None where it is no finding's name."""
     told = re.fullmatch(r"party\.(\d+)\.(table|\d+)", name)

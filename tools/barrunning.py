@@ -5,10 +5,12 @@ What can't be run is refused.
 import re
 import subprocess
 
+import barpicture
 import bartimeline
 from baraudits import audit_of
 from barcauses import causes_of
 from barformats import Malformed, Session
+from bargathering import gathered
 from barprogram import await_end, lines_of, running, status_of
 from barreplays import between_peers, differences, replays_of
 from barscript import Refusal, counted, failed, listed, refuse, say, told_of, well
@@ -121,40 +123,44 @@ def run_parties(folder, program, begin):
 
 
 def compare(folder, session, program, parties):
-    """Replays these peers and prints how many agree with the run. Returns their logs, and what differs."""
+    """Replays these peers and prints how many agree with the run. Returns their logs, why others have none, and what differs, by party."""
     logs, refused = replays_of(folder, program, parties)
-    differ = [*refused.items(), *differences(folder, session, logs)]
+    differ = [*differences(folder, session, logs)]
     sent, taken = between_peers(session, logs)
-    agree = len(parties) - len({party for party, _ in differ})
-    say(f"{'all' if not differ else f'{agree} of'} {len(parties)} replays agree; peers sent each other {sent} datagrams and took {taken}")
-    return logs, [f"party {party}: {told}" for party, told in differ]
+    agree = len(parties) - len({*refused, *(party for party, _ in differ)})
+    said = f"{'all' if agree == len(parties) else f'{agree} of'} {len(parties)} replays agree"
+    say(f"{said}; peers sent each other {sent} datagrams and took {taken}")
+    return logs, refused, differ
 
 
-def draw(folder, session, logs, audit, picture):
-    """Draws a session as its page, and where a picture is named, in this file too. Returns what fails, and what is said of the page."""
-    drawn = {folder.page: bartimeline.page} | ({picture: bartimeline.picture} if picture else {})
+def draw(folder, run, picture):
+    """Writes what a run was as data and as its page, and where a picture is named, that too. Returns what fails, and what is said of it."""
+    drawn = {folder.data: run.to_json, folder.page: lambda: bartimeline.page(run)}
+    drawn |= {picture: lambda: barpicture.picture(run)} if picture else {}
     for path, draw_in in drawn.items():
         try:
-            path.write_text(draw_in(session, logs, audit))
+            path.write_text(draw_in())
         except OSError as error:
             return [f"{path} can't be written: {error.strerror}"], f"{path.name} isn't whole"
     return [], f"page {folder.page}"
 
 
-def compare_and_draw(folder, session, program, audit, picture):
-    """Replays each peer that left a recording and draws the session with its audit.
+def compare_and_draw(folder, session, program, audit, picture, statuses=None):
+    """Replays each peer that left a recording, gathers what the run was and draws it, with its audit.
 
     Returns what differs or fails, and what is said of the page.
     """
     parties = [party for party in session.parties[:-1] if folder.recording(party).exists()]
     try:
-        logs, differ = compare(folder, session, program, parties) if parties else ({}, [])
+        logs, refused, differ = compare(folder, session, program, parties) if parties else ({}, {}, [])
+        run = gathered(folder, session, program, logs, audit, refused=refused, differ=differ, statuses=statuses) if logs else None
     except OSError as error:
         return [f"the recordings can't be replayed: {told_of(error)}"], "there is no page"
-    if not logs:
-        return differ, "there is no page, since nobody left a recording that is replayed"
-    unwritten, page = draw(folder, session, logs, audit, picture)
-    return [*differ, *unwritten], page
+    causes = [f"party {party}: {told}" for party, told in [*refused.items(), *differ]]
+    if not run:
+        return causes, "there is no page, since nobody left a recording that is replayed"
+    unwritten, page = draw(folder, run, picture)
+    return [*causes, *unwritten], page
 
 
 def lost_lines(drops):
@@ -177,7 +183,7 @@ def run_session(folder, session, program, kill=None, picture=None):
     causes = [*causes_of(folder, session, statuses, status, kill)]
     audit = audit_of(folder, session, program)
     say(audit.line)
-    differ, page = compare_and_draw(folder, session, program, audit, picture)
+    differ, page = compare_and_draw(folder, session, program, audit, picture, statuses)
     for line in lost_lines(watch.drops):
         say(line)
     if causes or audit.failures or differ:

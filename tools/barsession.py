@@ -7,7 +7,8 @@ A session's folder has these files:
   party.P.played, party.P.recording, party.P.table, party.P.Q
                     what party P played, what it took, the manifests that it knew, and its evidence against party Q
   network.json      what a network did that loses, repeats or delays, and who lied, where the session was disturbed
-  timeline.html     the session as a page
+  session.json      what the run was, as data
+  timeline.html     the run as a page
 """
 import collections
 import pathlib
@@ -33,6 +34,7 @@ class Folder:
         self.path = pathlib.Path(path).resolve()
         self.session = self.path / "session.toml"
         self.stream = self.path / "stream"
+        self.data = self.path / "session.json"
         self.page = self.path / "timeline.html"
         self.network = self.path / "network.json"
         self.keys = self.path / "key"

@@ -1,425 +1,325 @@
-"""Draws a session as one page that needs nothing else: an inline drawing with rounds across and a row for each peer, and a table.
+"""Draws a run as one page that needs nothing else: an overview of all peers, and the exchanges of one peer when it is chosen.
 
-All that it shows is taken from the peers' recordings and what their replays print, play and find, as barexchanges tells it. An exchange
-that an audit of the recordings found unbalanced has a red frame.
+All of it is the run's data. Figures and tables are in the page as they stand; the script in tools/page draws the overview and a peer's
+exchanges, of the same data in a closer form.
 """
-import dataclasses
+import collections
 import html
+import json
+import pathlib
 
-from bardatagrams import Case, Exchange, Promise, Update
-from barexchanges import Account, Side
-from barformats import CASE, CONTENT, SLOTS
-from barscript import counted
+from bardata import BALANCED_WAY, BLOCK_WAY, PUSH_WAY, TrafficRow, columns_of
+from barpicture import FONT, tag
+from barscript import counted, listed
 
-# ---- elements
+PARTS = pathlib.Path(__file__).resolve().parent / "page"
 
+# up to how many peers all are shown at once
+SMALL = 6
 
-def tag(name, *inside, **attributes):
-    """An element. An underscore in an attribute's name stands for a dash, but at its end."""
-    said = "".join(f' {key.rstrip("_").replace("_", "-")}="{value}"' for key, value in attributes.items())
-    return f"<{name}{said}>{''.join(inside)}</{name}>"
+# how many pairs of parties with the most losses are told
+WORST = 8
 
-
-def text(x, y, said, class_):
-    return tag("text", said, x=f"{x:.1f}", y=f"{y:.1f}", class_=class_)
-
-
-def box(x, y, width, height, class_, told="", corner=0):
-    """A rectangle, with words that show where one points at it."""
-    title = tag("title", told) if told else ""
-    return tag("rect", title, x=f"{x:.1f}", y=f"{y:.1f}", width=f"{width:.1f}", height=height, rx=corner, class_=class_)
-
-
-def line(x1, y1, x2, y2, class_="rule"):
-    return tag("line", x1=f"{x1:.1f}", y1=y1, x2=f"{x2:.1f}", y2=y2, class_=class_)
-
-
-def arrow(x, y, up):
-    """A small triangle, whose middle is at x and whose upper edge is at y."""
-    points = (x - 4, y + 4.5, x + 4, y + 4.5, x, y) if up else (x - 4, y, x + 4, y, x, y + 4.5)
-    return tag("path", d="M{:.1f} {:.1f}L{:.1f} {:.1f}L{:.1f} {:.1f}Z".format(*points), class_="key")
-
-
-def items(promise):
-    """How many updates and junk items are promised, in words."""
-    words = [counted(len(promise.updates), "update") if promise.updates else "", counted(promise.junk, "junk item") if promise.junk else ""]
-    return " and ".join(word for word in words if word)
-
-
-def told_of(side):
-    """What one side of an exchange came to, in words."""
-    number, push, _, _ = side.exchange
-    way = {(0, 1): "asks", (0, 0): "is asked by", (1, 1): "offers to", (1, 0): "is offered by"}[push, side.asks]
-    end = "nothing came of it" if not side.asks else "nothing to trade" if side.answered else "no answer"
-    told = [f"{way} peer {side.partner}", f"promises {items(side.gives)}" if side.gives else end]
-    if side.gets:
-        told.append(f"is promised {items(side.gets)}")
-    keys = (side.paid, "gave its key"), (side.was_paid, "was given the key"), (side.was_cheated, "was given a wrong key")
-    told += [f"{said} at tick {tick}" for tick, said in keys if tick is not None]
-    told += ["unbalanced by the audit"] if side.is_unbalanced else []
-    return f"round {number}: " + ", ".join(told)
-
-
-def token(x, y, side):
-    """The sign of one side of an exchange, between its two arrows."""
-    middle = x + TOKEN / 2
-    sign = box(x + 0.5, y + 6.5, TOKEN - 1, 13, "sign", corner=3.5)
-    inside = [tag("title", told_of(side)), sign, text(middle, y + 16.5, str(side.partner), "partner")]
-    if side.paid is not None:
-        inside.append(arrow(middle, y, True))
-    if side.was_paid is not None:
-        inside.append(arrow(middle, y + 21.5, False))
-    classes = ["push" if side.exchange.push else "balanced", "asks" if side.asks else "asked", "traded" if side.gives else "idle"]
-    classes += ["unbalanced"] if side.is_unbalanced else []
-    return tag("g", *inside, class_=" ".join(classes))
-
-
-# ---- the drawing
-
-WIDTH, LABELS, TOTALS = 1160, 84, 76
-MOST_COLUMNS = 17
-HEAD, CASTER, LANE = 26, 34, 86
-TOKEN = 16
-# where the signs stand in a column: the exchange that a peer starts, and the two in which it answers
-SEATS = (2.5, 21.5, 39.5)
-STRIP = 55
-# how many marks stand in a row at most
-MOST_MARKS = 32
-
-
-@dataclasses.dataclass
-class Chart:
-    """What all drawings of a session share: the session, its updates, the stream's length, and the rounds of one drawing."""
-
-    session: object
-    released: set
-    length: int
-    rounds: range
-
-    @property
-    def column(self):
-        return (WIDTH - LABELS - TOTALS) / min(MOST_COLUMNS, self.session.ends)
-
-    @property
-    def right(self):
-        return LABELS + self.column * len(self.rounds)
-
-    def columns(self):
-        """Each round with the left edge of what is drawn in its column."""
-        pad = (self.column - STRIP - 4) / 2
-        return [(number, LABELS + self.column * at + pad) for at, number in enumerate(self.rounds)]
-
-    def updates(self, number):
-        """The updates of a round."""
-        return [Update(number, index) for index in range(self.session.per_round) if (number, index) in self.released]
-
-    def part(self, account):
-        """Which part of the stream a peer played."""
-        return f"{len(account.log.played) / self.length:.1%}" if self.length else "–"
-
-
-def marks(x, y, classes):
-    """A row of marks, one an update, each with its class and its words; where they are many, rows of low marks about the same middle."""
-    rows = -(-len(classes) // MOST_MARKS) or 1
-    columns = max(8, -(-len(classes) // rows))
-    step, (pitch, gap, corner) = STRIP / columns, (10, 1, 1) if rows == 1 else (3.6, 0.6, 0)
-    top, size = y + 4.5 - (rows * pitch - gap) / 2, (max(step - gap, 0.8), pitch - gap)
-    places = [(x + 2 + at % columns * step, top + at // columns * pitch) for at in range(len(classes))]
-    boxes = [box(*place, *size, class_, told, corner) for place, (class_, told) in zip(places, classes)]
-    return boxes if rows == 1 else [tag("g", *boxes, stroke_width=0.4)]
-
-
-def mark_of(account, update):
-    """The class and words of an update that a peer has played or not."""
-    name, arrival = f"update {update.index + 1} of round {update.round}", account.held.get(update)
-    if update not in account.played:
-        return "missed", f"{name}: {'has nothing to play' if arrival else 'not played'}"
-    if update in account.straight:
-        return "straight", f"{name}: played, came from the broadcaster at tick {arrival.tick}"
-    return "traded", f"{name}: played, came by a trade with peer {arrival.sender} at tick {arrival.tick}"
-
-
-def tokens(account, number, x, y):
-    """The signs of the exchanges of a round: a line for the balanced ones, and one for the pushes."""
-    for push in (False, True):
-        sides = [side for side in account.sides_by_round.get(number, []) if side.exchange.push == push]
-        own, others = [side for side in sides if side.asks], [side for side in sides if not side.asks]
-        places = [*zip(SEATS, own[:1]), *zip(SEATS[1:], others)]
-        yield from (token(x + place, y + 6 + 29 * push, side) for place, side in places)
-
-
-def alarm(number, x, y):
-    """The sign of evidence that is sent to the broadcaster."""
-    told = tag("title", f"round {number}: sends evidence to the broadcaster")
-    return tag("g", told, tag("circle", cx=f"{x:.1f}", cy=y, r=6), text(x, y + 3.5, "!", "partner"), class_="alarm")
-
-
-def cell(chart, account, number, x, y):
-    """One peer's round."""
-    parts = list(tokens(account, number, x, y))
-    if account.log.ticks > SLOTS * (number - 1):
-        parts += marks(x, y + 69, [mark_of(account, update) for update in chart.updates(number - chart.session.life)])
-    if number in account.accusing_rounds:
-        parts.append(alarm(number, x + STRIP + 3, y + 60))
-    return parts
-
-
-def stopped(chart, account, y):
-    """A veil over the rounds that a peer didn't run through."""
-    start = max(LABELS, LABELS + chart.column * (account.log.ticks / SLOTS - chart.rounds[0] + 1))
-    if start > chart.right - 0.1:
-        return []
-    told = f"stopped after tick {account.log.ticks}"
-    veil = box(start, y + 1, chart.right - start, LANE - 1, "gone", told)
-    return [veil, text((start + chart.right) / 2, y + 47, told, "label middle")] if chart.right - start > 110 else [veil]
-
-
-def lane(chart, account, y):
-    """One peer's row."""
-    lines = ((22, "asks", "label blue"), (51, "offers", "label amber"), (77, "plays", "label"))
-    labels = [text(LABELS - 10, y + at, said, class_) for at, said, class_ in lines]
-    totals = [text(WIDTH - 4, y + 40, chart.part(account), "total"), text(WIDTH - 4, y + 56, "played", "label")]
-    cells = [part for number, x in chart.columns() for part in cell(chart, account, number, x, y)]
-    return [*stopped(chart, account, y), line(0, y, WIDTH, y), text(10, y + 48, str(account.party), "name"), *labels, *cells, *totals]
-
-
-def caster_lane(chart, accounts, y):
-    """The broadcaster's row: how many peers took each update from it."""
-    parts = [line(0, y, WIDTH, y), text(10, y + 21, "broadcaster", "label left")]
-    for number, x in chart.columns():
-        heard = [sum(update in account.straight for account in accounts) for update in chart.updates(number)]
-        told = [(it, f"update {at} of round {number}: {counted(it, 'peer')} took it from here") for at, it in enumerate(heard, 1)]
-        parts += marks(x, y + 13, [("straight" if it else "missed", said) for it, said in told])
-    return parts
-
-
-def panel(chart, accounts):
-    """A drawing of so many rounds as stand beside each other."""
-    height = HEAD + CASTER + LANE * len(accounts)
-    edges = [LABELS + chart.column * at for at in range(len(chart.rounds) + 1)]
-    last = chart.session.rounds
-    numbers = [text(x + 2 + STRIP / 2, 17, str(it), "round" if it <= last else "round late") for it, x in chart.columns()]
-    parts = [*(line(x, HEAD, x, height, "faint") for x in edges), text(10, 17, "round", "label left"), *numbers]
-    parts += caster_lane(chart, accounts, HEAD)
-    for at, account in enumerate(accounts):
-        parts += lane(chart, account, HEAD + CASTER + LANE * at)
-    parts.append(line(0, height - 0.5, WIDTH, height - 0.5))
-    told = f"what each peer did in rounds {chart.rounds[0]} to {chart.rounds[-1]}"
-    return tag("svg", *parts, viewBox=f"0 0 {WIDTH} {height}", role="img", aria_label=told)
-
-
-# ---- the page
-
-FONT = 'Inter, system-ui, -apple-system, "Segoe UI", "Helvetica Neue", Arial, sans-serif'
-
-# what a drawing needs, on the page and by itself
-DRAWING_STYLE = """
-:root { color-scheme: light; --ink: #1d2733; --soft: #64717f; --rule: #d8dee5; --faint: #edf0f3; --grey: #8593a1;
-  --blue: #2b67a8; --amber: #b96d12; --green: #23845f; --alarm: #b23434 }
-svg { background: #fff } svg text { font: 11px FONT; fill: var(--ink) }
-svg .rule { stroke: var(--rule) } svg .faint { stroke: var(--faint) }
-svg .label { fill: var(--soft); text-anchor: end } svg .left { text-anchor: start } svg .middle { text-anchor: middle }
-svg .blue { fill: var(--blue) } svg .amber { fill: var(--amber) }
-svg .round { text-anchor: middle; font-weight: 600 } svg .late { fill: var(--soft); font-weight: 400 }
-svg .name { font-size: 19px; font-weight: 620 } svg .total { font-size: 15px; font-weight: 620; text-anchor: end }
-svg .partner { text-anchor: middle; font-size: 10.5px; font-weight: 620 }
-.balanced { --own: var(--blue) } .push { --own: var(--amber) } .alarm { fill: var(--alarm) } .key { fill: var(--ink) }
-.sign { stroke: var(--own); stroke-width: 1.2 } .asks .sign { fill: var(--own) } .asked .sign { fill: #fff }
-svg .asks .partner, svg .alarm .partner { fill: #fff } svg .asked .partner { fill: var(--own) }
-.idle { opacity: .32 } .unbalanced .sign { stroke: var(--alarm); stroke-width: 3 } .unbalanced { opacity: 1 }
-rect.straight { fill: var(--grey) } rect.traded { fill: var(--green) } rect.missed { fill: #fff; stroke: var(--rule) }
-rect.gone { fill: #f2f4f6; opacity: .85 }
-""".replace("FONT", FONT)
-
-PAGE_STYLE = """
-* { box-sizing: border-box }
-body { margin: 0; background: #fff; color: var(--ink); font: 15px/1.5 FONT; font-variant-numeric: tabular-nums }
-main { max-width: 1200px; margin: 0 auto; padding: 32px 20px 48px }
-h1 { font-size: 25px; line-height: 1.25; font-weight: 650; letter-spacing: -.01em; margin: 0 0 4px }
-h2 { font-size: 15px; font-weight: 650; margin: 30px 0 6px }
-p { margin: 0 0 8px }
-.soft { color: var(--soft) }
-.figures { display: flex; flex-wrap: wrap; gap: 8px 48px; margin: 18px 0 20px }
-.figures div { max-width: 210px }
-.figures b { display: block; font-size: 23px; font-weight: 620; line-height: 1.2 }
-.figures span { display: block; font-size: 13px; line-height: 1.35; color: var(--soft) }
-.legend { margin: 0 0 14px; padding: 8px 0; border: solid var(--rule); border-width: 1px 0; font-size: 13px }
-.legend div { display: flex; flex-wrap: wrap; gap: 2px 30px }
-.legend div + div { margin-top: 6px }
-.legend span { display: inline-flex; align-items: center; gap: 7px }
-.reading { display: grid; grid-template-columns: repeat(auto-fit, minmax(300px, 1fr)); gap: 0 36px; font-size: 14px }
-figure { margin: 0 0 18px; overflow-x: auto }
-svg { display: block }
-figure svg { width: 100%; min-width: 1080px }
-table { border-collapse: collapse; font-size: 14px; width: 100% }
-th, td { text-align: right; padding: 5px 10px; border-bottom: 1px solid var(--faint) }
-th { font-weight: 500; color: var(--soft); border-color: var(--rule); vertical-align: bottom }
-th:first-child, td:first-child { text-align: left; padding-left: 0 }
-""".replace("FONT", FONT)
+WAYS = {BLOCK_WAY: "b", BALANCED_WAY: "x", PUSH_WAY: "p"}
 
 READING = (
-    """Each row is a peer, and each column a round. A coloured sign is a peer’s side of an exchange, and the number in it is the partner.
-Blue are the balanced exchanges, one update for one; amber are the pushes, in which fresh updates are offered for old ones or for junk. A
-full sign, the first on its line, is the exchange that the peer started; behind it stand those in which it answered.""",
+    """The overview has a row for each peer and a column for each round, and above it the part of the updates due in a round that all peers
+together played, by the way in which these came. Move over it, or go to it by Tab and then by the arrow keys, to read a cell in words; a
+click or Enter opens that peer’s exchanges, whose rounds the arrow keys walk through too. A red dot is the first notice of an eviction.""",
+    """Of one peer, a coloured sign is its side of an exchange, and the number in it is the partner. Blue are the balanced exchanges, one
+update for one; amber are the pushes, in which fresh updates are offered for old ones or for junk. A full sign, the first on its line, is
+the exchange that the peer started; behind it stand those in which it answered.""",
     """Both partners first send what they promise in sealed briefcases, and then the keys to these: giving the key is paying. The arrow
 above a sign says that this peer paid, and the arrow below it that it was paid, by a key that opens what was promised. A pale sign came to
 nothing: one of the two lacked nothing that the other had, the offer was not wanted, or no answer came.""",
-    """The marks at the foot of a row are the updates that are played in this round, in order, and in several lines where they are many; an
-update is played {life} rounds after its own. A mark is grey where the update came from the broadcaster, which sends each to {fanout}, and
-green where it came by a trade; of both ways the first counts. Point at a sign or a mark to read what it says.""",
+    """The marks at the foot of a round are the updates that are played in it, in order, and in several lines where they are many; an update
+is played {life} rounds after its own. A mark is grey where the update came from the broadcaster, which sends each to {fanout}, and green
+where it came by a trade; of both ways the first counts.""",
 )
 
 
-def icon(width, *parts):
-    return tag("svg", *parts, width=width, height=26, viewBox=f"0 0 {width} 26")
+def part_of(part, whole, format_=".1%"):
+    return f"{part / whole:{format_}}" if whole else "–"
 
 
-def example(push, asks, traded=True, **more):
-    """A sign for the legend."""
-    exchange = Exchange(1, push, *((1, 3) if asks else (3, 1)))
-    case = Case(CASE, exchange, asks, None, Promise((Update(1, 0),), 0), b"") if traded else None
-    return icon(TOKEN, token(0, 0, Side(exchange, asks, own_case=case, **more)))
+def table(names, lines, label, text=()):
+    """A table that can be moved sideways where it is wide. The columns with these numbers have words."""
+    classes = [{"class_": "text"} if at in text else {} for at in range(len(names))]
+    head = tag("tr", *(tag("th", name, scope="col", **more) for name, more in zip(names, classes)))
+    rows = [tag("tr", *(tag("td", cell_of(it), **more) for it, more in zip(line, classes))) for line in lines]
+    return tag("div", tag("table", tag("thead", head), tag("tbody", *rows)), class_="wide", tabindex="0", role="region", aria_label=label)
 
 
-def example_mark(class_):
-    return icon(8, box(0.5, 8.5, 7, 9, class_, corner=1))
+def cell_of(value):
+    return f"{value:,}" if isinstance(value, int) else html.escape(str(value))
 
 
-def legend():
-    """Two lines of signs with their meanings."""
-    exchanges = [
-        (example(False, True), "asks peer 3 for a balanced exchange"),
-        (example(False, False), "is asked by peer 3"),
-        (example(True, True), "offers updates to peer 3"),
-        (example(True, False), "is offered some by peer 3"),
-        (example(False, True, traded=False), "came to nothing"),
-    ]
-    rest = [
-        (example(False, True, paid=1), "paid: gave its key"),
-        (example(False, True, was_paid=1), "was paid: was given the key"),
-        (example_mark("straight"), "played, came from the broadcaster"),
-        (example_mark("traded"), "played, came by a trade"),
-        (example_mark("missed"), "not played"),
-    ]
-    lines = [tag("div", *(tag("span", drawn, said) for drawn, said in entries)) for entries in (exchanges, rest)]
-    return tag("div", *lines, class_="legend")
+# ---- the data of the page
 
 
-def figures(chart, accounts):
-    """The session in a few numbers."""
-    sides = [side for account in accounts for side in account.sides.values()]
-    started = [side for side in sides if side.asks]
-    done = [side for side in started if side.paid is not None and side.was_paid is not None]
-    played, traded = sum(len(account.played) for account in accounts), sum(len(account.played - account.straight) for account in accounts)
-    ended = [account for account in accounts if account.log.ticks >= SLOTS * chart.session.ends] or accounts
-    parts = [len(account.log.played) / chart.length if chart.length else 0 for account in ended]
-    whose = "on average" if len(ended) == len(accounts) else "on average by those that ran to the end"
-    told = [
-        (f"{sum(parts) / len(parts):.1%}", f"of the stream was played, {whose}; at least {min(parts):.1%}"),
-        (f"{traded / max(played, 1):.1%}", "of the updates that were played came by trades"),
-        (f"{len(done)} of {len(started)}", "exchanges ended with both keys given"),
-        (str(sum(side.paid is not None for side in sides)), "keys were given"),
-    ]
-    shown = [tag("div", tag("b", number), tag("span", said)) for number, said in told]
-    return tag("div", *shown, class_="figures")
+def ways_of(arrivals, releases):
+    """A letter for each update: how it came. One that wasn't played has a capital letter, one that came too late an l, any other a dot."""
+    for release in releases:
+        row = arrivals.get((release.round, release.index))
+        letter = WAYS[row.way] if row and row.in_time else "l" if row else "."
+        yield letter.upper() if row and row.in_time and not row.played else letter
 
 
-def totals(chart, account):
-    """A peer's line of the table, by the names of its columns."""
-    sides, log = account.sides.values(), account.log
-    return {
-        "peer": account.party,
-        "bytes played": len(log.played),
-        "part of the stream": chart.part(account),
-        "blocks taken from the broadcaster": len(account.straight),
-        "updates played that came from the broadcaster": len(account.played & account.straight),
-        "updates played that came by trades": len(account.played - account.straight),
-        "exchanges started": sum(side.asks for side in sides),
-        "exchanges answered": sum(not side.asks for side in sides),
-        "keys given": sum(side.paid is not None for side in sides),
-        "keys got that open well": sum(side.was_paid is not None for side in sides),
-        "datagrams sent": len(log.sent),
-        "bytes sent": sum(len(datagram) for _, datagram in log.sent),
-        "datagrams taken": len(log.taken),
-        "bytes taken": sum(len(datagram) for _, datagram in log.taken),
+def side_of(side, is_unbalanced):
+    """A side of an exchange in ten numbers."""
+    flags = (side.kind == "push") + 2 * side.asks + 4 * side.answered + 8 * is_unbalanced
+    promises = len(side.gives), side.gives_junk, len(side.gets), side.gets_junk
+    return [side.round, flags, side.partner, *promises, side.key_given or 0, side.key_got or 0, side.wrong_key or 0]
+
+
+def closer(run, peer, rows, unbalanced):
+    """What the page's script takes of a peer, of its rows of each table and the exchanges that are unbalanced."""
+    names = "peer", "lies", "ticks", "bytes_played", "started", "answered", "traded"
+    told = {name: getattr(peer, name) for name in names}
+    if peer.refused:
+        return told
+    arrivals = {(row.round, row.index): row for row in rows["updates"][peer.peer]}
+    came = [arrivals.get((release.round, release.index)) for release in run.releases]
+    fields = "due", "played", "came", "started", "answered", "traded", "lost", "accuses"
+    return told | {
+        "rounds": [int(getattr(row, field)) for row in rows["rounds"][peer.peer] for field in fields],
+        "ways": "".join(ways_of(arrivals, run.releases)),
+        "comes": [row.tick if row else 0 for row in came],
+        "senders": [row.sender if row else 0 for row in came],
+        "sides": [side_of(side, side.exchange in unbalanced) for side in rows["sides"][peer.peer]],
     }
 
 
-def table(chart, accounts):
-    """Each peer's totals."""
-    lines = [totals(chart, account) for account in accounts]
-    told = [[f"{it:,}" if isinstance(it, int) else it for it in line.values()] for line in lines]
-    return tag("table", tag("tr", *(tag("th", name) for name in lines[0])), *(tag("tr", *(tag("td", it) for it in line)) for line in told))
+def data_of(run):
+    """What the page's script takes."""
+    rows = {name: collections.defaultdict(list) for name in ("rounds", "updates", "sides")}
+    for name, by_peer in rows.items():
+        for row in getattr(run, name):
+            by_peer[row.peer].append(row)
+    unbalanced = {(row.round, row.kind, row.initiator, row.responder) for row in run.exchanges if row.audit == "unbalanced"}
+    return {
+        "session": run.session,
+        "stream": run.stream,
+        "small": len(run.peers) <= SMALL,
+        "transcripts": bool(run.replays["replayed"]),
+        "evictions": {row.party: row.round for row in run.evictions if row.round},
+        "releases": [[row.round, row.index, row.straight] for row in run.releases],
+        "peers": [closer(run, peer, rows, unbalanced) for peer in run.peers],
+    }
+
+
+# ---- what stands in the page
+
+
+def subtitle(run):
+    """The session's numbers, in words."""
+    numbers = run.session
+    told = [counted(numbers["peers"], "peer"), counted(numbers["rounds"], "round")]
+    told += [f"{counted(numbers['per_round'], 'update')} a round, each to {counted(numbers['fanout'], 'peer')}"]
+    told += [f"an update lives {numbers['life']} rounds", f"an exchange trades at most {numbers['cap']}", f"a tick has {numbers['tick_ms']} ms"]
+    signed = f"signatures of two levels, top {numbers['top']}" if numbers.get("top") else f"LMS type {numbers['lms']}"
+    told += [f"version {numbers['version']}", f"{signed}, LM-OTS type {numbers['ots']}", f"id {numbers['id']}"]
+    return html.escape(" · ".join(told))
+
+
+def figures(run):
+    """The run in a few numbers."""
+    replayed = [peer for peer in run.peers if not peer.refused]
+    ended = [peer for peer in replayed if peer.ticks >= run.session["ticks"]] or replayed
+    parts = [peer.bytes_played / run.stream if run.stream else 0 for peer in ended]
+    whose = "on average" if len(ended) == len(run.peers) else "on average by those that ran to the end"
+    played, traded = sum(peer.played for peer in replayed), sum(peer.played_by_balanced + peer.played_by_push for peer in replayed)
+    sent, lost = losses_of(run)
+    told = [(f"{sum(parts) / len(parts):.1%}", f"of the stream was played, {whose}; at least {min(parts):.1%}")] if parts else []
+    told += [
+        (part_of(traded, played), "of the updates that were played came by trades"),
+        (f"{sum(row.complete for row in run.exchanges):,} of {len(run.exchanges):,}", "exchanges ended with both keys given"),
+        (part_of(lost, sent, ".2%"), f"of the datagrams to peers were lost: {lost:,} of {sent:,}"),
+        (f"{len(run.evictions):,}", f"evicted; {counted(max((peer.gap for peer in ended), default=0), 'round')} in a row not wholly played at most"),
+    ]
+    return tag("div", *(tag("div", tag("b", number), tag("span", said)) for number, said in told), class_="figures")
+
+
+def kinds_of(run):
+    """By kind what was sent and taken, and again, what of it was lost, came more often and wasn't sent."""
+    kinds = collections.defaultdict(collections.Counter)
+    for row in run.traffic:
+        kinds[row.kind].update({name: getattr(row, name) for name in columns_of(TrafficRow)[2:]})
+    for row in run.losses:
+        kinds[row.kind].update({name: getattr(row, name) for name in ("copies", "unsent")})
+    return dict(sorted(kinds.items()))
+
+
+def losses_of(run):
+    """Of how many datagrams it's known whether they were taken, and how many of them were lost."""
+    return sum(row.known for row in run.traffic), sum(row.lost for row in run.traffic)
+
+
+def losses(run):
+    """The datagrams by kind, and the pairs of parties between which most were lost."""
+    names = ["kind", "sent", "again", "bytes", "taken", "again", "bytes", "lost", "share lost", "came more often", "not sent"]
+    columns = "sent", "sent_again", "bytes_sent", "taken", "taken_again", "bytes_taken", "lost"
+    lines = [[kind, *(it[name] for name in columns), part_of(it["lost"], it["known"], ".2%"), it["copies"], it["unsent"]] for kind, it in kinds_of(run).items()]
+    pairs = collections.Counter()
+    for row in run.losses:
+        pairs[row.sender, row.receiver] += row.lost
+    worst = [f"{sender} to {receiver}: {count:,}" for (sender, receiver), count in pairs.most_common(WORST) if count]
+    told = "What was sent and not taken is lost, with what came behind a peer’s end. " + (f"Most between: {'; '.join(worst)}." if worst else "Nothing was lost.")
+    told += "" if run.casts else " What the broadcaster sent isn’t known, so its losses aren’t counted."
+    return [tag("h2", "Datagrams and losses"), tag("p", told, class_="soft"), table(names, lines, "datagrams by kind")]
 
 
 def audited(audit):
-    """A line on what an auditor found, where there was one."""
-    if audit.refused:
-        return f"The recordings weren’t audited: {audit.refused}."
-    told = f"An auditor, who has the public keys alone, read the {counted(audit.recordings, 'recording')}"
-    if audit.named:
-        number, push, initiator, responder = audit.named
-        which = f"the {'push' if push else 'balanced exchange'} of round {number} that peer {initiator} started with peer {responder}"
-        return f"{told} and found {which} unbalanced: {audit.cause}. A red frame stands around the signs of exchanges that are unbalanced."
+    """What an auditor found."""
+    if audit["refused"]:
+        return f"The recordings weren’t audited: {audit['refused']}."
+    told = f"An auditor, who has the public keys alone, read the {counted(audit['recordings'], 'recording')}"
+    if audit["named"]:
+        number, kind, initiator, responder = audit["named"]
+        which = f"the {'push' if kind == 'push' else 'balanced exchange'} of round {number} that peer {initiator} started with peer {responder}"
+        return f"{told} and found {which} unbalanced: {audit['cause']}. A red frame stands around the signs of exchanges that are unbalanced."
+    count = audit["exchanges"]
     balanced = "each peer that gave its key holds its partner’s briefcase, by which both promise equally many items"
-    return f"{told} and found {audit.balanced} balanced: {balanced}." if audit.entries else f"{told} and found no exchange."
+    found = f"all {counted(count, 'exchange')}" if count != 1 else "the one exchange"
+    return f"{told} and found {found} balanced: {balanced}." if count else f"{told} and found no exchange."
 
 
-def notes(accounts, audit):
-    """A line on the audit, if there was one, and one on the evidence that is kept, if there is any."""
-    lines = [tag("p", html.escape(audited(audit)))] if audit else []
-    return lines + kept(accounts)
+def notes(run):
+    """Lines on the audit, on replays, and on peers that stand out."""
+    lines = [(audited(run.audit), bool(run.audit["named"]))] if run.audit else []
+    agree = f"{run.replays['agree']} of {counted(run.replays['replayed'], 'replay')} agree with what the peers left."
+    lines.append((agree, run.replays["agree"] < run.replays["replayed"]))
+    lines += [(f"Peer {peer.peer} has no row, since {peer.refused}.", True) for peer in run.peers if peer.refused]
+    lines += [(f"Peer {peer.peer}: {listed(peer.differs)}.", True) for peer in run.peers if peer.differs]
+    lines += [(f"{listed(f'peer {peer.peer}' for peer in run.peers if peer.lies)} lied on purpose.".capitalize(), True)] if any(peer.lies for peer in run.peers) else []
+    return [tag("p", html.escape(said), class_="warn") if warns else tag("p", html.escape(said)) for said, warns in lines]
 
 
-def kept(accounts):
-    """A line on the evidence that is kept."""
-    found = [(int(accused), account.party) for account in accounts for accused in account.log.findings if accused != "table"]
-    said = [f"peer {accused} by peer {party}" for accused, party in sorted(found)]
-    told = f"Evidence is kept against {', '.join(said)}. A red mark stands where it was sent to the broadcaster."
-    return [tag("p", told)] if said else []
+def evidence(run):
+    """Who was evicted, and the evidence that is kept."""
+    parts = []
+    if run.evictions:
+        lines = [[row.party, row.fault or "–", row.round or "–", row.told] for row in run.evictions]
+        parts += [tag("h2", "Evictions"), table(["peer", "fault", "first notice in round", "peers that took a notice"], lines, "evictions")]
+    if run.evidence:
+        lines = [
+            [row.accused, "the broadcaster" if row.keeper == 0 else f"peer {row.keeper}", row.fault or row.verdict or "–", " and ".join(row.datagrams), exchange_in_words(row)]
+            for row in sorted(run.evidence, key=lambda row: (row.accused, row.keeper))
+        ]
+        names = ["against peer", "kept by", "fault by the judge", "its datagrams", "of"]
+        parts += [tag("h2", "Evidence"), table(names, lines, "evidence", text=(1, 2, 3, 4))]
+    return parts
 
 
-def subtitle(session):
-    """The session's numbers, in words."""
-    told = [counted(session.peers, "peer"), counted(session.rounds, "round")]
-    told += [f"{counted(session.per_round, 'update')} a round, each to {counted(session.fanout, 'peer')}"]
-    told += [f"an update lives {session.life} rounds", f"an exchange trades at most {session.cap}", f"a tick has {session.tick_ms} ms"]
-    return html.escape(" · ".join([*told, f"id {session.id}"]))
+def exchange_in_words(row):
+    if row.round is None:
+        return "–"
+    return f"round {row.round}, {row.kind}, started by peer {row.initiator} with peer {row.responder}"
 
 
-def charts_of(session, accounts):
-    """The drawings of a session, each of as many rounds as stand beside each other."""
-    released = set().union(*(account.digests for account in accounts))
-    contents = {update: arrival.content for account in accounts for update, arrival in account.held.items()}
-    length = sum(contents.get(update, CONTENT) for update in released)
-    firsts = range(1, session.ends + 1, MOST_COLUMNS)
-    return [Chart(session, released, length, range(first, min(first + MOST_COLUMNS, session.ends + 1))) for first in firsts]
+PEER_COLUMNS = {
+    "peer": "peer",
+    "bytes played": "bytes_played",
+    "part of the stream": None,
+    "longest gap in rounds": "gap",
+    "blocks first from the broadcaster": "blocks",
+    "played, from the broadcaster": "played_by_block",
+    "played, by balanced exchanges": "played_by_balanced",
+    "played, by pushes": "played_by_push",
+    "came too late": "late",
+    "exchanges started": "started",
+    "answered": "answered",
+    "with both keys": "traded",
+    "keys given": "keys_given",
+    "keys got that open well": "keys_got",
+    "datagrams sent": "sent",
+    "bytes sent": "bytes_sent",
+    "datagrams taken": "taken",
+    "bytes taken": "bytes_taken",
+    "lost on the way to it": "lost",
+}
 
 
-def accounts_of(session, logs, audit):
-    """The accounts of the peers; an audit marks the exchanges that aren't balanced."""
-    accounts = [Account(session, party, log) for party, log in sorted(logs.items())]
-    for account in accounts:
-        for exchange in account.sides.keys() & (audit.unbalanced if audit else ()):
-            account.sides[exchange].is_unbalanced = True
-    return accounts
+def peers_table(run):
+    """Each peer's totals."""
+    lines = [[getattr(peer, name) if name else part_of(peer.bytes_played, run.stream) for name in PEER_COLUMNS.values()] for peer in run.peers if not peer.refused]
+    return table(list(PEER_COLUMNS), lines, "totals of each peer")
 
 
-def picture(session, logs, audit=None):
-    """The drawing of a session's first rounds by itself, as an SVG file."""
-    accounts = accounts_of(session, logs, audit)
-    drawn = panel(charts_of(session, accounts)[0], accounts)
-    return drawn.replace("<svg", '<svg xmlns="http://www.w3.org/2000/svg"', 1).replace(">", f">{tag('style', DRAWING_STYLE)}", 1) + "\n"
+def icon(width, *parts):
+    return tag("svg", *parts, width=width, height=26, aria_hidden="true")
 
 
-def page(session, logs, audit=None):
-    """The page of a session, by the logs of its peers and what an audit of their recordings found, if there was one."""
-    accounts = accounts_of(session, logs, audit)
-    charts = charts_of(session, accounts)
-    parts = [tag("h1", "A session, as its peers recorded it"), tag("p", subtitle(session), class_="soft")]
-    parts += [figures(charts[0], accounts), legend(), *(tag("figure", panel(chart, accounts)) for chart in charts), *notes(accounts, audit)]
-    reading = [tag("p", said.format(life=session.life, fanout=counted(session.fanout, "peer"))) for said in READING]
-    parts += [tag("h2", "How to read it"), tag("div", *reading, class_="reading"), tag("h2", "Each peer"), table(charts[0], accounts)]
-    head = f'<meta charset="utf-8"><meta name="viewport" content="width=device-width"><title>Session {html.escape(session.id)}</title>'
-    head += tag("style", DRAWING_STYLE, PAGE_STYLE)
-    return f'<!doctype html>\n<html lang="en"><head>{head}</head>\n<body>{tag("main", *parts)}</body></html>\n'
+def sign(push, asks, traded=True, paid=False, was_paid=False):
+    """A sign for the legend."""
+    parts = [tag("rect", class_="sign", x=0.5, y=6.5, width=15, height=13, rx=3.5), tag("text", "3", class_="partner", x=8, y=16.5)]
+    parts += [tag("path", class_="key", d="M4 4.5L12 4.5L8 0Z")] if paid else []
+    parts += [tag("path", class_="key", d="M4 21.5L12 21.5L8 26Z")] if was_paid else []
+    classes = "push" if push else "balanced", "asks" if asks else "asked", "traded" if traded else "idle"
+    return icon(16, tag("g", *parts, class_=" ".join(classes)))
+
+
+def mark(class_):
+    return icon(9, tag("rect", class_=class_, x=0.5, y=8.5, width=8, height=9))
+
+
+def legend(*entries):
+    return tag("div", *(tag("span", drawn, said) for drawn, said in entries), class_="legend")
+
+
+def radio(value, said):
+    """A choice of what the overview shows, of which the first is chosen."""
+    chosen = ' checked="checked"' if value == "played" else ""
+    return f'<label><input type="radio" name="measure" value="{value}"{chosen}/>{said}</label>'
+
+
+def overview():
+    """The overview, which the script draws."""
+    ways = legend(
+        (mark("straight"), "played, came from the broadcaster"),
+        (mark("traded"), "by balanced exchanges"),
+        (mark("pushed"), "by pushes"),
+        (mark("field"), "due and not played"),
+        (mark("gone"), "stopped"),
+    )
+    shown = [("played", "what it played of what was due"), ("traded", "its exchanges with both keys"), ("lost", "datagrams to it that were lost")]
+    controls = tag("div", f'<fieldset><legend class="soft">A row shows</legend>{"".join(radio(*it) for it in shown)}</fieldset>', class_="controls")
+    grid = tag("div", id="grid", tabindex="0", role="application", aria_label="overview of peers by rounds", aria_describedby="cell")
+    cell = tag("p", "Go to the overview and use the arrow keys, or point at it; Enter opens a peer.", id="cell", aria_live="polite", class_="soft")
+    script = tag("noscript", tag("p", "The overview and the peers’ exchanges are drawn by a script in this page.", class_="warn"))
+    return [tag("h2", "All peers by rounds"), ways, controls, script, grid, cell]
+
+
+def one_peer(run):
+    """The place of one peer's exchanges, with what chooses it."""
+    options = ['<option value="all">all</option>'] if len(run.peers) <= SMALL else ['<option value="" selected="selected">none</option>']
+    options += [f'<option value="{peer.peer}">{peer.peer}</option>' for peer in run.peers if not peer.refused]
+    choice = f'<label>peer <select id="peer">{"".join(options)}</select></label>'
+    signs = legend(
+        (sign(False, True), "asks peer 3 for a balanced exchange"),
+        (sign(False, False), "is asked by peer 3"),
+        (sign(True, True), "offers updates to peer 3"),
+        (sign(True, False), "is offered some by peer 3"),
+        (sign(False, True, traded=False), "came to nothing"),
+        (sign(False, True, paid=True), "paid: gave its key"),
+        (sign(False, True, was_paid=True), "was paid: was given the key"),
+        (mark("straight"), "played, came from the broadcaster"),
+        (mark("traded"), "played, came by a trade"),
+        (mark("missed"), "not played"),
+    )
+    return [tag("h2", "One peer’s exchanges"), tag("div", choice, class_="controls"), signs, tag("div", id="lanes")]
+
+
+def page(run):
+    """The page of a run."""
+    style, script = ((PARTS / name).read_text() for name in ("page.css", "page.js"))
+    parts = [tag("h1", "A session, as its peers recorded it"), tag("p", subtitle(run), class_="soft"), figures(run), *notes(run)]
+    life, fanout = run.session["life"], counted(run.session["fanout"], "peer")
+    reading = [tag("p", said.format(life=life, fanout=fanout)) for said in READING]
+    parts += [*overview(), *one_peer(run), *evidence(run), *losses(run), tag("h2", "Each peer"), peers_table(run)]
+    parts += [tag("h2", "How to read it"), tag("div", *reading, class_="reading")]
+    head = '<meta charset="utf-8"><meta name="viewport" content="width=device-width, initial-scale=1">'
+    head += f"<title>Session {html.escape(run.session['id'])}</title>{tag('style', style.replace('FONT', FONT))}"
+    data = json.dumps(data_of(run), separators=(",", ":")).replace("<", "\\u003c")
+    scripts = f'<script type="application/json" id="run">{data}</script>\n<script>\n{script}</script>'
+    return f'<!doctype html>\n<html lang="en"><head>{head}</head>\n<body>{tag("main", *parts)}\n{scripts}</body></html>\n'

@@ -7,8 +7,9 @@ sys.path.insert(0, str(pathlib.Path(__file__).resolve().parent.parent))
 
 import made_sessions as made
 from barbriefcases import keystream, opened
-from bardatagrams import BalancedTerms, Exchange, Promise, PushTerms, Reader, Update, signature_size
+from bardatagrams import BalancedTerms, Exchange, Promise, PushTerms, Reader, Update
 from barformats import KEY, KEYREQ, QUERY, REPLY, REQUEST, RESPONSE
+from bargrammar import signature_size
 from made_sessions import LONG, PLAIN, SESSION, WIDE, WIDE_PLAIN, Trade
 
 BALANCED = Trade.balanced(Exchange(4, False, 2, 3), [[Update(2, 0), Update(3, 1)], [Update(4, 3)]], [[Update(4, 3)], [Update(2, 0)]])
@@ -102,17 +103,17 @@ class Versions(unittest.TestCase):
     def test_windows_of_both_widths(self):
         for session, words in ((SESSION, 1), (WIDE, 2)):
             reader, size = Reader(session), 8 * words * session.life
-            self.assertEqual(reader.window, size)
+            self.assertEqual(reader.layout.window, size)
             for place in range(64 * words * session.life):
                 word, bit = divmod(place, 64)
                 written = bytes(8 * word) + (1 << bit).to_bytes(8, "big") + bytes(size - 8 * word - 8)
                 update = Update(4 + place // (64 * words), place % (64 * words))
-                self.assertEqual(reader.window_at(6, b"before" + written, 6), {update})
+                self.assertEqual(reader.updates_in(6, written), {update})
 
     def test_the_window_of_an_early_round_begins_with_round_1(self):
         for session, words in ((SESSION, 1), (WIDE, 2)):
             written = bytes(8 * words - 1) + b"\1" + bytes(8 * words * (session.life - 1))
-            self.assertEqual(Reader(session).window_at(2, written, 0), {Update(1, 64 * words - 64)})
+            self.assertEqual(Reader(session).updates_in(2, written), {Update(1, 64 * words - 64)})
 
     def test_terms_and_promises_of_indices_above_63(self):
         cases = [Reader(WIDE).read(trade.case(side)) for trade in (WIDE_BALANCED, WIDE_PUSH) for side in (True, False)]

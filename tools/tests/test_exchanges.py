@@ -108,7 +108,7 @@ class Exchanges(unittest.TestCase):
         diary = diary_with(FIRST)
         diary.trade(BALANCED, 9, key_tick=11)
         account = account_of(diary)
-        self.assertEqual(account.held, {FIRST: Arrival(2, 0, 2), SECOND: Arrival(11, PARTNER, 2)})
+        self.assertEqual(account.held, {FIRST: Arrival(2, 0, 2), SECOND: Arrival(11, PARTNER, 2, BALANCED.exchange)})
         (side,) = account.sides.values()
         self.assertEqual((side.asks, side.partner, side.answered, side.paid, side.was_paid), (True, PARTNER, True, None, 11))
         self.assertEqual((side.gives.updates, side.gets.updates), ((FIRST,), (SECOND,)))
@@ -117,7 +117,7 @@ class Exchanges(unittest.TestCase):
         trade = Trade.balanced(Exchange(2, False, PARTNER, ME), [[SECOND, THIRD, FOURTH], [FIRST]], [[FIRST], [SECOND]])
         diary = diary_with(FIRST)
         diary.trade(trade, 9, key_tick=9)
-        self.assertEqual(account_of(diary).held, {FIRST: Arrival(2, 0, 2), SECOND: Arrival(9, PARTNER, 2)})
+        self.assertEqual(account_of(diary).held, {FIRST: Arrival(2, 0, 2), SECOND: Arrival(9, PARTNER, 2, trade.exchange)})
 
     def test_no_more_than_the_cap_is_traded(self):
         theirs = [Update(2, 0), FOURTH, THIRD, SECOND]
@@ -157,7 +157,7 @@ class Exchanges(unittest.TestCase):
         diary = diary_with(FIRST)
         diary.trade(BALANCED, 9, key_tick=9)
         diary.take(made.block(ME, SECOND))
-        self.assertEqual(account_of(diary).held[SECOND], Arrival(9, PARTNER, 2))
+        self.assertEqual(account_of(diary).held[SECOND], Arrival(9, PARTNER, 2, BALANCED.exchange))
         diary = diary_with(FIRST)
         diary.trade(BALANCED, 9, key_tick=10, keys=[made.block(ME, SECOND), BALANCED.key(False)])
         account = account_of(diary)
@@ -274,7 +274,7 @@ class Pushes(unittest.TestCase):
         diary = diary_of_round_3(*FRESH)
         diary.trade(PUSH_OUT, 18, key_tick=19)
         account = account_of(diary)
-        self.assertEqual(account.held, dict.fromkeys(FRESH, Arrival(17, 0, 2)) | {THIRD: Arrival(19, PARTNER, 2)})
+        self.assertEqual(account.held, dict.fromkeys(FRESH, Arrival(17, 0, 2)) | {THIRD: Arrival(19, PARTNER, 2, PUSH_OUT.exchange)})
         (side,) = account.sides.values()
         self.assertEqual((side.asks, side.gives, side.gets), (True, (tuple(FRESH), 0), ((THIRD,), 1)))
 
@@ -282,7 +282,7 @@ class Pushes(unittest.TestCase):
         diary = diary_of_round_3()
         diary.trade(PUSH_IN, 18, key_tick=19)
         account = account_of(diary)
-        self.assertEqual(account.held, {FRESH[0]: Arrival(19, PARTNER, 2)})
+        self.assertEqual(account.held, {FRESH[0]: Arrival(19, PARTNER, 2, PUSH_IN.exchange)})
         (side,) = account.sides.values()
         self.assertEqual((side.asks, side.gives, side.gets), (False, ((), 1), ((FRESH[0],), 0)))
 
@@ -318,7 +318,8 @@ class Wide(unittest.TestCase):
         diary = self.diary(*self.OURS)
         diary.trade(trade, 9, key_tick=11)
         account = self.account_of(diary)
-        self.assertEqual(account.held, dict.fromkeys(self.OURS, Arrival(2, 0, 2)) | dict.fromkeys(self.THEIRS, Arrival(11, PARTNER, 2)))
+        traded = dict.fromkeys(self.THEIRS, Arrival(11, PARTNER, 2, trade.exchange))
+        self.assertEqual(account.held, dict.fromkeys(self.OURS, Arrival(2, 0, 2)) | traded)
         (side,) = account.sides.values()
         self.assertEqual((side.gives.updates, side.gets.updates), (tuple(self.OURS), tuple(self.THEIRS)))
         diary.until(first_tick(5))
@@ -348,7 +349,8 @@ class Long(unittest.TestCase):
         diary.take_manifest(1)
         diary.take(made.block(ME, FIRST, session=LONG))
         diary.trade(trade, 9, key_tick=11)
-        self.assertEqual(Account(LONG, ME, diary.log()).held, {FIRST: Arrival(1, 0, 2), SECOND: Arrival(11, PARTNER, 2)})
+        held = {FIRST: Arrival(1, 0, 2), SECOND: Arrival(11, PARTNER, 2, trade.exchange)}
+        self.assertEqual(Account(LONG, ME, diary.log()).held, held)
         self.assertEqual(Account(SESSION, ME, diary.log()).held, {})
 
 

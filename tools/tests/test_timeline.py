@@ -6,10 +6,12 @@ import xml.etree.ElementTree
 
 sys.path.insert(0, str(pathlib.Path(__file__).resolve().parent.parent))
 
+import barpicture
 import bartimeline
 import made_sessions as made
 from bardatagrams import Exchange, Update
 from barformats import EVIDENCE, SLOTS
+from bargathering import run_of
 from made_sessions import PLAIN, SESSION, WIDE, WIDE_PLAIN, ZEROS, Diary, Trade, first_tick
 
 ME, PARTNER = 1, 2
@@ -21,21 +23,28 @@ LAST_TICK = SLOTS * SESSION.ends
 
 
 class Page:
-    """What a page shows of a session with one peer or more."""
+    """What the picture and the page show of a session with one peer or more."""
 
     def __init__(self, logs, session=SESSION, audit=None):
-        page = bartimeline.page(session, logs, audit)
-        self.body = xml.etree.ElementTree.fromstring(page[page.index("<body>") : page.index("</html>")])
-        drawn = [*self.body.iter("figure")]
-        self.titles = [(it.get("class"), it.findtext("title")) for part in drawn for it in part.iter() if it.find("title") is not None]
+        run = run_of(session, logs, audit)
+        self.drawn = xml.etree.ElementTree.fromstring(barpicture.picture(run).replace(' xmlns="http://www.w3.org/2000/svg"', ""))
+        self.titles = [(it.get("class"), it.findtext("title")) for it in self.drawn.iter() if it.find("title") is not None]
         self.marks = [it for it in self.titles if it[1].startswith("update") and "took" not in it[1]]
-        names, *lines = [[cell.text for cell in row] for row in self.body.iter("tr")]
-        self.table = [dict(zip(names, line)) for line in lines]
+        page = bartimeline.page(run)
+        self.body = xml.etree.ElementTree.fromstring(page[page.index("<main>") : page.index("</main>")] + "</main>")
+        self.tables = {it.get("aria-label"): rows_of(it) for it in self.body.iter("div") if it.get("role") == "region"}
+        self.table = self.tables["totals of each peer"]
         self.figures = [" ".join(it.itertext()) for it in self.body.findall(".//div[@class='figures']/div")]
 
     def words(self, class_):
         """The words of the marks or signs of this class."""
         return [told for its, told in self.titles if its == class_]
+
+
+def rows_of(part):
+    """The lines of a table, by the names of its columns."""
+    names, *lines = [[cell.text for cell in row] for row in part.iter("tr")]
+    return [dict(zip(names, line)) for line in lines]
 
 
 def diary_of(party, *updates, blocks=PLAIN):
@@ -64,7 +73,7 @@ class Marks(unittest.TestCase):
         self.assertEqual(page.marks[4:], [("missed", f"update {at} of round 2: not played") for at in range(1, 5)])
 
     def test_what_came_both_ways_counts_by_what_came_first(self):
-        names = ["blocks taken from the broadcaster", "updates played that came from the broadcaster", "updates played that came by trades"]
+        names = ["blocks first from the broadcaster", "played, from the broadcaster", "played, by balanced exchanges"]
         ways = [TRADE.key(False), made.block(ME, SECOND)]
         for keys, class_, counts in ((ways, "traded", ["2", "2", "1"]), (ways[::-1], "straight", ["3", "3", "0"])):
             diary = diary_of(ME, FIRST, FOURTH)
@@ -78,7 +87,7 @@ class Marks(unittest.TestCase):
         page = page_of(diary_of(ME, FIRST, SECOND, blocks=blocks), played=bytes(2))
         self.assertEqual(page.marks[0], ("missed", "update 1 of round 1: has nothing to play"))
         self.assertEqual(page.marks[1], ("straight", "update 2 of round 1: played, came from the broadcaster at tick 2"))
-        self.assertEqual(page.table[0]["blocks taken from the broadcaster"], "2")
+        self.assertEqual(page.table[0]["blocks first from the broadcaster"], "2")
 
     def test_a_peer_that_stopped_has_marks_up_to_its_last_round(self):
         diary = diary_of(ME, FIRST)
@@ -97,19 +106,19 @@ class Marks(unittest.TestCase):
         page = Page({ME: diary.log(played=bytes(64 * 2))}, WIDE)
         self.assertEqual([class_ for class_, _ in page.marks], ["missed"] * 64 + ["straight"] * 64)
         self.assertEqual(page.marks[127][1], "update 128 of round 1: played, came from the broadcaster at tick 1")
-        self.assertEqual(page.table[0]["updates played that came from the broadcaster"], "64")
+        self.assertEqual(page.table[0]["played, from the broadcaster"], "64")
         self.check_places(page)
 
     def check_places(self, page):
         """The marks of a peer stand in rows of 32, none over another, within the strip of their round and the peer's row."""
         told = {told for _, told in page.marks}
-        boxes = [it for it in page.body.iter("rect") if it.findtext("title") in told]
+        boxes = [it for it in page.drawn.iter("rect") if it.findtext("title") in told]
         places = [[float(it.get(name)) for name in ("x", "y", "width", "height")] for it in boxes]
         self.assertEqual(sorted({y for _, y, _, _ in places}), [y for _, y, _, _ in places[::32]])
         for (x, y, width, height), (next_x, next_y, *_) in zip(places, places[1:]):
             self.assertTrue(x + width < next_x if y == next_y else y + height < next_y and next_x == places[0][0])
-        self.assertLess(max(x + width for x, _, width, _ in places), places[0][0] + bartimeline.STRIP)
-        self.assertLess(max(y + height for _, y, _, height in places), bartimeline.HEAD + bartimeline.CASTER + bartimeline.LANE)
+        self.assertLess(max(x + width for x, _, width, _ in places), places[0][0] + barpicture.STRIP)
+        self.assertLess(max(y + height for _, y, _, height in places), barpicture.HEAD + barpicture.CASTER + barpicture.LANE)
 
 
 class Signs(unittest.TestCase):
@@ -142,7 +151,10 @@ class Signs(unittest.TestCase):
         self.assertEqual(page.marks[1], ("missed", "update 2 of round 1: not played"))
         self.assertEqual(page.table[0]["keys got that open well"], "0")
         self.assertEqual(page.words("alarm"), ["round 2: sends evidence to the broadcaster"])
-        self.assertIn("Evidence is kept against peer 2 by peer 1.", "".join(page.body.itertext()))
+        (line,) = page.tables["evidence"]
+        told = {"against peer": "2", "kept by": "peer 1", "its datagrams": "CASE and KEY"}
+        self.assertEqual({name: line[name] for name in told}, told)
+        self.assertEqual(line["of"], "round 2, balanced, started by peer 1 with peer 2")
 
     def test_exchanges_that_came_to_nothing(self):
         push = Trade.push(Exchange(2, True, ME, 3), [[], [], [], []], 0)
@@ -182,9 +194,9 @@ class Sessions(unittest.TestCase):
         counts = ["1 peer", "1 peer", "1 peer", "2 peers", "0 peers", "0 peers", "0 peers", "0 peers"]
         self.assertEqual([told.split(": ")[1] for told in took], [f"{count} took it from here" for count in counts])
         self.assertEqual([line["peer"] for line in page.table], ["1", "2"])
-        self.assertEqual([line["updates played that came from the broadcaster"] for line in page.table], ["2", "3"])
-        self.assertEqual([line["updates played that came by trades"] for line in page.table], ["1", "1"])
-        self.assertEqual([line["exchanges started"] + line["exchanges answered"] for line in page.table], ["10", "01"])
+        self.assertEqual([line["played, from the broadcaster"] for line in page.table], ["2", "3"])
+        self.assertEqual([line["played, by balanced exchanges"] for line in page.table], ["1", "1"])
+        self.assertEqual([line["exchanges started"] + line["answered"] for line in page.table], ["10", "01"])
         self.assertEqual([line["keys given"] + line["keys got that open well"] for line in page.table], ["11", "11"])
         self.assertIn("28.6% of the updates that were played came by trades", page.figures)
         # four updates of two bytes, and four that nobody held, which count as full
@@ -199,7 +211,7 @@ class Sessions(unittest.TestCase):
     def test_evidence_stands_in_the_order_of_parties(self):
         diary = diary_of(ME)
         page = Page({ME: diary.log(evidence={"10": b"", "2": b""})}, dataclasses.replace(SESSION, peers=12))
-        self.assertIn("against peer 2 by peer 1, peer 10 by peer 1.", "".join(page.body.itertext()))
+        self.assertEqual([(line["against peer"], line["kept by"]) for line in page.tables["evidence"]], [("2", "peer 1"), ("10", "peer 1")])
 
     def test_the_table_counts_datagrams(self):
         diary = diary_of(ME, FIRST)
@@ -208,14 +220,3 @@ class Sessions(unittest.TestCase):
         sent, taken = len(TRADE.request()), 2 * len(made.manifest(1)) + len(made.block(ME, FIRST))
         self.assertEqual([line["datagrams sent"], line["bytes sent"]], ["1", f"{sent:,}"])
         self.assertEqual([line["datagrams taken"], line["bytes taken"]], ["3", f"{taken:,}"])
-
-
-class Picture(unittest.TestCase):
-    def test_it_is_the_drawing_of_the_page_by_itself(self):
-        diary = diary_of(ME, FIRST)
-        diary.until(LAST_TICK)
-        logs = {ME: diary.log(played=bytes(1022))}
-        drawn = xml.etree.ElementTree.fromstring(bartimeline.picture(SESSION, logs))
-        self.assertEqual(drawn.tag, "{http://www.w3.org/2000/svg}svg")
-        titles = [it.text for it in drawn.iter("{http://www.w3.org/2000/svg}title")]
-        self.assertEqual(titles, [told for _, told in Page(logs).titles])

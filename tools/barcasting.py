@@ -1,0 +1,87 @@
+"""What the broadcaster of a session sent, as far as its files tell: its rules, its key, its stream and the manifests that it signed.
+
+Nobody records what it sent. It sends each manifest twice, each block twice to each peer of its fan-out, and a notice of those that it
+evicted in each round in which there are some, to peers that aren't evicted. A peer was evicted in the round before the first notice of it,
+so what was sent to it behind the first tick of that round isn't known.
+"""
+import dataclasses
+import hashlib
+import struct
+import tomllib
+
+from bardatagrams import Evict, Manifest, Reader
+from barexchanges import first_tick
+from barformats import BLOCK, CONTENT, MAGIC, manifests_of
+
+# the slots in which manifests and blocks are sent
+MANIFEST_SLOTS, BLOCK_SLOTS = (0, 4), (1, 5)
+
+
+def fan_out(session, secret, update):
+    """The peers to which an update is sent: those with the least hashes."""
+
+    def rank(peer):
+        return hashlib.sha256(b"FAN1" + bytes.fromhex(session.id) + struct.pack(">IBH", *update, peer) + secret).digest(), peer
+
+    return sorted(range(1, session.peers + 1), key=rank)[: session.fanout]
+
+
+def block_datagram(session, update, receiver, content):
+    """The BLOCK of an update with this content."""
+    head = MAGIC + bytes([session.version, BLOCK]) + bytes.fromhex(session.id) + struct.pack(">HHIB", 0, receiver, *update)
+    return head + len(content).to_bytes(2, "big") + content.ljust(CONTENT, b"\0")
+
+
+@dataclasses.dataclass(frozen=True)
+class Casts:
+    """What the broadcaster sent, each with its tick and receiver, and the rounds in which it isn't known what it sent to a peer."""
+
+    session: object
+    sent: list
+    unsure: dict
+
+    def is_unsure(self, flow):
+        """Whether it isn't known if equal datagrams were sent: they came from the broadcaster in the round in which it evicted the peer."""
+        number = self.unsure.get(flow.receiver)
+        return flow.sender == 0 and number is not None and any(tick >= first_tick(number) for tick in (*flow.sent, *flow.taken))
+
+
+def notices_of(session, logs, evicted):
+    """The EVICT datagrams that peers took and that name only parties that the broadcaster evicted, by round."""
+    reader, notices = Reader(session), {}
+    for datagram in {datagram for log in logs.values() for _, datagram in log.taken if datagram[3:4] == b"\x0c"}:
+        notice = reader.read(datagram)
+        if isinstance(notice, Evict) and evicted.issuperset(notice.parties):
+            notices[notice.round] = notice.parties, datagram
+    return notices
+
+
+def casts_of(session, logs, secret, stream, table, evicted):
+    """What was sent, by the broadcaster's secret, the stream, the table of its manifests and the parties that it evicted."""
+    reader, notices, sent = Reader(session), notices_of(session, logs, evicted), []
+    first = {party: min((number for number, (parties, _) in notices.items() if party in parties), default=session.rounds + 1) for party in evicted}
+    for _, datagram in manifests_of(table):
+        manifest = reader.read(datagram)
+        if not isinstance(manifest, Manifest):
+            continue
+        start = first_tick(manifest.round)
+        peers = [peer for peer in range(1, session.peers + 1) if first.get(peer, manifest.round + 1) > manifest.round]
+        sent += [(start + slot, peer, datagram) for slot in MANIFEST_SLOTS for peer in peers]
+        if manifest.round in notices:
+            sent += [(start, peer, notices[manifest.round][1]) for peer in peers]
+        for update in manifest.digests:
+            at = CONTENT * ((update.round - 1) * session.per_round + update.index)
+            for peer in set(fan_out(session, secret, update)).intersection(peers):
+                block = block_datagram(session, update, peer, stream[at : at + CONTENT])
+                sent += [(start + slot, peer, block) for slot in BLOCK_SLOTS]
+    return Casts(session, sent, {party: number - 1 for party, number in first.items()})
+
+
+def casts_in(folder, session, logs):
+    """What the broadcaster of a folder sent, or None where its key, its stream or its findings aren't there."""
+    try:
+        secret = bytes.fromhex(tomllib.loads(folder.key(0).read_text())["secret"])
+        found, stream = folder.findings()[0], folder.stream.read_bytes()
+        return casts_of(session, logs, secret, stream, found["table"], {int(name) for name in found if name != "table"})
+    except (OSError, ValueError, KeyError):
+        return None
