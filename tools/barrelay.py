@@ -4,6 +4,7 @@ Each party reads a session's text of its own, in which the port alone is another
 B + P, and sends what is for party Q to B + Q. So each party has a row of ports, one for each party: its own is in its place of the row, and
 the relay has all others, and hands on what comes to one of them to the own port of the party in whose place it stands.
 """
+import contextlib
 import dataclasses
 import heapq
 import itertools
@@ -81,9 +82,9 @@ def write_texts(folder, session, layout, room):
     return paths
 
 
-def bound(port):
-    """A socket that takes a port and doesn't wait."""
-    taken = socket.socket(socket.AF_INET, socket.SOCK_DGRAM)
+def bound(stack, port):
+    """A socket that takes a port and doesn't wait. The stack closes it."""
+    taken = stack.enter_context(socket.socket(socket.AF_INET, socket.SOCK_DGRAM))
     taken.setsockopt(socket.SOL_SOCKET, socket.SO_RCVBUF, BUFFER)
     taken.setblocking(False)
     taken.bind((LOOPBACK, port))
@@ -97,20 +98,19 @@ class Relay:
         self.layout, self.fates = layout, fates
         # what is on its way: when it is due, its number, its receiver and its bytes
         self.on_way, self.numbers = [], itertools.count()
-        self.selector = selectors.DefaultSelector()
-        try:
-            for port, pair in layout.relayed.items():
-                self.selector.register(bound(port), selectors.EVENT_READ, pair)
-            self.sender = bound(0)
-        except OSError as error:
-            self.close()
-            raise Refusal(f"the relay can't have its ports: {error.strerror}; try again") from None
+        with contextlib.ExitStack() as stack:
+            self.selector = stack.enter_context(selectors.DefaultSelector())
+            try:
+                for port, pair in layout.relayed.items():
+                    self.selector.register(bound(stack, port), selectors.EVENT_READ, pair)
+                self.sender = bound(stack, 0)
+            except OSError as error:
+                raise Refusal(f"the relay can't have its ports: {error.strerror}; try again") from None
+            self.open = stack.pop_all()
 
     def close(self):
         """Gives its ports back."""
-        for key in [*self.selector.get_map().values()]:
-            key.fileobj.close()
-        self.selector.close()
+        self.open.close()
 
     def take(self, now, pair, datagram):
         """Notes when each copy of a datagram is due that came from one party for another."""
@@ -146,12 +146,9 @@ class Relay:
                 for receiver, datagram in self.due(time.monotonic()):
                     self.send(receiver, datagram)
         finally:
-            self.sender.close()
             self.close()
 
     def send(self, receiver, datagram):
         """Sends a datagram to a party. One that the system doesn't take is lost, as any other."""
-        try:
+        with contextlib.suppress(OSError):
             self.sender.sendto(datagram, (LOOPBACK, self.layout.own(receiver)))
-        except OSError:
-            pass

@@ -101,11 +101,11 @@ def make_key(folder, program, party, session_id, numbers, secret):
     return ran.printed.decode()
 
 
-def begin_of(session, program):
+def begin_of(session, program, trees=1):
     """When a session begins that is started now, in milliseconds of Unix time: after all parties have made their keys.
 
     How long that takes is measured by the same number of keys with the smallest tree, all made at once; a tree with more leaves takes so
-    many times longer. Of a key of two levels the upper tree is made.
+    many times longer. Of a key of two levels the upper tree is made. A party may make so many trees, one behind the other.
     """
     with tempfile.TemporaryDirectory() as room:
         folder, started = Folder(room), time.monotonic()
@@ -116,7 +116,7 @@ def begin_of(session, program):
 
         spread(make, session.parties, at_once=len(session.parties))
         smallest = time.monotonic() - started
-    times_longer = LEAVES[session.top or session.lms] / LEAVES[SMALLEST]
+    times_longer = trees * LEAVES[session.top or session.lms] / LEAVES[SMALLEST]
     return round(1000 * (time.time() + 1 + 1.5 * smallest * times_longer))
 
 
