@@ -14,7 +14,7 @@ from barwatching import Watch, watched
 
 
 @dataclasses.dataclass(frozen=True)
-class Ran:
+class Ended:
     """How a run ended: the status of each party and of what ran them all, what each receive buffer lost, and what the network did."""
 
     statuses: dict
@@ -54,4 +54,4 @@ def run_parties(folder, session, program, network, kill):
         stack.enter_context(watched(watch))
         live = stack.enter_context(started(folder, session, program, begin, ways))
         statuses = {party: ran.status for party, ran in live.ends().items()}
-    return Ran(statuses, status_of_all(statuses), watch.drops, fates)
+    return Ended(statuses, status_of_all(statuses), watch.drops, fates)

@@ -11,7 +11,7 @@ import barpicture
 import bartimeline
 from baraudits import audit_of
 from barcauses import causes_of
-from bardisturbing import Ran
+from bardisturbing import Ended
 from barformats import Malformed, Session
 from bargathering import gathered
 from barprogram import await_end, lines_of, running, status_of
@@ -204,7 +204,7 @@ def run_undisturbed(folder, session, program, kill):
     watch = Watch(session, begin, party_words(folder, program, kill, begin) if kill else None)
     with watched(watch):
         statuses, status = run_parties(folder, program, begin)
-    return Ran(statuses, status, watch.drops)
+    return Ended(statuses, status, watch.drops)
 
 
 def run_disturbed(folder, session, program, network, kill):

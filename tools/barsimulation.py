@@ -13,7 +13,7 @@ import selectors
 import subprocess
 
 from barbuilds import PARTY, built
-from bardisturbing import Ran, status_of_all
+from bardisturbing import Ended, status_of_all
 from barformats import SLOTS
 from barnetwork import Fates
 from barprogram import WAIT, running, status_of
@@ -215,4 +215,4 @@ def simulate(folder, session, network, told="rounds"):
         parties.await_all(parties.by_number.values())
         Simulation(session, parties, fates).run(told)
         statuses = parties.statuses()
-    return Ran(statuses, status_of_all(statuses), fates=fates)
+    return Ended(statuses, status_of_all(statuses), fates=fates)
