@@ -59,7 +59,9 @@ def notices_of(session, logs, evicted):
 def casts_of(session, logs, secret, stream, table, evicted):
     """What was sent, by the broadcaster's secret, the stream, the table of its manifests and the parties that it evicted."""
     reader, notices, sent = Reader(session), notices_of(session, logs, evicted), []
-    first = {party: min((number for number, (parties, _) in notices.items() if party in parties), default=session.rounds + 1) for party in evicted}
+    first = dict.fromkeys(evicted, session.rounds + 1)
+    for number in sorted(notices, reverse=True):
+        first |= dict.fromkeys(notices[number][0], number)
     for _, datagram in manifests_of(table):
         manifest = reader.read(datagram)
         if not isinstance(manifest, Manifest):
@@ -77,11 +79,10 @@ def casts_of(session, logs, secret, stream, table, evicted):
     return Casts(session, sent, {party: number - 1 for party, number in first.items()})
 
 
-def casts_in(folder, session, logs):
-    """What the broadcaster of a folder sent, or None where its key, its stream or its findings aren't there."""
+def casts_in(folder, session, logs, found):
+    """What the broadcaster of a folder sent, by what it found too, or None where its key, its stream or its table isn't there."""
     try:
         secret = bytes.fromhex(tomllib.loads(folder.key(0).read_text())["secret"])
-        found, stream = folder.findings()[0], folder.stream.read_bytes()
-        return casts_of(session, logs, secret, stream, found["table"], {int(name) for name in found if name != "table"})
+        return casts_of(session, logs, secret, folder.stream.read_bytes(), found["table"], {int(name) for name in found if name != "table"})
     except (OSError, ValueError, KeyError):
         return None

@@ -5,7 +5,20 @@ It is gathered of what every run leaves, a live one and a simulated one.
 import collections
 import re
 
-from bardata import BALANCED_WAY, BLOCK_WAY, PUSH_WAY, EvictionRow, EvidenceRow, ExchangeRow, PeerRow, ReleaseRow, RoundRow, Run, SideRow, UpdateRow
+from bardata import (
+    BALANCED_WAY,
+    BLOCK_WAY,
+    PUSH_WAY,
+    EvictionRow,
+    EvidenceRow,
+    ExchangeRow,
+    PeerRow,
+    ReleaseRow,
+    RoundRow,
+    Run,
+    SideRow,
+    UpdateRow,
+)
 from bardatagrams import Reader
 from barexchanges import Account, round_of
 from barformats import CONTENT, SLOTS, Malformed, head_of, parts_of
@@ -226,4 +239,5 @@ def run_of(session, logs, audit=None, casts=None, found=None, verdicts=None, ref
 def gathered(folder, session, program, logs, audit, **known):
     """The run of a folder, with what its broadcaster sent and what the judge says of its evidence. `known` is what `run_of` takes more."""
     found = folder.findings()
-    return run_of(session, logs, audit, casts_in(folder, session, logs), found, judged(folder, program, found), **known)
+    casts = casts_in(folder, session, logs, found.get(0, {}))
+    return run_of(session, logs, audit, casts, found, judged(folder, program, found), **known)

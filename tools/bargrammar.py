@@ -199,7 +199,7 @@ class Layout:
         return {name: span.value_in(datagram) for name, span in fixed.items()}, end
 
     def spans(self, kind, datagram):
-        """All fields of a datagram of this kind in order, and its signature; a datagram of another length than its counts give is refused."""
+        """All fields of a datagram of this kind in order, and its signature. One of another length than its counts give is refused."""
         if len(datagram) != self.length_of(kind, datagram):
             raise Malformed(f"a {name_of(kind)} has another length than its counts give")
         fixed, more, at = self.places_in(kind, datagram)

@@ -47,7 +47,8 @@ def items(updates, junk):
 
 def told_of(side, is_unbalanced):
     """What one side of an exchange came to, in words."""
-    way = {("balanced", 1): "asks", ("balanced", 0): "is asked by", ("push", 1): "offers to", ("push", 0): "is offered by"}[side.kind, side.asks]
+    ways = {"balanced": ("is asked by", "asks"), "push": ("is offered by", "offers to")}
+    way = ways[side.kind][side.asks]
     end = "nothing came of it" if not side.asks else "nothing to trade" if side.answered else "no answer"
     told = [f"{way} peer {side.partner}", f"promises {items(len(side.gives), side.gives_junk)}" if side.promised else end]
     if side.received:

@@ -111,16 +111,24 @@ def require(paths, remedy):
 
 @dataclasses.dataclass(frozen=True)
 class Outcome:
-    """How a script ended: its exit status and its last lines, of which the last is the outcome. A refusal goes to standard error."""
+    """How a script ended: its exit status and its last lines, of which the last is the outcome.
+
+    They go to standard error of a refusal, and where what stands on standard output is for another program.
+    """
 
     status: int
     lines: tuple
-    is_refusal: bool = False
+    on_error: bool = False
 
 
 def well(done):
     """The outcome of a script that did this."""
     return Outcome(0, (f"OK: {done}",))
+
+
+def well_aside(done):
+    """The same, of one whose standard output is for another program."""
+    return Outcome(0, (f"OK: {done}",), True)
 
 
 def failed(*causes):
@@ -204,7 +212,7 @@ def heed_signals():
 
 def tell(outcome):
     """Prints the last lines of an outcome, and returns its exit status. Where nobody reads them, the script has failed."""
-    to = sys.stderr if outcome.is_refusal else sys.stdout
+    to = sys.stderr if outcome.on_error else sys.stdout
     try:
         print("\n".join(outcome.lines), file=to, flush=True)
         return outcome.status

@@ -25,7 +25,8 @@ WAYS = {BLOCK_WAY: "b", BALANCED_WAY: "x", PUSH_WAY: "p"}
 READING = (
     """The overview has a row for each peer and a column for each round, and above it the part of the updates due in a round that all peers
 together played, by the way in which these came. Move over it, or go to it by Tab and then by the arrow keys, to read a cell in words; a
-click or Enter opens that peer’s exchanges, whose rounds the arrow keys walk through too. A red dot is the first notice of an eviction.""",
+click or Enter opens that peer’s exchanges, whose rounds the arrow keys walk through too. A red dot is the first notice of an
+eviction.""",
     """Of one peer, a coloured sign is its side of an exchange, and the number in it is the partner. Blue are the balanced exchanges, one
 update for one; amber are the pushes, in which fresh updates are offered for old ones or for junk. A full sign, the first on its line, is
 the exchange that the peer started; behind it stand those in which it answered.""",
@@ -74,8 +75,8 @@ def side_of(side, is_unbalanced):
 
 def closer(run, peer, rows, unbalanced):
     """What the page's script takes of a peer, of its rows of each table and the exchanges that are unbalanced."""
-    names = "peer", "lies", "ticks", "bytes_played", "started", "answered", "traded"
-    told = {name: getattr(peer, name) for name in names}
+    names = "peer", "lies", "ticks", "started", "answered", "traded"
+    told = {name: getattr(peer, name) for name in names} | {"part": part_of(peer.bytes_played, run.stream)}
     if peer.refused:
         return told
     arrivals = {(row.round, row.index): row for row in rows["updates"][peer.peer]}
@@ -99,7 +100,6 @@ def data_of(run):
     unbalanced = {(row.round, row.kind, row.initiator, row.responder) for row in run.exchanges if row.audit == "unbalanced"}
     return {
         "session": run.session,
-        "stream": run.stream,
         "small": len(run.peers) <= SMALL,
         "transcripts": bool(run.replays["replayed"]),
         "evictions": {row.party: row.round for row in run.evictions if row.round},
@@ -116,7 +116,8 @@ def subtitle(run):
     numbers = run.session
     told = [counted(numbers["peers"], "peer"), counted(numbers["rounds"], "round")]
     told += [f"{counted(numbers['per_round'], 'update')} a round, each to {counted(numbers['fanout'], 'peer')}"]
-    told += [f"an update lives {numbers['life']} rounds", f"an exchange trades at most {numbers['cap']}", f"a tick has {numbers['tick_ms']} ms"]
+    told += [f"an update lives {numbers['life']} rounds", f"an exchange trades at most {numbers['cap']}"]
+    told += [f"a tick has {numbers['tick_ms']} ms"]
     signed = f"signatures of two levels, top {numbers['top']}" if numbers.get("top") else f"LMS type {numbers['lms']}"
     told += [f"version {numbers['version']}", f"{signed}, LM-OTS type {numbers['ots']}", f"id {numbers['id']}"]
     return html.escape(" · ".join(told))
@@ -131,11 +132,12 @@ def figures(run):
     played, traded = sum(peer.played for peer in replayed), sum(peer.played_by_balanced + peer.played_by_push for peer in replayed)
     sent, lost = losses_of(run)
     told = [(f"{sum(parts) / len(parts):.1%}", f"of the stream was played, {whose}; at least {min(parts):.1%}")] if parts else []
+    gap = counted(max((peer.gap for peer in ended), default=0), "round")
     told += [
         (part_of(traded, played), "of the updates that were played came by trades"),
         (f"{sum(row.complete for row in run.exchanges):,} of {len(run.exchanges):,}", "exchanges ended with both keys given"),
         (part_of(lost, sent, ".2%"), f"of the datagrams to peers were lost: {lost:,} of {sent:,}"),
-        (f"{len(run.evictions):,}", f"evicted; {counted(max((peer.gap for peer in ended), default=0), 'round')} in a row not wholly played at most"),
+        (f"{len(run.evictions):,}", f"evicted; at most {gap} in a row not wholly played"),
     ]
     return tag("div", *(tag("div", tag("b", number), tag("span", said)) for number, said in told), class_="figures")
 
@@ -159,12 +161,15 @@ def losses(run):
     """The datagrams by kind, and the pairs of parties between which most were lost."""
     names = ["kind", "sent", "again", "bytes", "taken", "again", "bytes", "lost", "share lost", "came more often", "not sent"]
     columns = "sent", "sent_again", "bytes_sent", "taken", "taken_again", "bytes_taken", "lost"
-    lines = [[kind, *(it[name] for name in columns), part_of(it["lost"], it["known"], ".2%"), it["copies"], it["unsent"]] for kind, it in kinds_of(run).items()]
+    lines = []
+    for kind, it in kinds_of(run).items():
+        lines.append([kind, *(it[name] for name in columns), part_of(it["lost"], it["known"], ".2%"), it["copies"], it["unsent"]])
     pairs = collections.Counter()
     for row in run.losses:
         pairs[row.sender, row.receiver] += row.lost
     worst = [f"{sender} to {receiver}: {count:,}" for (sender, receiver), count in pairs.most_common(WORST) if count]
-    told = "What was sent and not taken is lost, with what came behind a peer’s end. " + (f"Most between: {'; '.join(worst)}." if worst else "Nothing was lost.")
+    told = "What was sent and not taken is lost, with what came behind a peer’s end. "
+    told += f"Most from one to another: {'; '.join(worst)}." if worst else "Nothing was lost."
     told += "" if run.casts else " What the broadcaster sent isn’t known, so its losses aren’t counted."
     return [tag("h2", "Datagrams and losses"), tag("p", told, class_="soft"), table(names, lines, "datagrams by kind")]
 
@@ -176,8 +181,10 @@ def audited(audit):
     told = f"An auditor, who has the public keys alone, read the {counted(audit['recordings'], 'recording')}"
     if audit["named"]:
         number, kind, initiator, responder = audit["named"]
-        which = f"the {'push' if kind == 'push' else 'balanced exchange'} of round {number} that peer {initiator} started with peer {responder}"
-        return f"{told} and found {which} unbalanced: {audit['cause']}. A red frame stands around the signs of exchanges that are unbalanced."
+        what = "push" if kind == "push" else "balanced exchange"
+        which = f"the {what} of round {number} that peer {initiator} started with peer {responder}"
+        framed = "A red frame stands around the signs of exchanges that are unbalanced."
+        return f"{told} and found {which} unbalanced: {audit['cause']}. {framed}"
     count = audit["exchanges"]
     balanced = "each peer that gave its key holds its partner’s briefcase, by which both promise equally many items"
     found = f"all {counted(count, 'exchange')}" if count != 1 else "the one exchange"
@@ -191,7 +198,8 @@ def notes(run):
     lines.append((agree, run.replays["agree"] < run.replays["replayed"]))
     lines += [(f"Peer {peer.peer} has no row, since {peer.refused}.", True) for peer in run.peers if peer.refused]
     lines += [(f"Peer {peer.peer}: {listed(peer.differs)}.", True) for peer in run.peers if peer.differs]
-    lines += [(f"{listed(f'peer {peer.peer}' for peer in run.peers if peer.lies)} lied on purpose.".capitalize(), True)] if any(peer.lies for peer in run.peers) else []
+    liars = [f"peer {peer.peer}" for peer in run.peers if peer.lies]
+    lines += [(f"{listed(liars)} lied on purpose.".capitalize(), True)] if liars else []
     return [tag("p", html.escape(said), class_="warn") if warns else tag("p", html.escape(said)) for said, warns in lines]
 
 
@@ -202,10 +210,10 @@ def evidence(run):
         lines = [[row.party, row.fault or "–", row.round or "–", row.told] for row in run.evictions]
         parts += [tag("h2", "Evictions"), table(["peer", "fault", "first notice in round", "peers that took a notice"], lines, "evictions")]
     if run.evidence:
-        lines = [
-            [row.accused, "the broadcaster" if row.keeper == 0 else f"peer {row.keeper}", row.fault or row.verdict or "–", " and ".join(row.datagrams), exchange_in_words(row)]
-            for row in sorted(run.evidence, key=lambda row: (row.accused, row.keeper))
-        ]
+        lines = []
+        for row in sorted(run.evidence, key=lambda row: (row.accused, row.keeper)):
+            keeper = f"peer {row.keeper}" if row.keeper else "the broadcaster"
+            lines.append([row.accused, keeper, row.fault or row.verdict or "–", " and ".join(row.datagrams), exchange_in_words(row)])
         names = ["against peer", "kept by", "fault by the judge", "its datagrams", "of"]
         parts += [tag("h2", "Evidence"), table(names, lines, "evidence", text=(1, 2, 3, 4))]
     return parts
@@ -242,7 +250,10 @@ PEER_COLUMNS = {
 
 def peers_table(run):
     """Each peer's totals."""
-    lines = [[getattr(peer, name) if name else part_of(peer.bytes_played, run.stream) for name in PEER_COLUMNS.values()] for peer in run.peers if not peer.refused]
+    lines = []
+    for peer in [peer for peer in run.peers if not peer.refused]:
+        part = part_of(peer.bytes_played, run.stream)
+        lines.append([getattr(peer, name) if name else part for name in PEER_COLUMNS.values()])
     return table(list(PEER_COLUMNS), lines, "totals of each peer")
 
 
@@ -282,10 +293,12 @@ def overview():
         (mark("field"), "due and not played"),
         (mark("gone"), "stopped"),
     )
-    shown = [("played", "what it played of what was due"), ("traded", "its exchanges with both keys"), ("lost", "datagrams to it that were lost")]
-    controls = tag("div", f'<fieldset><legend class="soft">A row shows</legend>{"".join(radio(*it) for it in shown)}</fieldset>', class_="controls")
+    shown = {"played": "what it played of what was due", "traded": "its exchanges with both keys", "lost": "datagrams to it that were lost"}
+    choices = [radio(*it) for it in shown.items()]
+    controls = tag("div", tag("fieldset", tag("legend", "A row shows", class_="soft"), *choices), class_="controls")
     grid = tag("div", id="grid", tabindex="0", role="application", aria_label="overview of peers by rounds", aria_describedby="cell")
-    cell = tag("p", "Go to the overview and use the arrow keys, or point at it; Enter opens a peer.", id="cell", aria_live="polite", class_="soft")
+    told = "Go to the overview and use the arrow keys, or point at it; Enter opens a peer."
+    cell = tag("p", told, id="cell", aria_live="polite", class_="soft")
     script = tag("noscript", tag("p", "The overview and the peers’ exchanges are drawn by a script in this page.", class_="warn"))
     return [tag("h2", "All peers by rounds"), ways, controls, script, grid, cell]
 

@@ -5,7 +5,6 @@ const run = JSON.parse(document.getElementById("run").textContent), session = ru
 const SLOTS = 8, STRIP = 58, TOKEN = 16, FIELDS = 8;
 const element = id => document.getElementById(id);
 const counted = (count, word) => `${count.toLocaleString("en")} ${word}${count === 1 ? "" : "s"}`;
-const percent = (part, whole) => whole ? `${(100 * part / whole).toFixed(1)}%` : "–";
 const peers = run.peers.filter(peer => peer.rounds), byNumber = new Map(peers.map(peer => [peer.peer, peer]));
 // the places of a round's updates among all
 const starts = new Map(), counts = new Map();
@@ -77,7 +76,8 @@ function toldSide(side) {
 function marksOf(peer, number) {
   const from = number - session.life, start = starts.get(from), marks = [];
   for (let at = start; at < start + (counts.get(from) || 0); at++) {
-    const name = `update ${run.releases[at][1] + 1} of round ${from}`, way = peer.ways[at], tick = peer.comes[at], sender = peer.senders[at];
+    const name = `update ${run.releases[at][1] + 1} of round ${from}`;
+    const way = peer.ways[at], tick = peer.comes[at], sender = peer.senders[at];
     const by = sender ? `came by a ${way === "p" ? "push" : "balanced exchange"} with peer ${sender}` : "came from the broadcaster";
     if (way === ".") marks.push(["missed", `${name}: not played`]);
     else if (way === "l") marks.push(["missed", `${name}: not played, ${by} too late, at tick ${tick}`]);
@@ -153,11 +153,12 @@ function gridRow(peer, row) {
   if (row % often === 0 || row === peers.length - 1) {
     const middle = y + Math.min(place.height, 14) - 3;
     parts.push(text("label end", place.left - 6, middle, peer.peer));
-    parts.push(text("label end", place.width - 2, middle, percent(peer.bytes_played, run.stream)));
+    parts.push(text("label end", place.width - 2, middle, peer.part));
   }
   if (evicted) {
     const x = place.left + place.step * (Math.floor((evicted - 1) / place.each) + 0.5);
-    parts.push(`<circle class="alarm evicted" cx="${x.toFixed(1)}" cy="${(y + place.height / 2).toFixed(1)}" r="${Math.min(4.5, place.height / 2)}"/>`);
+    const middle = (y + place.height / 2).toFixed(1), size = Math.min(4.5, place.height / 2);
+    parts.push(`<circle class="alarm evicted" cx="${x.toFixed(1)}" cy="${middle}" r="${size}"/>`);
   }
   return parts.join("");
 }
@@ -169,7 +170,8 @@ function drawGrid() {
     .map(column => text("label middle", place.left + place.step * (column + 0.5), 64, roundsAt(column)[0]));
   const said = [text("label", 0, 64, "peer"), text("label end", place.width - 2, 64, "played")];
   element("grid").innerHTML = `<svg class="of-${measure}" width="${place.width}" height="${place.bottom}" aria-hidden="true">` +
-    columns.map(chartColumn).join("") + numbers.join("") + said.join("") + peers.map(gridRow).join("") + '<rect id="cursor" rx="1"/></svg>';
+    `<g class="chart">${columns.map(chartColumn).join("")}</g>` + numbers.join("") + said.join("") + peers.map(gridRow).join("") +
+    '<rect id="cursor" rx="1"/></svg>';
   moveTo(cursor.row, cursor.column, false);
 }
 
@@ -190,6 +192,13 @@ function cellAt(event) {
 
 const STEPS = {ArrowUp: [-1, 0], ArrowDown: [1, 0], ArrowLeft: [0, -1], ArrowRight: [0, 1], PageUp: [-10, 0], PageDown: [10, 0],
   Home: [0, -1e9], End: [0, 1e9]};
+
+function takeClick(event) {
+  const at = cellAt(event);
+  if (!at) return;
+  moveTo(...at);
+  open(peers[cursor.row].peer, roundsAt(cursor.column)[0], true);
+}
 
 function takeGridKey(event) {
   if (event.key in STEPS) {
@@ -230,19 +239,22 @@ function tokens(sides, y) {
 function drawnMarks(marks, y) {
   const rows = Math.ceil(marks.length / 32) || 1, columns = Math.max(8, Math.ceil(marks.length / rows)), step = STRIP / columns;
   const [pitch, gap] = rows === 1 ? [10, 1] : [3.6, 0.6];
-  return marks.map(([class_, told], at) =>
-    `<rect class="${class_}" x="${(3 + at % columns * step).toFixed(1)}" y="${(y + Math.floor(at / columns) * pitch).toFixed(1)}"` +
-    ` width="${Math.max(step - gap, 0.8).toFixed(1)}" height="${pitch - gap}"${rows > 1 ? ' stroke-width="0.4"' : ""}><title>${told}</title></rect>`).join("");
+  const size = `width="${Math.max(step - gap, 0.8).toFixed(1)}" height="${pitch - gap}"${rows > 1 ? ' stroke-width="0.4"' : ""}`;
+  return marks.map(([class_, told], at) => {
+    const x = 3 + at % columns * step, top = y + Math.floor(at / columns) * pitch;
+    return `<rect class="${class_}" x="${x.toFixed(1)}" y="${top.toFixed(1)}" ${size}><title>${told}</title></rect>`;
+  }).join("");
 }
 
 function roundButton(peer, number) {
   const row = roundOf(peer, number), sides = peer.byRound.get(number) || [], marks = row ? marksOf(peer, number) : [];
   const heading = text(number <= session.rounds ? "round" : "round late", 32, 11, number);
   const veil = row ? "" : `<rect class="gone" width="64" height="102"><title>stopped after tick ${peer.ticks}</title></rect>`;
-  const alarm = row && row.accuses ? `<g class="alarm"><title>round ${number}: sends evidence to the broadcaster</title><circle cx="56" cy="8" r="6"/>` +
-    text("partner", 56, 11.5, "!") + "</g>" : "";
+  const accuses = `<title>round ${number}: sends evidence to the broadcaster</title><circle cx="56" cy="8" r="6"/>`;
+  const alarm = row && row.accuses ? `<g class="alarm">${accuses}${text("partner", 56, 11.5, "!")}</g>` : "";
   const drawn = tokens(sides.filter(side => !side.push), 16) + tokens(sides.filter(side => side.push), 45) + drawnMarks(marks, 78);
-  const label = row ? `round ${number}: played ${row.played} of ${row.due}, ${counted(sides.length, "exchange")}` : `round ${number}: it had stopped`;
+  const said = row ? `played ${row.played} of ${row.due}, ${counted(sides.length, "exchange")}` : "it had stopped";
+  const label = `round ${number}: ${said}`;
   return `<button type="button" tabindex="-1" aria-pressed="false" data-round="${number}" aria-label="${label}">` +
     `<svg width="64" height="102" aria-hidden="true">${veil}${heading}${drawn}${alarm}</svg></button>`;
 }
@@ -260,9 +272,10 @@ function prepare(peer) {
 function lane(peer) {
   prepare(peer);
   const rounds = [...Array(session.ends).keys()].map(at => roundButton(peer, at + 1));
-  const told = `${percent(peer.bytes_played, run.stream)} played, ${counted(peer.started, "exchange")} started, ${peer.answered} answered, ` +
+  const told = `${peer.part} played, ${counted(peer.started, "exchange")} started, ${peer.answered} answered, ` +
     `${peer.traded} ended with both keys`;
-  return `<section class="peer" data-peer="${peer.peer}"><h3>Peer ${peer.peer}${peer.lies ? ", who lies" : ""} <span class="soft">${told}</span></h3>` +
+  const name = `Peer ${peer.peer}${peer.lies ? ", who lies" : ""}`;
+  return `<section class="peer" data-peer="${peer.peer}"><h3>${name} <span class="soft">${told}</span></h3>` +
     `<div class="rounds" role="group" aria-label="rounds of peer ${peer.peer}">${rounds.join("")}</div>` +
     '<div class="words" aria-live="polite" hidden></div></section>';
 }
@@ -293,7 +306,8 @@ function tell(section, number) {
 function takeLaneKey(event) {
   const button = event.target.closest("button[data-round]");
   if (!button || !(event.key in STEPS)) return;
-  const all = [...button.parentElement.children], row = Math.max(1, Math.floor(button.parentElement.clientWidth / (button.offsetWidth + 4)));
+  const all = [...button.parentElement.children], wide = button.parentElement.clientWidth;
+  const row = Math.max(1, Math.floor(wide / (button.offsetWidth + 4)));
   const [down, right] = STEPS[event.key], to = all.indexOf(button) + right + Math.sign(down) * row;
   all[Math.max(0, Math.min(all.length - 1, to))].focus();
   event.preventDefault();
@@ -336,7 +350,7 @@ if (peers.length) {
   element("grid").addEventListener("keydown", takeGridKey);
   element("grid").addEventListener("focus", () => moveTo(cursor.row, cursor.column));
   element("grid").addEventListener("pointermove", event => { const at = cellAt(event); if (at) moveTo(...at); });
-  element("grid").addEventListener("click", event => { const at = cellAt(event); if (at) { moveTo(...at); open(peers[cursor.row].peer, roundsAt(cursor.column)[0], true); } });
+  element("grid").addEventListener("click", takeClick);
   for (const input of document.querySelectorAll("input[name=measure]")) {
     input.addEventListener("change", () => { measure = input.value; drawGrid(); });
   }

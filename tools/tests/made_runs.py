@@ -50,7 +50,8 @@ def busy_run(peers, rounds, per_round=8, seed=1):
         played = {number: sum(row.round == number for row in came) for number in range(1, rounds + 1)}
         for number in range(1, numbers["ends"] + 1):
             due = number - numbers["life"]
-            rows.append(RoundRow(peer, number, per_round if 1 <= due <= rounds else 0, played.get(due, 0), per_round, 2, 2, 4, draw.randint(0, 3), False))
+            counts = per_round if 1 <= due <= rounds else 0, played.get(due, 0), per_round
+            rows.append(RoundRow(peer, number, *counts, 2, 2, 4, draw.randint(0, 3), False))
         ways = [sum(row.way == way for row in came) for way in WAYS]
         total = PeerRow(peer, 0, ticks=numbers["ticks"], whole=True, bytes_played=1022 * len(came), played=len(came))
         total.played_by_block, total.played_by_balanced, total.played_by_push = ways

@@ -1,5 +1,7 @@
 """The built program in small sessions, and its ranges. These tests are skipped where it isn't built."""
+import csv
 import itertools
+import json
 import pathlib
 import re
 import tempfile
@@ -7,12 +9,14 @@ import tomllib
 import unittest
 
 from support import NUMBERS, ROOT, RoomCase, bound, lines_of, run_script
+from test_data import Count
 
 import barformats
 import barmaking
 import barprogram
 import barrunning
 import barscript
+from bardata import Run
 from barprogram import PROGRAM, Status
 
 EXAMPLE = ROOT / "examples/evidence"
@@ -32,6 +36,18 @@ class Sessions(RoomCase):
         outcome, out, _ = lines_of(lambda: barrunning.run_session(folder, session, PROGRAM, kill))
         return outcome.status, outcome.lines[-1], out
 
+    def check_data(self, folder):
+        """What session.json says of each peer is an independent count of its recording, and what it left."""
+        run = Run.of_json(folder.data.read_text())
+        for peer in run.peers:
+            count = Count(folder.recording(peer.peer).read_bytes(), run.session["life"])
+            self.assertEqual((peer.ticks, peer.taken, peer.bytes_taken), (count.ticks, sum(count.kinds.values()), count.bytes))
+            came = {(row.round, row.index) for row in run.updates if row.peer == peer.peer and row.in_time}
+            self.assertLessEqual(count.blocks, came)
+            self.assertEqual(peer.bytes_played, folder.played(peer.peer).stat().st_size)
+        self.assertTrue(run.casts)
+        self.assertEqual([row for row in run.losses if row.unsent or row.copies], [])
+
     def test_a_session_is_run_once(self):
         folder, session = self.make_session(PROGRAM)
         status, last, out = self.run_session(folder, session)
@@ -44,11 +60,13 @@ class Sessions(RoomCase):
         folder, session = self.make_session(PROGRAM, version=2, per_round=128)
         status, last, _ = self.run_session(folder, session)
         self.assertEqual((status, last), (0, f"OK: all parties ended with status 0, all replays agree, page {folder.page}"))
+        self.check_data(folder)
 
     def test_a_session_of_two_levels(self):
         folder, session = self.make_session(PROGRAM, top=5, rounds=2)
         status, last, _ = self.run_session(folder, session)
         self.assertEqual((status, last), (0, f"OK: all parties ended with status 0, all replays agree, page {folder.page}"))
+        self.check_data(folder)
 
     def test_a_peer_is_killed(self):
         folder, session = self.make_session(PROGRAM, life=4)
@@ -71,7 +89,9 @@ class Measures(RoomCase):
         folder, session = self.make_session(PROGRAM, rounds=4, per_round=4, lms=6)
         outcome, _, _ = lines_of(lambda: barrunning.run_session(folder, session, PROGRAM))
         self.assertEqual(outcome.status, 0, outcome.lines)
-        status, out, err = run_script("measure-replay", folder.path, "--count", 30, "--times", 1, "--before", PROGRAM)
+        numbers = self.room / "numbers.csv"
+        words = ["--count", 30, "--times", 1, "--before", PROGRAM, "--csv", numbers]
+        status, out, err = run_script("measure-replay", folder.path, *words)
         self.assertEqual((status, out[-1]), (0, "OK: replays of up to 30 datagrams were measured"), err)
         kinds = [re.split("[,:]", line)[0] for line in out[:-1]]
         self.assertEqual(kinds[:-1], ["a hash", *["memory without an input"] * 3, "repeated", "forged", "verified", "early"])
@@ -79,13 +99,21 @@ class Measures(RoomCase):
         told = ", 30 datagrams, each: before -?[0-9.]+ ms, now -?[0-9.]+ ms, (ratio [0-9.]+|no ratio)"
         # on a machine that is busy no KEY may have come
         self.assertGreaterEqual(sum(bool(re.search(told, line)) for line in out), 4, out)
+        with open(numbers) as file:
+            rows = [*csv.DictReader(file)]
+        self.assertEqual([row["program"] for row in rows[:2]], ["before", "now"])
+        self.assertEqual({row["measure"] for row in rows[:8]}, {"hash", "resident", "own", "data"})
 
     def test_a_flood(self):
-        words = ["--peers", 2, "--rounds", 1, "--tick-ms", 20, "--flood", 50, "--before", PROGRAM]
+        numbers = self.room / "numbers.json"
+        words = ["--peers", 2, "--rounds", 1, "--tick-ms", 20, "--flood", 50, "--before", PROGRAM, "--json", numbers]
         status, out, err = run_script("benchmark-session", *words)
         self.assertEqual((status, out[-1]), (0, "OK: 1 session measured"), err)
         told = "peer 1 was sent a REQUEST 50 times more and took [0-9]+ of these, [0-9]+ a second; it "
         self.assertEqual(sum(bool(re.match(told, line)) for line in out), 2, out)
+        rows = json.loads(numbers.read_text())
+        self.assertEqual([(row["program"], row["party"]) for row in rows], [(name, party) for name in ("before", "now") for party in (1, 2, 0)])
+        self.assertTrue(all(row["sent"] > 0 and row["wall"] > 0 for row in rows))
         self.assertRegex(out[-2], "^2 peers together, before the first tick: before .*; from it on: before [0-9.]+ s, now [0-9.]+ s, ")
 
 

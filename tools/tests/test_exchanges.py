@@ -5,7 +5,7 @@ import unittest
 sys.path.insert(0, str(pathlib.Path(__file__).resolve().parent.parent))
 
 import made_sessions as made
-from bardatagrams import Exchange, Reader, Update
+from bardatagrams import Exchange, Update
 from barexchanges import Account, Arrival
 from made_sessions import LONG, PLAIN, SESSION, WIDE, WIDE_PLAIN, Diary, Trade, first_tick
 

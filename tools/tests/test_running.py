@@ -8,7 +8,7 @@ import tempfile
 import unittest
 from unittest import mock
 
-from support import NUMBERS, RoomCase, bound, datagram, fake_program, lines_of
+from support import NUMBERS, RoomCase, bound, datagram, fake_program, lines_of, run_script
 
 import baraudits
 import barcauses
@@ -16,6 +16,7 @@ import barmaking
 import barrunning
 import barscript
 import barsession
+from bardata import Run
 from barformats import KEYREQ, room_of
 from barprogram import Status
 
@@ -200,6 +201,20 @@ class Outcomes(SessionCase):
         self.assertEqual(err[-1], "replays: 2 of 2")
         self.assertRegex(err[0], "^the session begins in [0-9]+ s$")
         self.assertIn("spent, since the session was run: all keys", self.reasons_of(lambda: barrunning.accept(self.folder))[0])
+
+    def test_a_run_is_written_as_data_and_drawn_again(self):
+        self.run_session()
+        run = Run.of_json(self.folder.data.read_text())
+        self.assertEqual([(peer.peer, peer.status, peer.bytes_played, peer.ticks) for peer in run.peers], [(1, 0, 6, 1), (2, 0, 6, 1)])
+        self.assertEqual(run.audit["line"], "the audit finds no exchange")
+        pages = self.folder.page.read_text()
+        for path in (self.folder.data, self.folder.page):
+            path.unlink()
+        status, out, err = run_script("draw-session", self.folder.path, "--bar", self.room / "bar")
+        self.assertEqual((status, out[-1]), (0, f"OK: all replays agree, page {self.folder.page}"), err)
+        self.assertEqual(self.folder.page.read_text(), pages)
+        again = Run.of_json(self.folder.data.read_text())
+        self.assertEqual([peer.bytes_played for peer in again.peers], [6, 6])
 
     def test_a_party_that_fails(self):
         with bound(self.session.port + 2):

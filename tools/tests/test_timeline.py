@@ -12,7 +12,7 @@ import made_sessions as made
 from bardatagrams import Exchange, Update
 from barformats import EVIDENCE, SLOTS
 from bargathering import run_of
-from made_sessions import PLAIN, SESSION, WIDE, WIDE_PLAIN, ZEROS, Diary, Trade, first_tick
+from made_sessions import LONG, PLAIN, SESSION, WIDE, WIDE_PLAIN, ZEROS, Diary, Trade, first_tick
 
 ME, PARTNER = 1, 2
 FIRST, SECOND, THIRD, FOURTH = (Update(1, index) for index in range(4))
@@ -119,6 +119,14 @@ class Marks(unittest.TestCase):
             self.assertTrue(x + width < next_x if y == next_y else y + height < next_y and next_x == places[0][0])
         self.assertLess(max(x + width for x, _, width, _ in places), places[0][0] + barpicture.STRIP)
         self.assertLess(max(y + height for _, y, _, height in places), barpicture.HEAD + barpicture.CASTER + barpicture.LANE)
+
+
+class Numbers(unittest.TestCase):
+    def test_the_session_is_told_by_its_numbers(self):
+        for session, told in ((WIDE, "version 2 · LMS type 5, LM-OTS"), (LONG, "version 1 · signatures of two levels, top 6, LM-OTS")):
+            diary = Diary(ME, session)
+            diary.until(LAST_TICK)
+            self.assertIn(told, "".join(Page({ME: diary.log()}, session).body.itertext()))
 
 
 class Signs(unittest.TestCase):

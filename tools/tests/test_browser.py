@@ -1,0 +1,195 @@
+"""The page of a run in a real browser, against the run's data; skipped where there is no chromium."""
+import collections
+import html
+import html.parser
+import pathlib
+import shutil
+import subprocess
+import sys
+import tempfile
+import unittest
+
+sys.path.insert(0, str(pathlib.Path(__file__).resolve().parent.parent))
+
+from made_runs import busy_run
+
+import bartimeline
+from bardata import EvictionRow, Run
+
+BROWSER = shutil.which("chromium") or shutil.which("chromium-browser")
+OPTIONS = ["--headless", "--no-sandbox", "--disable-gpu", "--disable-dev-shm-usage", "--no-first-run"]
+OPTIONS += ["--virtual-time-budget=2000", "--dump-dom"]
+DARK = ["--blink-settings=preferredColorScheme=0"]
+# a browser without a screen has windows of 500 pixels at least, so a page that is as wide as a phone stands in a frame
+PHONE = 390
+VOID = {"input", "meta", "br", "link"}
+PEER, ROUND, STOPPED = 4, 9, 2
+
+
+class Elements(html.parser.HTMLParser):
+    """The elements of a document, each with its name, its attributes and all text in it."""
+
+    def __init__(self, text):
+        super().__init__()
+        self.all, self.open = [], []
+        self.feed(text)
+
+    def handle_starttag(self, name, attributes):
+        it = {"name": name, "text": "", "in": [*self.open], **dict(attributes)}
+        self.all.append(it)
+        if name not in VOID:
+            self.open.append(it)
+
+    def handle_endtag(self, name):
+        while self.open and self.open.pop()["name"] != name:
+            pass
+
+    def handle_data(self, data):
+        for it in self.open:
+            it["text"] += data
+
+    def of_class(self, class_, name=None):
+        return [it for it in self.all if class_ in (it.get("class") or "").split() and name in (None, it["name"])]
+
+    def with_id(self, id_):
+        return next(it for it in self.all if it.get("id") == id_)
+
+
+def browsed(page, address="", options=()):
+    """The elements of a page when a browser has read it."""
+    with tempfile.TemporaryDirectory(ignore_cleanup_errors=True) as room:
+        path = pathlib.Path(room) / "timeline.html"
+        path.write_text(page)
+        words = [BROWSER, *OPTIONS, *options, f"--user-data-dir={room}/profile", f"{path.as_uri()}{address}"]
+        ran = subprocess.run(words, stdout=subprocess.PIPE, stderr=subprocess.PIPE, timeout=60)
+    return Elements(ran.stdout.decode())
+
+
+# presses keys: in the overview two peers down and eight rounds to the right, then Enter, then in the peer's rounds one to the left
+PRESSES = """<script>
+const press = key => document.activeElement.dispatchEvent(new KeyboardEvent("keydown", {key, bubbles: true, cancelable: true}));
+const told = {};
+document.getElementById("grid").focus();
+["ArrowDown", "ArrowDown", ...Array(8).fill("ArrowRight")].forEach(press);
+told.cell = document.getElementById("cell").textContent;
+press("Enter");
+told.opened = document.activeElement.dataset.round;
+press("ArrowLeft");
+told.left = document.activeElement.dataset.round;
+press("End");
+told.end = document.activeElement.dataset.round;
+told.paper = getComputedStyle(document.body).backgroundColor;
+told.ink = getComputedStyle(document.body).color;
+told.peers = [...document.querySelectorAll("section")].map(section => section.dataset.peer);
+told.pressed = [...document.querySelectorAll("button[aria-pressed=true]")].map(button => button.dataset.round);
+told.widths = [innerWidth, document.documentElement.scrollWidth <= innerWidth];
+for (const name in told) parent.document.body.dataset[name] = told[name];
+</script></body>"""
+
+
+@unittest.skipUnless(BROWSER, "there is no chromium")
+class Keys(unittest.TestCase):
+    @classmethod
+    def setUpClass(cls):
+        cls.run_ = busy_run(9, 10)
+        page = html.escape(bartimeline.page(cls.run_).replace("</body>", PRESSES))
+        frame = f'<iframe srcdoc="{page}" width="{PHONE}" height="800" style="border: 0"></iframe>'
+        elements = browsed(f"<!doctype html><html><body>{frame}</body></html>", options=DARK)
+        cls.body = next(it for it in elements.all if it["name"] == "body")
+
+    def test_arrows_go_over_the_overview_and_enter_opens_a_peer(self):
+        row = next(row for row in self.run_.rounds if (row.peer, row.round) == (3, 9))
+        told = f"Peer 3, round 9: played {row.played} of {row.due} updates; "
+        self.assertTrue(self.body["data-cell"].startswith(told), self.body["data-cell"])
+        self.assertEqual((self.body["data-peers"], self.body["data-opened"]), ("3", "9"))
+
+    def test_arrows_go_over_the_rounds_of_a_peer(self):
+        self.assertEqual((self.body["data-left"], self.body["data-end"]), ("8", str(self.run_.session["ends"])))
+        self.assertEqual(self.body["data-pressed"], self.body["data-end"])
+
+    def test_it_is_dark_where_that_is_preferred(self):
+        self.assertEqual((self.body["data-paper"], self.body["data-ink"]), ("rgb(20, 24, 29)", "rgb(228, 233, 238)"))
+
+    def test_it_is_no_wider_than_a_phone(self):
+        self.assertEqual(self.body["data-widths"], f"{PHONE},true")
+
+
+@unittest.skipUnless(BROWSER, "there is no chromium")
+class Browser(unittest.TestCase):
+    @classmethod
+    def setUpClass(cls):
+        # what is drawn is compared with what is read of session.json
+        run = busy_run(9, 10)
+        run.evictions = [EvictionRow(PEER, "F1", ROUND, 8)]
+        run.rounds = [row for row in run.rounds if (row.peer, row.round) not in {(STOPPED, number) for number in range(12, 18)}]
+        cls.run_ = Run.of_json(run.to_json())
+        cls.elements = browsed(bartimeline.page(cls.run_), f"#peer={PEER}&round={ROUND}&show=lost")
+
+    def rows(self, name):
+        return [row for row in getattr(self.run_, name) if row.peer == PEER]
+
+    def test_the_overview_has_a_cell_for_each_round_with_losses(self):
+        lost = [row for row in self.run_.rounds if row.lost]
+        self.assertEqual(len(self.elements.of_class("cell", "rect")), len(lost))
+        percents = [it["text"] for it in self.elements.of_class("end", "text") if "%" in it["text"]]
+        self.assertEqual(percents, [f"{peer.bytes_played / self.run_.stream:.1%}" for peer in self.run_.peers])
+
+    def test_the_chart_adds_up_to_what_was_played(self):
+        # above the overview each column has the parts of what was due that came in each way, of 46 in all
+        (chart,) = self.elements.of_class("chart", "g")
+        life, due = self.run_.session["life"], collections.Counter()
+        for row in self.run_.rounds:
+            due[row.round] += row.due
+        ran = {(row.peer, row.round) for row in self.run_.rounds}
+        for class_, way in (("straight", "block"), ("traded", "balanced"), ("pushed", "push")):
+            drawn = sum(float(it["height"]) for it in self.elements.of_class(class_, "rect") if chart in it["in"])
+            played = [row for row in self.run_.updates if row.way == way and row.played and (row.peer, row.round + life) in ran]
+            self.assertAlmostEqual(drawn, sum(46 / due[row.round + life] for row in played), delta=0.05 * len(due))
+
+    def test_an_eviction_and_a_stop_are_shown(self):
+        self.assertEqual(len(self.elements.of_class("evicted", "circle")), 1)
+        self.assertIn("; the first notice of its eviction.", self.elements.with_id("cell")["text"])
+        (line,) = [it["text"] for it in self.elements.all if it["name"] == "tr" and "F1" in it["text"]]
+        self.assertEqual(line, f"{PEER}F1{ROUND}8")
+        grid = self.elements.with_id("grid")
+        self.assertEqual(len([it for it in self.elements.of_class("gone", "rect") if grid in it["in"]]), self.run_.session["ends"] - 11)
+
+    def test_a_cell_is_told(self):
+        row = next(row for row in self.rows("rounds") if row.round == ROUND)
+        told = f"Peer {PEER}, round {ROUND}: played {row.played} of {row.due} updates; {row.came} updates came; started {row.started}"
+        told += f" and answered {row.answered} exchanges, of which {row.traded} ended with both keys; "
+        self.assertTrue(self.elements.with_id("cell")["text"].startswith(told), self.elements.with_id("cell")["text"])
+
+    def test_the_exchanges_of_the_peer_are_drawn(self):
+        (section,) = [it for it in self.elements.all if it["name"] == "section"]
+        self.assertEqual(section["data-peer"], str(PEER))
+        signs = [it for it in self.elements.of_class("sign", "rect") if section in it["in"]]
+        self.assertEqual(len(signs), len(self.rows("sides")))
+        arrows = [it for it in self.elements.of_class("key", "path") if section in it["in"]]
+        self.assertEqual(len(arrows), sum((row.key_given is not None) + (row.key_got is not None) for row in self.rows("sides")))
+        names = "straight", "traded", "missed"
+        marks = {name: [it for it in self.elements.of_class(name, "rect") if section in it["in"]] for name in names}
+        played = [row for row in self.rows("updates") if row.played]
+        straight = sum(row.way == "block" for row in played)
+        self.assertEqual((len(marks["straight"]), len(marks["traded"])), (straight, len(played) - straight))
+        self.assertEqual(sum(map(len, marks.values())), len(self.run_.releases))
+
+    def test_the_round_is_told_in_words(self):
+        (words,) = self.elements.of_class("words")
+        lines = [it["text"] for it in self.elements.all if it["name"] == "li" and words in it["in"]]
+        sides, due = [row for row in self.rows("sides") if row.round == ROUND], ROUND - self.run_.session["life"]
+        self.assertEqual(len(lines), len(sides) + sum(row.round == due for row in self.run_.releases))
+        partners = [f"peer {row.partner}, promises {row.promised} update" for row in sides]
+        self.assertTrue(all(told in line for told, line in zip(partners, lines)))
+        came = {f"update {row.index + 1} of round {row.round}: played" for row in self.rows("updates") if row.round == due}
+        self.assertEqual({line.split(",")[0] for line in lines[len(sides) :] if "not played" not in line}, came)
+
+    def test_one_round_of_the_peer_can_be_reached_by_tab(self):
+        buttons = [it for it in self.elements.all if it["name"] == "button"]
+        self.assertEqual(len(buttons), self.run_.session["ends"])
+        self.assertEqual([it["data-round"] for it in buttons if it["tabindex"] == "0"], [str(ROUND)])
+        self.assertEqual(self.elements.with_id("grid")["tabindex"], "0")
+
+
+if __name__ == "__main__":
+    unittest.main()
