@@ -115,13 +115,13 @@ def derived(seed, what):
     return hashlib.sha256(f"bar {what} ".encode() + seed).digest()
 
 
-def make_keys(folder, program, session_id, numbers, seed):
+def make_keys(folder, program, session_id, numbers, seed, told="keys"):
     """Makes all key files, as many at once as there are processors, and returns what a session's text says of each party."""
 
     def make_one(party):
         return make_key(folder, program, party, session_id, numbers, derived(seed, f"secret {party}"))
 
-    return spread(make_one, range(numbers["peers"] + 1), "keys")
+    return spread(make_one, range(numbers["peers"] + 1), told)
 
 
 def text_of(session_id, numbers, keys):
@@ -130,13 +130,13 @@ def text_of(session_id, numbers, keys):
     return "\n".join([f"version = {numbers['version']}", f'id = "{session_id}"', *lines, "\n[[peer]]\n".join(keys)])
 
 
-def make(wanted, program):
-    """Makes a session that nothing refuses, and returns its folder and its numbers."""
+def make(wanted, program, told="keys"):
+    """Makes a session that nothing refuses, and returns its folder and its numbers. How far it is, is told as these, or not."""
     seed = secrets.token_bytes(32) if wanted.seed is None else bytes.fromhex(wanted.seed)
     session_id = derived(seed, "session")[:8].hex()
     numbers = wanted.numbers if "port" in wanted.numbers else wanted.numbers | {"port": free_port(wanted.numbers["peers"] + 1)}
     with new_folder(wanted.folder) as folder:
-        keys = make_keys(folder, program, session_id, numbers, seed)
+        keys = make_keys(folder, program, session_id, numbers, seed, told)
         folder.session.write_text(text_of(session_id, numbers, keys))
         shutil.copyfile(wanted.stream, folder.stream)
         return folder, Session.read(folder.session)

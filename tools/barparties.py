@@ -11,11 +11,21 @@ from barsession import party_words
 
 @dataclasses.dataclass(frozen=True)
 class Way:
-    """How a party is started: the words before its own, what is added to its environment, and where its results stand."""
+    """How a party is started: the words before its own, what is added to its environment, and where its results stand.
+
+    A program may stand in place of the session's, with words of its own before the party's, and a session's text in place of the folder's.
+    """
 
     front: tuple = ()
     environment: dict = dataclasses.field(default_factory=dict)
     results: object = None
+    program: tuple = ()
+    session: object = None
+
+    def words(self, folder, program, party, begin):
+        """The words of a party that is started in this way."""
+        own = party_words(folder, program, party, begin, self.results, self.session)
+        return [*self.front, *(self.program or own[:1]), *own[1:]]
 
 
 @dataclasses.dataclass(frozen=True)
@@ -54,8 +64,7 @@ def started(folder, session, program, begin, ways=None):
         processes = {}
         for party in session.parties:
             way = (ways or {}).get(party, Way())
-            words = [*way.front, *party_words(folder, program, party, begin, way.results)]
             options = {"env": way.environment} if way.environment else {}
             pipes = {"stdout": subprocess.PIPE, "stderr": subprocess.PIPE}
-            processes[party] = stack.enter_context(running(words, **pipes, **options))
+            processes[party] = stack.enter_context(running(way.words(folder, program, party, begin), **pipes, **options))
         yield Live(session, processes, begin)

@@ -5,10 +5,13 @@ What can't be run is refused.
 import re
 import subprocess
 
+import bardisturbing
+import barliars
 import barpicture
 import bartimeline
 from baraudits import audit_of
 from barcauses import causes_of
+from bardisturbing import Ended
 from barformats import Malformed, Session
 from bargathering import gathered
 from barprogram import await_end, lines_of, running, status_of
@@ -72,14 +75,19 @@ def faults_of_ports(session):
         yield f"these ports are taken: {told}; end the program that has them, or {ANEW}, which looks for free ones without --port"
 
 
-def faults_of(folder, session, kill):
-    """What refuses to run the session of a folder, and to kill this peer in it, if one is named."""
+def faults_of_folder(folder, session):
+    """What refuses to run the session of a folder, live or simulated."""
     missing = [*faults_of_files(folder, session)]
     yield from missing
     if not missing:
         keys = [*faults_of_keys(folder, session)]
         yield from keys or faults_of_results(folder, session)
         yield from (f"{fault}; {ANEW}" for fault in session.faults_of_stream(folder.stream.stat().st_size))
+
+
+def faults_of(folder, session, kill):
+    """What refuses to run the session of a folder live, and to kill this peer in it, if one is named."""
+    yield from faults_of_folder(folder, session)
     if kill is not None and not 1 <= kill <= session.peers:
         yield f"--kill {kill} names no peer: take one of 1 to {session.peers}"
     yield from faults_of_ports(session)
@@ -146,19 +154,26 @@ def draw(folder, run, picture):
 
 
 def compare_and_draw(folder, session, program, audit, picture, statuses=None):
-    """Replays each peer that left a recording, gathers what the run was and draws it, with its audit.
+    """Replays each peer that left a recording and didn't lie, gathers what the run was and draws it, with its audit.
 
-    Returns what differs or fails, and what is said of the page.
+    Prints what came of liars. Returns what differs or fails, and what is said of the page.
     """
-    parties = [party for party in session.parties[:-1] if folder.recording(party).exists()]
+    liars = barliars.liars_in(folder)
+    parties = [party for party in session.parties[:-1] if folder.recording(party).exists() and party not in liars]
     try:
         logs, refused, differ = compare(folder, session, program, parties) if parties else ({}, {}, [])
-        run = gathered(folder, session, program, logs, audit, refused=refused, differ=differ, statuses=statuses) if logs else None
+        refused |= {party: f"it lied ({lie}), so its recording isn't replayed" for party, lie in liars.items()}
+        known = {"refused": refused, "differ": differ, "statuses": statuses, "liars": liars}
+        run = gathered(folder, session, program, logs, audit, **known) if logs else None
     except OSError as error:
         return [f"the recordings can't be replayed: {told_of(error)}"], "there is no page"
-    causes = [f"party {party}: {told}" for party, told in [*refused.items(), *differ]]
+    causes = [f"party {party}: {told}" for party, told in [*refused.items(), *differ] if party not in liars]
     if not run:
         return causes, "there is no page, since nobody left a recording that is replayed"
+    if folder.network.exists():
+        for line in barliars.lines_of(run, liars):
+            say(line)
+        causes += barliars.faults_of(run, liars)
     unwritten, page = draw(folder, run, picture)
     return [*causes, *unwritten], page
 
@@ -174,20 +189,47 @@ def lost_lines(drops):
 # ---- all together
 
 
-def run_session(folder, session, program, kill=None, picture=None):
-    """Runs an accepted session, audits it, compares its replays and draws it, and returns the script's outcome."""
+def run_session(folder, session, program, kill=None, picture=None, network=None):
+    """Runs an accepted session, undisturbed or over a network, and returns the script's outcome."""
+    if network is None:
+        ran = run_undisturbed(folder, session, program, kill)
+    else:
+        ran = run_disturbed(folder, session, program, network, kill)
+    return outcome_of_run(folder, session, program, ran, kill, picture)
+
+
+def run_undisturbed(folder, session, program, kill):
+    """Runs all parties by the program's own command."""
     begin = begin_of(session, program)
     watch = Watch(session, begin, party_words(folder, program, kill, begin) if kill else None)
     with watched(watch):
         statuses, status = run_parties(folder, program, begin)
-    causes = [*causes_of(folder, session, statuses, status, kill)]
+    return Ended(statuses, status, watch.drops)
+
+
+def run_disturbed(folder, session, program, network, kill):
+    """Runs all parties over a network, and prints a line for each when all have ended."""
+    say(network.told)
+    ran = bardisturbing.run_parties(folder, session, program, network, kill)
+    for party, status in ran.statuses.items():
+        say(line_of(folder, party, status))
+    return ran
+
+
+def outcome_of_run(folder, session, program, ran, kill=None, picture=None):
+    """Audits a run, compares its replays and draws it, and returns the script's outcome."""
+    causes = [*causes_of(folder, session, ran.statuses, ran.status, kill)]
+    if ran.fates:
+        folder.network.write_text(ran.fates.text())
+        say(ran.fates.line)
     audit = audit_of(folder, session, program)
     say(audit.line)
-    differ, page = compare_and_draw(folder, session, program, audit, picture, statuses)
-    for line in lost_lines(watch.drops):
+    failures = barliars.audit_failures(audit, barliars.liars_in(folder))
+    differ, page = compare_and_draw(folder, session, program, audit, picture, ran.statuses)
+    for line in lost_lines(ran.drops):
         say(line)
-    if causes or audit.failures or differ:
+    if causes or failures or differ:
         say(page)
-        return failed(*causes, *audit.failures, *differ)
+        return failed(*causes, *failures, *differ)
     ended = f"party {kill} was killed, the others ended" if kill else "all parties ended"
     return well(f"{ended} with status 0, all replays agree, {page}")

@@ -96,7 +96,7 @@ def refuse(faults):
 def faults_of_counts(words, *names):
     """What refuses these words of a script, which count something, where they are given."""
     values = ((name, getattr(words, name)) for name in names)
-    return (f"--{name} is {value}: take 1 or more" for name, value in values if value is not None and value < 1)
+    return (f"--{name.replace('_', '-')} is {value}: take 1 or more" for name, value in values if value is not None and value < 1)
 
 
 def require(paths, remedy):

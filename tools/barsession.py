@@ -6,6 +6,7 @@ A session's folder has these files:
   key.P             the key file of party P; party 0 is the broadcaster
   party.P.played, party.P.recording, party.P.table, party.P.Q
                     what party P played, what it took, the manifests that it knew, and its evidence against party Q
+  network.json      what a network did that loses, repeats or delays, and who lied, where the session was disturbed
   session.json      what the run was, as data
   timeline.html     the run as a page
 """
@@ -35,6 +36,7 @@ class Folder:
         self.stream = self.path / "stream"
         self.data = self.path / "session.json"
         self.page = self.path / "timeline.html"
+        self.network = self.path / "network.json"
         self.keys = self.path / "key"
         self.results = self.path / "party"
 
@@ -67,10 +69,10 @@ def session_words(folder, program, begin):
     return [program, *words_of("session", **files, begin=begin, results=folder.results, program=program)]
 
 
-def party_words(folder, program, party, begin, results=None):
-    """The words of one party, which are those that a session starts it with, but for its results where these are to stand elsewhere."""
+def party_words(folder, program, party, begin, results=None, session=None):
+    """The words of one party, which are those that a session starts it with, but for its results and text where these stand elsewhere."""
     own = f"{results or folder.results}.{party}"
-    values = {"session": folder.session, "key": folder.key(party), "begin": begin, "stream": folder.stream}
+    values = {"session": session or folder.session, "key": folder.key(party), "begin": begin, "stream": folder.stream}
     values |= {"played": f"{own}.played", "recording": f"{own}.recording", "found": own}
     return [program, *words_of("peer" if party else "broadcaster", **values)]
 
@@ -99,11 +101,11 @@ def make_key(folder, program, party, session_id, numbers, secret):
     return ran.printed.decode()
 
 
-def begin_of(session, program):
+def begin_of(session, program, trees=1):
     """When a session begins that is started now, in milliseconds of Unix time: after all parties have made their keys.
 
     How long that takes is measured by the same number of keys with the smallest tree, all made at once; a tree with more leaves takes so
-    many times longer. Of a key of two levels the upper tree is made.
+    many times longer. Of a key of two levels the upper tree is made. A party may make so many trees, one behind the other.
     """
     with tempfile.TemporaryDirectory() as room:
         folder, started = Folder(room), time.monotonic()
@@ -114,7 +116,7 @@ def begin_of(session, program):
 
         spread(make, session.parties, at_once=len(session.parties))
         smallest = time.monotonic() - started
-    times_longer = LEAVES[session.top or session.lms] / LEAVES[SMALLEST]
+    times_longer = trees * LEAVES[session.top or session.lms] / LEAVES[SMALLEST]
     return round(1000 * (time.time() + 1 + 1.5 * smallest * times_longer))
 
 

@@ -45,11 +45,16 @@ class Clock:
         return line
 
 
-def drops_of(text, session):
+def ports_of(session):
+    """The ports that the parties of a session take."""
+    return {party: session.port + party for party in session.parties}
+
+
+def drops_of(text, ports):
     """How many datagrams each party's socket has lost since its receive buffer was full, by the text of /proc/net/udp."""
     sockets = [line.split() for line in text.splitlines()[1:]]
-    ports = {f"{ADDRESS}:{session.port + party:04X}": party for party in session.parties}
-    return {ports[fields[1]]: int(fields[-1]) for fields in sockets if len(fields) > 2 and fields[1] in ports}
+    parties = {f"{ADDRESS}:{port:04X}": party for party, port in ports.items()}
+    return {parties[fields[1]]: int(fields[-1]) for fields in sockets if len(fields) > 2 and fields[1] in parties}
 
 
 def find_process(words):
@@ -63,10 +68,14 @@ def find_process(words):
 
 
 class Watch:
-    """Looks at a session that runs. `victim` has the words of the party that is killed in the middle, if there is one."""
+    """Looks at a session that runs. `victim` has the words of the party that is killed in the middle, if there is one.
 
-    def __init__(self, session, begin, victim=None):
+    The parties take the session's ports, or these.
+    """
+
+    def __init__(self, session, begin, victim=None, ports=None):
         self.session, self.clock, self.victim, self.drops = session, Clock(session, begin), victim, {}
+        self.ports = ports or ports_of(session)
         self.middle = (begin + SLOTS * session.rounds * session.tick_ms / 2) / 1000
 
     def look(self, now):
@@ -75,7 +84,7 @@ class Watch:
         if line:
             progress(line)
         with contextlib.suppress(OSError, ValueError):
-            self.drops |= drops_of(SOCKETS.read_text(), self.session)
+            self.drops |= drops_of(SOCKETS.read_text(), self.ports)
         if self.victim and now >= self.middle:
             self.kill()
 

@@ -11,6 +11,7 @@ The first word names the file, a JSON object. Of these it has what a test asks f
   packed           what is written to a proof file, in hex, and the line of that
   printed          what every other command prints
   live             a replay prints and plays what `peer` does: at each tick it plays a letter and sends a datagram to the next peer
+It also stands for the program of tools/party, whose first words are a link and a lie. A party over a pipe that lies sends to itself.
 """
 import json
 import pathlib
@@ -136,6 +137,42 @@ def takes(options, session, number, link, played, recording):
         recording.write(b"\x00")
 
 
+def piped(options, lie, number):
+    """Runs a party over the standard streams."""
+    import tomllib
+
+    session = tomllib.loads(pathlib.Path(options["session"]).read_text())
+    recording = [b"BARL\x01", bytes.fromhex(session["id"]), number.to_bytes(2, "big")]
+    ticks = 8 * (session["rounds"] + session["life"] + 1)
+    while ticks:
+        sys.stdout.buffer.write(b"\x01")
+        sys.stdout.buffer.flush()
+        entry = sys.stdin.buffer.read(1)
+        if entry == b"\x02":
+            size = sys.stdin.buffer.read(2)
+            entry += size + sys.stdin.buffer.read(int.from_bytes(size, "big"))
+        recording.append(entry)
+        if entry == b"\x01":
+            ticks -= 1
+            for to, datagram in sent_at_tick(session, number):
+                datagram += bytes(WAYS.get("size", 0))
+                to = number if lie != "none" else to
+                sys.stdout.buffer.write(b"\x02" + to.to_bytes(2, "big") + len(datagram).to_bytes(2, "big") + datagram)
+    if number:
+        pathlib.Path(options["recording"]).write_bytes(b"".join([*recording, b"\x00"]))
+        pathlib.Path(options["played"]).write_bytes(b"p" * min(600, len(recording)))
+    pathlib.Path(f"{options['found']}.table").write_bytes(b"")
+    tell("ticks")
+
+
+def over_link(link, lie, command, *rest):
+    """Runs a party over a link, with a lie."""
+    options = dict(zip((word.removeprefix("--") for word in rest[::2]), rest[1::2]))
+    if link == "udp":
+        return peer(options)
+    return piped(options, lie, 0 if command == "broadcaster" else party_of(options))
+
+
 def taken(link, seconds):
     """The entry of a datagram that comes in this time, or nothing."""
     link.settimeout(max(seconds, 0.001))
@@ -168,10 +205,15 @@ def tell(line):
         raise Ended(7, "output failed") from None
 
 
-def peer(options):
+def party_of(options):
+    """The party of a key file."""
     import re
 
-    return party(options, int(re.search(r"^party = (\d+)$", pathlib.Path(options["key"]).read_text(), re.MULTILINE)[1]))
+    return int(re.search(r"^party = (\d+)$", pathlib.Path(options["key"]).read_text(), re.MULTILINE)[1])
+
+
+def peer(options):
+    return party(options, party_of(options))
 
 
 def live_replay(options):
@@ -230,6 +272,8 @@ def main():
     if status:
         print(WAYS.get("said", ""), end="", file=sys.stderr)
         return status
+    if command in ("udp", "pipe"):
+        return over_link(command, *rest)
     options = dict(zip((word.removeprefix("--") for word in rest[::2]), rest[1::2]))
     known = {"keygen": keygen, "hsskeygen": keygen, "session": session, "replay": replay, "audit": audit, "pack": pack}
     known |= {"peer": peer, "broadcaster": lambda options: party(options, 0)}

@@ -11,15 +11,27 @@ import unittest
 from support import NUMBERS, ROOT, RoomCase, bound, lines_of, run_script
 from test_data import Count
 
+import barbuilds
 import barformats
 import barmaking
 import barprogram
 import barrunning
 import barscript
+import barsimulation
 from bardata import Run
+from barnetwork import LIES, Network
 from barprogram import PROGRAM, Status
 
 EXAMPLE = ROOT / "examples/evidence"
+
+# by what a liar is evicted
+FAULT_OF = {
+    "key": "a briefcase that opens badly",
+    "case": "a briefcase that opens badly",
+    "answers": "two messages of one name",
+    "partner": "a wrong partner",
+    "leaf": "a leaf that signed twice",
+}
 
 
 def setUpModule():
@@ -173,6 +185,54 @@ class Ranges(unittest.TestCase):
 
     def test_an_example_is_judged(self):
         self.assertEqual(self.status_of((EXAMPLE / "session.toml").read_bytes()), Status.DONE)
+
+
+class Disturbed(RoomCase):
+    """Sessions that are simulated or disturbed. They are skipped where the program of tools/party isn't built."""
+
+    def setUp(self):
+        super().setUp()
+        if not barbuilds.kept_at(barbuilds.PARTY).exists():
+            self.skipTest("the program of tools/party isn't built: tools/simulate-session builds it")
+
+    def made(self, name, **numbers):
+        """A session of four peers, whose stream fills all rounds but the last."""
+        self.stream.write_bytes(bytes(at * 7 % 251 for at in range(3 * 8 * 1022)))
+        more = {"peers": 4, "rounds": 4, "per_round": 8, "lms": 6, "ots": 2}
+        wanted = barmaking.Wanted(self.room / name, self.stream, NUMBERS | more | numbers, "00ff")
+        return lines_of(lambda: barmaking.make(wanted, PROGRAM))[0]
+
+    def simulated(self, name, network):
+        """Simulates a session: its folder, its outcome and the lines that were printed."""
+        folder, session = self.made(name)
+
+        def simulate():
+            return barrunning.outcome_of_run(folder, session, PROGRAM, barsimulation.simulate(folder, session, network))
+
+        outcome, out, _ = lines_of(simulate)
+        return folder, outcome, out
+
+    def test_each_lie_is_shown_and_its_liar_evicted(self):
+        for lie in LIES:
+            with self.subTest(lie=lie):
+                folder, outcome, out = self.simulated(lie, Network(seed="x", liars={4: lie}))
+                self.assertEqual(outcome.status, 0, [*out, *outcome.lines])
+                self.assertIn(f"peer 4, which lied ({lie}), was evicted for {FAULT_OF[lie]}, told to", " ".join(out))
+                self.assertEqual([row.party for row in Run.of_json(folder.data.read_text()).evictions], [4])
+
+    def test_losses_are_the_same_each_time(self):
+        network = Network(10, 10, 60, "x")
+        one, two = (self.simulated(name, network) for name in ("one", "two"))
+        self.assertEqual((one[1].status, two[1].status), (0, 0), [*one[2], *one[1].lines])
+        for name in ("party.1.recording", "party.2.played", "party.0.table", "network.json", "session.json"):
+            self.assertEqual((one[0].path / name).read_bytes(), (two[0].path / name).read_bytes(), name)
+
+    def test_a_live_session_behind_a_relay_with_a_liar(self):
+        folder, session = self.made("live", rounds=3)
+        network = Network(5, 5, 10, "x", {4: "key"})
+        outcome, out, _ = lines_of(lambda: barrunning.run_session(folder, session, PROGRAM, network=network))
+        self.assertEqual(outcome.status, 0, [*out, *outcome.lines])
+        self.assertIn("all 3 replays agree", " ".join(out))
 
 
 if __name__ == "__main__":

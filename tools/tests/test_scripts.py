@@ -52,6 +52,7 @@ class Refusals(RoomCase):
         self.assertIn("has no recordings of parties", self.refused("check-nodes", self.room))
         self.assertIn("session.toml, ", self.refused("measure-replay", self.room))
         self.assertIn("session.toml can't be read", self.refused("run-session", self.room))
+        self.assertIn("session.toml can't be read", self.refused("simulate-session", self.room))
         self.assertIn("name a commit of this repository", self.refused("benchmark-keys", "no-such-commit"))
 
     def test_a_folder_of_expected_values_that_is_not_whole(self):
@@ -84,6 +85,18 @@ class Refusals(RoomCase):
         self.assertEqual(run_script("benchmark-keys", "HEAD", "--lms", 8)[0], 2)
         self.assertEqual(self.refused("benchmark-session", "--flood", 0), "REFUSED: --flood is 0: take 1 or more")
         self.assertEqual(self.refused("measure-replay", "--times", 0), "REFUSED: --times is 0: take 1 or more")
+
+    def test_numbers_of_experiments(self):
+        self.assertEqual(self.refused("experiment", self.room, "--seeds", 0), "REFUSED: --seeds is 0: take 1 or more")
+        self.assertEqual(self.refused("experiment", self.room, "--loss", 101), "REFUSED: --loss is 101: take 0 to 100")
+        self.assertIn("--rounds is 0: it has to be", self.refused("experiment", self.room, "--rounds", 0, "--only", "cap"))
+        self.assertIn("is no folder that takes files", self.refused("experiment", self.stream))
+
+    def test_networks_and_liars(self):
+        self.make_session(fake_program(self.room))
+        for script in ("run-session", "simulate-session"):
+            self.assertIn("--liar 3:key names no peer", self.refused(script, self.room / "session", "--liar", "3:key"))
+            self.assertIn("--loss is 101", self.refused(script, self.room / "session", "--loss", "101"))
 
     def test_programs_that_are_missing(self):
         for script, *words in (("check-streams",), ("check-vectors",), ("benchmark-session",), ("demo",)):

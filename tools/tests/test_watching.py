@@ -18,6 +18,7 @@ from barsession import LOOPBACK
 from made_sessions import Trade
 
 SESSION = Session(1, ID, 10, 6, 1, 1, 1, 26_144, 50, 6, 3, 2)
+PORTS = barwatching.ports_of(SESSION)
 
 # the text of /proc/net/udp: ports 26143 to 26147 of the loopback address, and 26145 of another
 SOCKETS = """  sl  local_address rem_address   st tx_queue rx_queue tr tm->when retrnsmt   uid  timeout inode ref pointer drops
@@ -59,11 +60,11 @@ class Clocks(unittest.TestCase):
 
 class Drops(unittest.TestCase):
     def test_drops_by_party(self):
-        self.assertEqual(barwatching.drops_of(SOCKETS, SESSION), {0: 0, 1: 31})
+        self.assertEqual(barwatching.drops_of(SOCKETS, PORTS), {0: 0, 1: 31})
 
     def test_no_sockets(self):
-        self.assertEqual(barwatching.drops_of(SOCKETS.splitlines()[0], SESSION), {})
-        self.assertEqual(barwatching.drops_of("", SESSION), {})
+        self.assertEqual(barwatching.drops_of(SOCKETS.splitlines()[0], PORTS), {})
+        self.assertEqual(barwatching.drops_of("", PORTS), {})
 
     def test_lines_of_what_was_lost(self):
         told = "its receive buffer ran over, {} lost; a longer tick (--tick-ms) helps"

@@ -1,0 +1,76 @@
+"""Draws what experiments found as one picture: a panel for each number that was varied, with what peers played where it has each value."""
+import html
+
+# the sizes of the picture in its own units: a panel's plot, what is left and below of it, and how many panels stand in a row
+WIDTH, HEIGHT, LEFT, BELOW, TOP, ROW = 250, 150, 44, 52, 30, 3
+
+STYLE = """
+text { font: 11px sans-serif; fill: #333 } .title { font-weight: bold } .grid { stroke: #ddd } .band { fill: #2a7; fill-opacity: .18 }
+.mean { fill: none; stroke: #275; stroke-width: 2 } .seed { fill: #275 } .base { stroke: #b60; stroke-dasharray: 3 3 }
+@media (prefers-color-scheme: dark) { text { fill: #ddd } .grid { stroke: #444 } .mean { stroke: #6d9 } .seed { fill: #6d9 } }
+"""
+
+
+def place(share):
+    """How far below the top of a plot a share of the stream stands."""
+    return HEIGHT * (1 - share)
+
+
+def columns(count):
+    """Where the values of an axis stand, evenly."""
+    return [WIDTH * (at + 0.5) / count for at in range(count)]
+
+
+def joined(points):
+    return " ".join(f"{x:.1f},{y:.1f}" for x, y in points)
+
+
+def text(x, y, said, **attributes):
+    more = "".join(f' {name.rstrip("_").replace("_", "-")}="{value}"' for name, value in attributes.items())
+    return f'<text x="{x:.1f}" y="{y:.1f}"{more}>{html.escape(said)}</text>'
+
+
+def grid():
+    """The lines of a plot, with what share of the stream each stands for."""
+    for percent in range(0, 101, 25):
+        y = place(percent / 100)
+        yield f'<line class="grid" x1="0" x2="{WIDTH}" y1="{y:.1f}" y2="{y:.1f}"/>'
+        yield text(-6, y + 4, f"{percent}%", text_anchor="end")
+
+
+def title_lines(told):
+    """A panel's title in up to two lines."""
+    head, colon, rest = told.partition(": ")
+    return [head, rest] if colon else [head, ""]
+
+
+def panel(told, points, base):
+    """The plot of one number: a band from the least to the most of a peer, a line through the means, and a dot for each seed."""
+    xs = columns(len(points))
+    head, rest = title_lines(told)
+    yield text(0, -14, head, class_="title")
+    yield from grid()
+    edge = [*zip(xs, (place(point.most) for point in points))], [*zip(xs, (place(point.least) for point in points))]
+    yield f'<polygon class="band" points="{joined([*edge[0], *reversed(edge[1])])}"/>'
+    for x, point in zip(xs, points):
+        if point.value == base:
+            yield f'<line class="base" x1="{x:.1f}" x2="{x:.1f}" y1="0" y2="{HEIGHT}"/>'
+    yield f'<polyline class="mean" points="{joined(zip(xs, (place(point.mean) for point in points)))}"/>'
+    for x, point in zip(xs, points):
+        told_of = f"{point.value:g}: mean {point.mean:.1%}, peers {point.least:.1%} to {point.most:.1%}"
+        dots = "".join(f'<circle class="seed" cx="{x:.1f}" cy="{place(mean):.1f}" r="2.5"/>' for mean in point.means)
+        yield f"<g><title>{html.escape(told_of)}</title>{dots}</g>"
+        yield text(x, HEIGHT + 16, f"{point.value:g}", text_anchor="middle")
+    yield text(WIDTH / 2, HEIGHT + 34, rest, text_anchor="middle")
+
+
+def picture(panels):
+    """The picture of panels, each what it tells, its points and the value of the base."""
+    rows = -(-len(panels) // ROW)
+    width, height = ROW * (LEFT + WIDTH) + 12, rows * (TOP + HEIGHT + BELOW)
+    parts = [f'<svg xmlns="http://www.w3.org/2000/svg" viewBox="0 0 {width} {height}" role="img">', f"<style>{STYLE}</style>"]
+    parts.append("<title>What honest peers played of the stream, against each number</title>")
+    for at, (told, points, base) in enumerate(panels):
+        x, y = LEFT + at % ROW * (LEFT + WIDTH), TOP + at // ROW * (TOP + HEIGHT + BELOW)
+        parts += [f'<g transform="translate({x} {y})">', *panel(told, points, base), "</g>"]
+    return "\n".join([*parts, "</svg>", ""])
