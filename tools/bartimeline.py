@@ -103,7 +103,7 @@ def data_of(run):
         "small": len(run.peers) <= SMALL,
         "transcripts": bool(run.replays["replayed"]),
         "evictions": {row.party: row.round for row in run.evictions if row.round},
-        "releases": [[row.round, row.index, row.straight] for row in run.releases],
+        "releases": [[row.round, row.index] for row in run.releases],
         "peers": [closer(run, peer, rows, unbalanced) for peer in run.peers],
     }
 
@@ -196,7 +196,10 @@ def notes(run):
     lines = [(audited(run.audit), bool(run.audit["named"]))] if run.audit else []
     agree = f"{run.replays['agree']} of {counted(run.replays['replayed'], 'replay')} agree with what the peers left."
     lines.append((agree, run.replays["agree"] < run.replays["replayed"]))
-    lines += [(f"Peer {peer.peer} has no row, since {peer.refused}.", True) for peer in run.peers if peer.refused]
+    reasons = collections.defaultdict(list)
+    for peer in [peer for peer in run.peers if peer.refused]:
+        reasons[peer.refused].append(f"peer {peer.peer}")
+    lines += [(f"There is no row of {listed(peers)}: {reason}.", True) for reason, peers in reasons.items()]
     lines += [(f"Peer {peer.peer}: {listed(peer.differs)}.", True) for peer in run.peers if peer.differs]
     liars = [f"peer {peer.peer}" for peer in run.peers if peer.lies]
     lines += [(f"{listed(liars)} lied on purpose.".capitalize(), True)] if liars else []
