@@ -37,7 +37,7 @@ fn keep_entry<F: Files>(
     buf: &mut [u8],
 ) -> Result<(), Fault>
     requires room { largest_entry ≤ length buf.old }
-    requires datagram { is_some recording.entry ≡ true → IsInRange (plain.plain_input input.now) }
+    requires datagram { is_some recording ≡ true → IsInRange (plain.plain_input input.now) }
     ensures { (w : Outside) → Follows (kept (option_copied recording.entry) (entry_bytes (plain.plain_input input.now)))
         (with_files w (F.disk files.old)) (with_files w (F.disk files.new)) result }
 {

@@ -1,4 +1,5 @@
-use Rattle.std.proofs.Common.{◌≤◌, length, arith, length-append}
+use Rattle.std.proofs.Common.{◌≤◌, ap, length, arith, length-append}
+use Rattle.std.specs.Prelude.{is_some}
 use Rattle.bar_wire.specs.Inputs.{Input, Tick, Datagram, plain_input}
 use Rattle.bar_bytes.specs.Bytes.{u16_bytes}
 use Rattle.bar_record.specs.Recording.{entry_bytes, IsInRange, largest_entry}
@@ -11,7 +12,7 @@ entry-fits (Datagram bytes) h = let e = length-append (u16_bytes (length bytes))
 
 pub entry-len-requires-clause-room : goal.entry-len-requires-clause-room
 entry-len-requires-clause-room g c =
-    let h = entry-fits (plain_input c.args.input.now) c.requires.datagram in
+    let h = entry-fits (plain_input c.args.input.now) (c.requires.datagram (ap is_some c.in-Some.is)) in
     let r = c.requires.room in
     omega arith
 

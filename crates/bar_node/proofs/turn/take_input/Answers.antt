@@ -1,4 +1,4 @@
-use Rattle.std.proofs.Common.{◌+◌, [], ◌∷◌, ◌++◌, length}
+use Rattle.std.proofs.Common.{[], ◌∷◌, ◌++◌}
 use Rattle.std.proofs.lemmas.Result.{err_from_is_err_and}
 use Rattle.bar_wire.specs.Inputs.{plain_input}
 use Rattle.bar_outside.specs.Plan.{with_files}
