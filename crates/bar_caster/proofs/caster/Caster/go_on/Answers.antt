@@ -1,4 +1,4 @@
-use Rattle.std.proofs.Common.{◌≡◌, ◌∙◌, ◌*◌, ◌≤◌, ◌∷◌, false, length, ap, arith}
+use Rattle.std.proofs.Common.{◌≡◌, ◌∙◌, ◌*◌, ◌≤◌, ◌∷◌, false, length, ap, arith, sym}
 use Rattle.std.specs.Prelude.{◌==◌}
 use Rattle.std.proofs.lemmas.Bool.{ne_eqb}
 use Rattle.bar_wire.specs.declared.shape.Shape.{Shape}
@@ -38,7 +38,7 @@ returns-in-1-clause-stands g c inputs stood =
     stands-so m _ _ at (record { session = same.session; secrets = same.secrets; stream = same.stream })
     (blocks-stand _ _ at
     (record { time = t.time; table = t.table; manifests = t.manifests; notice = t.notice; evictions = t.evictions })
-    c.in-1.is
+    (rw c.slot_after.ensures at c.in-1.is)
     (omega (arith, c.if-round-shape.false, rounds, c.round.ensures))
     (from-none c.args.self.now.orders.list.items _ c.send_blocks.new.orders.list.items
     (c.send_blocks.ensures.sent at
@@ -58,11 +58,12 @@ returns-in-4-clause-stands g c inputs stood =
     let none : length c.args.self.now.orders.list.items ≡ 0 = ap length c.requires.empty in
     let signs = signs-so m n log same (c.signs_once_a_round.ensures (member_of m) (stream_of m) m.is_broadcaster inputs) in
     let high : round_after n.ticks ≤ n.session.shape.rounds = omega (arith, c.if-round-shape.false, rounds, c.round.ensures) in
+    let at : slot_after n.ticks ≡ 4 = sym c.slot_after.ensures ∙ c.in-4.is in
     stands-so m _ _ (Ticked ∷ log) (record { session = same.session; secrets = same.secrets; stream = same.stream })
     (manifest-stands _ _ (Ticked ∷ log)
     (record { time = t.time; table = t.table; manifests = t.manifests; notice = t.notice; evictions = t.evictions })
-    (said-again (member_of n) (stream_of n) log signs (omega (arith, t.time, c.in-4.is)) (omega (arith, t.time, high)))
-    c.in-4.is
+    (said-again (member_of n) (stream_of n) log signs (omega (arith, t.time, at)) (omega (arith, t.time, high)))
+    at
     high
     (from-none c.args.self.now.orders.list.items _ c.send_to_all.new.orders.list.items
     (c.send_to_all.ensures.sent (Ticked ∷ log)

@@ -16,6 +16,6 @@ returns c log tells =
     (c.of_round.ensures m.store ∙ ap (λ (z : Shape). contents_in m.store c.saturating_sub-round.result z.per_round) shape)
     tells.store m.who.is_member.session.shape.per_round_high
     (c.saturating_sub-round.ensures ∙ (λ i. (c.round.ensures ∙ ap round_after (sym tells.time)) i - (c.from.ensures ∙ ap (λ (z : Shape). z.life) shape) i))
-    (ap slot_after tells.time ∙ c.if-self-ne0.false)
+    (ap slot_after tells.time ∙ (sym c.slot_after.ensures ∙ c.if-slot_after-ne0.false))
     c.if-round-lt1.false
     (omega (arith, c.if-round-shape.false, ap (λ (z : Shape). z.rounds) shape))

@@ -1,4 +1,4 @@
-use Rattle.std.proofs.Common.{◌≡◌, ◌+◌, ◌/◌, ◌∙◌, ◌∷◌, sym, ap, subst}
+use Rattle.std.proofs.Common.{◌≡◌, ◌+◌, ◌∙◌, ◌∷◌, sym, ap, subst}
 use Rattle.std.specs.Prelude.{option_map}
 use Rattle.bar_store.specs.Holds.{Holds}
 use Rattle.bar_ledger.specs.Recalls.{Recalls}
@@ -16,7 +16,7 @@ returns-clause-learns c = λ log h.
     let me : Member = member_of c.args.self.now.who in
     let k : Knowledge = known me log in
     let e : known me (Ticked ∷ log) ≡ with_tick me k = c.knowledge_is_enough.ensures.entry me log Ticked in
-    let now : (c.args.self.now.ticks + 1 + 7) / 8 ≡ this_round (with_tick me k) = ap (λ n. round_after (n + 1)) (sym h.time) in
+    let now : c.round_after-round.result ≡ this_round (with_tick me k) = c.round_after-round.ensures ∙ ap (λ n. round_after (n + 1)) (sym h.time) in
     record {
       time = (λ i. (e i).ticks) ∙ ap (λ n. n + 1) h.time;
       store = subst (λ (k : Knowledge). Holds me k c.forget.new.self) (sym e) (c.forget.ensures.keeps me k h.store now);
