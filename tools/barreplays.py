@@ -114,7 +114,7 @@ def differences(folder, session, logs):
 
 
 def between_peers(session, logs):
-    """How many datagrams these peers sent to peers, and how many they took from peers."""
+    """How many datagrams these peers sent each other, and how many they took from each other."""
     sent = [head_of(datagram, session) for log in logs.values() for _, datagram in log.sent]
     taken = [head_of(datagram, session) for log in logs.values() for _, datagram in log.taken]
-    return sum(head[2] != 0 for head in sent if head), sum(head[1] != 0 for head in taken if head)
+    return sum(head[2] in logs for head in sent if head), sum(head[1] in logs for head in taken if head)
