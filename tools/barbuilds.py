@@ -1,8 +1,8 @@
 """Programs of the tools that are written in Rattle: each is built in a copy of the crates, and kept beside the program.
 
-A folder of the tools has the sources of such a program, each with the ending `.in`. Either it is a crate of its own, or its sources take the
-places of those of the crate `bar`, so that it is over the same files, link and streams. What is built is kept under the crate's `out`, by
-the checksum of all that it was made of, so it is built again only where a source has changed.
+A folder of the tools has the sources of such a program, and in its folder `proofs` its proofs, each with the ending `.in`. Either it is a
+crate of its own, or its sources take the places of those of the crate `bar`, so that it is over the same files, link and streams. What is
+built is kept under the crate's `out`, by the checksum of all that it was made of, so it is built again only where a source has changed.
 """
 import contextlib
 import dataclasses
@@ -16,8 +16,8 @@ import tempfile
 from barprogram import CRATE, ROOT, BuildFailed, crates_below, rt_run
 from barscript import progress
 
-# the crate that such a program stands on, beside those below it
-BASE = "bar_cli"
+# the ending of a source that stands outside the crates
+TEMPLATE = ".in"
 
 # what stands in no copy of the crates: what `rt` made, and what no build reads
 LEFT_OUT = shutil.ignore_patterns("out", "must-fail", "tests*", "README.md")
@@ -25,23 +25,31 @@ LEFT_OUT = shutil.ignore_patterns("out", "must-fail", "tests*", "README.md")
 
 @dataclasses.dataclass(frozen=True)
 class Build:
-    """A program of the folder of this name. The crate is the one in whose place it stands, or one of its own."""
+    """A program of the folder of this name. The crate is the one in whose place it stands, or one of its own. It stands on a crate and all
+    that is below it, and on what else it needs, and it has some sources of the crates for its own.
+    """
 
     name: str
     crate: str
+    base: str = "bar_cli"
+    needed: tuple = ()
+    shared: tuple = ()
 
     @property
     def folder(self):
         return ROOT / "tools" / self.name
 
     def sources(self):
-        """The program's own sources, by their names in its crate."""
-        return {path.name.removesuffix(".in"): path for path in sorted(self.folder.glob("*.rt.in"))}
+        """The program's sources, by their places in its crate."""
+        places = {path.relative_to(self.folder).with_suffix(""): path for path in sorted(self.folder.rglob(f"*{TEMPLATE}"))}
+        own = {place if place.parts[0] == "proofs" else "src" / place: path for place, path in places.items()}
+        return own | {pathlib.Path("src", pathlib.Path(name).name): ROOT / "crates" / name for name in self.shared}
 
 
-# a party over a link of the tools, or one that lies; and one over a link in memory
+# a party over a link of the tools, or one that lies; one over a link in memory; and what changes datagrams for a core and for readers
 PARTY = Build("party", "bar")
 NODE = Build("node", "node")
+FUZZ = Build("fuzz", "fuzz", "bar_party_tests", ("hex",), ("bar_party_tests/src/hostile_tests/texts.rt",))
 
 
 def made_of():
@@ -52,17 +60,17 @@ def made_of():
 
 def checksum_of(build):
     """The checksum of all that a program is made of."""
-    summed = hashlib.sha256(build.crate.encode())
+    summed = hashlib.sha256(repr((build.crate, build.base, build.needed)).encode())
     for path in [*made_of(), *build.sources().values()]:
         data = path.read_bytes()
         summed.update(f"\n{path.relative_to(ROOT)} {len(data)}\n".encode() + data)
     return summed.hexdigest()[:16]
 
 
-def lines_with(lines, crate):
-    """The lines of crates.txt in which a crate stands on the base and all that is below it."""
-    used = f"{crate}: {' '.join([BASE, *crates_below(lines, BASE)])}"
-    others = re.sub(rf"^{crate}:.*\n", "", lines, flags=re.MULTILINE)
+def lines_with(lines, build):
+    """The lines of crates.txt in which a program's crate stands on its base and all that is below, and on what else it needs."""
+    used = f"{build.crate}: {' '.join([*build.needed, build.base, *crates_below(lines, build.base)])}"
+    others = re.sub(rf"^{build.crate}:.*\n", "", lines, flags=re.MULTILINE)
     return f"{others}{used}\n"
 
 
@@ -70,16 +78,16 @@ def lay_out(build, room):
     """Copies the crates to a folder and puts the program's sources in their places. Returns the folder of its crate."""
     shutil.copytree(ROOT / "crates", room / "crates", ignore=LEFT_OUT)
     shutil.copy(ROOT / "HANDLES", room)
-    (room / "crates.txt").write_text(lines_with((ROOT / "crates.txt").read_text(), build.crate))
+    (room / "crates.txt").write_text(lines_with((ROOT / "crates.txt").read_text(), build))
     folder = room / "crates" / build.crate
-    (folder / "src").mkdir(parents=True, exist_ok=True)
-    for name, path in build.sources().items():
-        shutil.copy(path, folder / "src" / name)
+    for place, path in build.sources().items():
+        (folder / place).parent.mkdir(parents=True, exist_ok=True)
+        shutil.copy(path, folder / place)
     return folder
 
 
 def made(build, room):
-    """Proves and builds a program in a folder, and returns its path there."""
+    """Proves and builds a program in a folder, and returns its path there. `rt run` runs it once, with no words."""
     progress(f"`rt run` proves and builds the program of tools/{build.name}, which takes a while")
     folder = lay_out(build, room)
     status, program = rt_run(folder), folder / "out" / build.crate

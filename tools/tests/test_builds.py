@@ -31,6 +31,7 @@ class BuildCase(RoomCase):
             "crates/bar_cli/src/lib.rt": "lib",
             "tools/party/main.rt.in": "new main",
             "tools/party/lies.rt.in": "lies",
+            "tools/party/proofs/lies/Answers.antt.in": "answers",
         }.items():
             path = self.root / name
             path.parent.mkdir(parents=True, exist_ok=True)
@@ -74,6 +75,7 @@ class LaidOut(BuildCase):
         self.assertEqual(folder, self.room / "copy/crates/bar")
         texts = {path.name: path.read_text() for path in (folder / "src").iterdir()}
         self.assertEqual(texts, {"main.rt": "new main", "lies.rt": "lies", "link.rt": "link"})
+        self.assertEqual((folder / "proofs/lies/Answers.antt").read_text(), "answers")
         self.assertFalse((folder / "out").exists() or (folder / "must-fail").exists())
         self.assertEqual((self.room / "copy/crates.txt").read_text(), LINES.replace("bar: bar_cli\n", "bar: bar_cli bar_bytes sha2\n"))
 
@@ -81,6 +83,20 @@ class LaidOut(BuildCase):
         folder = barbuilds.lay_out(Build("party", "node"), self.room / "copy")
         self.assertEqual(sorted(path.name for path in (folder / "src").iterdir()), ["lies.rt", "main.rt"])
         self.assertTrue((self.room / "copy/crates.txt").read_text().endswith("bar: bar_cli\nnode: bar_cli bar_bytes sha2\n"))
+
+    def test_what_else_it_needs(self):
+        build = Build("party", "node", "bar_bytes", ("hex",), ("bar/src/link.rt",))
+        folder = barbuilds.lay_out(build, self.room / "copy")
+        self.assertEqual((folder / "src/link.rt").read_text(), "link")
+        self.assertTrue((self.room / "copy/crates.txt").read_text().endswith("node: hex bar_bytes sha2\n"))
+
+
+class Programs(unittest.TestCase):
+    def test_the_sources_of_each(self):
+        for build in (barbuilds.PARTY, barbuilds.NODE, barbuilds.FUZZ):
+            places = {place.as_posix(): path for place, path in build.sources().items()}
+            self.assertIn("src/main.rt", places)
+            self.assertTrue(all(path.is_file() for path in places.values()))
 
 
 if __name__ == "__main__":
