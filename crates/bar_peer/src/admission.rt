@@ -24,13 +24,12 @@ ghost use Rattle.bar_peer.specs.Trying.{may_admit, may_show};
 use crate::memory::Memory;
 use crate::weighed::Weighed;
 use bar_bytes::Steps;
-use bar_judge::is_peer_kind;
 use bar_laws::rooms::signed_datagrams_are_short;
 use bar_seal::{Checker, Verifier};
 use bar_seeds::Checkpoints;
 use bar_store::Added;
 use bar_window::UpdateId;
-use bar_wire::{Body, EVERYONE, View, place_of};
+use bar_wire::{Body, EVERYONE, View, is_peer_kind, place_of};
 use std::sync::ledger::Ledger as StepLedger;
 
 impl Memory {

@@ -23,13 +23,15 @@ use crate::credentials::Credentials;
 use bar_bytes::Steps;
 use bar_exchange::{heard_from, naming_elsewhere};
 use bar_judge::laws::verdicts_are_what_is_found;
-use bar_judge::{found, is_peer_kind};
+use bar_judge::found;
 use bar_laws::evidence::others_are_tried_by_leaves;
 use bar_ledger::{Ledger, opening_kind};
 use bar_seal::Verifier;
 use bar_seeds::Checkpoints;
 use bar_terms::Table;
-use bar_wire::{EvidenceView, Kind, Place, View, decode, place_of, the_datagram_is_spelled};
+use bar_wire::{
+    EvidenceView, Kind, Place, View, decode, is_peer_kind, place_of, the_datagram_is_spelled,
+};
 use std::sync::ledger::Ledger as StepLedger;
 
 /// The datagram of a kind that was heard from a side of an exchange, where it and one of the same side after it show a fault of their

@@ -1,6 +1,7 @@
 //! The datagrams of a session, as bytes.
 #![tactic(auto)]
 
+mod bodies;
 mod entries;
 mod evidence;
 mod exchange;
@@ -21,6 +22,7 @@ mod view;
 mod windows;
 mod writing;
 
+pub use bodies::is_peer_kind;
 pub use evidence::{EvidenceView, split_evidence};
 pub use exchange::{kind_from, role_from};
 pub use fault::WireFault;

@@ -1,0 +1,21 @@
+//! What the body of a datagram tells.
+ghost use Rattle.std.specs.Prelude.{◌≡◌};
+ghost use Rattle.bar_wire.specs.Bodies.{is_peer_kind};
+ghost use Rattle.bar_wire.specs.Views.{plain};
+
+use crate::view::Body;
+
+/// Whether a body is of a kind that peers sign.
+pub fn is_peer_kind(body: &Body<'_>) -> bool
+    ensures { result ≡ is_peer_kind (plain body.now) }
+{
+    matches!(
+        body,
+        Body::Request { .. }
+            | Body::Response { .. }
+            | Body::Query { .. }
+            | Body::Reply { .. }
+            | Body::Case { .. }
+            | Body::Key { .. }
+    )
+}
