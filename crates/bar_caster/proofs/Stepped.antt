@@ -1,7 +1,7 @@
 -- What an input leaves, over the list of inputs.
 use Rattle.std.proofs.Common.{◌≡◌, ◌∙◌, ℕ, Bool, true, false, List, [], ◌∷◌, ◌++◌, map, sym, ap, subst}
 use Rattle.std.specs.Prelude.{nat_le, if◌then◌else◌, Option, Some}
-use Rattle.bar_store.specs.Orders.{left_in}
+use Rattle.bar_core.specs.Orders.{left_in}
 use Rattle.bar_wire.specs.Datagram.{Datagram}
 use Rattle.bar_wire.specs.Inputs.{Input}
 use Rattle.bar_rules.specs.Broadcaster.Sending.{caster_log_after, caster_step, caster_take}

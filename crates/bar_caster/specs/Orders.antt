@@ -1,6 +1,6 @@
 -- What the orders of a broadcaster send.
 use Rattle.std.specs.Prelude.{◌≡◌, ℕ, List, map, Option, Some, option_map, slice_get}
-use Rattle.bar_store.specs.declared.orders.Orders as store
+use Rattle.bar_core.specs.declared.orders.Orders as store
 use Rattle.bar_window.specs.declared.update.UpdateId.{UpdateId}
 use Rattle.bar_wire.specs.Datagram.{Datagram, Block}
 use Rattle.bar_wire.specs.declared.kind.Kind.TheVariants as kinds

@@ -1,6 +1,6 @@
 -- What a broadcaster stands for: a list of inputs, of which its memory holds what its log tells, and what is still to be given out.
 use Rattle.std.specs.Prelude.{ℕ, List}
-use Rattle.bar_store.specs.Orders.{left_in}
+use Rattle.bar_core.specs.Orders.{left_in}
 use Rattle.bar_wire.specs.Datagram.{Datagram}
 use Rattle.bar_wire.specs.Inputs.{Input}
 use Rattle.bar_rules.specs.Broadcaster.Sending.{caster_log_after}

@@ -1,6 +1,6 @@
 //! A broadcaster as a core.
 ghost use Rattle.std.specs.Prelude.{◌≡◌, ◌<◌, ◌++◌, ◌∷◌, []};
-ghost use Rattle.bar_store.specs.Orders.{left_in};
+ghost use Rattle.bar_core.specs.Orders.{left_in};
 ghost use Rattle.bar_wire.specs.Inputs.{plain_input};
 ghost use Rattle.bar_rules.specs.Broadcaster.Sending.{caster_step};
 ghost use Rattle.bar_caster.specs.Memory.{IsOfTheSame, member_of, stream_of};

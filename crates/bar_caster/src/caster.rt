@@ -8,8 +8,8 @@ ghost use Rattle.bar_caster.specs.Ticking.{most_orders};
 use crate::fanout::Ranks;
 use crate::memory::Memory;
 use crate::order::Order;
+use bar_core::Orders;
 use bar_seal::Scheme;
-use bar_store::Orders;
 
 /// The broadcaster of a session. It takes ticks and datagrams, each with all that it sends given out before the next one.
 #[derive(Drop)]

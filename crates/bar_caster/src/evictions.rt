@@ -2,7 +2,7 @@ ghost use Rattle.std.specs.Prelude.{◌≡◌, ◌+◌, ◌≤◌, length, vec_c
 ghost use Rattle.bar_caster.specs.Listed.{peers_with_evidence};
 
 use bar_bytes::Rooms;
-use bar_store::keep_evidence;
+use bar_core::keep_evidence;
 use bar_wire::EvidenceView;
 use std::alloc::{AllocError, Global};
 

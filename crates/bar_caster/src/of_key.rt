@@ -1,7 +1,7 @@
 //! The broadcaster of a party's key.
 ghost use Rattle.std.specs.Prelude.{◌≡◌, ◌*◌, ◌<◌, ◌≤◌, [], true, Err, IfErr, IfOk, length};
 ghost use Rattle.bar_hss.specs.Files.{IsPartyKeyOf};
-ghost use Rattle.bar_store.specs.Orders.{left_in};
+ghost use Rattle.bar_core.specs.Orders.{left_in};
 ghost use Rattle.bar_wire.specs.Limits.{largest_content};
 ghost use Rattle.bar_rules.specs.Members.{member_by};
 ghost use Rattle.bar_caster.specs.Memory.{member_of, stream_of};

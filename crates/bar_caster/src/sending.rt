@@ -14,7 +14,7 @@ use crate::item::Item;
 use crate::memory::Memory;
 use crate::order::Order;
 use bar_bytes::Steps;
-use bar_store::Orders;
+use bar_core::Orders;
 use bar_window::UpdateId;
 use std::sync::ledger::Ledger;
 

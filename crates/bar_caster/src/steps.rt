@@ -1,6 +1,6 @@
 //! What a broadcaster does at an input.
 ghost use Rattle.std.specs.Prelude.{◌≡◌, ◌+◌, ◌*◌, ◌≤◌, ◌++◌, ◌∷◌, ◌↔◌, [], IsTrue, max, true};
-ghost use Rattle.bar_store.specs.Orders.{left_in};
+ghost use Rattle.bar_core.specs.Orders.{left_in};
 ghost use Rattle.bar_wire.specs.Inputs.{plain_input};
 ghost use Rattle.bar_rules.specs.Broadcaster.Sending.{caster_step};
 ghost use Rattle.bar_laws.specs.Ignoring.{is_unread};

@@ -1,3 +1,4 @@
 pub mod Stepwise
 pub mod Mapped
 pub mod OverLists
+pub mod Entries

@@ -1,3 +1,4 @@
 pub mod Rules
 pub mod Face
 pub mod Runs
+pub mod Orders

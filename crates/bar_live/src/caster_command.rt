@@ -5,7 +5,7 @@ ghost use Rattle.bar_outside.specs.Follows.{Follows};
 ghost use Rattle.bar_outside.specs.MemTaken.{bound_in};
 ghost use Rattle.bar_wire.specs.Inputs.{Input};
 ghost use Rattle.bar_seeds.specs.declared.secrets.Secrets.{Secrets as Held};
-ghost use Rattle.bar_store.specs.Orders.{left_in};
+ghost use Rattle.bar_core.specs.Orders.{left_in};
 ghost use Rattle.bar_hss.specs.Files.{IsPartyKeyOf};
 ghost use Rattle.bar_roster.specs.SessionText.{SessionData};
 ghost use Rattle.bar_rules.specs.Members.{member_by};

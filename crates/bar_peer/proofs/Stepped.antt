@@ -29,7 +29,7 @@ use Rattle.bar_peer.specs.declared.order.Order.{Order}
 use Rattle.bar_peer.specs.Orders.{Orders}
 use Rattle.bar_peer.specs.declared.playing.Playing.{Playing}
 use Rattle.bar_peer.specs.Memory.{member_of, Tells}
-use Rattle.bar_store.specs.Orders.{left_in}
+use Rattle.bar_core.specs.Orders.{left_in}
 use Rattle.bar_peer.specs.Sending.{AreFor, IsOrderTimely, Stands, order_now}
 use Rattle.bar_peer.specs.StandsFor.{StandsFor, AreLeft, contents_left}
 use Rattle.bar_peer.specs.Steps.{is_tick}

@@ -2,7 +2,7 @@
 use Rattle.std.specs.Prelude.{◌≡◌, ℕ, List, [], length, map, option_map}
 use Rattle.bar_core.specs.Face.{Face}
 use Rattle.bar_core.specs.Rules.{Rules, Send}
-use Rattle.bar_store.specs.Orders.{left_in}
+use Rattle.bar_core.specs.Orders.{left_in}
 use Rattle.bar_wire.specs.Datagram.{Datagram}
 use Rattle.bar_wire.specs.Evidence.{evidence_bytes}
 use Rattle.bar_roster.specs.Time.{last_tick}

@@ -1,6 +1,6 @@
 -- Datagrams that a peer ignores leave its memory as it was, and nothing is to be given out for them.
 use Rattle.std.specs.Prelude.{◌≡◌, true, []}
-use Rattle.bar_store.specs.Orders.{left_in}
+use Rattle.bar_core.specs.Orders.{left_in}
 use Rattle.bar_wire.specs.Datagram.{Datagram}
 use Rattle.bar_wire.specs.Inputs.{Input}
 use Rattle.bar_laws.specs.Ignoring.{is_ignored, tells_nothing}

@@ -1,6 +1,6 @@
 //! A peer as a core.
 ghost use Rattle.std.specs.Prelude.{◌≡◌, ◌<◌, ◌++◌, ◌∷◌, []};
-ghost use Rattle.bar_store.specs.Orders.{left_in};
+ghost use Rattle.bar_core.specs.Orders.{left_in};
 ghost use Rattle.bar_wire.specs.Inputs.{plain_input};
 ghost use Rattle.bar_rules.specs.Peer.Run.{log_after, step};
 ghost use Rattle.bar_peer.specs.Memory.{member_of};

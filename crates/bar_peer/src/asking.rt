@@ -6,8 +6,8 @@ ghost use Rattle.bar_peer.specs.Ticking.{AsksPartner, AsksPartners};
 use crate::memory::Memory;
 use crate::order::Order;
 use crate::saying::request;
+use bar_core::Orders;
 use bar_seeds::partner;
-use bar_store::Orders;
 use bar_window::{Role, XKind};
 use bar_wire::exchange_by;
 

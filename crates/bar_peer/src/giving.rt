@@ -12,7 +12,7 @@ ghost use Rattle.bar_exchange.specs.Writing.{CanWrite, IsWritten, LeavesRest, la
 ghost use Rattle.bar_peer.specs.Giving.{IsDue, IsOrderDue, IsSignedFor, receiver_of};
 ghost use Rattle.bar_rules.specs.Giving.{IsGiven};
 ghost use Rattle.bar_peer.specs.Memory.{member_of, IsMemoryOf};
-ghost use Rattle.bar_store.specs.Orders.{left_in};
+ghost use Rattle.bar_core.specs.Orders.{left_in};
 ghost use Rattle.bar_peer.specs.StandsFor.{Inputs, StandsFor, AreLeft};
 ghost use Rattle.bar_rules.specs.Giving.{GivesNext};
 

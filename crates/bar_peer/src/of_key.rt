@@ -3,7 +3,7 @@ ghost use Rattle.std.specs.Prelude.{◌≡◌, [], false, IfOk};
 ghost use Rattle.bar_hss.specs.Files.{IsPartyKeyOf};
 ghost use Rattle.bar_rules.specs.Members.{member_by};
 ghost use Rattle.bar_peer.specs.Memory.{member_of};
-ghost use Rattle.bar_store.specs.Orders.{left_in};
+ghost use Rattle.bar_core.specs.Orders.{left_in};
 ghost use Rattle.bar_peer.specs.StandsFor.{StandsFor, contents_left};
 
 use crate::peer::Peer;

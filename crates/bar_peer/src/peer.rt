@@ -8,9 +8,9 @@ ghost use Rattle.bar_peer.specs.Ticking.{most_orders};
 use crate::memory::Memory;
 use crate::order::Order;
 use crate::playing::Playing;
+use bar_core::Orders;
 use bar_seal::{Checker, Scheme};
 use bar_seeds::Checkpoints;
-use bar_store::Orders;
 
 /// A peer of a session. It takes ticks and datagrams, each with all its replies and contents given out before the next one.
 #[derive(Drop)]

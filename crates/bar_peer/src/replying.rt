@@ -10,8 +10,8 @@ ghost use Rattle.bar_peer.specs.Sending.{IsOwn, Stands};
 
 use crate::memory::Memory;
 use crate::order::Order;
+use bar_core::Orders;
 use bar_exchange::{Say, Says};
-use bar_store::Orders;
 
 /// Carries out a reply.
 fn reply_once(memory: &mut Memory, orders: &mut Orders<Order>, say: Say)

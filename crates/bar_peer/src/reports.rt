@@ -10,7 +10,8 @@ ghost use Rattle.bar_peer.specs.Ticking.{is_reported, Reports};
 
 use crate::memory::Memory;
 use crate::order::Order;
-use bar_store::{HEADER_LEN, Orders};
+use bar_core::Orders;
+use bar_store::HEADER_LEN;
 use bar_wire::{BROADCASTER, Body, encode, split_evidence};
 
 impl Memory {

@@ -15,7 +15,7 @@ ghost use Rattle.bar_peer.specs.Checking.{checked_in, choice_round_in, round_in,
 ghost use Rattle.bar_laws.specs.Ignoring.{is_unread};
 ghost use Rattle.bar_peer.specs.Ignoring.{Ignores, IgnoresInput, IsUntouched};
 ghost use Rattle.bar_peer.specs.Memory.{member_of, Tells};
-ghost use Rattle.bar_store.specs.Orders.{left_in};
+ghost use Rattle.bar_core.specs.Orders.{left_in};
 ghost use Rattle.bar_peer.specs.StandsFor.{Inputs, StandsFor, AreLeft, contents_left};
 ghost use Rattle.bar_peer.specs.Steps.{TakesInput, is_tick};
 ghost use Rattle.bar_peer.specs.Ticking.{most_orders};
@@ -26,13 +26,13 @@ use crate::peer::Peer;
 use crate::playing::Playing;
 use crate::taking::{take_datagram, take_tick};
 use bar_bytes::Steps;
+use bar_core::Orders;
 use bar_laws::ignoring::ignored_datagrams_change_nothing;
 use bar_laws::knowing::knowledge_is_enough;
 use bar_laws::obedience::signed_by_rule;
 use bar_roster::slot_after;
 use bar_seal::{Checker, Scheme, Verifier};
 use bar_seeds::Checkpoints;
-use bar_store::Orders;
 use bar_wire::Input;
 use std::sync::ledger::Ledger as StepLedger;
 

@@ -33,12 +33,12 @@ use crate::replying::reply;
 use crate::ticks::act;
 use crate::trying::find_evidence;
 use bar_bytes::Steps;
+use bar_core::{Orders, keep_evidence};
 use bar_laws::knowing::knowledge_is_enough;
 use bar_laws::memories::logs_are_sound;
 use bar_laws::rooms::evidence_fits_its_room;
 use bar_seal::{Checker, Verifier};
 use bar_seeds::Checkpoints;
-use bar_store::{Orders, keep_evidence};
 use bar_wire::{View, bytes_spell_one, decode};
 use std::sync::ledger::Ledger as StepLedger;
 

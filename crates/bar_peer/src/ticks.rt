@@ -15,11 +15,11 @@ use crate::asking::ask_partners;
 use crate::memory::Memory;
 use crate::order::Order;
 use crate::reports::report_all;
+use bar_core::Orders;
 use bar_exchange::{Say, Says};
 use bar_laws::knowing::knowledge_is_enough;
 use bar_laws::memories::logs_are_sound;
 use bar_roster::{SLOTS_A_ROUND, round_after, slot_after};
-use bar_store::Orders;
 use bar_window::{Exchange, XKind};
 
 impl Memory {

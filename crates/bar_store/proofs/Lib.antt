@@ -3,4 +3,3 @@ pub mod Picked
 pub mod Lists
 pub mod Learns
 pub mod Known
-pub mod Entries

@@ -3,4 +3,3 @@ pub mod Held
 pub mod Holds
 pub mod Knowing
 pub mod Windows
-pub mod Orders

@@ -1,6 +1,6 @@
 //! Broadcasters, and all that they give out.
 ghost use Rattle.std.specs.Prelude.{◌≡◌, ◌<◌, []};
-ghost use Rattle.bar_store.specs.Orders.{left_in};
+ghost use Rattle.bar_core.specs.Orders.{left_in};
 
 use bar_bytes::Steps;
 use bar_caster::{Caster, CasterFault};

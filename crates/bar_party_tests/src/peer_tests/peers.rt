@@ -1,7 +1,7 @@
 //! Peers, and all that they give out.
 ghost use Rattle.std.specs.Prelude.{◌≡◌, ◌<◌, [], IfOk};
 ghost use Rattle.bar_hss.specs.Files.{IsPartyKeyOf};
-ghost use Rattle.bar_store.specs.Orders.{left_in};
+ghost use Rattle.bar_core.specs.Orders.{left_in};
 ghost use Rattle.bar_peer.specs.StandsFor.{contents_left};
 
 use bar_bytes::Steps;

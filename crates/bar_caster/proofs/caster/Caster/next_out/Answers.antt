@@ -1,6 +1,6 @@
 use Rattle.std.proofs.Common.{sym, subst}
 use Rattle.bar_rules.specs.Giving.{GivesNext}
-use Rattle.bar_store.specs.Orders.{left_in}
+use Rattle.bar_core.specs.Orders.{left_in}
 use Rattle.bar_caster.specs.Memory.{member_of, stream_of}
 use Rattle.bar_caster.specs.StandsFor.{AreLeft, log_of}
 use Rattle.bar_caster.proofs.Given.{none_left, next_of, never_none}

@@ -1,7 +1,7 @@
 -- An input before the last tick is taken; after it nothing changes, and nothing is sent.
 use Rattle.std.proofs.Common.{◌≡◌, ◌∙◌, ◌++◌, ◌∷◌, [], refl, sym, ap, subst, drop}
 use Rattle.std.proofs.lemmas.Bool.{false≢true}
-use Rattle.bar_store.specs.Orders.{left_in}
+use Rattle.bar_core.specs.Orders.{left_in}
 use Rattle.bar_wire.specs.Inputs as event
 use Rattle.bar_wire.specs.Inputs.{plain_input}
 use Rattle.bar_wire.specs.declared.input.Input.{Input as RawInput}

@@ -14,7 +14,7 @@ use Rattle.bar_rules.specs.Peer.Log.{Log}
 use Rattle.bar_rules.specs.Peer.Run.{Out, log_after, step}
 use Rattle.bar_peer.specs.Orders.{Orders}
 use Rattle.bar_peer.specs.Memory.{member_of, Tells}
-use Rattle.bar_store.specs.Orders.{left_in}
+use Rattle.bar_core.specs.Orders.{left_in}
 use Rattle.bar_peer.specs.StandsFor.{contents_left}
 use Rattle.bar_peer.proofs.Stepped.{log-more, over-stands, none-left, obeys-now, then-stands, then-sends, PlaysNow, tick-step, datagram-step}
 use Rattle.bar_peer.proofs.peer.Peer.step.Goals as goal

@@ -1,6 +1,6 @@
 -- Orders that are left.
 use Rattle.std.specs.Prelude.{◌≡◌, List, [], ◌∷◌, Option, Some, None, drop}
-use Rattle.bar_store.specs.declared.orders.Orders.{Orders}
+use Rattle.bar_core.specs.declared.orders.Orders.{Orders}
 
 -- those that aren't given out
 abbrev pub left_in : {T : Type 0} → Orders T → List T

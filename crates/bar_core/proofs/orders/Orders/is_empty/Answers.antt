@@ -1,7 +1,7 @@
 use Rattle.std.proofs.Common.{ap, arith, length}
 use Rattle.std.proofs.lemmas.Bool.{eqb-true, eq-eqb}
 use Rattle.std.proofs.lemmas.List.{drop_all, length-drop}
-use Rattle.bar_store.proofs.orders.Orders.is_empty.Goals as goal
+use Rattle.bar_core.proofs.orders.Orders.is_empty.Goals as goal
 
 pub returns : goal.returns
 returns g c =

@@ -1,8 +1,8 @@
 use Rattle.std.proofs.Common.{ℕ, ◌∷◌, subst, arith}
 use Rattle.bar_bytes.specs.Rooms.{kept_in}
 use Rattle.bar_wire.specs.Evidence.{other}
-use Rattle.bar_store.proofs.Entries.{KeepsWhatFits, keeps_one, keeps_two, long_with_one, long_with_two}
-use Rattle.bar_store.proofs.evidence.keep_evidence.Goals as goal
+use Rattle.bar_core.proofs.Entries.{KeepsWhatFits, keeps_one, keeps_two, long_with_one, long_with_two}
+use Rattle.bar_core.proofs.evidence.keep_evidence.Goals as goal
 
 pub returns-in-Some-clause-kept : goal.returns-in-Some-clause-kept
 returns-in-Some-clause-kept c =

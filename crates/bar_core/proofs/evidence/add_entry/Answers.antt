@@ -1,7 +1,7 @@
 use Rattle.bar_bytes.specs.Bytes.{u16_bytes}
 use Rattle.bar_bytes.specs.Rooms.{kept_in}
-use Rattle.bar_store.proofs.Entries.{entry_put}
-use Rattle.bar_store.proofs.evidence.add_entry.Goals as goal
+use Rattle.bar_core.proofs.Entries.{entry_put}
+use Rattle.bar_core.proofs.evidence.add_entry.Goals as goal
 
 pub returns-clause-kept : goal.returns-clause-kept
 unfolding u16_bytes
