@@ -1,60 +1,33 @@
--- What a view of a datagram tells of its row.
-use Rattle.std.proofs.Common.{◌≡◌, ℕ, ◌∙◌, Bool, true, ◌&&◌, List, Some, sym, ap, refl}
-use Rattle.std.specs.Prelude.{option_map}
+-- Which bodies stand at a place of a balanced exchange.
+use Rattle.std.proofs.Common.{◌≡◌, ◌∙◌, ℕ, List, refl, sym}
 use Rattle.std.specs.Borrow.{Bor}
-use Rattle.std.proofs.lemmas.Bool.{false≢true}
-use Rattle.bar_window.specs.declared.window.Window.{Window}
-use Rattle.bar_window.specs.declared.exchange.Role.{Role}
-use Rattle.bar_window.specs.declared.exchange.XKind.{XKind}
+use Rattle.bar_window.specs.declared.exchange.Role.TheVariants.{Initiator, Responder}
 use Rattle.bar_window.specs.declared.exchange.XKind.TheVariants.{Balanced, Push}
 use Rattle.bar_window.specs.declared.terms.Terms.{Terms}
-use Rattle.bar_wire.specs.Datagram.{Body, exchange_by}
+use Rattle.bar_window.specs.declared.window.Window.{Window}
 use Rattle.bar_wire.specs.Views.{plain}
+use Rattle.bar_wire.specs.declared.place.Place.{Place}
 use Rattle.bar_wire.specs.declared.view.Body.{Body as RawBody}
 use Rattle.bar_wire.specs.declared.view.Body.TheVariants as bodies
-use Rattle.bar_rules.specs.Member.{Member}
-use Rattle.bar_rules.specs.Peer.Admission.{is_row_met}
-use Rattle.bar_rules.specs.Peer.Knowledge.{Knowledge}
-use Rattle.bar_balanced.specs.Balanced.{is_balanced_row_met}
-use Rattle.bar_balanced.specs.Parts.{is_balanced, part_by, place_by}
-use Rattle.bar_wire.specs.declared.place.Place.{Place}
-
-pub row_of : (me : Member) (k : Knowledge) (from to : ℕ) (a b : Body) (r : Bool) → a ≡ b → is_balanced b ≡ true → r ≡ is_row_met me k from to b
-    → r ≡ is_balanced_row_met me k from to a
-row_of me k from to a b r same balanced met = met ∙ ap (λ t. t && is_row_met me k from to b) (sym balanced) ∙ ap (is_balanced_row_met me k from to) (sym same)
-
--- the place of a part that is told
-pub stands : (p : Place) (from to : ℕ) (part : ℕ × Role) → Some p ≡ option_map (place_by from to) (Some part) → p ≡ place_by from to part
-stands p from to part h = cc
-
--- a place is that of a balanced exchange
-pub record IsBalancedPlace (p : Place) (from to round : ℕ) (kind : XKind) (role : Role) : Type 0 where
-  pub kind_is : kind ≡ Balanced
-  pub role_is : p.role ≡ role
-  pub x_is : p.x ≡ exchange_by round Balanced p.role from to
-
-pub stands_by : (p : Place) (from to round : ℕ) (kind : XKind) (role : Role) → Some p ≡ option_map (place_by from to) (part_by round kind role)
-    → IsBalancedPlace p from to round kind role
-stands_by p from to round Balanced role h =
-    let is = stands p from to (round, role) h in
-    let side : p.role ≡ role = ap (λ (p : Place). p.role) is in
-    record { kind_is = refl; role_is = side; x_is = ap (λ (p : Place). p.x) is ∙ (λ i. exchange_by round Balanced (sym side i) from to) }
-stands_by p from to round Push role h = absurd (cc)
+use Rattle.bar_exchange.proofs.Placed.{BodyStands, kind_at}
 
 -- a body of no kind that balanced exchanges have
-pub none_balanced : (b : RawBody) → ((r : ℕ) (seed commitment : Bor (List ℕ)) → b ≡ bodies.Request r seed commitment → ⊥) → ((r : ℕ) (hb : Window) → b ≡ bodies.Response r hb → ⊥)
+pub none_balanced : (from to : ℕ) (b : RawBody) (p : Place) → BodyStands from to (plain b) p → p.x.kind ≡ Balanced
+    → ((r : ℕ) (seed commitment : Bor (List ℕ)) → b ≡ bodies.Request r seed commitment → ⊥) → ((r : ℕ) (hb : Window) → b ≡ bodies.Response r hb → ⊥)
     → ((r : ℕ) (nonce : Bor (List ℕ)) (ha : Window) → b ≡ bodies.Divulge r nonce ha → ⊥)
     → ((r xkind role updates junk : ℕ) (terms : Terms) (cipher : Bor (List ℕ)) → b ≡ bodies.Case r xkind role updates junk terms cipher → ⊥)
-    → ((r xkind role : ℕ) → b ≡ bodies.KeyReq r xkind role → ⊥) → ((r xkind role : ℕ) (key : Bor (List ℕ)) → b ≡ bodies.Key r xkind role key → ⊥) → is_balanced (plain b) ≡ true → ⊥
-none_balanced (bodies.Request r seed commitment) q a d c n y e = q r seed commitment refl
-none_balanced (bodies.Response r hb) q a d c n y e = a r hb refl
-none_balanced (bodies.Divulge r nonce ha) q a d c n y e = d r nonce ha refl
-none_balanced (bodies.Case r xkind role updates junk terms cipher) q a d c n y e = c r xkind role updates junk terms cipher refl
-none_balanced (bodies.KeyReq r xkind role) q a d c n y e = n r xkind role refl
-none_balanced (bodies.Key r xkind role key) q a d c n y e = y r xkind role key refl
-none_balanced (bodies.Manifest r count digests) q a d c n y e = false≢true e
-none_balanced (bodies.Block r index block) q a d c n y e = false≢true e
-none_balanced (bodies.Query r seed young aged) q a d c n y e = false≢true e
-none_balanced (bodies.Reply r want give junk) q a d c n y e = false≢true e
-none_balanced (bodies.Evidence count datagrams) q a d c n y e = false≢true e
-none_balanced (bodies.Evict r count parties) q a d c n y e = false≢true e
+    → ((r xkind role : ℕ) → b ≡ bodies.KeyReq r xkind role → ⊥) → ((r xkind role : ℕ) (key : Bor (List ℕ)) → b ≡ bodies.Key r xkind role key → ⊥) → ⊥
+none_balanced from to (bodies.Request r seed commitment) p at is q a d c n y = q r seed commitment refl
+none_balanced from to (bodies.Response r hb) p at is q a d c n y = a r hb refl
+none_balanced from to (bodies.Divulge r nonce ha) p at is q a d c n y = d r nonce ha refl
+none_balanced from to (bodies.Case r xkind role updates junk terms cipher) p at is q a d c n y = c r xkind role updates junk terms cipher refl
+none_balanced from to (bodies.KeyReq r xkind role) p at is q a d c n y = n r xkind role refl
+none_balanced from to (bodies.Key r xkind role key) p at is q a d c n y = y r xkind role key refl
+none_balanced from to (bodies.Query r seed young aged) p at is q a d c n y =
+    let other : Balanced ≡ Push = sym is ∙ kind_at from to (plain (bodies.Query r seed young aged)) p (r, Push, Initiator) at refl in absurd (cc)
+none_balanced from to (bodies.Reply r want give junk) p at is q a d c n y =
+    let other : Balanced ≡ Push = sym is ∙ kind_at from to (plain (bodies.Reply r want give junk)) p (r, Push, Responder) at refl in absurd (cc)
+none_balanced from to (bodies.Manifest r count digests) p at is q a d c n y = absurd (cc)
+none_balanced from to (bodies.Block r index block) p at is q a d c n y = absurd (cc)
+none_balanced from to (bodies.Evidence count datagrams) p at is q a d c n y = absurd (cc)
+none_balanced from to (bodies.Evict r count parties) p at is q a d c n y = absurd (cc)

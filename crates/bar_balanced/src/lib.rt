@@ -6,7 +6,6 @@ mod asking;
 mod divulge;
 mod keeping;
 mod known;
-mod place;
 mod reply;
 mod rows;
 mod saying;

@@ -1,23 +1,23 @@
 //! What is answered to a datagram.
-ghost use Rattle.std.specs.Prelude.{◌≡◌, ◌+◌, ◌≤◌, ◌||◌, ◌&&◌, [], ◌∷◌, true, nat_le};
+ghost use Rattle.std.specs.Prelude.{◌≡◌, ◌+◌, ◌≤◌, ◌||◌, ◌&&◌, [], ◌∷◌, Some, true, nat_le};
+ghost use Rattle.bar_window.specs.declared.exchange.XKind.TheVariants.{Balanced};
 ghost use Rattle.bar_wire.specs.Views.{datagram};
 ghost use Rattle.bar_rules.specs.Member.{Member};
 ghost use Rattle.bar_rules.specs.Peer.Agreement.{IsRecent};
 ghost use Rattle.bar_rules.specs.Peer.Knowledge.{Knowledge, this_round};
 ghost use Rattle.bar_rules.specs.Peer.Orders.{Reveal, GiveCase};
-ghost use Rattle.bar_rules.specs.Peer.Replies.{is_trade_worth, orders_when};
+ghost use Rattle.bar_rules.specs.Peer.Replies.{is_trade_worth, orders_when, reply_orders};
 ghost use Rattle.bar_rules.specs.Peer.Terms.{terms_of};
 ghost use Rattle.bar_ledger.specs.Recalls.{Recalls};
-ghost use Rattle.bar_balanced.specs.Balanced.{balanced_orders, IsRecentWhereNew};
+ghost use Rattle.bar_exchange.specs.Placing.{StandsAt};
 ghost use Rattle.bar_exchange.specs.Says.{orders_of_reply, AreFitting};
 
-use crate::place::place_of;
 use crate::worth::is_worth;
 use bar_exchange::{ANSWER_DEADLINE, REQUEST_DEADLINE, Say, Says, is_within, one_when};
 use bar_ledger::Ledger;
 use bar_roster::Session;
 use bar_window::Exchange;
-use bar_wire::{Body, Kind, View};
+use bar_wire::{Body, Kind, Place, View};
 
 /// To a RESPONSE that is admitted now: the DIVULGE and the CASE.
 fn to_response(ledger: &Ledger, x: Exchange, is_new: bool) -> Says
@@ -55,23 +55,23 @@ fn to_divulge(ledger: &Ledger, round: u32, x: Exchange, is_new: bool) -> Says
     }
 }
 
-/// What is answered to a datagram of a balanced exchange that is admitted now or comes again, in this round.
+/// What is answered to a datagram at a place of a balanced exchange that is admitted now or comes again, in this round.
 pub fn replies(
     session: &Session,
     ledger: &Ledger,
     round: u32,
     view: &View<'_>,
+    place: Place,
     is_new: bool,
 ) -> Says
+    requires place { StandsAt view.now (Some place) }
+    requires kind { place.x.kind ≡ Balanced }
     ensures orders { (me : Member) (k : Knowledge) → me.session ≡ session.now → Recalls me k ledger.now → round ≡ this_round k
-        → IsRecentWhereNew me k is_new (datagram session.now.shape view.now).message
-        → orders_of_reply result ≡ balanced_orders me k is_new (datagram session.now.shape view.now) }
+        → (is_new ≡ true → IsRecent me k place.x.round)
+        → orders_of_reply result ≡ reply_orders me k is_new (datagram session.now.shape view.now) }
     ensures fitting { AreFitting result }
 {
     let life = session.shape().life;
-    let Some(place) = place_of(view) else {
-        return Says::Nothing;
-    };
     let x = place.x;
     match view.body {
         Body::Request { .. } => one_when(

@@ -13,6 +13,7 @@ pub mod Knowing
 pub mod Briefcases
 pub mod KindCases
 pub mod Places
+pub mod Placed
 pub mod Same
 pub mod Changes
 pub mod Rooms

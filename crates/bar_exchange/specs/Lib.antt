@@ -5,3 +5,4 @@ pub mod Counts
 pub mod Writing
 pub mod Answering
 pub mod Naming
+pub mod Placing

@@ -2,13 +2,12 @@
 use Rattle.std.proofs.Common.{◌≡◌, ◌∙◌, ◌&&◌, ℕ, Bool, true, false, not, Option, Some, None, is_some, sym, ap, refl, option_map}
 use Rattle.std.specs.Option.{option_map_or}
 use Rattle.std.proofs.lemmas.Bool.{not-true, and_parts, false≢true, both_ways}
-use Rattle.std.proofs.lemmas.Option.{same_Some}
 use Rattle.bar_window.specs.declared.exchange.Exchange.{Exchange}
 use Rattle.bar_window.specs.declared.exchange.Role.{Role}
 use Rattle.bar_window.specs.declared.exchange.Role.TheVariants.{Initiator}
 use Rattle.bar_window.specs.declared.exchange.XKind.{XKind}
 use Rattle.bar_window.specs.declared.exchange.XKind.TheVariants.{Balanced, Push}
-use Rattle.bar_wire.specs.Datagram.{Message, Datagram, Body, Manifest, Block, Request, Response, Divulge, Query, Reply, Case, KeyReq, Key, Evidence, Evict, Place, kind_of, part_of, place_by, place_of, is_of, is_place, is_signed}
+use Rattle.bar_wire.specs.Datagram.{Message, Datagram, Place, kind_of, place_by, place_of, is_of, is_place, is_signed}
 use Rattle.bar_wire.specs.Kinds.{is_signed_kind}
 use Rattle.bar_wire.specs.declared.kind.Kind.{Kind}
 use Rattle.bar_rules.specs.Member.{Member}
@@ -17,60 +16,15 @@ use Rattle.bar_rules.specs.Peer.Exchanges.{request_kind}
 use Rattle.bar_rules.specs.Peer.Knowledge.{Knowledge, has_heard_of}
 use Rattle.bar_laws.specs.Soundness.{IsSound}
 use Rattle.bar_ledger.proofs.Same.{one_exchange}
-use Rattle.bar_exchange.proofs.FourTests.{kind_by}
 use Rattle.bar_exchange.proofs.KindCases.{one_kind}
 use Rattle.bar_exchange.proofs.Places.{one_role}
-use Rattle.bar_balanced.specs.Parts.{is_balanced}
-use Rattle.bar_balanced.specs.Parts as balanced
-use Rattle.bar_push.specs.Parts.{is_push}
-use Rattle.bar_push.specs.Parts as push
 use Rattle.bar_peer.proofs.Sends.{none_of}
 
--- ---- the kind of an exchange
+-- ---- a place
 
 pub unplaced : (from to : ℕ) (o : Option (ℕ × XKind × Role)) → option_map (place_by from to) o ≡ None → is_some o ≡ true → ⊥
 unplaced from to None none some = false≢true some
 unplaced from to (Some p) none some = absurd (cc)
-
-pub placed_kind : (from to : ℕ) (o : Option (ℕ × XKind × Role)) (p : Place) → option_map (place_by from to) o ≡ Some p
-    → option_map (λ q. q.1) o ≡ Some p.exchange.kind
-placed_kind from to None p e = absurd (cc)
-placed_kind from to (Some q) p e =
-    ap Some (sym (kind_by q.0 q.1 q.2 from to) ∙ ap (λ (p : Place). p.exchange.kind) (same_Some (place_by from to q) p e))
-
-balanced_part : (round : ℕ) (kind : XKind) (role : Role) → Some kind ≡ Some Balanced → is_some (balanced.part_by round kind role) ≡ true
-balanced_part round kind role e = ap (λ k. is_some (balanced.part_by round k role)) (same_Some kind Balanced e)
-
-push_part : (round : ℕ) (kind : XKind) (role : Role) → Some kind ≡ Some Push → is_some (push.part_by round kind role) ≡ true
-push_part round kind role e = ap (λ k. is_some (push.part_by round k role)) (same_Some kind Push e)
-
-pub balanced_by : (b : Body) → option_map (λ q. q.1) (part_of b) ≡ Some Balanced → is_balanced b ≡ true
-balanced_by (Request r s c) e = refl
-balanced_by (Response r hb) e = refl
-balanced_by (Divulge r n ha) e = refl
-balanced_by (Case c) e = balanced_part c.round c.kind c.role e
-balanced_by (KeyReq r kind role) e = balanced_part r kind role e
-balanced_by (Key g) e = balanced_part g.round g.kind g.role e
-balanced_by (Query r s y o) e = absurd (cc)
-balanced_by (Reply r w g z) e = absurd (cc)
-balanced_by (Manifest r ds) e = absurd (cc)
-balanced_by (Block u b) e = absurd (cc)
-balanced_by (Evidence ds) e = absurd (cc)
-balanced_by (Evict r ps) e = absurd (cc)
-
-pub push_by : (b : Body) → option_map (λ q. q.1) (part_of b) ≡ Some Push → is_push b ≡ true
-push_by (Query r s y o) e = refl
-push_by (Reply r w g z) e = refl
-push_by (Case c) e = push_part c.round c.kind c.role e
-push_by (KeyReq r kind role) e = push_part r kind role e
-push_by (Key g) e = push_part g.round g.kind g.role e
-push_by (Request r s c) e = absurd (cc)
-push_by (Response r hb) e = absurd (cc)
-push_by (Divulge r n ha) e = absurd (cc)
-push_by (Manifest r ds) e = absurd (cc)
-push_by (Block u b) e = absurd (cc)
-push_by (Evidence ds) e = absurd (cc)
-push_by (Evict r ps) e = absurd (cc)
 
 -- ---- what a datagram is of
 

@@ -1,5 +1,5 @@
 -- The rows of datagrams of exchanges, and what a met row tells.
-use Rattle.std.proofs.Common.{◌≡◌, ◌≤◌, ℕ, ◌∙◌, Bool, true, false, ◌&&◌, ◌||◌, is_some, List, sym, refl, arith}
+use Rattle.std.proofs.Common.{◌≡◌, ◌≤◌, ℕ, ◌∙◌, Bool, true, ◌&&◌, is_some, List, Option, sym, ap, refl, arith}
 use Rattle.std.specs.Borrow.{Bor}
 use Rattle.std.proofs.lemmas.Bool.{and_parts}
 use Rattle.std.proofs.lemmas.Bool.Decides.{nat_tests}
@@ -7,10 +7,13 @@ use Rattle.bar_window.specs.declared.exchange.Role.{Role}
 use Rattle.bar_window.specs.declared.exchange.Role.TheVariants.{Initiator, Responder}
 use Rattle.bar_window.specs.declared.exchange.XKind.{XKind}
 use Rattle.bar_window.specs.declared.exchange.XKind.TheVariants.{Balanced, Push}
-use Rattle.bar_wire.specs.Datagram.{Body, Manifest, Block, Request, Response, Divulge, Query, Reply, Case, KeyReq, Key, Evidence, Evict, exchange_by}
+use Rattle.bar_wire.specs.Datagram.{Body, Manifest, Block, Request, Response, Divulge, Query, Reply, Case, KeyReq, Key, Evidence, Evict, exchange_by, part_of, place_by}
+use Rattle.bar_wire.specs.Sides.{place_in}
 use Rattle.bar_wire.specs.declared.kind.Kind.{Kind}
 use Rattle.bar_wire.specs.declared.kind.Kind.TheVariants as kinds
 use Rattle.bar_wire.specs.Views.{plain}
+use Rattle.bar_wire.specs.declared.place.Place.{Place}
+use Rattle.bar_wire.specs.declared.view.View.{View}
 use Rattle.bar_wire.specs.declared.view.Body.{Body as RawBody}
 use Rattle.bar_wire.specs.declared.view.Body.TheVariants as raw
 use Rattle.bar_rules.specs.Member.{Member}
@@ -18,42 +21,13 @@ use Rattle.bar_rules.specs.Peer.Admission.{is_row_met, may_ask}
 use Rattle.bar_rules.specs.Peer.Agreement.{IsRecent}
 use Rattle.bar_rules.specs.Peer.Exchanges.{request_kind}
 use Rattle.bar_rules.specs.Peer.Knowledge.{Knowledge, is_in_time, deadline}
-use Rattle.bar_balanced.specs.Parts.{is_balanced}
-use Rattle.bar_balanced.specs.Parts as balanced
-use Rattle.bar_push.specs.Parts.{is_push}
-use Rattle.bar_push.specs.Parts as push
+use Rattle.bar_exchange.specs.Placing.{StandsAt}
+use Rattle.bar_exchange.proofs.FourTests.{some_of}
 use Rattle.bar_peer.specs.Repeats.{IsInTime, is_of_exchange}
 
-first_of : (row : Bool) → (row || false) ≡ row
-first_of true = refl
-first_of false = refl
-
-by_kind : (round : ℕ) (kind : XKind) (role : Role) (row : Bool)
-    → (is_some (balanced.part_by round kind role) && row || is_some (push.part_by round kind role) && row) ≡ row
-by_kind round Balanced role row = first_of row
-by_kind round Push role row = refl
-
--- a datagram of an exchange is of a balanced one or of a push
-one_of : (b : Body) (row : Bool) → (is_balanced b && row || is_push b && row) ≡ (is_of_exchange b && row)
-one_of (Manifest r ds) row = refl
-one_of (Block u b) row = refl
-one_of (Request r s c) row = first_of row
-one_of (Response r hb) row = first_of row
-one_of (Divulge r n ha) row = first_of row
-one_of (Query r s y o) row = refl
-one_of (Reply r w g z) row = refl
-one_of (Case c) row = by_kind c.round c.kind c.role row
-one_of (KeyReq r kind role) row = by_kind r kind role row
-one_of (Key g) row = by_kind g.round g.kind g.role row
-one_of (Evidence ds) row = refl
-one_of (Evict r ps) row = refl
-
-pub of_balanced : (b : Body) (row met : Bool) → met ≡ (is_balanced b && row) → met ≡ true → met ≡ (is_of_exchange b && row)
-of_balanced b row met e is = is ∙ (λ i. (sym is ∙ e) i || is_push b && row) ∙ one_of b row
-
-pub of_push : (b : Body) (row none met : Bool) → none ≡ (is_balanced b && row) → none ≡ false → met ≡ (is_push b && row)
-    → met ≡ (is_of_exchange b && row)
-of_push b row none met e is f = f ∙ (λ i. (sym is ∙ e) i || is_push b && row) ∙ one_of b row
+-- a body is of an exchange exactly where it has a place
+pub of_exchange : (v : View) (place : Option Place) → StandsAt v place → is_of_exchange (plain v.body) ≡ is_some place
+of_exchange v place at = sym (some_of (place_by v.from v.to) (part_of (plain v.body))) ∙ ap is_some (sym at) ∙ some_of place_in place
 
 -- what is neither told to all nor a block is of an exchange, or no row admits it
 pub of_others : (me : Member) (k : Knowledge) (from to : ℕ) (b : RawBody)

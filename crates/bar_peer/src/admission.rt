@@ -5,7 +5,6 @@ ghost use Rattle.bar_roster.specs.Points.{AreSeeds};
 ghost use Rattle.bar_wire.specs.Bodies.{choice_round};
 ghost use Rattle.bar_seal.specs.Memo.{has_pair, with_pair};
 ghost use Rattle.bar_wire.specs.Datagram.{is_signed};
-ghost use Rattle.bar_rules.specs.Member.{key_of_party};
 ghost use Rattle.bar_peer.specs.Checking.{IsCheckedOnce};
 ghost use Rattle.bar_wire.specs.Bodies.{is_peer_kind};
 ghost use Rattle.bar_wire.specs.Views.{datagram, plain, IsView};
@@ -17,19 +16,22 @@ ghost use Rattle.bar_rules.specs.Peer.Knowledge.{Knowledge};
 ghost use Rattle.bar_rules.specs.Verifiers.{IsVerifierOf};
 ghost use Rattle.bar_laws.specs.Soundness.{IsSound};
 ghost use Rattle.bar_balanced.specs.Balanced.{AreSpelled};
+ghost use Rattle.bar_peer.specs.Arrivals.{IsReadBy, datagram_by, checked_by};
 ghost use Rattle.bar_peer.specs.Memory.{member_of, IsMemoryOf};
 ghost use Rattle.bar_peer.specs.Repeats.{is_of_exchange, IsInTime};
 ghost use Rattle.bar_peer.specs.Trying.{may_admit, may_show};
 
+use crate::arrival::Arrival;
 use crate::memory::Memory;
 use crate::weighed::Weighed;
 use bar_bytes::Steps;
+use bar_exchange::is_within;
 use bar_laws::rooms::signed_datagrams_are_short;
 use bar_seal::{Checker, Verifier};
 use bar_seeds::Checkpoints;
 use bar_store::Added;
-use bar_window::UpdateId;
-use bar_wire::{Body, EVERYONE, View, is_peer_kind, place_of};
+use bar_window::{UpdateId, XKind};
+use bar_wire::{Body, EVERYONE, View, is_peer_kind};
 use std::sync::ledger::Ledger as StepLedger;
 
 impl Memory {
@@ -54,21 +56,21 @@ impl Memory {
     #[tactic(auto, using(bar_seeds::proofs::CheckpointLemmas::moves_none))]
     fn meets_row<L: StepLedger>(
         &self,
-        view: &View<'_>,
+        arrival: &Arrival<'_>,
         points: &mut Checkpoints,
         steps: &mut Steps<L>,
     ) -> bool
         requires points { AreSeeds self.now.who.session points.old }
         ensures row { (k : Knowledge) (bytes : List ℕ) → IsMemoryOf (member_of self.now.who) k self.now
-            → AreSpelled (member_of self.now.who) k → IsView self.now.who.session.shape bytes view.now
-            → result ≡ is_row_met (member_of self.now.who) k view.now.from view.now.to (plain view.now.body) }
-        ensures cost { steps.new ≤ steps.old + choice_round (plain view.now.body) }
+            → AreSpelled (member_of self.now.who) k → IsView self.now.who.session.shape bytes arrival.now.view
+            → result ≡ is_row_met (member_of self.now.who) k arrival.now.view.from arrival.now.view.to (plain arrival.now.view.body) }
+        ensures cost { steps.new ≤ steps.old + choice_round (plain arrival.now.view.body) }
         ensures kept { AreSeeds self.now.who.session points.new }
-        ensures moves { MovesOn view.now.from points.old points.new }
-        ensures reached { result ≡ true → choice_round (plain view.now.body) ≤ kept_round points.new view.now.from }
+        ensures moves { MovesOn arrival.now.view.from points.old points.new }
+        ensures reached { result ≡ true → choice_round (plain arrival.now.view.body) ≤ kept_round points.new arrival.now.view.from }
     {
         let round = self.round();
-        match view.body {
+        match arrival.view.body {
             Body::Manifest { round: r, .. } => r <= round + 1 && self.is_alive(r),
             Body::Evict { round: r, .. } => r <= round + 1,
             Body::Block {
@@ -76,47 +78,55 @@ impl Memory {
                 index,
                 block,
             } => self.store.cause(UpdateId { round: r, index }, block, round) == Added::New,
-            _ => self.meets_row_of_exchange(view, points, steps),
+            _ => self.meets_row_of_exchange(arrival, points, steps),
         }
     }
 
     /// The row of a datagram of an exchange.
-    #[tactic(auto, using(bar_seeds::proofs::CheckpointLemmas::moves_both))]
+    #[tactic(auto, using(bar_seeds::proofs::CheckpointLemmas::moves_none))]
     fn meets_row_of_exchange<L: StepLedger>(
         &self,
-        view: &View<'_>,
+        arrival: &Arrival<'_>,
         points: &mut Checkpoints,
         steps: &mut Steps<L>,
     ) -> bool
         requires points { AreSeeds self.now.who.session points.old }
         ensures row { (k : Knowledge) (bytes : List ℕ) → IsMemoryOf (member_of self.now.who) k self.now
-            → AreSpelled (member_of self.now.who) k → IsView self.now.who.session.shape bytes view.now
-            → result ≡ (is_of_exchange (plain view.now.body)
-            && is_row_met (member_of self.now.who) k view.now.from view.now.to (plain view.now.body)) }
-        ensures cost { steps.new ≤ steps.old + choice_round (plain view.now.body) }
+            → AreSpelled (member_of self.now.who) k → IsView self.now.who.session.shape bytes arrival.now.view
+            → result ≡ (is_of_exchange (plain arrival.now.view.body)
+            && is_row_met (member_of self.now.who) k arrival.now.view.from arrival.now.view.to (plain arrival.now.view.body)) }
+        ensures cost { steps.new ≤ steps.old + choice_round (plain arrival.now.view.body) }
         ensures kept { AreSeeds self.now.who.session points.new }
-        ensures moves { MovesOn view.now.from points.old points.new }
-        ensures reached { result ≡ true → choice_round (plain view.now.body) ≤ kept_round points.new view.now.from }
+        ensures moves { MovesOn arrival.now.view.from points.old points.new }
+        ensures reached { result ≡ true → choice_round (plain arrival.now.view.body) ≤ kept_round points.new arrival.now.view.from }
     {
+        let Some(place) = arrival.place else {
+            return false;
+        };
         let session = &self.who.session;
         let round = self.round();
-        bar_balanced::admit(
-            session,
-            &self.store,
-            &self.ledger,
-            round,
-            view,
-            points,
-            steps,
-        ) || bar_push::admit(
-            session,
-            &self.store,
-            &self.ledger,
-            round,
-            view,
-            points,
-            steps,
-        )
+        match place.x.kind {
+            XKind::Balanced => bar_balanced::admit(
+                session,
+                &self.store,
+                &self.ledger,
+                round,
+                &arrival.view,
+                place,
+                points,
+                steps,
+            ),
+            XKind::Push => bar_push::admit(
+                session,
+                &self.store,
+                &self.ledger,
+                round,
+                &arrival.view,
+                place,
+                points,
+                steps,
+            ),
+        }
     }
 
     /// Whether the signature is accepted under the sender's key, where the kind bears one. It counts each hash, and none where the datagram
@@ -124,67 +134,67 @@ impl Memory {
     fn is_valid<V: Verifier, L: StepLedger>(
         &self,
         checker: &mut Checker<V>,
-        bytes: &[u8],
-        view: &View<'_>,
+        arrival: &Arrival<'_>,
         steps: &mut Steps<L>,
     ) -> bool
-        requires view { IsView self.now.who.session.shape bytes.now view.now }
+        requires view { IsReadBy self.now.who arrival.now }
         requires verifier { IsVerifierOf self.now.who.session (V.is_accepted checker.old.verifier) }
         requires size { V.signature_len checker.old.verifier ≡ self.now.who.session.shape.sig_len }
-        ensures exact { result ≡ has_valid_signature self.now.who.session (datagram self.now.who.session.shape view.now) }
-        ensures remembered { has_pair (key_of_party self.now.who.session view.now.from, bytes.now) checker.old.memo.pairs ≡ true
+        ensures exact { result ≡ has_valid_signature self.now.who.session (datagram_by self.now.who arrival.now) }
+        ensures remembered { has_pair (checked_by self.now.who arrival.now) checker.old.memo.pairs ≡ true
             → steps.new ≡ steps.old }
         ensures most { steps.new ≤ steps.old + V.most_steps checker.old.verifier }
-        ensures memo { checker.new.memo ≡ (if result && is_signed (plain view.now.body)
-            then with_pair (key_of_party self.now.who.session view.now.from, bytes.now) checker.old.memo else checker.old.memo) }
+        ensures memo { checker.new.memo ≡ (if result && is_signed (plain arrival.now.view.body)
+            then with_pair (checked_by self.now.who arrival.now) checker.old.memo else checker.old.memo) }
         ensures verifier { checker.new.verifier ≡ checker.old.verifier }
     {
         signed_datagrams_are_short();
+        let view = &arrival.view;
         if view.sig.is_none() {
             return true;
         }
         let session = &self.who.session;
         let _shape = session.shape();
-        checker.check(session.key(view.from), bytes, view, steps)
+        checker.check(session.key(view.from), arrival.bytes, view, steps)
     }
 
     /// Whether a datagram is admitted, if its signature is accepted. It counts the steps along the seeds.
     #[tactic(auto, using(bar_seeds::proofs::CheckpointLemmas::moves_none))]
     pub fn may_admit<L: StepLedger>(
         &self,
-        bytes: &[u8],
-        view: &View<'_>,
+        arrival: &Arrival<'_>,
         points: &mut Checkpoints,
         steps: &mut Steps<L>,
     ) -> bool
         requires points { AreSeeds self.now.who.session points.old }
-        requires view { IsView self.now.who.session.shape bytes.now view.now }
+        requires view { IsReadBy self.now.who arrival.now }
         ensures exact { (k : Knowledge) → IsMemoryOf (member_of self.now.who) k self.now → AreSpelled (member_of self.now.who) k
-            → result ≡ may_admit (member_of self.now.who) k (datagram self.now.who.session.shape view.now) }
-        ensures cost { steps.new ≤ steps.old + choice_round (plain view.now.body) }
+            → result ≡ may_admit (member_of self.now.who) k (datagram_by self.now.who arrival.now) }
+        ensures cost { steps.new ≤ steps.old + choice_round (plain arrival.now.view.body) }
         ensures kept { AreSeeds self.now.who.session points.new }
-        ensures moves { MovesOn view.now.from points.old points.new }
-        ensures reached { result ≡ true → choice_round (plain view.now.body) ≤ kept_round points.new view.now.from }
+        ensures moves { MovesOn arrival.now.view.from points.old points.new }
+        ensures reached { result ≡ true → choice_round (plain arrival.now.view.body) ≤ kept_round points.new arrival.now.view.from }
     {
-        if !self.is_receiver(view) {
+        if !self.is_receiver(&arrival.view) {
             return false;
         }
-        if self.evictions.is_named(view.from) {
+        if self.evictions.is_named(arrival.view.from) {
             return false;
         }
-        if !self.meets_row(view, points, steps) {
+        if !self.meets_row(arrival, points, steps) {
             return false;
         }
-        !self.is_heard_again(view)
+        !self.is_heard_again(arrival)
     }
 
     /// Whether evidence is looked for at a datagram, if its signature is accepted: it is of a kind that peers sign, to this peer, of a round
     /// that may still be asked about, and its sender isn't announced evicted and has no evidence kept against it.
-    pub fn may_show(&self, view: &View<'_>) -> bool
+    pub fn may_show(&self, arrival: &Arrival<'_>) -> bool
         ensures exact { (k : Knowledge) → IsMemoryOf (member_of self.now.who) k self.now
-            → result ≡ may_show (member_of self.now.who) k (datagram self.now.who.session.shape view.now) }
-        ensures kind { result ≡ true → is_peer_kind (plain view.now.body) ≡ true }
+            → result ≡ may_show (member_of self.now.who) k (datagram_by self.now.who arrival.now) }
+        ensures kind { result ≡ true → is_peer_kind (plain arrival.now.view.body) ≡ true }
     {
+        let view = &arrival.view;
         if !is_peer_kind(&view.body) || view.to != self.who.secrets.party {
             return false;
         }
@@ -195,10 +205,10 @@ impl Memory {
         if self.evidence.get(usize::from(sender)).is_some() {
             return false;
         }
-        match place_of(view) {
+        match arrival.place {
             Some(place) => {
-                let life = u64::from(self.who.session.shape().life);
-                u64::from(self.round()) <= u64::from(place.x.round) + life
+                let life = self.who.session.shape().life;
+                is_within(self.round(), place.x.round, life)
             }
             None => false,
         }
@@ -210,41 +220,41 @@ impl Memory {
         &self,
         checker: &mut Checker<V>,
         points: &mut Checkpoints,
-        bytes: &[u8],
-        view: &View<'_>,
+        arrival: &Arrival<'_>,
         steps: &mut Steps<L>,
     ) -> Weighed
-        requires view { IsView self.now.who.session.shape bytes.now view.now }
+        requires view { IsReadBy self.now.who arrival.now }
         requires verifier { IsVerifierOf self.now.who.session (V.is_accepted checker.old.verifier) }
         requires size { V.signature_len checker.old.verifier ≡ self.now.who.session.shape.sig_len }
         requires points { AreSeeds self.now.who.session points.old }
         ensures admitted { (k : Knowledge) → IsMemoryOf (member_of self.now.who) k self.now → IsSound (member_of self.now.who) k
-            → result.is_admitted ≡ is_admitted (member_of self.now.who) k (datagram self.now.who.session.shape view.now) }
+            → result.is_admitted ≡ is_admitted (member_of self.now.who) k (datagram_by self.now.who arrival.now) }
         ensures tried { (k : Knowledge) → IsMemoryOf (member_of self.now.who) k self.now → IsSound (member_of self.now.who) k
-            → result.is_tried ≡ is_tried (member_of self.now.who) k (datagram self.now.who.session.shape view.now) }
-        ensures kind { result.is_tried ≡ true → is_peer_kind (plain view.now.body) ≡ true }
-        ensures most { steps.new ≤ steps.old + (choice_round (plain view.now.body) + V.most_steps checker.old.verifier) }
-        ensures remembered { has_pair (key_of_party self.now.who.session view.now.from, bytes.now) checker.old.memo.pairs ≡ true
-            → steps.new ≤ steps.old + choice_round (plain view.now.body) }
+            → result.is_tried ≡ is_tried (member_of self.now.who) k (datagram_by self.now.who arrival.now) }
+        ensures kind { result.is_tried ≡ true → is_peer_kind (plain arrival.now.view.body) ≡ true }
+        ensures most { steps.new ≤ steps.old + (choice_round (plain arrival.now.view.body) + V.most_steps checker.old.verifier) }
+        ensures remembered { has_pair (checked_by self.now.who arrival.now) checker.old.memo.pairs ≡ true
+            → steps.new ≤ steps.old + choice_round (plain arrival.now.view.body) }
         ensures kept { AreSeeds self.now.who.session points.new }
-        ensures moves { MovesOn view.now.from points.old points.new }
-        ensures reached { result.is_admitted ≡ true → choice_round (plain view.now.body) ≤ kept_round points.new view.now.from }
-        ensures first { result.is_admitted ≡ true → is_signed (plain view.now.body) ≡ true
-            → checker.new.memo ≡ with_pair (key_of_party self.now.who.session view.now.from, bytes.now) checker.old.memo }
-        ensures memo { IsCheckedOnce (key_of_party self.now.who.session view.now.from, bytes.now) checker.old.memo checker.new.memo }
+        ensures moves { MovesOn arrival.now.view.from points.old points.new }
+        ensures reached { result.is_admitted ≡ true
+            → choice_round (plain arrival.now.view.body) ≤ kept_round points.new arrival.now.view.from }
+        ensures first { result.is_admitted ≡ true → is_signed (plain arrival.now.view.body) ≡ true
+            → checker.new.memo ≡ with_pair (checked_by self.now.who arrival.now) checker.old.memo }
+        ensures memo { IsCheckedOnce (checked_by self.now.who arrival.now) checker.old.memo checker.new.memo }
         ensures verifier { checker.new.verifier ≡ checker.old.verifier }
     {
         let none = Weighed {
             is_admitted: false,
             is_tried: false,
         };
-        let is_admitted = self.may_admit(bytes, view, points, steps);
-        let is_tried = self.may_show(view);
+        let is_admitted = self.may_admit(arrival, points, steps);
+        let is_tried = self.may_show(arrival);
         let is_asked = is_admitted || is_tried;
         if !is_asked {
             return none;
         }
-        if !self.is_valid(checker, bytes, view, steps) {
+        if !self.is_valid(checker, arrival, steps) {
             return none;
         }
         Weighed {

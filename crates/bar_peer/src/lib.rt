@@ -3,6 +3,7 @@
 
 mod admission;
 mod answering;
+mod arrival;
 mod as_core;
 mod asking;
 mod credentials;

@@ -7,7 +7,7 @@ ghost use Rattle.bar_terms.specs.Table.{digests_of};
 ghost use Rattle.bar_terms.specs.Terms.{can_promise};
 ghost use Rattle.bar_wire.specs.Datagram.{Briefcase, Case, kind_of};
 ghost use Rattle.bar_wire.specs.Grammar.{HasForm};
-ghost use Rattle.bar_wire.specs.Views.{datagram, plain, AreWindows, IsView};
+ghost use Rattle.bar_wire.specs.Views.{datagram, plain, AreWindows};
 ghost use Rattle.bar_wire.specs.declared.kind.Kind.TheVariants.{Key};
 ghost use Rattle.bar_rules.specs.Values.{counts_ok};
 ghost use Rattle.bar_rules.specs.Peer.Agreement.{IsRecent};
@@ -17,9 +17,11 @@ ghost use Rattle.bar_store.specs.Held.{block_in, HasSame};
 ghost use Rattle.bar_store.specs.Holds.{Holds};
 ghost use Rattle.bar_balanced.specs.Balanced.{AreSpelled};
 ghost use Rattle.bar_exchange.specs.Keeping.{IsAdmittedNow};
+ghost use Rattle.bar_peer.specs.Arrivals.{IsReadBy, datagram_by};
 ghost use Rattle.bar_peer.specs.Memory.{member_of, HasOtherStore, IsMemoryOf};
 ghost use Rattle.bar_peer.specs.Opening.{block_in_item, block_in_items, items_in, IsNear, AreGiven};
 
+use crate::arrival::Arrival;
 use crate::memory::Memory;
 use bar_case::laws::good_openings_have_their_digests;
 use bar_case::{Opening, unseal};
@@ -27,7 +29,7 @@ use bar_exchange::{heard_from, is_within};
 use bar_store::Store;
 use bar_terms::{Item, Promise, can_promise, junk_count, promise, update_count};
 use bar_window::Exchange;
-use bar_wire::{Body, Kind, Place, View, decode, place_of, role_from};
+use bar_wire::{Body, Kind, Place, View, decode, role_from};
 
 /// Holds the block of an item, where it is that of an update of the next round at most that is alive.
 fn hold_item(store: &mut Store, now: u32, item: &Item, block: &[u8; 1024])
@@ -124,19 +126,19 @@ impl Memory {
     }
 
     /// Opens the briefcase of a KEY, and where all in it is as promised holds the blocks of its updates that are alive and aren't held.
-    pub fn open(&mut self, bytes: &[u8], view: &View<'_>)
-        requires view { IsView self.old.who.session.shape bytes.now view.now }
+    pub fn open(&mut self, arrival: &Arrival<'_>)
+        requires view { IsReadBy self.old.who arrival.now }
         ensures learns { (k : Knowledge) → IsMemoryOf (member_of self.old.who) k self.old → IsSound (member_of self.old.who) k
-            → IsAdmittedNow (member_of self.old.who) k (datagram self.old.who.session.shape view.now) bytes.now
-            → kind_of (plain view.now.body) ≡ Key
+            → IsAdmittedNow (member_of self.old.who) k (datagram_by self.old.who arrival.now) arrival.now.bytes.now
+            → kind_of (plain arrival.now.view.body) ≡ Key
             → Holds (member_of self.old.who)
-            (with_heard (member_of self.old.who) (datagram self.old.who.session.shape view.now) k) self.new.store }
+            (with_heard (member_of self.old.who) (datagram_by self.old.who arrival.now) k) self.new.store }
         ensures rest { HasOtherStore self.old self.new }
     {
-        let Body::Key { key, .. } = view.body else {
+        let Body::Key { key, .. } = arrival.view.body else {
             return;
         };
-        let Some(place) = place_of(view) else {
+        let Some(place) = arrival.place else {
             return;
         };
         let Some(case) = self.heard_view(Kind::Case, place) else {

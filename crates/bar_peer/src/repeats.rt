@@ -8,53 +8,60 @@ ghost use Rattle.bar_rules.specs.Peer.Admission.{is_heard_again};
 ghost use Rattle.bar_rules.specs.Peer.Knowledge.{Knowledge};
 ghost use Rattle.bar_rules.specs.Peer.Replies.{heard_like, repeated};
 ghost use Rattle.bar_balanced.specs.Balanced.{AreSpelled};
+ghost use Rattle.bar_peer.specs.Arrivals.{IsReadBy, datagram_by};
 ghost use Rattle.bar_peer.specs.Memory.{member_of, IsMemoryOf};
 ghost use Rattle.bar_peer.specs.Repeats.{IsInTime};
 
+use crate::arrival::Arrival;
 use crate::memory::Memory;
 use bar_exchange::heard_from;
-use bar_wire::{Body, View, bytes_spell_one, kind_of, place_of};
+use bar_wire::{Body, bytes_spell_one, kind_of};
 
 impl Memory {
     /// The datagram of the same kind, exchange and side that was admitted.
-    fn heard_like(&self, view: &View<'_>) -> Option<&[u8]>
+    fn heard_like(&self, arrival: &Arrival<'_>) -> Option<&[u8]>
         ensures { (k : Knowledge) → IsMemoryOf (member_of self.now.who) k self.now
-            → IsInTime (member_of self.now.who) k (datagram self.now.who.session.shape view.now).message
-            → option_map (datagram_bytes self.now.who.session) (heard_like k (plain view.now.body)
-            (place_of (datagram self.now.who.session.shape view.now).message)) ≡ option_copied result }
+            → IsInTime (member_of self.now.who) k (datagram_by self.now.who arrival.now).message
+            → option_map (datagram_bytes self.now.who.session) (heard_like k (plain arrival.now.view.body)
+            (place_of (datagram_by self.now.who arrival.now).message)) ≡ option_copied result }
     {
-        let place = place_of(view)?;
-        heard_from(&self.ledger, place.x, kind_of(&view.body), place.role)
+        let place = arrival.place?;
+        heard_from(
+            &self.ledger,
+            place.x,
+            kind_of(&arrival.view.body),
+            place.role,
+        )
     }
 
     /// Whether a datagram of the same name was admitted, where the kind is signed.
-    pub fn is_heard_again(&self, view: &View<'_>) -> bool
+    pub fn is_heard_again(&self, arrival: &Arrival<'_>) -> bool
         ensures { (k : Knowledge) (bytes : List ℕ) → IsMemoryOf (member_of self.now.who) k self.now
-            → IsView self.now.who.session.shape bytes view.now
-            → IsInTime (member_of self.now.who) k (datagram self.now.who.session.shape view.now).message
-            → result ≡ is_heard_again k (datagram self.now.who.session.shape view.now).message }
+            → IsView self.now.who.session.shape bytes arrival.now.view
+            → IsInTime (member_of self.now.who) k (datagram_by self.now.who arrival.now).message
+            → result ≡ is_heard_again k (datagram_by self.now.who arrival.now).message }
     {
-        match view.body {
+        match arrival.view.body {
             Body::Manifest { round, .. } => self.manifests.get(round as usize).is_some(),
             Body::Evict { round, .. } => self.evictions.was_heard(round),
-            _ => view.sig.is_some() && self.heard_like(view).is_some(),
+            _ => arrival.view.sig.is_some() && self.heard_like(arrival).is_some(),
         }
     }
 
     /// Whether a datagram is a repeat, byte for byte, of one of an exchange that was admitted, from a party that isn't announced evicted.
-    pub fn is_repeat(&self, bytes: &[u8], view: &View<'_>) -> bool
-        requires view { IsView self.now.who.session.shape bytes.now view.now }
+    pub fn is_repeat(&self, arrival: &Arrival<'_>) -> bool
+        requires view { IsReadBy self.now.who arrival.now }
         ensures { (k : Knowledge) → IsMemoryOf (member_of self.now.who) k self.now → AreSpelled (member_of self.now.who) k
-            → IsInTime (member_of self.now.who) k (datagram self.now.who.session.shape view.now).message
-            → repeated (member_of self.now.who) k (datagram self.now.who.session.shape view.now)
-            ≡ then_some result (datagram self.now.who.session.shape view.now) }
+            → IsInTime (member_of self.now.who) k (datagram_by self.now.who arrival.now).message
+            → repeated (member_of self.now.who) k (datagram_by self.now.who arrival.now)
+            ≡ then_some result (datagram_by self.now.who arrival.now) }
     {
-        if self.evictions.is_named(view.from) {
+        if self.evictions.is_named(arrival.view.from) {
             return false;
         }
         bytes_spell_one();
-        match self.heard_like(view) {
-            Some(heard) => heard == bytes,
+        match self.heard_like(arrival) {
+            Some(heard) => heard == arrival.bytes,
             None => false,
         }
     }

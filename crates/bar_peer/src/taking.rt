@@ -4,12 +4,11 @@ ghost use Rattle.bar_seeds.specs.Checkpoints.{kept_round, MovesOn};
 ghost use Rattle.bar_roster.specs.Points.{AreSeeds};
 ghost use Rattle.bar_wire.specs.Bodies.{choice_round};
 ghost use Rattle.bar_seal.specs.Memo.{has_pair, with_pair};
-ghost use Rattle.bar_rules.specs.Member.{key_of_party};
 ghost use Rattle.bar_peer.specs.Checking.{IsCheckedOnce, AdmitsChecked, AdmitsKept, checked_in, choice_round_in, sender_in};
-ghost use Rattle.bar_wire.specs.Inputs.{Datagram as Arrival};
+ghost use Rattle.bar_wire.specs.Inputs as event;
 ghost use Rattle.bar_wire.specs.Bodies.{is_peer_kind};
 ghost use Rattle.bar_wire.specs.Datagram.{Datagram, is_signed};
-ghost use Rattle.bar_wire.specs.Views.{datagram, plain, IsView};
+ghost use Rattle.bar_wire.specs.Views.{datagram, plain};
 ghost use Rattle.bar_roster.specs.Time.{last_tick, round_after};
 ghost use Rattle.bar_rules.specs.Member.{Member};
 ghost use Rattle.bar_rules.specs.Peer.Admission.{is_admitted as admitted};
@@ -22,11 +21,13 @@ ghost use Rattle.bar_rules.specs.Peer.Run.{answered_to, take_datagram, with_evid
 ghost use Rattle.bar_rules.specs.Verifiers.{IsVerifierOf, NamesLeavesOf};
 ghost use Rattle.bar_laws.specs.Ignoring.{is_unread, tells_nothing};
 ghost use Rattle.bar_peer.specs.Ignoring.{IgnoresInput, LeavesMemory};
+ghost use Rattle.bar_peer.specs.Arrivals.{IsReadBy, datagram_by, checked_by};
 ghost use Rattle.bar_peer.specs.Memory.{member_of, HasOtherEvidence, Tells};
 ghost use Rattle.bar_peer.specs.Sending.{Stands};
 ghost use Rattle.bar_peer.specs.Steps.{TakesTick, TakesDatagram};
 
 use crate::answering::says_to;
+use crate::arrival::Arrival;
 use crate::memory::Memory;
 use crate::order::Order;
 use crate::replying::reply;
@@ -39,7 +40,7 @@ use bar_laws::memories::logs_are_sound;
 use bar_laws::rooms::evidence_fits_its_room;
 use bar_seal::{Checker, Verifier};
 use bar_seeds::Checkpoints;
-use bar_wire::{View, bytes_spell_one, decode};
+use bar_wire::{bytes_spell_one, decode, place_of};
 use std::sync::ledger::Ledger as StepLedger;
 
 /// Takes a tick, and says what it asks for.
@@ -61,25 +62,24 @@ impl Memory {
     fn keep_found<V: Verifier, L: StepLedger>(
         &mut self,
         verifier: &V,
-        bytes: &[u8],
-        view: &View<'_>,
+        arrival: &Arrival<'_>,
         points: &mut Checkpoints,
         steps: &mut Steps<L>,
     ) -> bool
-        requires view { IsView self.old.who.session.shape bytes.now view.now }
+        requires view { IsReadBy self.old.who arrival.now }
         requires names { NamesLeavesOf self.old.who.session (V.leaf_named verifier.now) (V.signature_len verifier.now) }
         requires points { AreSeeds self.old.who.session points.old }
-        requires signed { is_peer_kind (plain view.now.body) ≡ true }
-        ensures kept { (log : Log) → let me : Member = member_of self.old.who in let d : Datagram = datagram me.session.shape view.now in
+        requires signed { is_peer_kind (plain arrival.now.view.body) ≡ true }
+        ensures kept { (log : Log) → let me : Member = member_of self.old.who in let d : Datagram = datagram_by self.old.who arrival.now in
             IsObedient me (with_evidence me log d.message.from (new_evidence me (known me log) d)) → IsObedient me log → Tells log self.old
             → is_tried me (known me log) d ≡ true
             → (result ≡ is_some (new_evidence me (known me log) d))
             × Tells (with_evidence me log d.message.from (new_evidence me (known me log) d)) self.new }
         ensures none { result ≡ false → self.new ≡ self.old }
         ensures rest { HasOtherEvidence self.old self.new }
-        ensures cost { steps.new ≤ steps.old + choice_round (plain view.now.body) }
+        ensures cost { steps.new ≤ steps.old + choice_round (plain arrival.now.view.body) }
         ensures seeds { AreSeeds self.old.who.session points.new }
-        ensures moves { MovesOn view.now.from points.old points.new }
+        ensures moves { MovesOn arrival.now.view.from points.old points.new }
     {
         knowledge_is_enough();
         logs_are_sound();
@@ -90,13 +90,12 @@ impl Memory {
             verifier,
             table,
             &self.ledger,
-            bytes,
-            view,
+            arrival,
             points,
             steps,
         ) {
             Some(evidence) => {
-                keep_evidence(&mut self.evidence, view.from, &evidence);
+                keep_evidence(&mut self.evidence, arrival.view.from, &evidence);
                 true
             }
             None => false,
@@ -105,24 +104,18 @@ impl Memory {
 }
 
 /// Keeps what a datagram tells where it is admitted, and answers it; a repeat is answered again.
-fn answer(
-    memory: &mut Memory,
-    orders: &mut Orders<Order>,
-    bytes: &[u8],
-    view: &View<'_>,
-    is_admitted: bool,
-)
-    requires view { IsView memory.old.who.session.shape bytes.now view.now }
+fn answer(memory: &mut Memory, orders: &mut Orders<Order>, arrival: &Arrival<'_>, is_admitted: bool)
+    requires view { IsReadBy memory.old.who arrival.now }
     ensures stands { (log : Log)
         → IsObedient (member_of memory.old.who)
-        (answered_to (member_of memory.old.who) log (datagram memory.old.who.session.shape view.now)).state
+        (answered_to (member_of memory.old.who) log (datagram_by memory.old.who arrival.now)).state
         → Tells log memory.old
         → is_admitted ≡ admitted (member_of memory.old.who) (known (member_of memory.old.who) log)
-        (datagram memory.old.who.session.shape view.now)
+        (datagram_by memory.old.who arrival.now)
         → orders.old.list.items ≡ [] → 2 ≤ orders.old.room
-        → Stands (answered_to (member_of memory.old.who) log (datagram memory.old.who.session.shape view.now)) memory.new orders.new }
+        → Stands (answered_to (member_of memory.old.who) log (datagram_by memory.old.who arrival.now)) memory.new orders.new }
     ensures idle { (log : Log) → IsObedient (member_of memory.old.who) log → Tells log memory.old → is_admitted ≡ false
-        → repeated (member_of memory.old.who) (known (member_of memory.old.who) log) (datagram memory.old.who.session.shape view.now) ≡ None
+        → repeated (member_of memory.old.who) (known (member_of memory.old.who) log) (datagram_by memory.old.who arrival.now) ≡ None
         → memory.new ≡ memory.old }
     ensures length { orders.old.list.items ≡ [] → length orders.new.list.items ≤ 2 }
     ensures room { orders.new.room ≡ orders.old.room }
@@ -133,11 +126,11 @@ fn answer(
     logs_are_sound();
     bytes_spell_one();
     if is_admitted {
-        memory.hear(bytes, view);
-        let says = says_to(memory, view, true);
+        memory.hear(arrival);
+        let says = says_to(memory, arrival, true);
         reply(memory, orders, says);
-    } else if memory.is_repeat(bytes, view) {
-        let says = says_to(memory, view, false);
+    } else if memory.is_repeat(arrival) {
+        let says = says_to(memory, arrival, false);
         reply(memory, orders, says);
     }
 }
@@ -148,104 +141,101 @@ fn answer_tried<V: Verifier, L: StepLedger>(
     memory: &mut Memory,
     orders: &mut Orders<Order>,
     verifier: &V,
-    bytes: &[u8],
-    view: &View<'_>,
+    arrival: &Arrival<'_>,
     is_admitted: bool,
     points: &mut Checkpoints,
     steps: &mut Steps<L>,
 )
-    requires view { IsView memory.old.who.session.shape bytes.now view.now }
+    requires view { IsReadBy memory.old.who arrival.now }
     requires names { NamesLeavesOf memory.old.who.session (V.leaf_named verifier.now) (V.signature_len verifier.now) }
     requires points { AreSeeds memory.old.who.session points.old }
-    requires signed { is_peer_kind (plain view.now.body) ≡ true }
+    requires signed { is_peer_kind (plain arrival.now.view.body) ≡ true }
     ensures stands { (log : Log)
         → IsObedient (member_of memory.old.who)
-        (take_datagram (member_of memory.old.who) log (Some (datagram memory.old.who.session.shape view.now))).state
+        (take_datagram (member_of memory.old.who) log (Some (datagram_by memory.old.who arrival.now))).state
         → Tells log memory.old
-        → is_tried (member_of memory.old.who) (known (member_of memory.old.who) log) (datagram memory.old.who.session.shape view.now) ≡ true
+        → is_tried (member_of memory.old.who) (known (member_of memory.old.who) log) (datagram_by memory.old.who arrival.now) ≡ true
         → is_admitted ≡ admitted (member_of memory.old.who) (known (member_of memory.old.who) log)
-        (datagram memory.old.who.session.shape view.now)
+        (datagram_by memory.old.who arrival.now)
         → orders.old.list.items ≡ [] → 3 ≤ orders.old.room
-        → Stands (take_datagram (member_of memory.old.who) log (Some (datagram memory.old.who.session.shape view.now)))
+        → Stands (take_datagram (member_of memory.old.who) log (Some (datagram_by memory.old.who arrival.now)))
         memory.new orders.new }
     ensures idle { is_admitted ≡ false → (log : Log) → IsObedient (member_of memory.old.who) log → Tells log memory.old
-        → is_tried (member_of memory.old.who) (known (member_of memory.old.who) log) (datagram memory.old.who.session.shape view.now) ≡ true
-        → tells_nothing (member_of memory.old.who) (known (member_of memory.old.who) log) (datagram memory.old.who.session.shape view.now) ≡ true
+        → is_tried (member_of memory.old.who) (known (member_of memory.old.who) log) (datagram_by memory.old.who arrival.now) ≡ true
+        → tells_nothing (member_of memory.old.who) (known (member_of memory.old.who) log) (datagram_by memory.old.who arrival.now) ≡ true
         → memory.new ≡ memory.old }
     ensures room { orders.new.room ≡ orders.old.room }
     ensures given { orders.new.given ≡ orders.old.given }
     ensures who { memory.new.who ≡ memory.old.who }
     ensures ticks { memory.new.ticks ≡ memory.old.ticks }
-    ensures cost { steps.new ≤ steps.old + choice_round (plain view.now.body) }
+    ensures cost { steps.new ≤ steps.old + choice_round (plain arrival.now.view.body) }
     ensures seeds { AreSeeds memory.old.who.session points.new }
-    ensures moves { MovesOn view.now.from points.old points.new }
+    ensures moves { MovesOn arrival.now.view.from points.old points.new }
 {
     knowledge_is_enough();
     logs_are_sound();
-    let is_found = memory.keep_found(verifier, bytes, view, points, steps);
-    answer(memory, orders, bytes, view, is_admitted);
+    let is_found = memory.keep_found(verifier, arrival, points, steps);
+    answer(memory, orders, arrival, is_admitted);
     if is_found {
-        orders.push(Order::Report(view.from));
+        orders.push(Order::Report(arrival.view.from));
     }
 }
 
 /// Takes a datagram that is read: it looks for evidence and keeps it, then keeps what the datagram tells where it is admitted, answers it,
 /// and reports the evidence. At most one signature is verified. It counts each hash.
-pub fn take_view<V: Verifier, L: StepLedger>(
+fn take_arrival<V: Verifier, L: StepLedger>(
     memory: &mut Memory,
     orders: &mut Orders<Order>,
     checker: &mut Checker<V>,
     points: &mut Checkpoints,
-    bytes: &[u8],
-    view: &View<'_>,
+    arrival: &Arrival<'_>,
     steps: &mut Steps<L>,
 )
-    requires view { IsView memory.old.who.session.shape bytes.now view.now }
+    requires view { IsReadBy memory.old.who arrival.now }
     requires verifier { IsVerifierOf memory.old.who.session (V.is_accepted checker.old.verifier) }
     requires names { NamesLeavesOf memory.old.who.session (V.leaf_named checker.old.verifier) (V.signature_len checker.old.verifier) }
     requires points { AreSeeds memory.old.who.session points.old }
     ensures stands { (log : Log)
         → IsObedient (member_of memory.old.who)
-        (take_datagram (member_of memory.old.who) log (Some (datagram memory.old.who.session.shape view.now))).state
+        (take_datagram (member_of memory.old.who) log (Some (datagram_by memory.old.who arrival.now))).state
         → Tells log memory.old → orders.old.list.items ≡ [] → 3 ≤ orders.old.room
-        → Stands (take_datagram (member_of memory.old.who) log (Some (datagram memory.old.who.session.shape view.now)))
+        → Stands (take_datagram (member_of memory.old.who) log (Some (datagram_by memory.old.who arrival.now)))
         memory.new orders.new }
-    ensures idle { LeavesMemory (datagram memory.old.who.session.shape view.now) memory.old memory.new }
+    ensures idle { LeavesMemory (datagram_by memory.old.who arrival.now) memory.old memory.new }
     ensures room { orders.new.room ≡ orders.old.room }
     ensures given { orders.new.given ≡ orders.old.given }
     ensures who { memory.new.who ≡ memory.old.who }
     ensures ticks { memory.new.ticks ≡ memory.old.ticks }
-    ensures most { steps.new ≤ steps.old + (V.most_steps checker.old.verifier + 2 * choice_round (plain view.now.body)) }
-    ensures remembered { has_pair (key_of_party memory.old.who.session view.now.from, bytes.now) checker.old.memo.pairs ≡ true
-        → steps.new ≤ steps.old + 2 * choice_round (plain view.now.body) }
+    ensures most { steps.new ≤ steps.old + (V.most_steps checker.old.verifier + 2 * choice_round (plain arrival.now.view.body)) }
+    ensures remembered { has_pair (checked_by memory.old.who arrival.now) checker.old.memo.pairs ≡ true
+        → steps.new ≤ steps.old + 2 * choice_round (plain arrival.now.view.body) }
     ensures seeds { AreSeeds memory.old.who.session points.new }
-    ensures moves { MovesOn view.now.from points.old points.new }
+    ensures moves { MovesOn arrival.now.view.from points.old points.new }
     ensures reached { (log : Log) → IsObedient (member_of memory.old.who) log → Tells log memory.old
-        → admitted (member_of memory.old.who) (known (member_of memory.old.who) log) (datagram memory.old.who.session.shape view.now) ≡ true
-        → choice_round (plain view.now.body) ≤ kept_round points.new view.now.from }
+        → admitted (member_of memory.old.who) (known (member_of memory.old.who) log) (datagram_by memory.old.who arrival.now) ≡ true
+        → choice_round (plain arrival.now.view.body) ≤ kept_round points.new arrival.now.view.from }
     ensures first { (log : Log) → IsObedient (member_of memory.old.who) log → Tells log memory.old
-        → admitted (member_of memory.old.who) (known (member_of memory.old.who) log) (datagram memory.old.who.session.shape view.now) ≡ true
-        → is_signed (plain view.now.body) ≡ true
-        → checker.new.memo ≡ with_pair (key_of_party memory.old.who.session view.now.from, bytes.now) checker.old.memo }
-    ensures memo { IsCheckedOnce (key_of_party memory.old.who.session view.now.from, bytes.now) checker.old.memo checker.new.memo }
+        → admitted (member_of memory.old.who) (known (member_of memory.old.who) log) (datagram_by memory.old.who arrival.now) ≡ true
+        → is_signed (plain arrival.now.view.body) ≡ true
+        → checker.new.memo ≡ with_pair (checked_by memory.old.who arrival.now) checker.old.memo }
+    ensures memo { IsCheckedOnce (checked_by memory.old.who arrival.now) checker.old.memo checker.new.memo }
     ensures verifier { checker.new.verifier ≡ checker.old.verifier }
 {
     knowledge_is_enough();
     logs_are_sound();
-    let weighed = memory.weigh(checker, points, bytes, view, steps);
+    let weighed = memory.weigh(checker, points, arrival, steps);
     if weighed.is_tried {
         answer_tried(
             memory,
             orders,
             checker.verifier(),
-            bytes,
-            view,
+            arrival,
             weighed.is_admitted,
             points,
             steps,
         );
     } else {
-        answer(memory, orders, bytes, view, weighed.is_admitted);
+        answer(memory, orders, arrival, weighed.is_admitted);
     }
 }
 
@@ -263,22 +253,22 @@ pub fn take_datagram<V: Verifier, L: StepLedger>(
     requires names { NamesLeavesOf memory.old.who.session (V.leaf_named checker.old.verifier) (V.signature_len checker.old.verifier) }
     requires points { AreSeeds memory.old.who.session points.old }
     ensures stands { TakesDatagram bytes.now memory.old orders.old memory.new orders.new }
-    ensures ignored { IgnoresInput (Arrival bytes.now) memory.old memory.new }
-    ensures unread { is_unread memory.old.who.session (Arrival bytes.now) ≡ true
+    ensures ignored { IgnoresInput (event.Datagram bytes.now) memory.old memory.new }
+    ensures unread { is_unread memory.old.who.session (event.Datagram bytes.now) ≡ true
         → (memory.new ≡ memory.old) × (orders.new ≡ orders.old) × (checker.new.memo ≡ checker.old.memo) × (points.new ≡ points.old) }
     ensures room { orders.new.room ≡ orders.old.room }
     ensures given { orders.new.given ≡ orders.old.given }
     ensures who { memory.new.who ≡ memory.old.who }
     ensures ticks { memory.new.ticks ≡ memory.old.ticks }
     ensures most { steps.new ≤ steps.old
-        + (V.most_steps checker.old.verifier + 2 * choice_round_in memory.old.who.session (Arrival bytes.now)) }
-    ensures remembered { has_pair (checked_in memory.old.who.session (Arrival bytes.now)) checker.old.memo.pairs ≡ true
-        → steps.new ≤ steps.old + 2 * choice_round_in memory.old.who.session (Arrival bytes.now) }
+        + (V.most_steps checker.old.verifier + 2 * choice_round_in memory.old.who.session (event.Datagram bytes.now)) }
+    ensures remembered { has_pair (checked_in memory.old.who.session (event.Datagram bytes.now)) checker.old.memo.pairs ≡ true
+        → steps.new ≤ steps.old + 2 * choice_round_in memory.old.who.session (event.Datagram bytes.now) }
     ensures seeds { AreSeeds memory.old.who.session points.new }
-    ensures moves { MovesOn (sender_in memory.old.who.session (Arrival bytes.now)) points.old points.new }
-    ensures reached { AdmitsKept memory.old (Arrival bytes.now) points.new }
-    ensures first { AdmitsChecked memory.old (Arrival bytes.now) checker.old.memo checker.new.memo }
-    ensures memo { IsCheckedOnce (checked_in memory.old.who.session (Arrival bytes.now)) checker.old.memo checker.new.memo }
+    ensures moves { MovesOn (sender_in memory.old.who.session (event.Datagram bytes.now)) points.old points.new }
+    ensures reached { AdmitsKept memory.old (event.Datagram bytes.now) points.new }
+    ensures first { AdmitsChecked memory.old (event.Datagram bytes.now) checker.old.memo checker.new.memo }
+    ensures memo { IsCheckedOnce (checked_in memory.old.who.session (event.Datagram bytes.now)) checker.old.memo checker.new.memo }
     ensures verifier { checker.new.verifier ≡ checker.old.verifier }
 {
     knowledge_is_enough();
@@ -286,6 +276,8 @@ pub fn take_datagram<V: Verifier, L: StepLedger>(
     let session = &memory.who.session;
     let shape = session.shape();
     if let Ok(view) = decode(bytes, &shape) {
-        take_view(memory, orders, checker, points, bytes, &view, steps);
+        let place = place_of(&view);
+        let arrival = Arrival { bytes, view, place };
+        take_arrival(memory, orders, checker, points, &arrival, steps);
     }
 }

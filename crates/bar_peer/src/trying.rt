@@ -17,21 +17,21 @@ ghost use Rattle.bar_rules.specs.Peer.Evidence.{is_tried, new_evidence, pair_wit
 ghost use Rattle.bar_rules.specs.Peer.Knowledge.{Knowledge, table_of};
 ghost use Rattle.bar_laws.specs.Soundness.{IsSound};
 ghost use Rattle.bar_ledger.specs.Recalls.{Recalls};
+ghost use Rattle.bar_peer.specs.Arrivals.{IsReadBy, datagram_by};
 ghost use Rattle.bar_peer.specs.Memory.{member_of};
 
+use crate::arrival::Arrival;
 use crate::credentials::Credentials;
 use bar_bytes::Steps;
 use bar_exchange::{heard_from, naming_elsewhere};
-use bar_judge::laws::verdicts_are_what_is_found;
 use bar_judge::found;
+use bar_judge::laws::verdicts_are_what_is_found;
 use bar_laws::evidence::others_are_tried_by_leaves;
 use bar_ledger::{Ledger, opening_kind};
 use bar_seal::Verifier;
 use bar_seeds::Checkpoints;
 use bar_terms::Table;
-use bar_wire::{
-    EvidenceView, Kind, Place, View, decode, is_peer_kind, place_of, the_datagram_is_spelled,
-};
+use bar_wire::{EvidenceView, Kind, Place, View, decode, is_peer_kind, the_datagram_is_spelled};
 use std::sync::ledger::Ledger as StepLedger;
 
 /// The datagram of a kind that was heard from a side of an exchange, where it and one of the same side after it show a fault of their
@@ -198,34 +198,34 @@ pub fn find_evidence<'a, V: Verifier, L: StepLedger>(
     verifier: &V,
     table: &Table,
     ledger: &'a Ledger,
-    bytes: &'a [u8],
-    view: &View<'_>,
+    arrival: &'a Arrival<'_>,
     points: &mut Checkpoints,
     steps: &mut Steps<L>,
 ) -> Option<EvidenceView<'a>>
-    requires view { IsView who.now.session.shape bytes.now view.now }
-    requires signed { is_peer_kind (plain view.now.body) ≡ true }
+    requires view { IsReadBy who.now arrival.now }
+    requires signed { is_peer_kind (plain arrival.now.view.body) ≡ true }
     requires names { NamesLeavesOf who.now.session (V.leaf_named verifier.now) (V.signature_len verifier.now) }
     requires points { AreSeeds who.now.session points.old }
     ensures exact { (k : Knowledge) → Recalls (member_of who.now) k ledger.now → table_of k ≡ digests_of table.now.lists
-        → IsSound (member_of who.now) k → is_tried (member_of who.now) k (datagram who.now.session.shape view.now) ≡ true
-        → option_map datagrams_of result ≡ new_evidence (member_of who.now) k (datagram who.now.session.shape view.now) }
-    ensures cost { steps.new ≤ steps.old + choice_round (plain view.now.body) }
+        → IsSound (member_of who.now) k → is_tried (member_of who.now) k (datagram_by who.now arrival.now) ≡ true
+        → option_map datagrams_of result ≡ new_evidence (member_of who.now) k (datagram_by who.now arrival.now) }
+    ensures cost { steps.new ≤ steps.old + choice_round (plain arrival.now.view.body) }
     ensures kept { AreSeeds who.now.session points.new }
-    ensures moves { MovesOn view.now.from points.old points.new }
+    ensures moves { MovesOn arrival.now.view.from points.old points.new }
 {
     verdicts_are_what_is_found();
     the_datagram_is_spelled();
+    let view = &arrival.view;
     if found(&who.session, verifier, table, view, None, points, steps).is_some() {
         return Some(EvidenceView {
-            one: bytes,
+            one: arrival.bytes,
             two: None,
         });
     }
-    let place = place_of(view)?;
+    let place = arrival.place?;
     let heard = earlier_of(who, verifier, table, ledger, place, view, points, steps)?;
     Some(EvidenceView {
         one: heard,
-        two: Some(bytes),
+        two: Some(arrival.bytes),
     })
 }

@@ -1,19 +1,20 @@
 //! Which datagrams of pushes a peer admits.
-ghost use Rattle.std.specs.Prelude.{◌≡◌, ◌+◌, ◌≤◌, ℕ, List, true};
+ghost use Rattle.std.specs.Prelude.{◌≡◌, ◌+◌, ◌≤◌, ℕ, List, Some, true};
 ghost use Rattle.bar_seeds.specs.Checkpoints.{kept_round, MovesOn};
+ghost use Rattle.bar_window.specs.declared.exchange.XKind.TheVariants.{Push};
 ghost use Rattle.bar_roster.specs.Points.{AreSeeds};
 ghost use Rattle.bar_wire.specs.Bodies.{choice_round, query_round};
 ghost use Rattle.bar_wire.specs.Views.{plain, IsView};
 ghost use Rattle.bar_rules.specs.Member.{Member};
+ghost use Rattle.bar_rules.specs.Peer.Admission.{is_row_met};
 ghost use Rattle.bar_rules.specs.Peer.Knowledge.{Knowledge, this_round};
 ghost use Rattle.bar_store.specs.Holds.{Holds};
 ghost use Rattle.bar_ledger.specs.Recalls.{Recalls};
-ghost use Rattle.bar_push.specs.Push.{is_push_row_met};
+ghost use Rattle.bar_exchange.specs.Placing.{StandsAt};
 
 use crate::answer::admits_reply;
 use crate::asking::admits_query;
 use crate::offer::Offer;
-use crate::place::place_of;
 use bar_bytes::Steps;
 use bar_exchange::{Counts, admits_case, admits_key, admits_key_request};
 use bar_ledger::Ledger;
@@ -24,7 +25,7 @@ use bar_terms::PushAnswer;
 use bar_wire::{Body, Place, View};
 use std::sync::ledger::Ledger as StepLedger;
 
-/// Whether a datagram of a push meets the row of its kind in this round. It counts the steps along the seeds of a QUERY.
+/// Whether a datagram at a place of a push meets the row of its kind in this round. It counts the steps along the seeds of a QUERY.
 #[tactic(auto, using(bar_seeds::proofs::CheckpointLemmas::moves_none))]
 pub fn admit<L: StepLedger>(
     session: &Session,
@@ -32,21 +33,21 @@ pub fn admit<L: StepLedger>(
     ledger: &Ledger,
     round: u32,
     view: &View<'_>,
+    place: Place,
     points: &mut Checkpoints,
     steps: &mut Steps<L>,
 ) -> bool
-    requires { AreSeeds session.now points.old }
+    requires seeds { AreSeeds session.now points.old }
+    requires place { StandsAt view.now (Some place) }
+    requires kind { place.x.kind ≡ Push }
     ensures row { (me : Member) (k : Knowledge) (bytes : List ℕ) → me.session ≡ session.now → Holds me k store.now
         → Recalls me k ledger.now → round ≡ this_round k → IsView session.now.shape bytes view.now
-        → result ≡ is_push_row_met me k view.now.from view.now.to (plain view.now.body) }
+        → result ≡ is_row_met me k view.now.from view.now.to (plain view.now.body) }
     ensures cost { steps.new ≤ steps.old + query_round (plain view.now.body) }
     ensures kept { AreSeeds session.now points.new }
     ensures moves { MovesOn view.now.from points.old points.new }
     ensures reached { result ≡ true → choice_round (plain view.now.body) ≤ kept_round points.new view.now.from }
 {
-    let Some(place) = place_of(view) else {
-        return false;
-    };
     let Place { x, role } = place;
     match view.body {
         Body::Query {

@@ -8,7 +8,6 @@ mod choosing;
 mod keeping;
 mod known;
 mod offer;
-mod place;
 mod reply;
 mod saying;
 mod tick;

@@ -1,19 +1,18 @@
 //! What is answered to a datagram.
-ghost use Rattle.std.specs.Prelude.{◌≡◌, ◌||◌, [], ◌∷◌, nat_le};
+ghost use Rattle.std.specs.Prelude.{◌≡◌, ◌||◌, [], ◌∷◌, Some, nat_le};
 ghost use Rattle.bar_window.specs.declared.exchange.XKind.TheVariants.{Push};
 ghost use Rattle.bar_wire.specs.Views.{datagram};
 ghost use Rattle.bar_rules.specs.Member.{Member};
 ghost use Rattle.bar_rules.specs.Peer.Knowledge.{Knowledge, this_round};
 ghost use Rattle.bar_rules.specs.Peer.Orders.{Answer, GiveCase};
-ghost use Rattle.bar_rules.specs.Peer.Replies.{orders_when};
+ghost use Rattle.bar_rules.specs.Peer.Replies.{orders_when, reply_orders};
+ghost use Rattle.bar_exchange.specs.Placing.{StandsAt};
 ghost use Rattle.bar_exchange.specs.Says.{orders_of_reply, AreFitting};
-ghost use Rattle.bar_push.specs.Push.{push_orders};
 
-use crate::place::place_of;
 use bar_exchange::{REQUEST_DEADLINE, Say, Says, is_within, one_when};
 use bar_roster::Session;
 use bar_window::Exchange;
-use bar_wire::{Body, Kind, View};
+use bar_wire::{Body, Kind, Place, View};
 
 /// To a QUERY: the REPLY and the CASE.
 fn to_query(is_due: bool, x: Exchange) -> Says
@@ -35,16 +34,15 @@ fn to_query(is_due: bool, x: Exchange) -> Says
     }
 }
 
-/// What is answered to a datagram of a push that is admitted now or comes again, in this round.
-pub fn replies(session: &Session, round: u32, view: &View<'_>, is_new: bool) -> Says
+/// What is answered to a datagram at a place of a push that is admitted now or comes again, in this round.
+pub fn replies(session: &Session, round: u32, view: &View<'_>, place: Place, is_new: bool) -> Says
+    requires place { StandsAt view.now (Some place) }
+    requires kind { place.x.kind ≡ Push }
     ensures orders { (me : Member) (k : Knowledge) → me.session ≡ session.now → round ≡ this_round k
-        → orders_of_reply result ≡ push_orders me k is_new (datagram session.now.shape view.now) }
+        → orders_of_reply result ≡ reply_orders me k is_new (datagram session.now.shape view.now) }
     ensures fitting { AreFitting result }
 {
     let life = session.shape().life;
-    let Some(place) = place_of(view) else {
-        return Says::Nothing;
-    };
     let x = place.x;
     match view.body {
         Body::Query { .. } => to_query(is_new || is_within(round, x.round, REQUEST_DEADLINE), x),

@@ -1,32 +1,31 @@
-use Rattle.std.proofs.Common.{◌≡◌, ◌∙◌, true, Some, None, refl, sym, ap}
-use Rattle.std.specs.Prelude.{option_map}
+use Rattle.std.proofs.Common.{◌≡◌, ◌∙◌, true, Option, Some, refl, sym, ap, subst}
+use Rattle.std.specs.Prelude.{option_map, IfSome}
+use Rattle.bar_wire.specs.Datagram.{Place, place_of}
+use Rattle.bar_wire.specs.Sides.{place_in}
 use Rattle.bar_wire.specs.Views.{plain}
 use Rattle.bar_roster.specs.Time.{round_after}
-use Rattle.bar_wire.specs.Datagram.{place_by, part_of}
-use Rattle.bar_balanced.specs.Parts.{is_balanced}
-use Rattle.bar_push.specs.Parts.{is_push}
-use Rattle.bar_wire.specs.Sides.{place_in}
+use Rattle.bar_rules.specs.Member.{Member}
+use Rattle.bar_rules.specs.Peer.Agreement.{IsRecent}
+use Rattle.bar_exchange.specs.Placing.{message_in}
 use Rattle.bar_peer.specs.Memory.{member_of}
-use Rattle.bar_peer.proofs.Replied.{no_place, no_orders, is-balanced, is-push, under-test}
+use Rattle.bar_peer.proofs.Replied.{no_orders}
 use Rattle.bar_peer.proofs.answering.says_to.Goals as goal
 
 pub returns-in_default-clause-orders : goal.returns-in_default-clause-orders
 returns-in_default-clause-orders c k h recent =
-    let view = c.args.view.now in
-    let none : c.place_of.result ≡ None = no_place c.place_of.result c.in_default.not-Some in
-    sym (no_orders (member_of c.args.memory.now.who) k c.args.is_new view.from view.to (plain view.body)
-    (sym (ap (option_map place_in) none) ∙ c.place_of.ensures c.args.memory.now.who.session.shape))
+    let v = c.args.arrival.now.view in
+    sym (no_orders (member_of c.args.memory.now.who) k c.args.is_new v.from v.to (plain v.body)
+    (ap (option_map place_in) (sym c.in_default.is) ∙ c.args.arrival.now.placed))
 
 pub returns-in-Balanced-clause-orders : goal.returns-in-Balanced-clause-orders
 returns-in-Balanced-clause-orders c k h recent =
-    let view = c.args.view.now in
-    let at : Some (place_in c.in-Some.place) ≡ option_map (place_by view.from view.to) (part_of (plain view.body)) = sym (ap (option_map place_in) c.in-Some.is) ∙ c.place_of.ensures c.args.memory.now.who.session.shape in
-    let balanced : is_balanced (plain view.body) ≡ true = is-balanced (place_in c.in-Some.place) view.from view.to (plain view.body) at c.in-Balanced.is in
-    under-test (is_balanced (plain view.body)) _ _ (c.replies.ensures.orders (member_of c.args.memory.now.who) k refl h.ledger (c.round-round.ensures ∙ ap round_after (sym h.time)) recent) balanced
+    let me : Member = member_of c.args.memory.now.who in
+    let at : place_of (message_in c.args.arrival.now.view) ≡ Some (place_in c.in-Some.place) =
+    sym c.args.arrival.now.placed ∙ ap (option_map place_in) c.in-Some.is
+    in
+    c.replies.ensures.orders me k refl h.ledger (c.round-round.ensures ∙ ap round_after (sym h.time))
+    (λ new. subst (λ (o : Option Place). IfSome (option_map (λ p. p.exchange) o) (λ x. IsRecent me k x.round)) at (recent new))
 
 pub returns-in-Push-clause-orders : goal.returns-in-Push-clause-orders
 returns-in-Push-clause-orders c k h recent =
-    let view = c.args.view.now in
-    let at : Some (place_in c.in-Some.place) ≡ option_map (place_by view.from view.to) (part_of (plain view.body)) = sym (ap (option_map place_in) c.in-Some.is) ∙ c.place_of.ensures c.args.memory.now.who.session.shape in
-    let push : is_push (plain view.body) ≡ true = is-push (place_in c.in-Some.place) view.from view.to (plain view.body) at c.in-Push.is in
-    under-test (is_push (plain view.body)) _ _ (c.replies-in-Push.ensures.orders (member_of c.args.memory.now.who) k refl (c.round-round.ensures ∙ ap round_after (sym h.time))) push
+    c.replies-in-Push.ensures.orders (member_of c.args.memory.now.who) k refl (c.round-round.ensures ∙ ap round_after (sym h.time))

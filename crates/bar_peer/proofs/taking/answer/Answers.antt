@@ -22,7 +22,7 @@ use Rattle.bar_peer.proofs.taking.answer.Goals as goal
 pub returns-then-is_admitted-clause-stands : goal.returns-then-is_admitted-clause-stands
 returns-then-is_admitted-clause-stands c log obeys tells weighed empty room =
     let me : Member = member_of c.args.memory.now.who in
-    let d : Datagram = datagram c.args.memory.now.who.session.shape c.args.view.now in
+    let d : Datagram = datagram c.args.memory.now.who.session.shape c.args.arrival.now.view in
     let admitted : is_admitted me (known me log) d ≡ true = sym weighed ∙ c.if-is_admitted.true in
     let is = answered-new me log d admitted in
     let now = subst (λ out. IsObedient me out.state) is obeys in
@@ -36,7 +36,7 @@ returns-then-is_admitted-clause-stands c log obeys tells weighed empty room =
 pub returns-then-is_repeat-clause-stands : goal.returns-then-is_repeat-clause-stands
 returns-then-is_repeat-clause-stands c log obeys tells weighed empty room =
     let me : Member = member_of c.args.memory.now.who in
-    let d : Datagram = datagram c.args.memory.now.who.session.shape c.args.view.now in
+    let d : Datagram = datagram c.args.memory.now.who.session.shape c.args.arrival.now.view in
     let before : IsObedient me log = answered-before me log d obeys in
     let sound : IsSound me (known me log) = c.logs_are_sound.ensures me log before in
     let spelled : AreSpelled me (known me log) = record { spelled = sound.spelled } in
@@ -44,7 +44,7 @@ returns-then-is_repeat-clause-stands c log obeys tells weighed empty room =
     let is = answered-again me log d refused in
     subst (λ out. Stands out c.reply-then-is_repeat.new.memory c.reply-then-is_repeat.new.orders) (sym is)
     (repeat-answered log d c.args.memory.now c.reply-then-is_repeat.new.memory c.args.orders.now c.reply-then-is_repeat.new.orders
-    c.says_to-says-then-is_repeat.result c.args.bytes.now c.args.memory.now.who.is_member sound c.bytes_spell_one.ensures c.requires.view.spelled
+    c.says_to-says-then-is_repeat.result c.args.arrival.now.bytes.now c.args.memory.now.who.is_member sound c.bytes_spell_one.ensures c.requires.view.spelled
     c.says_to-says-then-is_repeat.ensures.fitting c.says_to-says-then-is_repeat.ensures.orders c.reply-then-is_repeat.ensures.stands
     (λ in_time. c.is_repeat.ensures (known me log) tells spelled in_time ∙ ap (λ b. then_some b d) c.if-is_repeat.true) tells empty room
     (subst (λ out. IsObedient me out.state) is obeys))
@@ -52,13 +52,13 @@ returns-then-is_repeat-clause-stands c log obeys tells weighed empty room =
 pub returns-else-is_repeat-clause-stands : goal.returns-else-is_repeat-clause-stands
 returns-else-is_repeat-clause-stands c log obeys tells weighed empty room =
     let me : Member = member_of c.args.memory.now.who in
-    let d : Datagram = datagram c.args.memory.now.who.session.shape c.args.view.now in
+    let d : Datagram = datagram c.args.memory.now.who.session.shape c.args.arrival.now.view in
     let before : IsObedient me log = answered-before me log d obeys in
     let sound : IsSound me (known me log) = c.logs_are_sound.ensures me log before in
     let spelled : AreSpelled me (known me log) = record { spelled = sound.spelled } in
     let refused : is_admitted me (known me log) d ≡ false = sym weighed ∙ c.if-is_admitted.false in
     let is = answered-again me log d refused in
-    subst (λ out. Stands out c.args.memory.now c.args.orders.now) (sym (is ∙ not-repeated me log d c.args.bytes.now c.args.memory.now.who.is_member sound
+    subst (λ out. Stands out c.args.memory.now c.args.orders.now) (sym (is ∙ not-repeated me log d c.args.arrival.now.bytes.now c.args.memory.now.who.is_member sound
     c.bytes_spell_one.ensures c.requires.view.spelled
     (λ in_time. c.is_repeat.ensures (known me log) tells spelled in_time ∙ ap (λ b. then_some b d) c.if-is_repeat.false)))
     (none_stand log c.args.memory.now c.args.orders.now tells empty)
@@ -69,7 +69,7 @@ returns-then-is_admitted-clause-idle c log obeys tells refused none = absurd (fa
 pub returns-then-is_repeat-clause-idle : goal.returns-then-is_repeat-clause-idle
 returns-then-is_repeat-clause-idle c log obeys tells refused none =
     let me : Member = member_of c.args.memory.now.who in
-    let d : Datagram = datagram c.args.memory.now.who.session.shape c.args.view.now in
+    let d : Datagram = datagram c.args.memory.now.who.session.shape c.args.arrival.now.view in
     let sound : IsSound me (known me log) = c.logs_are_sound.ensures me log obeys in
     let spelled : AreSpelled me (known me log) = record { spelled = sound.spelled } in
     nothing-changed log d c.args.memory.now c.reply-then-is_repeat.new.memory c.says_to-says-then-is_repeat.result c.args.memory.now.who.is_member

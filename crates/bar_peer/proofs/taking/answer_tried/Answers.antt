@@ -21,7 +21,7 @@ pub returns-then-is_found-clause-stands : goal.returns-then-is_found-clause-stan
 returns-then-is_found-clause-stands g c log obeys tells tried weighed empty room =
     let who = c.args.memory.now.who in
     let me : Member = member_of who in
-    let v = c.args.view.now in
+    let v = c.args.arrival.now.view in
     let d : Datagram = datagram who.session.shape v in
     let ev : Option (List (List ℕ)) = new_evidence me (known me log) d in
     let all : AreObedient me log d v.from ev = obeyed me log d v.from ev obeys in
@@ -48,7 +48,7 @@ pub returns-else-is_found-clause-stands : goal.returns-else-is_found-clause-stan
 returns-else-is_found-clause-stands g c log obeys tells tried weighed empty room =
     let who = c.args.memory.now.who in
     let me : Member = member_of who in
-    let v = c.args.view.now in
+    let v = c.args.arrival.now.view in
     let d : Datagram = datagram who.session.shape v in
     let ev : Option (List (List ℕ)) = new_evidence me (known me log) d in
     let all : AreObedient me log d v.from ev = obeyed me log d v.from ev obeys in
@@ -70,7 +70,7 @@ pub returns-then-is_found-clause-idle : goal.returns-then-is_found-clause-idle
 returns-then-is_found-clause-idle g c refused log obeys tells tried idle =
     let who = c.args.memory.now.who in
     let me : Member = member_of who in
-    let v = c.args.view.now in
+    let v = c.args.arrival.now.view in
     let d : Datagram = datagram who.session.shape v in
     let none : TellsNothing me (known me log) d = nothing-told me (known me log) d idle in
     let obeyed_still : IsObedient me (with_evidence me log v.from (new_evidence me (known me log) d)) =
@@ -82,7 +82,7 @@ pub returns-else-is_found-clause-idle : goal.returns-else-is_found-clause-idle
 returns-else-is_found-clause-idle g c refused log obeys tells tried idle =
     let who = c.args.memory.now.who in
     let me : Member = member_of who in
-    let v = c.args.view.now in
+    let v = c.args.arrival.now.view in
     let d : Datagram = datagram who.session.shape v in
     let none : TellsNothing me (known me log) d = nothing-told me (known me log) d idle in
     let same : c.keep_found-is_found.new.self ≡ c.args.memory.now = c.keep_found-is_found.ensures.none c.if-is_found.false in

@@ -23,8 +23,8 @@ returns-in-Ok-clause-stands g c log obeys tells empty room =
     let read : Some d ≡ datagram_of me.session c.args.bytes.now =
     c.in-Ok.ensures.told ∙ ap (λ (shape : Shape). places.datagram_of shape c.args.bytes.now) c.shape-shape.ensures.value
     in
-    subst (λ (o : Option Datagram). Stands (take_datagram me log o) c.take_view.new.memory c.take_view.new.orders) read
-    (c.take_view.ensures.stands log (subst (λ (o : Option Datagram). IsObedient me (take_datagram me log o).state) (sym read) obeys) tells empty room)
+    subst (λ (o : Option Datagram). Stands (take_datagram me log o) c.take_arrival.new.memory c.take_arrival.new.orders) read
+    (c.take_arrival.ensures.stands log (subst (λ (o : Option Datagram). IsObedient me (take_datagram me log o).state) (sym read) obeys) tells empty room)
 
 pub returns-in-Ok-clause-ignored : goal.returns-in-Ok-clause-ignored
 returns-in-Ok-clause-ignored g c log obeys tells ignored =
@@ -33,7 +33,7 @@ returns-in-Ok-clause-ignored g c log obeys tells ignored =
     let read : Some d ≡ datagram_of me.session c.args.bytes.now =
     c.in-Ok.ensures.told ∙ ap (λ (shape : Shape). places.datagram_of shape c.args.bytes.now) c.shape-shape.ensures.value
     in
-    c.take_view.ensures.idle log obeys tells (ap (λ (o : Option Datagram). option_map_or (tells_nothing me (known me log)) o true) read ∙ ignored)
+    c.take_arrival.ensures.idle log obeys tells (ap (λ (o : Option Datagram). option_map_or (tells_nothing me (known me log)) o true) read ∙ ignored)
 
 pub returns-in-Ok-clause-unread : goal.returns-in-Ok-clause-unread
 returns-in-Ok-clause-unread g c unread =
@@ -43,3 +43,6 @@ returns-in-Ok-clause-unread g c unread =
     c.in-Ok.ensures.told ∙ ap (λ (shape : Shape). places.datagram_of shape c.args.bytes.now) c.shape-shape.ensures.value
     in
     absurd (false≢true (ap (λ (o : Option Datagram). is_none o) read ∙ unread))
+
+pub invariant_of-arrival : goal.invariant_of-arrival
+invariant_of-arrival g c = record { placed = c.place_of-place.ensures c.shape-shape.result }

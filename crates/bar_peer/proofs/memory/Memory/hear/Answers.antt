@@ -20,23 +20,23 @@ use Rattle.bar_peer.proofs.memory.Memory.hear.Goals as goal
 pub returns-in-Manifest-clause-learns : goal.returns-in-Manifest-clause-learns
 returns-in-Manifest-clause-learns c log obeys h =
     let me : Member = member_of c.args.self.now.who in
-    let d : Datagram = datagram me.session.shape c.args.view.now in
-    let now = admitted_now c.datagrams_fit_their_rooms.ensures.obedient me log d c.args.bytes.now c.requires.view.spelled obeys in
+    let d : Datagram = datagram me.session.shape c.args.arrival.now.view in
+    let now = admitted_now c.datagrams_fit_their_rooms.ensures.obedient me log d c.args.arrival.now.bytes.now c.requires.view.spelled obeys in
     heard_tells c.knowledge_is_enough.ensures.entry c.args.self.now c.hear_manifest.new.self log d c.hear_manifest.ensures.who
     (c.hear_manifest.ensures.learns (known me log) h now (ap (λ b. kind_of (plain b)) c.in-Manifest.is))
 
 pub returns-in-Block-clause-learns : goal.returns-in-Block-clause-learns
 returns-in-Block-clause-learns c log obeys h =
     let me : Member = member_of c.args.self.now.who in
-    let d : Datagram = datagram me.session.shape c.args.view.now in
-    let now = admitted_now c.datagrams_fit_their_rooms.ensures.obedient me log d c.args.bytes.now c.requires.view.spelled obeys in
+    let d : Datagram = datagram me.session.shape c.args.arrival.now.view in
+    let now = admitted_now c.datagrams_fit_their_rooms.ensures.obedient me log d c.args.arrival.now.bytes.now c.requires.view.spelled obeys in
     heard_tells c.knowledge_is_enough.ensures.entry c.args.self.now c.hear_block.new.self log d c.hear_block.ensures.who
     (c.hear_block.ensures.learns (known me log) h (c.logs_are_sound.ensures me log obeys.1) now (ap (λ b. kind_of (plain b)) c.in-Block.is))
 
 pub returns-in-Evict-clause-learns : goal.returns-in-Evict-clause-learns
 returns-in-Evict-clause-learns c log obeys h =
     let me : Member = member_of c.args.self.now.who in
-    let d : Datagram = datagram me.session.shape c.args.view.now in
+    let d : Datagram = datagram me.session.shape c.args.arrival.now.view in
     heard_tells c.knowledge_is_enough.ensures.entry c.args.self.now c.hear_evict.new.self log d c.hear_evict.ensures.who
     (c.hear_evict.ensures.learns (known me log) h (ap (λ b. kind_of (plain b)) c.in-Evict.is))
 
@@ -48,11 +48,11 @@ returns-in-Key-clause-learns c log obeys h =
     let first = c.open.ensures.rest in
     let rest = c.hear_of_exchange.ensures.rest in
     let me : Member = member_of old.who in
-    let v = c.args.view.now in
+    let v = c.args.arrival.now.view in
     let d : Datagram = datagram me.session.shape v in
     let k : Knowledge = known me log in
-    let now : IsAdmittedNow me k d c.args.bytes.now =
-    admitted_now c.datagrams_fit_their_rooms.ensures.obedient me log d c.args.bytes.now c.requires.view.spelled obeys
+    let now : IsAdmittedNow me k d c.args.arrival.now.bytes.now =
+    admitted_now c.datagrams_fit_their_rooms.ensures.obedient me log d c.args.arrival.now.bytes.now c.requires.view.spelled obeys
     in
     let sound : IsSound me k = c.logs_are_sound.ensures me log obeys.1 in
     let room = leaves_room c.exchanges_are_few.ensures.obedient_left c.logs_are_sound.ensures c.knowledge_is_enough.ensures.entry me log d c.requires.view.spelled.fits obeys in
@@ -62,7 +62,7 @@ returns-in-Key-clause-learns c log obeys h =
     in
     let recalled : Recalls me k opened.ledger = subst (Recalls me k) (sym first.ledger) h.ledger in
     let ledger : Recalls me (with_heard me d k) new.ledger =
-    subst (λ (w : Credentials). RecallsHeard w v c.args.bytes.now opened.ledger new.ledger) first.who c.hear_of_exchange.ensures.learns k recalled
+    subst (λ (w : Credentials). RecallsHeard w v c.args.arrival.now.bytes.now opened.ledger new.ledger) first.who c.hear_of_exchange.ensures.learns k recalled
     sound room now of
     in
     heard_tells c.knowledge_is_enough.ensures.entry old new log d (rest.who ∙ first.who)
@@ -82,11 +82,11 @@ returns-in_default c = record {
       let rest = c.hear_of_exchange-in_default.ensures.rest in
       let n = c.in_default in
       let me : Member = member_of old.who in
-      let v = c.args.view.now in
+      let v = c.args.arrival.now.view in
       let d : Datagram = datagram me.session.shape v in
       let k : Knowledge = known me log in
-      let now : IsAdmittedNow me k d c.args.bytes.now =
-      admitted_now c.datagrams_fit_their_rooms.ensures.obedient me log d c.args.bytes.now c.requires.view.spelled obeys
+      let now : IsAdmittedNow me k d c.args.arrival.now.bytes.now =
+      admitted_now c.datagrams_fit_their_rooms.ensures.obedient me log d c.args.arrival.now.bytes.now c.requires.view.spelled obeys
       in
       let sound : IsSound me k = c.logs_are_sound.ensures me log obeys.1 in
       let room = leaves_room c.exchanges_are_few.ensures.obedient_left c.logs_are_sound.ensures c.knowledge_is_enough.ensures.entry me log d c.requires.view.spelled.fits obeys in

@@ -15,7 +15,7 @@ use Rattle.bar_peer.proofs.memory.Memory.hear_block.Goals as goal
 pub returns-then-round-now-clause-learns : goal.returns-then-round-now-clause-learns
 returns-then-round-now-clause-learns c k h sound now is =
     let me : Member = member_of c.args.self.now.who in
-    let v = c.args.view.now in
+    let v = c.args.arrival.now.view in
     let d : Datagram = datagram me.session.shape v in
     let w = c.in-Block in
     let id : UpdateId = record { round = w.round; index = w.index } in
@@ -36,7 +36,7 @@ returns-then-round-now-clause-learns c k h sound now is =
 pub returns-else-round-now-clause-learns : goal.returns-else-round-now-clause-learns
 returns-else-round-now-clause-learns c k h sound now is =
     let me : Member = member_of c.args.self.now.who in
-    let v = c.args.view.now in
+    let v = c.args.arrival.now.view in
     let d : Datagram = datagram me.session.shape v in
     let w = c.in-Block in
     let id : UpdateId = record { round = w.round; index = w.index } in

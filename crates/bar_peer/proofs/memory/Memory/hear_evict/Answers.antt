@@ -12,7 +12,7 @@ pub returns-clause-learns : goal.returns-clause-learns
 returns-clause-learns c k h is =
     let old = c.args.self.now in
     let me : Member = member_of old.who in
-    let v = c.args.view.now in
+    let v = c.args.arrival.now.view in
     let d : Datagram = datagram me.session.shape v in
     let w = c.in-Evict in
     let shape = me.session.shape in

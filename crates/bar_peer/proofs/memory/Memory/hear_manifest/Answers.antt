@@ -17,7 +17,7 @@ use Rattle.bar_peer.proofs.memory.Memory.hear_manifest.Goals as goal
 
 pub add_manifest-requires-clause-few : goal.add_manifest-requires-clause-few
 add_manifest-requires-clause-few c =
-    let v = c.args.view.now in
+    let v = c.args.arrival.now.view in
     let w = c.in-Manifest in
     let shape = c.args.self.now.who.session.shape in
     let body : plain v.body ≡ Manifest w.round (first_chunks 32 w.count w.digests.now) = ap plain w.is in
@@ -29,7 +29,7 @@ pub returns-then-add_manifest-clause-learns : goal.returns-then-add_manifest-cla
 returns-then-add_manifest-clause-learns c k h now is =
     let old = c.args.self.now in
     let me : Member = member_of old.who in
-    let v = c.args.view.now in
+    let v = c.args.arrival.now.view in
     let d : Datagram = datagram me.session.shape v in
     let w = c.in-Manifest in
     let list : List (List ℕ) = digest_list w.digests.now in

@@ -1,28 +1,23 @@
-use Rattle.std.proofs.Common.{◌≡◌, ◌∙◌, Some, sym, ap}
+use Rattle.std.proofs.Common.{◌∙◌, Some, sym, ap}
 use Rattle.std.specs.Prelude.{option_map}
-use Rattle.bar_wire.specs.Datagram.{Datagram, Place, part_of, place_of}
+use Rattle.bar_wire.specs.Datagram.{Datagram, part_of}
 use Rattle.bar_wire.specs.Views.{datagram, plain}
 use Rattle.bar_rules.specs.Member.{Member}
 use Rattle.bar_wire.specs.Sides.{place_in}
 use Rattle.bar_peer.specs.Memory.{member_of}
-use Rattle.bar_peer.proofs.Heard.{unplaced, placed_kind, balanced_by, push_by, unseated}
+use Rattle.bar_peer.proofs.Heard.{unplaced, unseated}
 use Rattle.bar_peer.proofs.memory.Memory.hear_of_exchange.Goals as goal
 
 pub returns-in_default-clause-learns : goal.returns-in_default-clause-learns
 returns-in_default-clause-learns c k h sound room now of =
-    let me : Member = member_of c.args.self.now.who in
-    let v = c.args.view.now in
-    absurd (unplaced v.from v.to (part_of (plain v.body)) (sym (c.place_of.ensures me.session.shape) ∙ ap (option_map place_in) c.in_default.is) of)
+    let v = c.args.arrival.now.view in
+    absurd (unplaced v.from v.to (part_of (plain v.body)) (sym c.args.arrival.now.placed ∙ ap (option_map place_in) c.in_default.is) of)
 
 pub returns-in-Balanced-clause-learns : goal.returns-in-Balanced-clause-learns
 returns-in-Balanced-clause-learns c k h sound room now of =
     let me : Member = member_of c.args.self.now.who in
-    let v = c.args.view.now in
-    let d : Datagram = datagram me.session.shape v in
-    let p : Place = place_in c.in-Some.place in
-    let at : place_of d.message ≡ Some p = sym (c.place_of.ensures me.session.shape) ∙ ap (option_map place_in) c.in-Some.is in
-    let balanced = balanced_by (plain v.body) (placed_kind v.from v.to (part_of (plain v.body)) p at ∙ ap Some c.in-Balanced.is) in
-    c.keep.ensures.learns me k c.requires.view balanced (record {
+    let d : Datagram = datagram me.session.shape c.args.arrival.now.view in
+    c.keep.ensures.learns me k c.requires.view (record {
       member = c.args.self.now.who.is_member;
       recalled = h;
       now = now;
@@ -33,12 +28,8 @@ returns-in-Balanced-clause-learns c k h sound room now of =
 pub returns-in-Push-clause-learns : goal.returns-in-Push-clause-learns
 returns-in-Push-clause-learns c k h sound room now of =
     let me : Member = member_of c.args.self.now.who in
-    let v = c.args.view.now in
-    let d : Datagram = datagram me.session.shape v in
-    let p : Place = place_in c.in-Some.place in
-    let at : place_of d.message ≡ Some p = sym (c.place_of.ensures me.session.shape) ∙ ap (option_map place_in) c.in-Some.is in
-    let pushed = push_by (plain v.body) (placed_kind v.from v.to (part_of (plain v.body)) p at ∙ ap Some c.in-Push.is) in
-    c.keep-in-Push.ensures.learns me k c.requires.view pushed (record {
+    let d : Datagram = datagram me.session.shape c.args.arrival.now.view in
+    c.keep-in-Push.ensures.learns me k c.requires.view (record {
       member = c.args.self.now.who.is_member;
       recalled = h;
       now = now;

@@ -8,7 +8,7 @@ use Rattle.bar_peer.proofs.memory.Memory.is_heard_again.Goals as goal
 
 pub returns-then-is_some : goal.returns-then-is_some
 returns-then-is_some c k bytes memory view in_time =
-    let v = c.args.view.now in
+    let v = c.args.arrival.now.view in
     let s = c.args.self.now.who.session in
     let m : Message = (datagram s.shape v).message in
     let signed : is_signed m.body ≡ true = view.signed.0 (search rules) in

@@ -7,8 +7,8 @@ use Rattle.bar_peer.proofs.memory.Memory.is_repeat.Goals as goal
 
 pub returns-in-Some : goal.returns-in-Some
 returns-in-Some c k h spelled in_time =
-    let v = c.args.view.now in
-    repeats (member_of c.args.self.now.who) k (datagram c.args.self.now.who.session.shape v) c.in-Some.heard.now c.args.bytes.now c.eq.result
+    let v = c.args.arrival.now.view in
+    repeats (member_of c.args.self.now.who) k (datagram c.args.self.now.who.session.shape v) c.in-Some.heard.now c.args.arrival.now.bytes.now c.eq.result
     c.bytes_spell_one.ensures
     spelled
     c.requires.view.spelled

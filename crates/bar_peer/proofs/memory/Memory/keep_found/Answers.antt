@@ -16,14 +16,14 @@ pub returns-in-Some-clause-kept : goal.returns-in-Some-clause-kept
 returns-in-Some-clause-kept g c log obeys before h tried =
     let old = c.args.self.now in
     let me : Member = member_of old.who in
-    let d : Datagram = datagram me.session.shape c.args.view.now in
+    let d : Datagram = datagram me.session.shape c.args.arrival.now.view in
     let k : Knowledge = known me log in
     let sound : IsSound me k = c.logs_are_sound.ensures me log before in
     let table : table_of k ≡ digests_of c.table-table.result.now.lists =
     (λ i round. h.store.table round i) ∙ (λ i. digests_of (sym c.table-table.ensures i).lists)
     in
     let found = c.find_evidence.ensures.exact k h.ledger table sound tried in
-    found-kept c.knowledge_is_enough.ensures.entry c.evidence_fits_its_room.ensures old _ log c.args.view.now.from (new_evidence me k d)
+    found-kept c.knowledge_is_enough.ensures.entry c.evidence_fits_its_room.ensures old _ log c.args.arrival.now.view.from (new_evidence me k d)
     (datagrams_of c.in-Some.evidence)
     (sym found ∙ ap (option_map datagrams_of) c.in-Some.is)
     (record { who = refl; ticks = refl; store = refl; ledger = refl; manifests = refl; evictions = refl })
@@ -35,14 +35,14 @@ pub returns-in-None-clause-kept : goal.returns-in-None-clause-kept
 returns-in-None-clause-kept g c log obeys before h tried =
     let old = c.args.self.now in
     let me : Member = member_of old.who in
-    let d : Datagram = datagram me.session.shape c.args.view.now in
+    let d : Datagram = datagram me.session.shape c.args.arrival.now.view in
     let k : Knowledge = known me log in
     let sound : IsSound me k = c.logs_are_sound.ensures me log before in
     let table : table_of k ≡ digests_of c.table-table.result.now.lists =
     (λ i round. h.store.table round i) ∙ (λ i. digests_of (sym c.table-table.ensures i).lists)
     in
     let found = c.find_evidence.ensures.exact k h.ledger table sound tried in
-    none-kept old _ log c.args.view.now.from (new_evidence me k d)
+    none-kept old _ log c.args.arrival.now.view.from (new_evidence me k d)
     (sym found ∙ ap (option_map datagrams_of) c.in-None.is)
     (record { who = refl; ticks = refl; store = refl; ledger = refl; manifests = refl; evictions = refl })
     refl

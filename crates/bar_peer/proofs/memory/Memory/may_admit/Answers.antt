@@ -12,31 +12,31 @@ use Rattle.bar_peer.proofs.memory.Memory.may_admit.Goals as goal
 pub returns-then-not-is_receiver-clause-exact : goal.returns-then-not-is_receiver-clause-exact
 returns-then-not-is_receiver-clause-exact g c k h spelled =
     let me : Member = member_of c.args.self.now.who in
-    refused_elsewhere me k (datagram me.session.shape c.args.view.now) (sym c.is_receiver.ensures ∙ search)
+    refused_elsewhere me k (datagram me.session.shape c.args.arrival.now.view) (sym c.is_receiver.ensures ∙ search)
 
 pub returns-then-is_named-clause-exact : goal.returns-then-is_named-clause-exact
 returns-then-is_named-clause-exact g c k h spelled =
     let me : Member = member_of c.args.self.now.who in
-    refused_evicted me k (datagram me.session.shape c.args.view.now)
-    (h.announced c.args.view.now.from ∙ sym c.is_named.ensures ∙ c.if-is_named.true)
+    refused_evicted me k (datagram me.session.shape c.args.arrival.now.view)
+    (h.announced c.args.arrival.now.view.from ∙ sym c.is_named.ensures ∙ c.if-is_named.true)
 
 pub returns-then-not-meets_row-clause-exact : goal.returns-then-not-meets_row-clause-exact
 returns-then-not-meets_row-clause-exact g c k h spelled =
     let me : Member = member_of c.args.self.now.who in
-    refused_by_row me k (datagram me.session.shape c.args.view.now)
-    (sym (c.meets_row.ensures.row k c.args.bytes.now h spelled c.requires.view) ∙ search)
+    refused_by_row me k (datagram me.session.shape c.args.arrival.now.view)
+    (sym (c.meets_row.ensures.row k c.args.arrival.now.bytes.now h spelled c.requires.view) ∙ search)
 
 pub returns-clause-exact : goal.returns-clause-exact
 returns-clause-exact g c k h spelled =
     let me : Member = member_of c.args.self.now.who in
-    let v = c.args.view.now in
+    let v = c.args.arrival.now.view in
     let d : Datagram = datagram me.session.shape v in
     let met : is_row_met me k v.from v.to (plain v.body) ≡ true =
-    sym (c.meets_row.ensures.row k c.args.bytes.now h spelled c.requires.view) ∙ search
+    sym (c.meets_row.ensures.row k c.args.arrival.now.bytes.now h spelled c.requires.view) ∙ search
     in
     let life : 2 ≤ me.session.shape.life = c.args.self.now.who.is_member.session.shape.life_low in
     let timely : IsInTime me k d.message = in_time me k v.from v.to (plain v.body) life met in
-    ap not (c.is_heard_again.ensures k c.args.bytes.now h c.requires.view timely)
+    ap not (c.is_heard_again.ensures k c.args.arrival.now.bytes.now h c.requires.view timely)
     ∙ admitted_if_new me k d
     (sym c.is_receiver.ensures ∙ search)
     (h.announced v.from ∙ sym c.is_named.ensures ∙ c.if-is_named.false)

@@ -19,15 +19,15 @@ pub returns-in-Some-clause-exact : goal.returns-in-Some-clause-exact
 returns-in-Some-clause-exact c k h =
     let m = c.args.self.now in
     let me : Member = member_of m.who in
-    let v = c.args.view.now in
+    let v = c.args.arrival.now.view in
     let d : Datagram = datagram me.session.shape v in
     let peer : is_peer_kind (plain v.body) ≡ true = sym c.is_peer_kind.ensures ∙ search in
     let round : c.in-Some.place.x.round ≡ round_of (plain v.body) =
     peer_round d.message (place_in c.in-Some.place) peer
-    (sym (c.place_of.ensures me.session.shape) ∙ ap (option_map place_in) c.in-Some.is)
+    (sym c.args.arrival.now.placed ∙ ap (option_map place_in) c.in-Some.is)
     in
-    (λ i. nat_le ((c.from-in-Some.ensures ∙ c.round.ensures ∙ ap round_after (sym h.time)) i)
-    ((c.from-in-Some-2.ensures ∙ round) i + (c.from-life.ensures ∙ ap (λ s. s.life) c.shape.ensures.value) i))
+    c.is_within.ensures
+    ∙ (λ i. nat_le ((c.round.ensures ∙ ap round_after (sym h.time)) i) (round i + ap (λ s. s.life) c.shape-life.ensures.value i))
     ∙ shown_if_recent me k d peer
     (eq-eqb v.to me.party search)
     (h.announced v.from ∙ sym c.is_named.ensures ∙ c.if-is_named.false)
@@ -40,7 +40,7 @@ returns-in-Some-clause-exact c k h =
 pub returns-in-None-clause-exact : goal.returns-in-None-clause-exact
 returns-in-None-clause-exact c k h =
     let me : Member = member_of c.args.self.now.who in
-    let v = c.args.view.now in
+    let v = c.args.arrival.now.view in
     let d : Datagram = datagram me.session.shape v in
     let peer : is_peer_kind (plain v.body) ≡ true = sym c.is_peer_kind.ensures ∙ search in
-    absurd (peer_placed d.message peer (sym (c.place_of.ensures me.session.shape) ∙ ap (option_map place_in) c.in-None.is))
+    absurd (peer_placed d.message peer (sym c.args.arrival.now.placed ∙ ap (option_map place_in) c.in-None.is))

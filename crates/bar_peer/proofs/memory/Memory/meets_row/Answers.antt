@@ -7,7 +7,7 @@ use Rattle.bar_peer.proofs.memory.Memory.meets_row.Goals as goal
 
 pub returns-in_default-clause-row : goal.returns-in_default-clause-row
 returns-in_default-clause-row g c k bytes h spelled is =
-    let v = c.args.view.now in
+    let v = c.args.arrival.now.view in
     c.meets_row_of_exchange.ensures.row k bytes h spelled is
     ∙ of_others (member_of c.args.self.now.who) k v.from v.to v.body c.in_default.not-Manifest c.in_default.not-Block c.in_default.not-Evict
 

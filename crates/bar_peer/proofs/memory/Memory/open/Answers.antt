@@ -15,24 +15,24 @@ use Rattle.bar_peer.specs.Opening.{block_in_items}
 use Rattle.bar_peer.proofs.Keys.{IsTheirPlace, their_place, heard_given, unheard_given, table_near, key_learned, nothing_learned, no_place}
 use Rattle.bar_peer.proofs.memory.Memory.open.Goals as goal
 
-pub returns-in_default-place_of-clause-learns : goal.returns-in_default-place_of-clause-learns
-returns-in_default-place_of-clause-learns c k h sound now is =
+pub returns-in_default-place-clause-learns : goal.returns-in_default-place-clause-learns
+returns-in_default-place-clause-learns c k h sound now is =
     let me : Member = member_of c.args.self.now.who in
-    let d : Datagram = datagram me.session.shape c.args.view.now in
+    let d : Datagram = datagram me.session.shape c.args.arrival.now.view in
     let w = c.in-Key in
     let g : KeyGiven = record { round = w.round; kind = kind_from w.xkind; role = role_from w.role; key = w.key.now } in
     absurd (no_place d g (ap plain w.is)
-    (sym (c.place_of.ensures me.session.shape) ∙ ap (option_map place_in) c.in_default-place_of.is))
+    (sym c.args.arrival.now.placed ∙ ap (option_map place_in) c.in_default-place.is))
 
 pub returns-in_default-heard_view-clause-learns : goal.returns-in_default-heard_view-clause-learns
 returns-in_default-heard_view-clause-learns c k h sound now is =
     let me : Member = member_of c.args.self.now.who in
-    let d : Datagram = datagram me.session.shape c.args.view.now in
+    let d : Datagram = datagram me.session.shape c.args.arrival.now.view in
     let w = c.in-Key in
     let g : KeyGiven = record { round = w.round; kind = kind_from w.xkind; role = role_from w.role; key = w.key.now } in
     let body : d.message.body ≡ Key g = ap plain w.is in
     let p : Place = place_in c.in-Some.place in
-    let at : place_of d.message ≡ Some p = sym (c.place_of.ensures me.session.shape) ∙ ap (option_map place_in) c.in-Some.is in
+    let at : place_of d.message ≡ Some p = sym c.args.arrival.now.placed ∙ ap (option_map place_in) c.in-Some.is in
     let life : 2 ≤ me.session.shape.life = c.args.self.now.who.is_member.session.shape.life_low in
     let place : IsTheirPlace me k p = their_place me k d g p life c.requires.view.spelled.fits now.admitted body at in
     let none = c.in_default-heard_view.ensures.told k h (record { spelled = sound.spelled }) place.recent in
@@ -43,12 +43,12 @@ pub returns-in_default-unseal-clause-learns : goal.returns-in_default-unseal-cla
 returns-in_default-unseal-clause-learns c k h sound now is =
     let me : Member = member_of c.args.self.now.who in
     let s = c.args.self.now.store in
-    let d : Datagram = datagram me.session.shape c.args.view.now in
+    let d : Datagram = datagram me.session.shape c.args.arrival.now.view in
     let w = c.in-Key in
     let g : KeyGiven = record { round = w.round; kind = kind_from w.xkind; role = role_from w.role; key = w.key.now } in
     let body : d.message.body ≡ Key g = ap plain w.is in
     let p : Place = place_in c.in-Some.place in
-    let at : place_of d.message ≡ Some p = sym (c.place_of.ensures me.session.shape) ∙ ap (option_map place_in) c.in-Some.is in
+    let at : place_of d.message ≡ Some p = sym c.args.arrival.now.placed ∙ ap (option_map place_in) c.in-Some.is in
     let life : 2 ≤ me.session.shape.life = c.args.self.now.who.is_member.session.shape.life_low in
     let place : IsTheirPlace me k p = their_place me k d g p life c.requires.view.spelled.fits now.admitted body at in
     let heard = c.in-Some-heard_view.ensures.told k h (record { spelled = sound.spelled }) place.recent in
@@ -60,12 +60,12 @@ pub returns-clause-learns : goal.returns-clause-learns
 returns-clause-learns c k h sound now is =
     let me : Member = member_of c.args.self.now.who in
     let s = c.args.self.now.store in
-    let d : Datagram = datagram me.session.shape c.args.view.now in
+    let d : Datagram = datagram me.session.shape c.args.arrival.now.view in
     let w = c.in-Key in
     let g : KeyGiven = record { round = w.round; kind = kind_from w.xkind; role = role_from w.role; key = w.key.now } in
     let body : d.message.body ≡ Key g = ap plain w.is in
     let p : Place = place_in c.in-Some.place in
-    let at : place_of d.message ≡ Some p = sym (c.place_of.ensures me.session.shape) ∙ ap (option_map place_in) c.in-Some.is in
+    let at : place_of d.message ≡ Some p = sym c.args.arrival.now.placed ∙ ap (option_map place_in) c.in-Some.is in
     let life : 2 ≤ me.session.shape.life = c.args.self.now.who.is_member.session.shape.life_low in
     let place : IsTheirPlace me k p = their_place me k d g p life c.requires.view.spelled.fits now.admitted body at in
     let heard = c.in-Some-heard_view.ensures.told k h (record { spelled = sound.spelled }) place.recent in

@@ -11,15 +11,15 @@ use Rattle.bar_peer.specs.Memory.{member_of}
 use Rattle.bar_peer.specs.Sending.{Stands}
 use Rattle.bar_peer.proofs.Ignored.{TellsNothing, nothing-told}
 use Rattle.bar_peer.proofs.Taken.{AreObedient, obeyed, none-new}
-use Rattle.bar_peer.proofs.taking.take_view.Goals as goal
+use Rattle.bar_peer.proofs.taking.take_arrival.Goals as goal
 
 pub returns-then-weighed-clause-stands : goal.returns-then-weighed-clause-stands
 returns-then-weighed-clause-stands g c log obeys tells empty room =
     let me : Member = member_of c.args.memory.now.who in
-    let d : Datagram = datagram c.args.memory.now.who.session.shape c.args.view.now in
+    let d : Datagram = datagram c.args.memory.now.who.session.shape c.args.arrival.now.view in
     let k : Knowledge = known me log in
     let ev : Option (List (List ℕ)) = new_evidence me k d in
-    let all : AreObedient me log d c.args.view.now.from ev = obeyed me log d c.args.view.now.from ev obeys in
+    let all : AreObedient me log d c.args.arrival.now.view.from ev = obeyed me log d c.args.arrival.now.view.from ev obeys in
     let sound : IsSound me k = c.logs_are_sound.ensures me log all.first in
     c.answer_tried.ensures.stands log obeys tells (sym (c.weigh-weighed.ensures.tried k tells sound) ∙ c.if-weighed.true)
     (c.weigh-weighed.ensures.admitted k tells sound)
@@ -29,8 +29,8 @@ returns-then-weighed-clause-stands g c log obeys tells empty room =
 pub returns-else-weighed-clause-stands : goal.returns-else-weighed-clause-stands
 returns-else-weighed-clause-stands g c log obeys tells empty room =
     let me : Member = member_of c.args.memory.now.who in
-    let d : Datagram = datagram c.args.memory.now.who.session.shape c.args.view.now in
-    let q : ℕ = c.args.view.now.from in
+    let d : Datagram = datagram c.args.memory.now.who.session.shape c.args.arrival.now.view in
+    let q : ℕ = c.args.arrival.now.view.from in
     let k : Knowledge = known me log in
     let ev : Option (List (List ℕ)) = new_evidence me k d in
     let all : AreObedient me log d q ev = obeyed me log d q ev obeys in
@@ -47,7 +47,7 @@ returns-else-weighed-clause-stands g c log obeys tells empty room =
 pub returns-then-weighed-clause-idle : goal.returns-then-weighed-clause-idle
 returns-then-weighed-clause-idle g c log obeys tells idle =
     let me : Member = member_of c.args.memory.now.who in
-    let d : Datagram = datagram c.args.memory.now.who.session.shape c.args.view.now in
+    let d : Datagram = datagram c.args.memory.now.who.session.shape c.args.arrival.now.view in
     let k : Knowledge = known me log in
     let sound : IsSound me k = c.logs_are_sound.ensures me log obeys in
     let none : TellsNothing me k d = nothing-told me k d idle in
@@ -57,7 +57,7 @@ returns-then-weighed-clause-idle g c log obeys tells idle =
 pub returns-else-weighed-clause-idle : goal.returns-else-weighed-clause-idle
 returns-else-weighed-clause-idle g c log obeys tells idle =
     let me : Member = member_of c.args.memory.now.who in
-    let d : Datagram = datagram c.args.memory.now.who.session.shape c.args.view.now in
+    let d : Datagram = datagram c.args.memory.now.who.session.shape c.args.arrival.now.view in
     let k : Knowledge = known me log in
     let sound : IsSound me k = c.logs_are_sound.ensures me log obeys in
     let none : TellsNothing me k d = nothing-told me k d idle in
