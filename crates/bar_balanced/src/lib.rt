@@ -6,7 +6,7 @@ mod asking;
 mod divulge;
 mod keeping;
 mod known;
-mod reply;
+mod reply_table;
 mod rows;
 mod saying;
 mod tick;
@@ -15,7 +15,7 @@ mod writing;
 
 pub use admission::admit;
 pub use keeping::keep;
-pub use reply::replies;
+pub use reply_table::replies;
 pub use saying::{say_request, say_response};
 pub use tick::again;
 pub use writing::write;

@@ -1,9 +1,29 @@
 use crate::say::Say;
+use bar_window::Exchange;
+use bar_wire::Kind;
 
-/// What is to be said, in order.
+/// What one datagram or tick gives to say, in order.
 #[derive(Clone, Copy, Debug, PartialEq, Eq)]
 pub enum Says {
     Nothing,
     One(Say),
     Two(Say, Say),
+}
+
+impl Says {
+    ghost use Rattle.std.specs.Prelude.{◌≡◌, [], ◌∷◌};
+    ghost use Rattle.bar_rules.specs.Peer.Replies.{orders_when};
+    ghost use Rattle.bar_exchange.specs.Says.{order_by, orders_of_reply, Fits, AreFitting};
+
+    /// One thing to be said, where it is due.
+    pub fn one_when(is_due: bool, kind: Kind, x: Exchange) -> Says
+        ensures orders { orders_of_reply result ≡ orders_when is_due (order_by kind x ∷ []) }
+        ensures fitting { Fits kind x.kind → AreFitting result }
+    {
+        if is_due {
+            Says::One(Say { kind, x })
+        } else {
+            Says::Nothing
+        }
+    }
 }

@@ -13,7 +13,7 @@ ghost use Rattle.bar_exchange.specs.Placing.{StandsAt};
 ghost use Rattle.bar_exchange.specs.Says.{orders_of_reply, AreFitting};
 
 use crate::worth::is_worth;
-use bar_exchange::{ANSWER_DEADLINE, REQUEST_DEADLINE, Say, Says, is_within, one_when};
+use bar_exchange::{ANSWER_DEADLINE, REQUEST_DEADLINE, Say, Says, is_within};
 use bar_ledger::Ledger;
 use bar_roster::Session;
 use bar_window::Exchange;
@@ -49,7 +49,7 @@ fn to_divulge(ledger: &Ledger, round: u32, x: Exchange, is_new: bool) -> Says
         orders_when ((is_new || nat_le (this_round k) (x.round + 2)) && is_trade_worth me.session (terms_of me k x)) (GiveCase x ∷ []) }
 {
     if is_new || is_within(round, x.round, ANSWER_DEADLINE) {
-        one_when(is_worth(ledger, x), Kind::Case, x)
+        Says::one_when(is_worth(ledger, x), Kind::Case, x)
     } else {
         Says::Nothing
     }
@@ -74,15 +74,19 @@ pub fn replies(
     let life = session.shape().life;
     let x = place.x;
     match view.body {
-        Body::Request { .. } => one_when(
+        Body::Request { .. } => Says::one_when(
             is_new || is_within(round, x.round, REQUEST_DEADLINE),
             Kind::Response,
             x,
         ),
         Body::Response { .. } => to_response(ledger, x, is_new),
         Body::Divulge { .. } => to_divulge(ledger, round, x, is_new),
-        Body::Case { .. } => one_when(is_new, Kind::KeyReq, x),
-        Body::KeyReq { .. } => one_when(is_new || is_within(round, x.round, life), Kind::Key, x),
+        Body::Case { .. } => Says::one_when(is_new, Kind::KeyReq, x),
+        Body::KeyReq { .. } => Says::one_when(
+            is_new || is_within(round, x.round, life),
+            Kind::Key,
+            x,
+        ),
         _ => Says::Nothing,
     }
 }

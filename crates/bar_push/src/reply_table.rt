@@ -9,7 +9,7 @@ ghost use Rattle.bar_rules.specs.Peer.Replies.{orders_when, reply_orders};
 ghost use Rattle.bar_exchange.specs.Placing.{StandsAt};
 ghost use Rattle.bar_exchange.specs.Says.{orders_of_reply, AreFitting};
 
-use bar_exchange::{REQUEST_DEADLINE, Say, Says, is_within, one_when};
+use bar_exchange::{REQUEST_DEADLINE, Say, Says, is_within};
 use bar_roster::Session;
 use bar_window::Exchange;
 use bar_wire::{Body, Kind, Place, View};
@@ -46,9 +46,13 @@ pub fn replies(session: &Session, round: u32, view: &View<'_>, place: Place, is_
     let x = place.x;
     match view.body {
         Body::Query { .. } => to_query(is_new || is_within(round, x.round, REQUEST_DEADLINE), x),
-        Body::Reply { .. } => one_when(is_new, Kind::Case, x),
-        Body::Case { .. } => one_when(is_new, Kind::KeyReq, x),
-        Body::KeyReq { .. } => one_when(is_new || is_within(round, x.round, life), Kind::Key, x),
+        Body::Reply { .. } => Says::one_when(is_new, Kind::Case, x),
+        Body::Case { .. } => Says::one_when(is_new, Kind::KeyReq, x),
+        Body::KeyReq { .. } => Says::one_when(
+            is_new || is_within(round, x.round, life),
+            Kind::Key,
+            x,
+        ),
         _ => Says::Nothing,
     }
 }
