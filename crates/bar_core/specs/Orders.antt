@@ -10,3 +10,8 @@ left_in o = drop o.given o.list.items
 abbrev pub GivesFirst : {T : Type 0} → Option T → List T → List T → Type 0
 GivesFirst None old new = (old ≡ []) × (new ≡ [])
 GivesFirst (Some order) old new = old ≡ order ∷ new
+
+-- Orders have as much room as others, and as many of them are given out.
+pub record HasSameRoom {T : Type 0} (old new : Orders T) : Type 0 where
+  pub room : new.room ≡ old.room
+  pub given : new.given ≡ old.given

@@ -31,6 +31,11 @@ pub record IsMemoryOf (me : Member) (k : Knowledge) (m : Memory) : Type 0 where
 abbrev pub Tells : Log → Memory → Type 0
 Tells log m = IsMemoryOf (member_of m.who) (known (member_of m.who) log) m
 
+-- The memory is that of the same peer at the same time.
+pub record IsSameParty (old new : Memory) : Type 0 where
+  pub who : new.who ≡ old.who
+  pub ticks : new.ticks ≡ old.ticks
+
 -- Nothing but the ledger is changed.
 pub record HasOtherLedger (old new : Memory) : Type 0 where
   pub who : new.who ≡ old.who

@@ -2,6 +2,8 @@
 ghost use Rattle.std.specs.Prelude.{◌≡◌, ◌+◌, ◌≤◌, length};
 ghost use Rattle.bar_roster.specs.Time.{round_after};
 ghost use Rattle.bar_peer.specs.Ticking.{AsksPartner, AsksPartners};
+ghost use Rattle.bar_core.specs.Orders.{HasSameRoom};
+ghost use Rattle.bar_peer.specs.Memory.{IsSameParty};
 
 use crate::memory::Memory;
 use crate::order::Order;
@@ -17,10 +19,8 @@ fn ask_partner(memory: &mut Memory, orders: &mut Orders<Order>, kind: XKind)
     requires last { round_after memory.old.ticks ≤ memory.old.who.session.shape.rounds }
     ensures stands { AsksPartner memory.old.who (round_after memory.old.ticks) kind memory.old orders.old memory.new orders.new }
     ensures length { length orders.new.list.items ≤ length orders.old.list.items + 1 }
-    ensures room { orders.new.room ≡ orders.old.room }
-    ensures given { orders.new.given ≡ orders.old.given }
-    ensures who { memory.new.who ≡ memory.old.who }
-    ensures ticks { memory.new.ticks ≡ memory.old.ticks }
+    ensures room { HasSameRoom orders.old orders.new }
+    ensures party { IsSameParty memory.old memory.new }
 {
     let shape = memory.who.session.shape();
     let me = memory.who.secrets.party;
@@ -42,10 +42,8 @@ pub fn ask_partners(memory: &mut Memory, orders: &mut Orders<Order>)
     requires last { round_after memory.old.ticks ≤ memory.old.who.session.shape.rounds }
     ensures stands { AsksPartners memory.old.who (round_after memory.old.ticks) memory.old orders.old memory.new orders.new }
     ensures length { length orders.new.list.items ≤ length orders.old.list.items + 2 }
-    ensures room { orders.new.room ≡ orders.old.room }
-    ensures given { orders.new.given ≡ orders.old.given }
-    ensures who { memory.new.who ≡ memory.old.who }
-    ensures ticks { memory.new.ticks ≡ memory.old.ticks }
+    ensures room { HasSameRoom orders.old orders.new }
+    ensures party { IsSameParty memory.old memory.new }
 {
     let round = memory.round();
     let young = memory.store.young(round).first(memory.who.session.cap());

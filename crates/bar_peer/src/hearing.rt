@@ -9,7 +9,7 @@ ghost use Rattle.bar_rules.specs.Peer.Rules.{IsObedient};
 ghost use Rattle.bar_laws.specs.Soundness.{IsSound};
 ghost use Rattle.bar_exchange.specs.Keeping.{IsAdmittedNow};
 ghost use Rattle.bar_peer.specs.Arrivals.{IsReadBy, datagram_by};
-ghost use Rattle.bar_peer.specs.Memory.{member_of, HasOtherLedger, IsMemoryOf, Tells};
+ghost use Rattle.bar_peer.specs.Memory.{member_of, HasOtherLedger, IsMemoryOf, Tells, IsSameParty};
 ghost use Rattle.bar_peer.specs.Hearing.{RecallsHeard};
 
 use crate::arrival::Arrival;
@@ -29,8 +29,7 @@ impl Memory {
             → kind_of (plain arrival.now.view.body) ≡ Manifest
             → IsMemoryOf (member_of self.old.who)
             (with_heard (member_of self.old.who) (datagram_by self.old.who arrival.now) k) self.new }
-        ensures who { self.new.who ≡ self.old.who }
-        ensures ticks { self.new.ticks ≡ self.old.ticks }
+        ensures party { IsSameParty self.old self.new }
     {
         let Body::Manifest { round, digests, .. } = arrival.view.body else {
             return;
@@ -51,8 +50,7 @@ impl Memory {
             → kind_of (plain arrival.now.view.body) ≡ Block
             → IsMemoryOf (member_of self.old.who)
             (with_heard (member_of self.old.who) (datagram_by self.old.who arrival.now) k) self.new }
-        ensures who { self.new.who ≡ self.old.who }
-        ensures ticks { self.new.ticks ≡ self.old.ticks }
+        ensures party { IsSameParty self.old self.new }
     {
         let Body::Block {
             round,
@@ -75,8 +73,7 @@ impl Memory {
             → kind_of (plain arrival.now.view.body) ≡ Evict
             → IsMemoryOf (member_of self.old.who)
             (with_heard (member_of self.old.who) (datagram_by self.old.who arrival.now) k) self.new }
-        ensures who { self.new.who ≡ self.old.who }
-        ensures ticks { self.new.ticks ≡ self.old.ticks }
+        ensures party { IsSameParty self.old self.new }
     {
         let Body::Evict { round, parties, .. } = arrival.view.body else {
             return;
@@ -106,8 +103,7 @@ impl Memory {
         requires view { IsReadBy self.old.who arrival.now }
         ensures learns { (log : Log) → IsObedient (member_of self.old.who) (Heard (datagram_by self.old.who arrival.now) ∷ log)
             → Tells log self.old → Tells (Heard (datagram_by self.old.who arrival.now) ∷ log) self.new }
-        ensures who { self.new.who ≡ self.old.who }
-        ensures ticks { self.new.ticks ≡ self.old.ticks }
+        ensures party { IsSameParty self.old self.new }
     {
         knowledge_is_enough();
         logs_are_sound();

@@ -5,8 +5,9 @@ ghost use Rattle.bar_rules.specs.Peer.Knowledge.{known};
 ghost use Rattle.bar_rules.specs.Peer.Rules.{IsObedient};
 ghost use Rattle.bar_rules.specs.Peer.Run.{Out, perform, perform_all};
 ghost use Rattle.bar_exchange.specs.Says.{order_by, orders_of_reply, says_in};
-ghost use Rattle.bar_peer.specs.Memory.{member_of};
+ghost use Rattle.bar_peer.specs.Memory.{member_of, IsSameParty};
 ghost use Rattle.bar_peer.specs.Sending.{IsOwn, Stands};
+ghost use Rattle.bar_core.specs.Orders.{HasSameRoom};
 
 use crate::memory::Memory;
 use crate::order::Order;
@@ -21,10 +22,8 @@ fn reply_once(memory: &mut Memory, orders: &mut Orders<Order>, say: Say)
         → length orders.old.list.items + 1 ≤ orders.old.room
         → Stands (perform (member_of memory.old.who) out (order_by say.kind say.x)) memory.new orders.new }
     ensures length { length orders.new.list.items ≤ length orders.old.list.items + 1 }
-    ensures room { orders.new.room ≡ orders.old.room }
-    ensures given { orders.new.given ≡ orders.old.given }
-    ensures who { memory.new.who ≡ memory.old.who }
-    ensures ticks { memory.new.ticks ≡ memory.old.ticks }
+    ensures room { HasSameRoom orders.old orders.new }
+    ensures party { IsSameParty memory.old memory.new }
 {
     if memory.say(say) {
         orders.push(Order::Say(say));
@@ -41,10 +40,8 @@ pub fn reply(memory: &mut Memory, orders: &mut Orders<Order>, says: Says)
         → Stands (perform_all (member_of memory.old.who) out (orders_of_reply says)) memory.new orders.new }
     ensures nothing { orders_of_reply says ≡ [] → memory.new ≡ memory.old }
     ensures length { length orders.new.list.items ≤ length orders.old.list.items + 2 }
-    ensures room { orders.new.room ≡ orders.old.room }
-    ensures given { orders.new.given ≡ orders.old.given }
-    ensures who { memory.new.who ≡ memory.old.who }
-    ensures ticks { memory.new.ticks ≡ memory.old.ticks }
+    ensures room { HasSameRoom orders.old orders.new }
+    ensures party { IsSameParty memory.old memory.new }
 {
     match says {
         Says::Nothing => {}

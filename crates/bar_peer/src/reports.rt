@@ -7,6 +7,7 @@ ghost use Rattle.bar_rules.specs.Giving.{IsGiven};
 ghost use Rattle.bar_peer.specs.Memory.{member_of, IsMemoryOf};
 ghost use Rattle.bar_peer.specs.Sending.{report_of};
 ghost use Rattle.bar_peer.specs.Ticking.{is_reported, Reports};
+ghost use Rattle.bar_core.specs.Orders.{HasSameRoom};
 
 use crate::memory::Memory;
 use crate::order::Order;
@@ -46,8 +47,7 @@ impl Memory {
 /// Reports the evidence against each peer that isn't announced evicted, in order of their numbers.
 pub fn report_all(memory: &Memory, orders: &mut Orders<Order>)
     ensures stands { Reports memory.now orders.old orders.new }
-    ensures room { orders.new.room ≡ orders.old.room }
-    ensures given { orders.new.given ≡ orders.old.given }
+    ensures room { HasSameRoom orders.old orders.new }
 {
     for party in 1..=memory.who.session.shape().peers {
         if memory.is_reported(party) {

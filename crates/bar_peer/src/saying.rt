@@ -8,7 +8,7 @@ ghost use Rattle.bar_rules.specs.Peer.Orders.{Ask};
 ghost use Rattle.bar_rules.specs.Peer.Rules.{IsObedient};
 ghost use Rattle.bar_rules.specs.Peer.Run.{Out, perform};
 ghost use Rattle.bar_exchange.specs.Says.{order_by};
-ghost use Rattle.bar_peer.specs.Memory.{member_of, IsMemoryOf, Tells};
+ghost use Rattle.bar_peer.specs.Memory.{member_of, IsMemoryOf, Tells, IsSameParty};
 ghost use Rattle.bar_peer.specs.Sending.{send_now, IsOwn, IsCarriedOut};
 
 use crate::memory::Memory;
@@ -61,8 +61,7 @@ impl Memory {
             → Tells out.state self.old → IsOwn (member_of self.old.who) (known (member_of self.old.who) out.state) say
             → IsCarriedOut (member_of self.old.who) say out
             (perform (member_of self.old.who) out (order_by say.kind say.x)) result self.new }
-        ensures who { self.new.who ≡ self.old.who }
-        ensures ticks { self.new.ticks ≡ self.old.ticks }
+        ensures party { IsSameParty self.old self.new }
     {
         if self.may_repeat(say) {
             return true;
@@ -93,8 +92,7 @@ impl Memory {
             → role_of (member_of self.old.who) x ≡ Initiator
             → IsCarriedOut (member_of self.old.who) (record { kind = request_kind x.kind; x = x }) out
             (perform (member_of self.old.who) out (Ask x)) result self.new }
-        ensures who { self.new.who ≡ self.old.who }
-        ensures ticks { self.new.ticks ≡ self.old.ticks }
+        ensures party { IsSameParty self.old self.new }
     {
         knowledge_is_enough();
         logs_are_sound();

@@ -15,7 +15,7 @@ ghost use Rattle.bar_peer.specs.Checking.{checked_in, choice_round_in, round_in,
 ghost use Rattle.bar_laws.specs.Ignoring.{is_unread};
 ghost use Rattle.bar_peer.specs.Ignoring.{Ignores, IgnoresInput, IsUntouched};
 ghost use Rattle.bar_peer.specs.Memory.{member_of, Tells};
-ghost use Rattle.bar_core.specs.Orders.{left_in};
+ghost use Rattle.bar_core.specs.Orders.{left_in, HasSameRoom};
 ghost use Rattle.bar_peer.specs.StandsFor.{Inputs, StandsFor, AreLeft, contents_left};
 ghost use Rattle.bar_peer.specs.Steps.{TakesInput, is_tick};
 ghost use Rattle.bar_peer.specs.Ticking.{most_orders};
@@ -73,8 +73,7 @@ fn take_input<V: Verifier, L: StepLedger>(
     ensures ignored { IgnoresInput (plain_input input.entry) memory.old memory.new }
     ensures unread { is_unread memory.old.who.session (plain_input input.entry) ≡ true
         → (memory.new ≡ memory.old) × (orders.new ≡ orders.old) × (checker.new.memo ≡ checker.old.memo) × (points.new ≡ points.old) }
-    ensures room { orders.new.room ≡ orders.old.room }
-    ensures given { orders.new.given ≡ orders.old.given }
+    ensures room { HasSameRoom orders.old orders.new }
     ensures who { memory.new.who ≡ memory.old.who }
     ensures most { steps.new ≤ steps.old
         + (V.most_steps checker.old.verifier + 2 * choice_round_in memory.old.who.session (plain_input input.entry)) }

@@ -22,9 +22,10 @@ ghost use Rattle.bar_rules.specs.Verifiers.{IsVerifierOf, NamesLeavesOf};
 ghost use Rattle.bar_laws.specs.Ignoring.{is_unread, tells_nothing};
 ghost use Rattle.bar_peer.specs.Ignoring.{IgnoresInput, LeavesMemory};
 ghost use Rattle.bar_peer.specs.Arrivals.{IsReadBy, datagram_by, checked_by};
-ghost use Rattle.bar_peer.specs.Memory.{member_of, HasOtherEvidence, Tells};
+ghost use Rattle.bar_peer.specs.Memory.{member_of, HasOtherEvidence, Tells, IsSameParty};
 ghost use Rattle.bar_peer.specs.Sending.{Stands};
 ghost use Rattle.bar_peer.specs.Steps.{TakesTick, TakesDatagram};
+ghost use Rattle.bar_core.specs.Orders.{HasSameRoom};
 
 use crate::answering::says_to;
 use crate::arrival::Arrival;
@@ -47,8 +48,7 @@ use std::sync::ledger::Ledger as StepLedger;
 pub fn take_tick(memory: &mut Memory, orders: &mut Orders<Order>)
     requires { memory.old.ticks < last_tick memory.old.who.session }
     ensures stands { TakesTick memory.old orders.old memory.new orders.new }
-    ensures room { orders.new.room ≡ orders.old.room }
-    ensures given { orders.new.given ≡ orders.old.given }
+    ensures room { HasSameRoom orders.old orders.new }
     ensures who { memory.new.who ≡ memory.old.who }
     ensures ticks { memory.new.ticks ≡ memory.old.ticks + 1 }
 {
@@ -118,10 +118,8 @@ fn answer(memory: &mut Memory, orders: &mut Orders<Order>, arrival: &Arrival<'_>
         → repeated (member_of memory.old.who) (known (member_of memory.old.who) log) (datagram_by memory.old.who arrival.now) ≡ None
         → memory.new ≡ memory.old }
     ensures length { orders.old.list.items ≡ [] → length orders.new.list.items ≤ 2 }
-    ensures room { orders.new.room ≡ orders.old.room }
-    ensures given { orders.new.given ≡ orders.old.given }
-    ensures who { memory.new.who ≡ memory.old.who }
-    ensures ticks { memory.new.ticks ≡ memory.old.ticks }
+    ensures room { HasSameRoom orders.old orders.new }
+    ensures party { IsSameParty memory.old memory.new }
 {
     logs_are_sound();
     bytes_spell_one();
@@ -164,10 +162,8 @@ fn answer_tried<V: Verifier, L: StepLedger>(
         → is_tried (member_of memory.old.who) (known (member_of memory.old.who) log) (datagram_by memory.old.who arrival.now) ≡ true
         → tells_nothing (member_of memory.old.who) (known (member_of memory.old.who) log) (datagram_by memory.old.who arrival.now) ≡ true
         → memory.new ≡ memory.old }
-    ensures room { orders.new.room ≡ orders.old.room }
-    ensures given { orders.new.given ≡ orders.old.given }
-    ensures who { memory.new.who ≡ memory.old.who }
-    ensures ticks { memory.new.ticks ≡ memory.old.ticks }
+    ensures room { HasSameRoom orders.old orders.new }
+    ensures party { IsSameParty memory.old memory.new }
     ensures cost { steps.new ≤ steps.old + choice_round (plain arrival.now.view.body) }
     ensures seeds { AreSeeds memory.old.who.session points.new }
     ensures moves { MovesOn arrival.now.view.from points.old points.new }
@@ -202,10 +198,8 @@ fn take_arrival<V: Verifier, L: StepLedger>(
         → Stands (take_datagram (member_of memory.old.who) log (Some (datagram_by memory.old.who arrival.now)))
         memory.new orders.new }
     ensures idle { LeavesMemory (datagram_by memory.old.who arrival.now) memory.old memory.new }
-    ensures room { orders.new.room ≡ orders.old.room }
-    ensures given { orders.new.given ≡ orders.old.given }
-    ensures who { memory.new.who ≡ memory.old.who }
-    ensures ticks { memory.new.ticks ≡ memory.old.ticks }
+    ensures room { HasSameRoom orders.old orders.new }
+    ensures party { IsSameParty memory.old memory.new }
     ensures most { steps.new ≤ steps.old + (V.most_steps checker.old.verifier + 2 * choice_round (plain arrival.now.view.body)) }
     ensures remembered { has_pair (checked_by memory.old.who arrival.now) checker.old.memo.pairs ≡ true
         → steps.new ≤ steps.old + 2 * choice_round (plain arrival.now.view.body) }
@@ -256,10 +250,8 @@ pub fn take_datagram<V: Verifier, L: StepLedger>(
     ensures ignored { IgnoresInput (event.Datagram bytes.now) memory.old memory.new }
     ensures unread { is_unread memory.old.who.session (event.Datagram bytes.now) ≡ true
         → (memory.new ≡ memory.old) × (orders.new ≡ orders.old) × (checker.new.memo ≡ checker.old.memo) × (points.new ≡ points.old) }
-    ensures room { orders.new.room ≡ orders.old.room }
-    ensures given { orders.new.given ≡ orders.old.given }
-    ensures who { memory.new.who ≡ memory.old.who }
-    ensures ticks { memory.new.ticks ≡ memory.old.ticks }
+    ensures room { HasSameRoom orders.old orders.new }
+    ensures party { IsSameParty memory.old memory.new }
     ensures most { steps.new ≤ steps.old
         + (V.most_steps checker.old.verifier + 2 * choice_round_in memory.old.who.session (event.Datagram bytes.now)) }
     ensures remembered { has_pair (checked_in memory.old.who.session (event.Datagram bytes.now)) checker.old.memo.pairs ≡ true

@@ -7,9 +7,10 @@ ghost use Rattle.bar_rules.specs.Peer.Log.{Log, Ticked};
 ghost use Rattle.bar_rules.specs.Peer.Run.{Out, perform, perform_all};
 ghost use Rattle.bar_rules.specs.Runs.{begun};
 ghost use Rattle.bar_exchange.specs.Says.{order_again, orders_at_tick};
-ghost use Rattle.bar_peer.specs.Memory.{member_of, IsMemoryOf, Tells};
+ghost use Rattle.bar_peer.specs.Memory.{member_of, IsMemoryOf, Tells, IsSameParty};
 ghost use Rattle.bar_peer.specs.Ticking.{orders_of_open, orders_of_opens, most_orders, is_first_slot, Acts};
 ghost use Rattle.bar_peer.specs.Sending.{IsTimely, Stands};
+ghost use Rattle.bar_core.specs.Orders.{HasSameRoom};
 
 use crate::asking::ask_partners;
 use crate::memory::Memory;
@@ -74,8 +75,7 @@ fn repeat(memory: &Memory, orders: &mut Orders<Order>, say: Say)
         → length orders.old.list.items + 1 ≤ orders.old.room
         → Stands (perform (member_of memory.now.who) out (order_again say.kind say.x)) memory.now orders.new }
     ensures length { length orders.new.list.items ≤ length orders.old.list.items + 1 }
-    ensures room { orders.new.room ≡ orders.old.room }
-    ensures given { orders.new.given ≡ orders.old.given }
+    ensures room { HasSameRoom orders.old orders.new }
 {
     if memory.may_repeat(say) {
         orders.push(Order::Say(say));
@@ -90,8 +90,7 @@ fn repeat_once(memory: &Memory, orders: &mut Orders<Order>, x: Exchange)
         → Stands (perform_all (member_of memory.now.who) out
         (orders_of_open (member_of memory.now.who) (known (member_of memory.now.who) out.state) x)) memory.now orders.new }
     ensures length { length orders.new.list.items ≤ length orders.old.list.items + 2 }
-    ensures room { orders.new.room ≡ orders.old.room }
-    ensures given { orders.new.given ≡ orders.old.given }
+    ensures room { HasSameRoom orders.old orders.new }
 {
     match memory.again(x) {
         Says::Nothing => {}
@@ -111,8 +110,7 @@ fn repeat_all(memory: &Memory, orders: &mut Orders<Order>)
         (orders_of_opens (member_of memory.now.who) (known (member_of memory.now.who) log))) memory.now orders.new }
     ensures length { (log : Log) → Tells log memory.now → orders.old.list.items ≡ []
         → length orders.new.list.items + 2 + memory.now.who.session.shape.peers ≤ most_orders memory.now.who.session }
-    ensures room { orders.new.room ≡ orders.old.room }
-    ensures given { orders.new.given ≡ orders.old.given }
+    ensures room { HasSameRoom orders.old orders.new }
 {
     let mut after = None;
     for _ in 0..memory.ledger.len() {
@@ -128,10 +126,8 @@ fn repeat_all(memory: &Memory, orders: &mut Orders<Order>)
 /// slot of a round the reports of evidence.
 pub fn act(memory: &mut Memory, orders: &mut Orders<Order>)
     ensures stands { Acts memory.old orders.old memory.new orders.new }
-    ensures room { orders.new.room ≡ orders.old.room }
-    ensures given { orders.new.given ≡ orders.old.given }
-    ensures who { memory.new.who ≡ memory.old.who }
-    ensures ticks { memory.new.ticks ≡ memory.old.ticks }
+    ensures room { HasSameRoom orders.old orders.new }
+    ensures party { IsSameParty memory.old memory.new }
 {
     logs_are_sound();
     repeat_all(memory, orders);

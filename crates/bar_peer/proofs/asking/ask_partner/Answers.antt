@@ -78,7 +78,7 @@ returns-then-ask-clause-stands c = λ out before same obedient h room.
     (carried_stands m c.ask.new.self c.args.orders.now c.push.new.self out after
     (record { kind = request_kind x.kind; x = x })
     c.ask.result
-    c.ask.ensures.who
+    c.ask.ensures.party.who
     (grows me out (Ask x))
     timely
     h
@@ -132,7 +132,7 @@ returns-else-ask-clause-stands c = λ out before same obedient h room.
     (carried_stands m c.ask.new.self c.args.orders.now c.args.orders.now out after
     (record { kind = request_kind x.kind; x = x })
     c.ask.result
-    c.ask.ensures.who
+    c.ask.ensures.party.who
     (grows me out (Ask x))
     timely
     h

@@ -33,12 +33,12 @@ returns-then-size-gt0-clause-stands c = λ out obedient h room.
     let q = c.ask_partner-then-size-gt0.new.memory in
     let r = c.ask_partner-then-size-gt0.new.orders in
     let push : AsksPartner m.who round Push n p q r =
-    subst (λ (who : Credentials). AsksPartner who round Push n p q r) c.ask_partner.ensures.who
-    (subst (λ (ticks : ℕ). AsksPartner n.who (round_after ticks) Push n p q r) c.ask_partner.ensures.ticks
+    subst (λ (who : Credentials). AsksPartner who round Push n p q r) c.ask_partner.ensures.party.who
+    (subst (λ (ticks : ℕ). AsksPartner n.who (round_after ticks) Push n p q r) c.ask_partner.ensures.party.ticks
     c.ask_partner-then-size-gt0.ensures.stands)
     in
     both_asked m.who round m n q c.args.orders.now p r c.ask_partner.ensures.stands push
-    c.ask_partner.ensures.length c.ask_partner.ensures.room out some obedient h room
+    c.ask_partner.ensures.length c.ask_partner.ensures.room.room out some obedient h room
 
 pub returns-else-size-gt0-clause-stands : goal.returns-else-size-gt0-clause-stands
 returns-else-size-gt0-clause-stands c = λ out obedient h room.

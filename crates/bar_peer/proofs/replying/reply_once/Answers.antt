@@ -10,7 +10,7 @@ pub returns-then-say-clause-stands : goal.returns-then-say-clause-stands
 returns-then-say-clause-stands c out obeys stands own left =
     let me = member_of c.args.memory.now.who in
     let say = c.args.say in
-    stands_sent c.args.memory.now c.say.new.self c.args.orders.now c.push.new.self say out c.say.ensures.who stands own
+    stands_sent c.args.memory.now c.say.new.self c.args.orders.now c.push.new.self say out c.say.ensures.party.who stands own
     (c.push.ensures.pushed (omega (arith, left)))
     (subst (λ (b : Bool). IsCarriedOut me say out (perform me out (order_by say.kind say.x)) b c.say.new.self) c.if-say.true
     (c.say.ensures.carried_out out obeys stands.tells own))
@@ -19,6 +19,6 @@ pub returns-else-say-clause-stands : goal.returns-else-say-clause-stands
 returns-else-say-clause-stands c out obeys stands own left =
     let me = member_of c.args.memory.now.who in
     let say = c.args.say in
-    stands_unsent c.args.memory.now c.say.new.self c.args.orders.now say out c.say.ensures.who stands
+    stands_unsent c.args.memory.now c.say.new.self c.args.orders.now say out c.say.ensures.party.who stands
     (subst (λ (b : Bool). IsCarriedOut me say out (perform me out (order_by say.kind say.x)) b c.say.new.self) c.if-say.false
     (c.say.ensures.carried_out out obeys stands.tells own))

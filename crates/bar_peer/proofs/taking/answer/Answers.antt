@@ -31,7 +31,7 @@ returns-then-is_admitted-clause-stands c log obeys tells weighed empty room =
     in
     subst (λ out. Stands out c.reply.new.memory c.reply.new.orders) (sym is)
     (new-replied log d c.args.memory.now c.hear.new.self c.reply.new.memory c.args.orders.now c.reply.new.orders c.says_to-says.result
-    c.args.memory.now.who.is_member c.says_to-says.ensures.fitting (apart c.args.memory.now.who.session.shape d me.party c.requires.view.spelled.fits (received me (known me log) d admitted)) c.hear.ensures.who admitted (c.hear.ensures.learns log heard tells) c.says_to-says.ensures.orders c.reply.ensures.stands empty room now)
+    c.args.memory.now.who.is_member c.says_to-says.ensures.fitting (apart c.args.memory.now.who.session.shape d me.party c.requires.view.spelled.fits (received me (known me log) d admitted)) c.hear.ensures.party.who admitted (c.hear.ensures.learns log heard tells) c.says_to-says.ensures.orders c.reply.ensures.stands empty room now)
 
 pub returns-then-is_repeat-clause-stands : goal.returns-then-is_repeat-clause-stands
 returns-then-is_repeat-clause-stands c log obeys tells weighed empty room =

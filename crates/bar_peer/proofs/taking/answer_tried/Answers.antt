@@ -38,9 +38,9 @@ returns-then-is_found-clause-stands g c log obeys tells tried weighed empty room
     (omega (arith, room))
     in
     let free : length c.answer.new.orders.list.items < c.answer.new.orders.room =
-    omega (arith, c.answer.ensures.length empty, c.answer.ensures.room, room)
+    omega (arith, c.answer.ensures.length empty, c.answer.ensures.room.room, room)
     in
-    tried-stands c.args.memory.now c.answer.new.memory c.answer.new.orders c.push.new.self log d v.from ev (c.answer.ensures.who ∙ same) stands all
+    tried-stands c.args.memory.now c.answer.new.memory c.answer.new.orders c.push.new.self log d v.from ev (c.answer.ensures.party.who ∙ same) stands all
     (sym kept.0 ∙ c.if-is_found.true)
     (c.push.ensures.pushed free)
 

@@ -19,13 +19,13 @@ returns-then-is_last_slot-clause-stands c = λ log obedient h none most.
             stands = asked_at_tick m w.ask_partners.new.memory o w.ask_partners.new.orders log h.time
                 (sym c.is_first_slot.ensures ∙ w.if-is_first_slot.true)
                 w.ask_partners.ensures.stands
-                (omega (arith, c.repeat_all.ensures.length log h none, most, c.repeat_all.ensures.room))
+                (omega (arith, c.repeat_all.ensures.length log h none, most, c.repeat_all.ensures.room.room))
                 again
                 obedient;
-            who = w.ask_partners.ensures.who;
-            ticks = w.ask_partners.ensures.ticks;
+            who = w.ask_partners.ensures.party.who;
+            ticks = w.ask_partners.ensures.party.ticks;
             length = w.ask_partners.ensures.length;
-            room = w.ask_partners.ensures.room;
+            room = w.ask_partners.ensures.room.room;
           }))
       | else-is_first_slot w ↦
           subst (λ (n : Memory). IsAsked m n o c.if-is_first_slot.orders log) (sym w.memory-is)
@@ -41,7 +41,7 @@ returns-then-is_last_slot-clause-stands c = λ log obedient h none most.
     reported_at_tick m c.if-is_first_slot.memory c.if-is_first_slot.orders c.report_all.new.orders log asked.who h.time
     (ap (λ (ticks : ℕ). slot_after ticks == 7) (sym asked.ticks) ∙ sym c.is_last_slot.ensures ∙ c.if-is_last_slot.true)
     c.report_all.ensures.stands
-    (omega (arith, c.repeat_all.ensures.length log h none, most, c.repeat_all.ensures.room, asked.length, asked.room))
+    (omega (arith, c.repeat_all.ensures.length log h none, most, c.repeat_all.ensures.room.room, asked.length, asked.room))
     asked.stands
 
 pub returns-else-is_last_slot-clause-stands : goal.returns-else-is_last_slot-clause-stands
@@ -57,13 +57,13 @@ returns-else-is_last_slot-clause-stands c = λ log obedient h none most.
             stands = asked_at_tick m w.ask_partners.new.memory o w.ask_partners.new.orders log h.time
                 (sym c.is_first_slot.ensures ∙ w.if-is_first_slot.true)
                 w.ask_partners.ensures.stands
-                (omega (arith, c.repeat_all.ensures.length log h none, most, c.repeat_all.ensures.room))
+                (omega (arith, c.repeat_all.ensures.length log h none, most, c.repeat_all.ensures.room.room))
                 again
                 obedient;
-            who = w.ask_partners.ensures.who;
-            ticks = w.ask_partners.ensures.ticks;
+            who = w.ask_partners.ensures.party.who;
+            ticks = w.ask_partners.ensures.party.ticks;
             length = w.ask_partners.ensures.length;
-            room = w.ask_partners.ensures.room;
+            room = w.ask_partners.ensures.room.room;
           }))
       | else-is_first_slot w ↦
           subst (λ (n : Memory). IsAsked m n o c.if-is_first_slot.orders log) (sym w.memory-is)

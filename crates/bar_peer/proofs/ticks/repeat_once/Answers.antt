@@ -52,4 +52,4 @@ returns-in-Two-clause-stands c = λ out h recent room.
     in
     let one : Stands between m c.repeat-in-Two.new.orders = c.repeat-in-Two.ensures.stands out h timely.0 (omega arith) in
     subst (λ (os : List Order). Stands (perform_all me out os) m c.repeat-in-Two-2.new.orders) is
-    (c.repeat-in-Two-2.ensures.stands between one later (omega (arith, c.repeat-in-Two.ensures.length, c.repeat-in-Two.ensures.room)))
+    (c.repeat-in-Two-2.ensures.stands between one later (omega (arith, c.repeat-in-Two.ensures.length, c.repeat-in-Two.ensures.room.room)))

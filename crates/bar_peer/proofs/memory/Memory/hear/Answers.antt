@@ -22,7 +22,7 @@ returns-in-Manifest-clause-learns c log obeys h =
     let me : Member = member_of c.args.self.now.who in
     let d : Datagram = datagram me.session.shape c.args.arrival.now.view in
     let now = admitted_now c.datagrams_fit_their_rooms.ensures.obedient me log d c.args.arrival.now.bytes.now c.requires.view.spelled obeys in
-    heard_tells c.knowledge_is_enough.ensures.entry c.args.self.now c.hear_manifest.new.self log d c.hear_manifest.ensures.who
+    heard_tells c.knowledge_is_enough.ensures.entry c.args.self.now c.hear_manifest.new.self log d c.hear_manifest.ensures.party.who
     (c.hear_manifest.ensures.learns (known me log) h now (ap (λ b. kind_of (plain b)) c.in-Manifest.is))
 
 pub returns-in-Block-clause-learns : goal.returns-in-Block-clause-learns
@@ -30,14 +30,14 @@ returns-in-Block-clause-learns c log obeys h =
     let me : Member = member_of c.args.self.now.who in
     let d : Datagram = datagram me.session.shape c.args.arrival.now.view in
     let now = admitted_now c.datagrams_fit_their_rooms.ensures.obedient me log d c.args.arrival.now.bytes.now c.requires.view.spelled obeys in
-    heard_tells c.knowledge_is_enough.ensures.entry c.args.self.now c.hear_block.new.self log d c.hear_block.ensures.who
+    heard_tells c.knowledge_is_enough.ensures.entry c.args.self.now c.hear_block.new.self log d c.hear_block.ensures.party.who
     (c.hear_block.ensures.learns (known me log) h (c.logs_are_sound.ensures me log obeys.1) now (ap (λ b. kind_of (plain b)) c.in-Block.is))
 
 pub returns-in-Evict-clause-learns : goal.returns-in-Evict-clause-learns
 returns-in-Evict-clause-learns c log obeys h =
     let me : Member = member_of c.args.self.now.who in
     let d : Datagram = datagram me.session.shape c.args.arrival.now.view in
-    heard_tells c.knowledge_is_enough.ensures.entry c.args.self.now c.hear_evict.new.self log d c.hear_evict.ensures.who
+    heard_tells c.knowledge_is_enough.ensures.entry c.args.self.now c.hear_evict.new.self log d c.hear_evict.ensures.party.who
     (c.hear_evict.ensures.learns (known me log) h (ap (λ b. kind_of (plain b)) c.in-Evict.is))
 
 pub returns-in-Key-clause-learns : goal.returns-in-Key-clause-learns
@@ -101,6 +101,8 @@ returns-in_default c = record {
       heard_tells c.knowledge_is_enough.ensures.entry old new log d rest.who
       (exchange_memory me k d old new of h
       (record { ticks = rest.ticks; manifests = rest.manifests; evictions = rest.evictions; evidence = rest.evidence }) store ledger);
-  who = c.hear_of_exchange-in_default.ensures.rest.who;
-  ticks = c.hear_of_exchange-in_default.ensures.rest.ticks;
+  party = record {
+    who = c.hear_of_exchange-in_default.ensures.rest.who;
+    ticks = c.hear_of_exchange-in_default.ensures.rest.ticks;
+  };
 }

@@ -120,6 +120,5 @@ returns-in_default c = record {
       (c.in_default.not-Response, c.in_default.not-Reply, c.in_default.not-Case, c.in_default.not-Key)
       tells
       (sym (c.may_repeat.ensures k tells recent) ∙ c.if-may_repeat.false);
-  who = refl;
-  ticks = refl;
+  party = record { who = refl; ticks = refl };
 }

@@ -60,7 +60,7 @@ returns-clause-sends g c inputs stood =
     let obeys = obeys-now m inputs (plain_input c.args.input) c.signed_by_rule.ensures go stood in
     then-sends m c.take_input.new.memory c.take_input.new.orders inputs (plain_input c.args.input) c.take_input.ensures.who go stood
     (c.take_input.ensures.stands (log_after (member_of m.who) [] inputs) obeys stood c.clear.ensures.0 (room c.args.self.now.room c.clear.ensures.2))
-    (all-left c.take_input.new.orders (c.take_input.ensures.given ∙ c.clear.ensures.1))
+    (all-left c.take_input.new.orders (c.take_input.ensures.room.given ∙ c.clear.ensures.1))
 
 pub returns-clause-contents : goal.returns-clause-contents
 returns-clause-contents g c inputs stood =
