@@ -2,35 +2,33 @@
 #![tactic(auto)]
 
 mod admission;
-mod answering;
+mod answers;
 mod arrival;
 mod as_core;
-mod asking;
+mod briefcases;
 mod credentials;
 mod evictions;
-mod giving;
-mod hearing;
+mod evidence;
+mod face;
+mod intake;
+mod knowledge;
+mod laws;
 mod memory;
 mod of_key;
-mod opening;
 mod order;
+mod outgoing;
+mod partners;
 mod peer;
 mod playing;
-mod remembering;
+mod queue;
 mod repeats;
-mod replying;
 mod reports;
-mod runs;
 mod saying;
-mod starting;
+mod start;
 mod steps;
-mod taking;
 mod ticks;
-mod told;
-mod trying;
 mod weighed;
 
 pub use credentials::Credentials;
+pub use laws::{admitted_datagrams_are_remembered, rules_give_the_run};
 pub use peer::Peer;
-pub use remembering::admitted_datagrams_are_remembered;
-pub use runs::rules_give_the_run;

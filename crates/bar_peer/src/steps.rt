@@ -20,11 +20,11 @@ ghost use Rattle.bar_peer.specs.StandsFor.{Inputs, StandsFor, AreLeft, contents_
 ghost use Rattle.bar_peer.specs.Steps.{TakesInput, is_tick};
 ghost use Rattle.bar_peer.specs.Ticking.{most_orders};
 
+use crate::intake::{take_datagram, take_tick};
 use crate::memory::Memory;
 use crate::order::Order;
 use crate::peer::Peer;
 use crate::playing::Playing;
-use crate::taking::{take_datagram, take_tick};
 use bar_bytes::Steps;
 use bar_core::Orders;
 use bar_laws::ignoring::ignored_datagrams_change_nothing;

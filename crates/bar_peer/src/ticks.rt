@@ -12,9 +12,9 @@ ghost use Rattle.bar_peer.specs.Ticking.{orders_of_open, orders_of_opens, most_o
 ghost use Rattle.bar_peer.specs.Sending.{IsTimely, Stands};
 ghost use Rattle.bar_core.specs.Orders.{HasSameRoom};
 
-use crate::asking::ask_partners;
 use crate::memory::Memory;
 use crate::order::Order;
+use crate::partners::ask_partners;
 use crate::reports::report_all;
 use bar_core::Orders;
 use bar_exchange::{Say, Says};
