@@ -16,7 +16,8 @@ use Rattle.bar_cli.specs.ReplayPlan.{ReplayFiles, Accepted, PlayedUpTo, Replayed
 use Rattle.bar_cli.specs.Transcript.{transcript}
 use Rattle.bar_cli.specs.Turns.{Turn, shown_bytes, turn_of, turns_from}
 use Rattle.bar_cli.proofs.EndLemmas.{differ}
-use Rattle.bar_cli.proofs.MemberLemmas.{AreHeld, AreInRange, of-each_moment}
+use Rattle.bar_session_files.proofs.Accepted.{AreHeld, AreInRange}
+use Rattle.bar_cli.proofs.MemberLemmas.{of-each_moment}
 use Rattle.bar_cli.proofs.Rows.{Outcome, replayed, stopped-replay}
 use Rattle.bar_cli.proofs.Spoken.{same-front}
 use Rattle.bar_cli.proofs.TurnLemmas.{shown-turns_from}

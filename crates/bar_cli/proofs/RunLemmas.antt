@@ -8,10 +8,11 @@ use Rattle.bar_outside.specs.Wire.{Arrival, Wire}
 use Rattle.bar_outside.proofs.Ending.{EndsWith-memory, Ends-or_memory, said, said-fixed}
 use Rattle.bar_seeds.specs.declared.secrets.Secrets.{Secrets}
 use Rattle.bar_roster.specs.SessionText.{SessionData}
-use Rattle.bar_live.specs.Accepting.{fresh_key_of, room_of, session_of, stream_in}
+use Rattle.bar_session_files.specs.Accepting.{fresh_key_of, session_of}
+use Rattle.bar_live.specs.Streams.{room_of, stream_in, stream_refused}
 use Rattle.bar_live.specs.CasterPlan.{CasterNames, caster_key_plan, caster_plan, caster_run_plan, caster_stream_plan}
 use Rattle.bar_live.specs.PeerPlan.{PeerNames, peer_key_plan, peer_plan, peer_run_plan}
-use Rattle.bar_live.specs.Refusals.{key_refused, session_refused, stream_refused}
+use Rattle.bar_session_files.specs.Refusals.{key_refused, session_refused}
 use Rattle.bar_live.specs.Running.{RunEnds, RunEndsWith}
 use Rattle.bar_outside.proofs.Following.{Ran-nothing}
 use Rattle.bar_outside.proofs.Unlinked.{IsUnlinked}

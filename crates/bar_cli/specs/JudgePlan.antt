@@ -13,7 +13,7 @@ use Rattle.bar_rules.specs.Judge.Verdict.{Verdict}
 use Rattle.bar_proof.specs.ProofFile.{evidence_of}
 use Rattle.bar_cli.specs.Judging.{lists_of, verdict_of, verdict_line, status_of_verdict}
 use Rattle.bar_cli.specs.Refusals.{session_refused, table_refused, evidence_refused}
-use Rattle.bar_live.specs.Accepting.{session_of}
+use Rattle.bar_session_files.specs.Accepting.{session_of}
 
 -- the files of a judge
 pub record JudgeFiles : Type 0 where

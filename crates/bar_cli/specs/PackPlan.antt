@@ -13,8 +13,7 @@ use Rattle.bar_roster.specs.SessionText.{SessionData}
 use Rattle.bar_rules.specs.Judge.Verdict.{Fault, Why, Verdict, Shown, NotShown}
 use Rattle.bar_proof.specs.Packing.{IsPacked, packed_bytes}
 use Rattle.bar_proof.specs.ProofFile.{evidence_of}
-use Rattle.bar_live.specs.Accepting.{session_of}
-use Rattle.bar_live.specs.PeerPlan.{HasSession}
+use Rattle.bar_session_files.specs.Accepting.{HasSession, session_of}
 use Rattle.bar_cli.specs.Judging.{lists_of, verdict_of, verdict_line}
 use Rattle.bar_cli.specs.JudgePlan.{saying_plan}
 use Rattle.bar_cli.specs.Refusals.{session_refused, table_refused, evidence_refused}

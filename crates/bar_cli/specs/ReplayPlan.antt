@@ -20,8 +20,8 @@ use Rattle.bar_judge.specs.TableFile.{table_bytes}
 use Rattle.bar_findings.specs.Findings.{Finding, IsFindingName, IsWriteTo, IsWrittenUpTo, evidence_name, findings_actions, in_order, table_name}
 use Rattle.bar_cli.specs.Refusals.{session_refused, key_refused, recording_refused}
 use Rattle.bar_cli.specs.Found.{evidence_of, found_by, manifest_of}
-use Rattle.bar_live.specs.Accepting.{session_of}
-use Rattle.bar_cli.specs.Replay.{recording_of, secrets_of_key}
+use Rattle.bar_session_files.specs.Accepting.{secrets_of_key, session_of}
+use Rattle.bar_cli.specs.Replay.{recording_of}
 use Rattle.bar_cli.specs.Transcript.{transcript}
 use Rattle.bar_cli.specs.Turns.{Turn, turns_from, turns_actions, played_bytes, shown_bytes}
 

@@ -7,8 +7,7 @@ use Rattle.bar_outside.specs.Ends.{EndsWith, SameFiles}
 use Rattle.bar_children.specs.Names.{SessionNames}
 use Rattle.bar_children.specs.Sessions.{SessionRan}
 use Rattle.bar_roster.specs.SessionText.{SessionData}
-use Rattle.bar_live.specs.Accepting.{session_of}
-use Rattle.bar_live.specs.PeerPlan.{HasSession}
+use Rattle.bar_session_files.specs.Accepting.{HasSession, session_of}
 use Rattle.bar_cli.specs.Refusals.{session_refused}
 
 -- The session is read, and accepted or refused. What comes behind goes by what the children do.

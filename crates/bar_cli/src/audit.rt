@@ -17,7 +17,7 @@ use crate::auditing::read_recordings;
 use crate::status::Status;
 use bar_audit::Audit;
 use bar_audit::laws::recorded_exchanges_are_one_list;
-use bar_live::read_session;
+use bar_session_files::read_session;
 use bar_outside::{Fault, Files, Sink, read_file, show_bytes};
 use bar_roster::{Session, SessionFault};
 use bar_window::Exchange;

@@ -17,7 +17,7 @@ use crate::judge_names::JudgeNames;
 use crate::judging::{judge_evidence, read_lists};
 use crate::status::Status;
 use bar_judge::{TableFault, Verdict};
-use bar_live::read_session;
+use bar_session_files::read_session;
 use bar_outside::{Fault, Files, Sink, read_file, show_bytes};
 use bar_proof::read_evidence;
 use bar_roster::{Session, SessionFault};

@@ -18,7 +18,7 @@ use crate::pack_names::PackNames;
 use crate::proving::pack_evidence;
 use crate::status::Status;
 use bar_judge::Verdict;
-use bar_live::read_session;
+use bar_session_files::read_session;
 use bar_outside::{Fault, Files, Sink, read_file};
 use bar_proof::PackFault;
 use bar_roster::{Session, SessionFault};

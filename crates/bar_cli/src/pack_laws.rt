@@ -7,7 +7,7 @@ ghost use Rattle.bar_outside.specs.Plan.{Outside, is_stop, line_at};
 ghost use Rattle.bar_outside.specs.Ends.{Ends, OfEachEnd, AtEnd, UnlessStopped, SameFiles, NothingPrinted};
 ghost use Rattle.bar_roster.specs.declared.fault.SessionFault.{SessionFault};
 ghost use Rattle.bar_roster.specs.SessionText.{SessionData};
-ghost use Rattle.bar_live.specs.PeerPlan.{HasSession};
+ghost use Rattle.bar_session_files.specs.Accepting.{HasSession};
 ghost use Rattle.bar_cli.specs.Judging.{status_of_verdict};
 ghost use Rattle.bar_cli.specs.Refusals.{session_refused, table_refused, evidence_refused};
 ghost use Rattle.bar_cli.specs.PackPlan.{PackFiles, PackAccepted, HasBadTable, HasBadEvidence, Packed, NotPacked, NotPackedFront, ProofWritten, PackFront, IsPackCall, pack_plan, verdict_in};

@@ -9,7 +9,7 @@ ghost use Rattle.bar_cli.specs.Status.{code_of_run, said_by_run};
 
 use crate::status::Status;
 use bar_children::{SessionNames, run_children};
-use bar_live::read_session;
+use bar_session_files::read_session;
 use bar_outside::{Fault, Files, Sink, Spawner, read_file};
 use bar_roster::SessionFault;
 use std::alloc::Global;

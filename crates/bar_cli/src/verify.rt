@@ -11,7 +11,7 @@ use crate::judge::say_verdict;
 use crate::proving::judge_file;
 use crate::status::Status;
 use crate::verify_names::VerifyNames;
-use bar_live::read_session;
+use bar_session_files::read_session;
 use bar_outside::{Fault, Files, Sink, read_file};
 use bar_proof::ProofFault;
 use bar_roster::{Session, SessionFault};

@@ -9,7 +9,7 @@ ghost use Rattle.bar_roster.specs.declared.fault.SessionFault.{SessionFault};
 ghost use Rattle.bar_roster.specs.SessionText.{SessionData};
 ghost use Rattle.bar_rules.specs.Judge.Verdict.{Fault, Verdict, Why, Shown, NotShown};
 ghost use Rattle.bar_proof.specs.declared.proof_fault.ProofFault.{ProofFault};
-ghost use Rattle.bar_live.specs.PeerPlan.{HasSession};
+ghost use Rattle.bar_session_files.specs.Accepting.{HasSession};
 ghost use Rattle.bar_cli.specs.Judging.{status_of_verdict};
 ghost use Rattle.bar_cli.specs.Refusals.{session_refused, proof_refused};
 ghost use Rattle.bar_cli.specs.VerifyPlan.{VerifyFiles, VerifyAccepted, HasBadSession, HasBadProof, Verified, VerifiedFront, IsVerifyCall, verify_plan};

@@ -10,7 +10,7 @@ use Rattle.bar_node.specs.Stops.{IsApart}
 use Rattle.bar_live.specs.CasterPlan.{CasterAccepted, CasterNames, caster_actions, caster_run}
 use Rattle.bar_live.specs.CasterStands.{IsBound, IsBoundOrUnused, IsCasterOf}
 use Rattle.bar_live.specs.Running.{place_of, spending, spent_text}
-use Rattle.bar_live.proofs.Accepted.{AreHeld, fits-here}
+use Rattle.bar_session_files.proofs.Accepted.{AreHeld, fits-here}
 use Rattle.bar_live.proofs.CasterRows.{IsRunFile, Outcome, caster-kinds, caster_last}
 use Rattle.bar_live.proofs.RunSplits.{IsBehind, all-behind, begun-first, bound-behind, kept-behind, split-binding}
 

@@ -13,11 +13,11 @@ use Rattle.bar_roster.specs.declared.key_fault.KeyFileFault.{KeyFileFault}
 use Rattle.bar_roster.specs.SessionText.{SessionData}
 use Rattle.bar_findings.specs.Findings.{IsFindingName}
 use Rattle.bar_node.specs.Runs.{AsksToTheEnd, is_ended}
-use Rattle.bar_live.specs.Accepting.{fresh_key_of, room_of, session_of, stream_in}
-use Rattle.bar_live.specs.PeerPlan.{HasSession}
+use Rattle.bar_session_files.specs.Accepting.{HasSession, fresh_key_of, session_of}
+use Rattle.bar_live.specs.Streams.{room_of, stream_in, stream_refused}
 use Rattle.bar_live.specs.CasterPlan.{CasterAccepted, CasterNames, caster_actions, caster_key_plan, caster_plan, caster_run, caster_run_plan, caster_stream_plan, rules_by}
 use Rattle.bar_live.specs.CasterStands.{IsCasterFile, KeyRefused, SessionRefused, StreamRefused}
-use Rattle.bar_live.specs.Refusals.{key_refused, session_refused, stream_refused}
+use Rattle.bar_session_files.specs.Refusals.{key_refused, session_refused}
 use Rattle.bar_live.specs.Running.{AsksNoFurther, HasReached, place_of, spending, status_of}
 use Rattle.bar_live.specs.Stands.{IsUntouched}
 use Rattle.bar_live.specs.Summaries.{at_end, caster_summary}

@@ -16,7 +16,7 @@ use Rattle.bar_live.specs.CasterPlan.{CasterAccepted, CasterNames, caster_plan, 
 use Rattle.bar_live.specs.CasterStands.{CasterDone, CasterStands}
 use Rattle.bar_live.specs.Running.{AsksNoFurther, HasHeard, HasReached, place_of, spending}
 use Rattle.bar_live.specs.Summaries.{caster_summary}
-use Rattle.bar_live.proofs.Accepted.{AreHeld, AreInRange, few-peers}
+use Rattle.bar_session_files.proofs.Accepted.{AreHeld, AreInRange, few-peers}
 use Rattle.bar_live.proofs.CasterBound.{IsCasterBehind, all-caster, is-bound, is-of, split-caster}
 use Rattle.bar_live.proofs.CasterRows.{Outcome, accepted-asked, accepted-reached, caster-kinds}
 use Rattle.bar_live.proofs.Endings.{as-untouched, ended-at}

@@ -10,7 +10,6 @@ pub mod RunSplits
 pub mod RunLaws
 pub mod Printed
 pub mod Endings
-pub mod Accepted
 pub mod PeerRows
 pub mod PeerBound
 pub mod PeerRuns

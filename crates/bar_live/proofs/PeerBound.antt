@@ -10,7 +10,7 @@ use Rattle.bar_record.specs.Recording.{head_bytes}
 use Rattle.bar_live.specs.PeerPlan.{PeerAccepted, PeerNames, before_binding, peer_actions, peer_run}
 use Rattle.bar_live.specs.PeerStands.{HasOwnNames, IsBound, IsBoundOrUnused, IsPeerOf}
 use Rattle.bar_live.specs.Running.{place_of, spent_text}
-use Rattle.bar_live.proofs.Accepted.{AreHeld, fits-here}
+use Rattle.bar_session_files.proofs.Accepted.{AreHeld, fits-here}
 use Rattle.bar_live.proofs.PeerRows.{IsRunFile, Outcome, peer-kinds, peer_last}
 use Rattle.bar_live.proofs.RunSplits.{IsBehind, all-behind, begun-first, bound-behind, kept-behind, split-binding}
 

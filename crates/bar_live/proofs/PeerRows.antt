@@ -12,10 +12,10 @@ use Rattle.bar_roster.specs.declared.key_fault.KeyFileFault.{KeyFileFault}
 use Rattle.bar_roster.specs.SessionText.{SessionData}
 use Rattle.bar_findings.specs.Findings.{IsFindingName}
 use Rattle.bar_node.specs.Runs.{AsksToTheEnd, is_ended}
-use Rattle.bar_live.specs.Accepting.{fresh_key_of, session_of}
-use Rattle.bar_live.specs.PeerPlan.{HasSession, PeerAccepted, PeerNames, before_binding, peer_actions, peer_key_plan, peer_plan, peer_run, peer_run_plan, rules_by}
+use Rattle.bar_session_files.specs.Accepting.{HasSession, fresh_key_of, session_of}
+use Rattle.bar_live.specs.PeerPlan.{PeerAccepted, PeerNames, before_binding, peer_actions, peer_key_plan, peer_plan, peer_run, peer_run_plan, rules_by}
 use Rattle.bar_live.specs.PeerStands.{IsPeerFile, KeyRefused, SessionRefused}
-use Rattle.bar_live.specs.Refusals.{key_refused, session_refused}
+use Rattle.bar_session_files.specs.Refusals.{key_refused, session_refused}
 use Rattle.bar_live.specs.Running.{AsksNoFurther, HasReached, place_of, status_of}
 use Rattle.bar_live.specs.Stands.{IsUntouched}
 use Rattle.bar_live.specs.Summaries.{at_end, peer_summary}

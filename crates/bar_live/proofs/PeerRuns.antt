@@ -20,7 +20,7 @@ use Rattle.bar_live.specs.PeerStands.{HasOwnNames, HasRun, HasStopped, PeerDone,
 use Rattle.bar_live.specs.Running.{AsksNoFurther, HasHeard, HasReached, place_of}
 use Rattle.bar_live.specs.Stands.{IsFrontPrinted}
 use Rattle.bar_live.specs.Summaries.{peer_summary}
-use Rattle.bar_live.proofs.Accepted.{AreHeld, AreInRange, few-peers}
+use Rattle.bar_session_files.proofs.Accepted.{AreHeld, AreInRange, few-peers}
 use Rattle.bar_live.proofs.Endings.{as-untouched, ended-at}
 use Rattle.bar_live.proofs.PeerBound.{IsPeerBehind, all-peer, is-bound, is-of, played-at, recorded-at, split-peer}
 use Rattle.bar_live.proofs.PeerRows.{Outcome, accepted-asked, accepted-reached, peer-kinds}

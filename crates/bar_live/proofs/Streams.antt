@@ -6,8 +6,7 @@ use Rattle.bar_outside.specs.Ends.{EndsWith}
 use Rattle.bar_outside.specs.Plan.{Outside, ending}
 use Rattle.bar_outside.proofs.Ending.{EndsWith-ending}
 use Rattle.bar_roster.specs.SessionText.{SessionData}
-use Rattle.bar_live.specs.Accepting.{room_of, stream_in}
-use Rattle.bar_live.specs.Refusals.{stream_refused}
+use Rattle.bar_live.specs.Streams.{room_of, stream_in, stream_refused}
 
 pub stream-fits : (s : SessionData) (bytes : List ℕ) → (room_of s < length bytes → ⊥) → stream_in s bytes ≡ Ok bytes
 stream-fits s bytes short =

@@ -9,9 +9,9 @@ use Rattle.bar_core.specs.Rules.{Rules}
 use Rattle.bar_rules.specs.Members.{member_by}
 use Rattle.bar_caster.specs.Core.{caster_rules}
 use Rattle.bar_node.specs.Runs.{node_plan}
-use Rattle.bar_live.specs.Accepting.{fresh_key_of, room_of, session_of, stream_in}
-use Rattle.bar_live.specs.PeerPlan.{HasSession}
-use Rattle.bar_live.specs.Refusals.{key_refused, session_refused, stream_refused}
+use Rattle.bar_session_files.specs.Accepting.{HasSession, fresh_key_of, session_of}
+use Rattle.bar_live.specs.Streams.{room_of, stream_in, stream_refused}
+use Rattle.bar_session_files.specs.Refusals.{key_refused, session_refused}
 use Rattle.bar_live.specs.Running.{binding, spending, status_of}
 use Rattle.bar_live.specs.Summaries.{at_end, caster_summary}
 

@@ -15,8 +15,8 @@ use Rattle.bar_rules.specs.Members.{member_by}
 use Rattle.bar_rules.specs.Runs.{sends_from}
 use Rattle.bar_node.specs.Runs.{IsGiven, has_end, heard, is_ended, taken_of}
 use Rattle.bar_node.specs.Stops.{IsApart, StoppedSending}
-use Rattle.bar_live.specs.Accepting.{fresh_key_of, room_of, session_of}
-use Rattle.bar_live.specs.PeerPlan.{HasSession}
+use Rattle.bar_session_files.specs.Accepting.{HasSession, fresh_key_of, session_of}
+use Rattle.bar_live.specs.Streams.{room_of}
 use Rattle.bar_live.specs.CasterPlan.{CasterAccepted, CasterNames, rules_by}
 use Rattle.bar_live.specs.Running.{place_of, spending, spent_text}
 use Rattle.bar_live.specs.Stands.{AreFound, IsBegun, IsFrontPrinted, IsUntouched, packets}

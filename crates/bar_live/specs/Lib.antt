@@ -1,5 +1,4 @@
-pub mod Accepting
-pub mod Refusals
+pub mod Streams
 pub mod Summaries
 pub mod Running
 pub mod PeerPlan

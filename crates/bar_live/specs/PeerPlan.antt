@@ -11,8 +11,8 @@ use Rattle.bar_core.specs.Rules.{Rules}
 use Rattle.bar_rules.specs.Members.{member_by}
 use Rattle.bar_peer.specs.Core.{peer_rules}
 use Rattle.bar_node.specs.Runs.{node_plan}
-use Rattle.bar_live.specs.Accepting.{fresh_key_of, session_of}
-use Rattle.bar_live.specs.Refusals.{key_refused, session_refused}
+use Rattle.bar_session_files.specs.Accepting.{HasSession, fresh_key_of, session_of}
+use Rattle.bar_session_files.specs.Refusals.{key_refused, session_refused}
 use Rattle.bar_live.specs.Running.{binding, spending, status_of}
 use Rattle.bar_live.specs.Summaries.{at_end, peer_summary}
 
@@ -58,13 +58,7 @@ abbrev pub peer_plan : PeerNames → List Arrival → Content → Plan
 peer_plan names given =
     reading names.session (λ text. accepting (session_of text) (peer_key_plan names given) (λ fault. ending 4 (session_refused fault)))
 
--- the session's text is there and accepted
-pub record HasSession (session : List ℕ) (content : Content) (s : SessionData) : Type 0 where
-  pub text : List ℕ
-  pub read : readable content session ≡ Some text
-  pub is : session_of text ≡ Ok s
-
--- so it is, and so is the key file, which holds these secrets of a peer and is fresh
+-- The session's text is there and accepted, and so is the key file, which holds these secrets of a peer and is fresh
 pub record PeerAccepted (names : PeerNames) (content : Content) (s : SessionData) (k : Secrets) : Type 0 where
   pub in_session : HasSession names.session content s
   pub bytes : List ℕ

@@ -19,8 +19,8 @@ use Rattle.bar_rules.specs.Members.{member_by}
 use Rattle.bar_rules.specs.Peer.Run.{played_by, sends_of}
 use Rattle.bar_node.specs.Runs.{IsGiven, has_end, heard, is_ended, taken_of}
 use Rattle.bar_node.specs.Stops.{AreApart, Cut, IsApart, IsFront, end_of}
-use Rattle.bar_live.specs.PeerPlan.{HasSession, PeerAccepted, PeerNames, before_binding, rules_by}
-use Rattle.bar_live.specs.Accepting.{fresh_key_of, session_of}
+use Rattle.bar_session_files.specs.Accepting.{HasSession, fresh_key_of, session_of}
+use Rattle.bar_live.specs.PeerPlan.{PeerAccepted, PeerNames, before_binding, rules_by}
 use Rattle.bar_live.specs.Running.{place_of, spent_text}
 use Rattle.bar_live.specs.Stands.{AreFound, IsBegun, IsFrontPrinted, IsUntouched, packets}
 use Rattle.bar_live.specs.Summaries.{peer_summary}

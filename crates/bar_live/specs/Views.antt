@@ -4,7 +4,8 @@ use Rattle.bar_outside.specs.Faults.{code_of_fault, line_of_fault}
 use Rattle.bar_outside.specs.declared.fault.Fault.{Fault}
 use Rattle.bar_live.specs.CasterPlan as caster
 use Rattle.bar_live.specs.PeerPlan as peer
-use Rattle.bar_live.specs.Refusals.{key_refused, session_refused, stream_refused}
+use Rattle.bar_session_files.specs.Refusals.{key_refused, session_refused}
+use Rattle.bar_live.specs.Streams.{stream_refused}
 use Rattle.bar_live.specs.declared.caster_names.CasterNames.{CasterNames}
 use Rattle.bar_live.specs.declared.ended.Ended.{Ended}
 use Rattle.bar_live.specs.declared.ended.Ended.TheVariants.{Done, KeyRefused, SessionRefused, StreamRefused}

@@ -20,13 +20,13 @@ ghost use Rattle.bar_live.specs.Views.{caster_view, code_of_run, said_by_run};
 
 use crate::caster_names::CasterNames;
 use crate::ended::Ended;
-use crate::reading::{read_fresh_key, read_session};
 use crate::spending::{bind_place, spent_text, write_anew};
 use crate::summaries::{caster_line, show_parties};
 use bar_caster::{Caster, CasterFault};
 use bar_hss::{PartyKey, SessionScheme};
 use bar_node::{Summary, run_caster};
 use bar_outside::{Fault, Files, Link, Place, Sink, read_file, show_bytes};
+use bar_session_files::{read_fresh_key, read_session};
 use bar_roster::{KeyFileFault, Session, SessionFault};
 use std::alloc::Global;
 

@@ -8,7 +8,6 @@ mod ended;
 mod peer_command;
 mod peer_laws;
 mod peer_names;
-mod reading;
 mod spending;
 mod summaries;
 
@@ -26,4 +25,3 @@ pub use peer_laws::{
     a_peer_stands, a_refused_peer_changes_nothing, only_its_files_are_changed_by_a_peer,
 };
 pub use peer_names::PeerNames;
-pub use reading::{read_fresh_key, read_session};

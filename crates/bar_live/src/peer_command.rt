@@ -16,13 +16,13 @@ ghost use Rattle.bar_node.specs.Runs.{summary_of};
 
 use crate::ended::Ended;
 use crate::peer_names::PeerNames;
-use crate::reading::{read_fresh_key, read_session};
 use crate::spending::{bind_place, spent_text, write_anew};
 use crate::summaries::{peer_line, show_parties};
 use bar_hss::{PartyKey, SessionScheme};
 use bar_node::{Paths, Summary, run_peer};
 use bar_outside::{Fault, Files, Link, Place, Sink, create_file, read_file, show_bytes};
 use bar_peer::Peer;
+use bar_session_files::{read_fresh_key, read_session};
 use bar_record::head;
 use bar_roster::{KeyFileFault, Session, SessionFault};
 use std::alloc::Global;

@@ -10,7 +10,7 @@ use Rattle.bar_outside.proofs.Ending.{EndsWith-reading, EndsWith-accepted, EndsW
 use Rattle.bar_children.specs.Names.{SessionNames}
 use Rattle.bar_children.specs.Sessions.{SessionRan}
 use Rattle.bar_children.specs.Views.{names_view}
-use Rattle.bar_live.specs.Accepting.{session_of}
+use Rattle.bar_session_files.specs.Accepting.{session_of}
 use Rattle.bar_cli.specs.Line.{is_status_of, session_run}
 use Rattle.bar_cli.specs.Printing.{session_may_print}
 use Rattle.bar_cli.specs.Refusals.{session_refused}

@@ -1,9 +1,8 @@
 use Rattle.std.proofs.Common.{◌≡◌, ◌∙◌, Err, Ok, ap, length, refl, sym}
 use Rattle.std.proofs.lemmas.Result.{err_from_is_err_and}
 use Rattle.bar_caster.specs.Memory.{stream_of}
-use Rattle.bar_live.specs.Accepting.{room_of, stream_in}
+use Rattle.bar_live.specs.Streams.{room_of, stream_in, stream_refused}
 use Rattle.bar_live.specs.CasterPlan.{caster_actions, rules_by}
-use Rattle.bar_live.specs.Refusals.{stream_refused}
 use Rattle.bar_live.specs.Views.{caster_view}
 use Rattle.bar_live.proofs.Adding.{can-caster}
 use Rattle.bar_live.proofs.Planned.{placed}

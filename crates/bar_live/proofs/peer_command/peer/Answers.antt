@@ -2,8 +2,8 @@ use Rattle.std.proofs.Common.{◌≡◌, Err, arith, refl, rules}
 use Rattle.std.proofs.lemmas.Result.{err_from_is_err_and}
 use Rattle.bar_outside.proofs.Ending.{EndsWith-ending}
 use Rattle.bar_roster.specs.declared.fault.SessionFault.TheVariants.{NoMemory}
-use Rattle.bar_live.specs.Accepting.{session_of}
-use Rattle.bar_live.specs.Refusals.{session_refused}
+use Rattle.bar_session_files.specs.Accepting.{session_of}
+use Rattle.bar_session_files.specs.Refusals.{session_refused}
 use Rattle.bar_live.proofs.RunEnding.{accepted-so, other-fault, refused-so, unmeant, unread}
 use Rattle.bar_live.proofs.peer_command.peer.Goals as goal
 

@@ -2,9 +2,9 @@ use Rattle.std.proofs.Common.{◌≡◌, ◌∙◌, Err, Ok, ap, arith, false, r
 use Rattle.std.proofs.lemmas.Result.{err_from_is_err_and}
 use Rattle.bar_outside.proofs.Ending.{EndsWith-ending}
 use Rattle.bar_roster.specs.declared.key_fault.KeyFileFault.TheVariants.{NoMemory}
-use Rattle.bar_live.specs.Accepting.{fresh_key_of}
+use Rattle.bar_session_files.specs.Accepting.{fresh_key_of}
 use Rattle.bar_live.specs.PeerPlan.{peer_actions, rules_by}
-use Rattle.bar_live.specs.Refusals.{key_refused}
+use Rattle.bar_session_files.specs.Refusals.{key_refused}
 use Rattle.bar_live.specs.Views.{peer_view}
 use Rattle.bar_live.proofs.Adding.{can-peer}
 use Rattle.bar_live.proofs.RunEnding.{accepted-so, following, other-fault, refused-so, unmeant, unread}

@@ -1,6 +1,5 @@
--- The lines of refusals.
+-- The lines by which a session's text and a key text are refused.
 use Rattle.std.specs.Prelude.{ℕ, List, ◌++◌, codes}
-use Rattle.std.specs.Fmt.{decimal}
 use Rattle.bar_roster.specs.declared.fault.SessionFault.{SessionFault}
 use Rattle.bar_roster.specs.declared.key_fault.KeyFileFault.{KeyFileFault}
 use Rattle.bar_roster.specs.FaultText.{fault_text}
@@ -11,8 +10,3 @@ session_refused fault = codes "bar: session refused: " ++ (fault_text fault ++ c
 
 abbrev pub key_refused : KeyFileFault → List ℕ
 key_refused fault = codes "bar: key refused: " ++ (key_fault_text fault ++ codes "\n")
-
--- a stream is longer than a session has room for
-abbrev pub stream_refused : ℕ → ℕ → List ℕ
-stream_refused have room =
-    codes "bar: input refused: stream have " ++ (decimal have ++ (codes " room " ++ (decimal room ++ codes "\n")))

@@ -1,6 +1,6 @@
--- What a session's text, a key text and a stream are read as.
-use Rattle.std.specs.Prelude.{ℕ, ◌*◌, Bool, List, Result, Ok, Err, length, nat_le, true, if◌then◌else◌}
-use Rattle.bar_wire.specs.Limits.{largest_content}
+-- What a session's text and a key text are read as.
+use Rattle.std.specs.Prelude.{◌≡◌, ℕ, Bool, List, Some, Result, Ok, true, false}
+use Rattle.bar_outside.specs.Disk.{Content, readable}
 use Rattle.bar_seeds.specs.declared.secrets.Secrets.{Secrets}
 use Rattle.bar_roster.specs.declared.fault.SessionFault.{SessionFault}
 use Rattle.bar_roster.specs.declared.key_fault.KeyFileFault.{KeyFileFault}
@@ -16,10 +16,12 @@ session_of bytes = text.session_of bytes
 unfoldable pub fresh_key_of : Bool → SessionData → List ℕ → Result Secrets KeyFileFault
 fresh_key_of caster s bytes = key_file_of s caster true bytes
 
--- how many bytes of a stream a session's rounds carry
-abbrev pub room_of : SessionData → ℕ
-room_of s = s.shape.rounds * s.shape.per_round * largest_content
+-- the secrets of a peer of the session that a key text holds, spent or not, or its first fault
+unfoldable pub secrets_of_key : SessionData → List ℕ → Result Secrets KeyFileFault
+secrets_of_key s bytes = key_file_of s false false bytes
 
--- a stream that fits, or how long it is
-abbrev pub stream_in : SessionData → List ℕ → Result (List ℕ) ℕ
-stream_in s bytes = if nat_le (length bytes) (room_of s) then Ok bytes else Err (length bytes)
+-- the session's text is there and accepted
+pub record HasSession (session : List ℕ) (content : Content) (s : SessionData) : Type 0 where
+  pub text : List ℕ
+  pub read : readable content session ≡ Some text
+  pub is : session_of text ≡ Ok s

@@ -1,7 +1,7 @@
-//! Reading the files of a command.
-ghost use Rattle.std.specs.Prelude.{◌≡◌, ◌⊎◌, Ok, Err, IfOk, IfErr};
+//! The session's text and a key text.
+ghost use Rattle.std.specs.Prelude.{◌≡◌, ◌⊎◌, Ok, Err, IfOk, IfErr, false};
 ghost use Rattle.bar_hss.specs.Files.{IsPartyKeyOf};
-ghost use Rattle.bar_live.specs.Accepting.{fresh_key_of, session_of};
+ghost use Rattle.bar_session_files.specs.Accepting.{fresh_key_of, secrets_of_key, session_of};
 
 use bar_hss::PartyKey;
 use bar_roster::{KeyFileFault, Session, SessionFault};
@@ -29,4 +29,14 @@ pub fn read_fresh_key(
     ensures fits { IfOk result (IsPartyKeyOf session.now caster) }
 {
     PartyKey::read(alloc, bytes, session, caster, true)
+}
+
+/// The key of a peer of the session, spent or not.
+#[tactic(auto, unfolding(crate::specs::Accepting::secrets_of_key))]
+pub fn read_key(alloc: Global, bytes: &[u8], session: &Session) -> Result<PartyKey, KeyFileFault>
+    ensures ok { IfOk result (λ key. secrets_of_key session.now bytes.now ≡ Ok key.secrets) }
+    ensures err { IfErr result (λ fault. (fault ≡ KeyFileFault.NoMemory) ⊎ (secrets_of_key session.now bytes.now ≡ Err fault)) }
+    ensures fits { IfOk result (IsPartyKeyOf session.now false) }
+{
+    PartyKey::read(alloc, bytes, session, false, false)
 }
