@@ -20,7 +20,7 @@ use Rattle.bar_node.proofs.Doing.{none-more}
 use Rattle.bar_live.proofs.Reaching.{nothing-reached, reached-unlinked}
 use Rattle.bar_live.proofs.RunFollowing.{heard-nothing}
 use Rattle.bar_cli.specs.Line.{Line, peer, broadcaster, replay, keygen, audit, judge, session_run, simulate, plan_of, reads_nothing, usage, pack, verify}
-use Rattle.bar_cli.specs.KeygenPlan.{secret_plan, leaves_for}
+use Rattle.bar_cli.specs.Keygen.Plan.{secret_plan, leaves_for}
 
 -- ---- which plan it was
 

@@ -12,7 +12,7 @@ use Rattle.bar_children.specs.declared.outcome.Outcome.{Outcome}
 use Rattle.bar_children.specs.declared.outcome.Outcome.TheVariants.{Done, ChildFailed, OutputFailed, NoMemory}
 use Rattle.bar_cli.specs.Line.{is_status_of, session_run}
 use Rattle.bar_cli.specs.Printing.{session_may_print}
-use Rattle.bar_cli.specs.SessionPlan.{SessionEnds, SessionGoes, SessionStopped, is_plain_end, line_of_end, session_line, session_plan}
+use Rattle.bar_cli.specs.Session.{SessionEnds, SessionGoes, SessionStopped, is_plain_end, line_of_end, session_line, session_plan}
 
 -- the statuses of its children
 pub outcome-status : (names : SessionNames) (outcome : Outcome) → IsTrue (is_status_of (Some (session_run names)) (code_of outcome))

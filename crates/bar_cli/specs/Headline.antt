@@ -29,8 +29,8 @@ use Rattle.bar_node.specs.Stops.{IsFront}
 use Rattle.bar_live.specs.PeerPlan.{PeerNames, rules_by}
 use Rattle.bar_live.specs.PeerStands.{IsPeerOf}
 use Rattle.bar_live.specs.Stands.{packets}
-use Rattle.bar_cli.specs.ReplayPlan.{ReplayFiles, Accepted, peer_of, transcript_of}
-use Rattle.bar_cli.specs.Transcript.{transcript}
+use Rattle.bar_cli.specs.Replay.Plan.{ReplayFiles, Accepted, peer_of, transcript_of}
+use Rattle.bar_cli.specs.Replay.Transcript.{transcript}
 
 -- at each moment over these inputs
 abbrev pub AtEachMoment : (Member → List Input → Type 0) → Member → List Input → Type 0

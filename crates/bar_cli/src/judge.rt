@@ -7,19 +7,23 @@ ghost use Rattle.bar_outside.specs.Ends.{EndsWith};
 ghost use Rattle.bar_terms.specs.Table.{Lists, digests_of};
 ghost use Rattle.bar_wire.specs.Evidence.{datagrams_of};
 ghost use Rattle.bar_judge.specs.Verdicts.{plain_verdict};
-ghost use Rattle.bar_cli.specs.JudgePlan.{evidence_plan, judge_plan, saying_plan, table_plan};
-ghost use Rattle.bar_cli.specs.Judging.{status_of_verdict, verdict_line, verdict_of};
+ghost use Rattle.bar_cli.specs.Judge.Plan.{evidence_plan, judge_plan, saying_plan, table_plan};
+ghost use Rattle.bar_cli.specs.Judge.Judging.{status_of_verdict, verdict_line, verdict_of};
 ghost use Rattle.bar_cli.specs.Printing.{judge_may_print};
 ghost use Rattle.bar_cli.specs.Status.{code_of, code_of_run, said_at, said_by_run, is_judge_end};
 ghost use Rattle.bar_cli.specs.Views.{judge_view};
 
-use crate::judge_names::JudgeNames;
-use crate::judging::{judge_evidence, read_lists};
+mod judging;
+pub mod laws;
+pub mod names;
+
+use crate::judge::judging::{judge_evidence, read_lists};
+use crate::judge::names::JudgeNames;
 use crate::status::Status;
 use bar_judge::{TableFault, Verdict};
-use bar_session_files::read_session;
 use bar_outside::{Fault, Files, Sink, read_file, show_bytes};
 use bar_proof::read_evidence;
+use bar_session_files::read_session;
 use bar_roster::{Session, SessionFault};
 use bar_terms::Table;
 use bar_wire::EvidenceView;

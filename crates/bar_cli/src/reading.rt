@@ -3,14 +3,14 @@ ghost use Rattle.std.specs.Prelude.{◌≡◌, ◌≤◌, Ok, Err, IfOk, IfErr};
 ghost use Rattle.bar_record.specs.Inputs.{inputs_left};
 ghost use Rattle.bar_record.specs.Pacing.{paced};
 ghost use Rattle.bar_roster.specs.Time.{last_tick};
-ghost use Rattle.bar_cli.specs.AuditPlan.{inputs_listed};
-ghost use Rattle.bar_cli.specs.Replay.{recording_of};
+ghost use Rattle.bar_cli.specs.Audit.Plan.{inputs_listed};
+ghost use Rattle.bar_cli.specs.Replay.Recordings.{recording_of};
 
 use bar_record::{Items, RecordFault, read};
 use bar_roster::Session;
 
 /// The inputs of a party's recording that bytes spell under a session, as they stand in it.
-#[tactic(auto, unfolding(crate::specs::AuditPlan::inputs_listed, crate::specs::Replay::recording_of))]
+#[tactic(auto, unfolding(crate::specs::Audit::Plan::inputs_listed, crate::specs::Replay::Recordings::recording_of))]
 pub fn read_recording<'a>(
     session: &Session,
     party: u16,

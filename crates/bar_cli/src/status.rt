@@ -4,7 +4,7 @@ ghost use Rattle.bar_outside.specs.Ends.{Prints};
 ghost use Rattle.bar_cli.specs.Refusals.{session_refused, key_refused, record_fault_text, recording_refused, stream_refused, proof_fault_text, proof_refused, secret_refused, table_refused};
 ghost use Rattle.bar_live.specs.Views.{code_of as live_code_of, said_at as live_said_at, code_of_run as live_code_of_run, said_by_run as live_said_by_run};
 ghost use Rattle.bar_children.specs.Outcomes.{code_of as outcome_code};
-ghost use Rattle.bar_cli.specs.SessionPlan.{line_of_end};
+ghost use Rattle.bar_cli.specs.Session.{line_of_end};
 ghost use Rattle.bar_cli.specs.Status.{code_of, said_at, code_of_run, said_by_run};
 
 use bar_children::Outcome;

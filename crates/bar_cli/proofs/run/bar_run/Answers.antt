@@ -1,19 +1,19 @@
 use Rattle.std.proofs.Common.{◌∙◌, Option, None, Some, IsTrue, ap, sym, subst, inl, inr, arith}
 use Rattle.bar_outside.specs.Disk.{Disk}
 use Rattle.bar_cli.specs.Headline.{KeepsTheRules}
-use Rattle.bar_cli.specs.AuditPlan.{audit_plan}
-use Rattle.bar_cli.specs.JudgePlan.{judge_plan}
-use Rattle.bar_cli.specs.KeygenPlan.{keygen_plan}
+use Rattle.bar_cli.specs.Audit.Plan.{audit_plan}
+use Rattle.bar_cli.specs.Judge.Plan.{judge_plan}
+use Rattle.bar_cli.specs.Keygen.Plan.{keygen_plan}
 use Rattle.bar_cli.specs.Line.{Line, peer, broadcaster, replay, keygen, audit, judge, simulate, has_plan, is_status_of, reads_nothing, pack, verify}
-use Rattle.bar_cli.specs.PackPlan.{pack_plan}
-use Rattle.bar_cli.specs.ReplayPlan.{replay_plan}
-use Rattle.bar_cli.specs.VerifyPlan.{verify_plan}
+use Rattle.bar_cli.specs.Pack.{pack_plan}
+use Rattle.bar_cli.specs.Replay.Plan.{replay_plan}
+use Rattle.bar_cli.specs.Verify.{verify_plan}
 use Rattle.bar_cli.proofs.JudgeRows.{judged_so, outcome, same_files}
 use Rattle.bar_cli.proofs.KeygenRows as making
 use Rattle.bar_cli.proofs.MemberLemmas.{keeps-rules}
 use Rattle.bar_cli.proofs.PackFronts as packed
 use Rattle.bar_cli.proofs.PackRows as packing
-use Rattle.bar_cli.proofs.Rows as replaying
+use Rattle.bar_cli.proofs.ReplayRows as replaying
 use Rattle.bar_cli.proofs.RunLemmas.{ends-as, run-ends, run-said}
 use Rattle.bar_cli.proofs.SessionLemmas.{session-said}
 use Rattle.bar_cli.proofs.SimulateLemmas.{has-shown}

@@ -5,21 +5,21 @@ use Rattle.bar_live.specs.PeerPlan.{PeerNames}
 use Rattle.bar_live.specs.Views.{peer_view, caster_view}
 use Rattle.bar_children.specs.Names.{SessionNames}
 use Rattle.bar_children.specs.Views.{names_view as family_view}
-use Rattle.bar_cli.specs.KeygenPlan.{Keygen, HasFewLeaves}
-use Rattle.bar_cli.specs.AuditPlan.{AuditFiles}
-use Rattle.bar_cli.specs.JudgePlan.{JudgeFiles}
+use Rattle.bar_cli.specs.Keygen.Plan.{Keygen, HasFewLeaves}
+use Rattle.bar_cli.specs.Audit.Plan.{AuditFiles}
+use Rattle.bar_cli.specs.Judge.Plan.{JudgeFiles}
 use Rattle.bar_cli.specs.Line.{Line, peer, broadcaster, replay, keygen, audit, judge, session_run, simulate, pack, verify}
-use Rattle.bar_cli.specs.ReplayPlan.{ReplayFiles}
+use Rattle.bar_cli.specs.Replay.Plan.{ReplayFiles}
 use Rattle.bar_cli.specs.Status.{code_of_run}
 use Rattle.bar_cli.specs.Views.{names_view, keygen_view, audit_view, judge_view, command_view, packing_view, verify_view}
 use Rattle.bar_cli.proofs.AuditEnds as auditing
-use Rattle.bar_cli.specs.PackPlan.{PackFiles}
-use Rattle.bar_cli.specs.VerifyPlan.{VerifyFiles}
+use Rattle.bar_cli.specs.Pack.{PackFiles}
+use Rattle.bar_cli.specs.Verify.{VerifyFiles}
 use Rattle.bar_cli.proofs.JudgeRows as judging
 use Rattle.bar_cli.proofs.KeygenRows as making
 use Rattle.bar_cli.proofs.PackRows as packing
 use Rattle.bar_cli.proofs.VerifyRows as verifying
-use Rattle.bar_cli.proofs.Rows as replaying
+use Rattle.bar_cli.proofs.ReplayRows as replaying
 use Rattle.bar_cli.proofs.RunLemmas.{few-leaves, over-no_link}
 use Rattle.bar_cli.proofs.StatusLemmas.{never-linked, never-six, quiet, peer-statuses, broadcaster-statuses, replay-statuses, keygen-statuses, audit-statuses, judge-statuses, never-filed, simulate-statuses, pack-statuses, verify-statuses}
 use Rattle.bar_cli.proofs.run.run_command.Goals as goal

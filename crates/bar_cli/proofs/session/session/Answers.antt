@@ -14,7 +14,7 @@ use Rattle.bar_session_files.specs.Accepting.{session_of}
 use Rattle.bar_cli.specs.Line.{is_status_of, session_run}
 use Rattle.bar_cli.specs.Printing.{session_may_print}
 use Rattle.bar_cli.specs.Refusals.{session_refused}
-use Rattle.bar_cli.specs.SessionPlan.{line_of_end}
+use Rattle.bar_cli.specs.Session.{line_of_end}
 use Rattle.bar_cli.proofs.SessionLemmas.{outcome-late, outcome-prints, outcome-status}
 use Rattle.bar_cli.proofs.session.session.Goals as goal
 
