@@ -23,8 +23,8 @@ use crate::status::Status;
 use bar_audit::Audit;
 use bar_audit::laws::recorded_exchanges_are_one_list;
 use bar_outside::{Fault, Files, Sink, read_file, show_bytes};
-use bar_session_files::read_session;
 use bar_roster::{Session, SessionFault};
+use bar_session_files::read_session;
 use bar_window::Exchange;
 use std::alloc::Global;
 

@@ -24,8 +24,8 @@ use crate::status::Status;
 use bar_judge::Verdict;
 use bar_outside::{Fault, Files, Sink, read_file};
 use bar_proof::PackFault;
-use bar_session_files::read_session;
 use bar_roster::{Session, SessionFault};
+use bar_session_files::read_session;
 use std::alloc::{AllocError, Global};
 
 /// Reads the session and goes on, if it is accepted.

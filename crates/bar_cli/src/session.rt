@@ -10,8 +10,8 @@ ghost use Rattle.bar_cli.specs.Status.{code_of_run, said_by_run};
 use crate::status::Status;
 use bar_children::{SessionNames, run_children};
 use bar_outside::{Fault, Files, Sink, Spawner, read_file};
-use bar_session_files::read_session;
 use bar_roster::SessionFault;
+use bar_session_files::read_session;
 use std::alloc::Global;
 
 /// Reads the session, and runs its children, if it is accepted.

@@ -17,8 +17,8 @@ use crate::verify::judging::judge_file;
 use crate::verify::names::VerifyNames;
 use bar_outside::{Fault, Files, Sink, read_file};
 use bar_proof::ProofFault;
-use bar_session_files::read_session;
 use bar_roster::{Session, SessionFault};
+use bar_session_files::read_session;
 use std::alloc::Global;
 
 /// Reads the session and goes on, if it is accepted.

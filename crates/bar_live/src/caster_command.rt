@@ -26,8 +26,8 @@ use bar_caster::{Caster, CasterFault};
 use bar_hss::{PartyKey, SessionScheme};
 use bar_node::{Summary, run_caster};
 use bar_outside::{Fault, Files, Link, Place, Sink, read_file, show_bytes};
-use bar_session_files::{read_fresh_key, read_session};
 use bar_roster::{KeyFileFault, Session, SessionFault};
+use bar_session_files::{read_fresh_key, read_session};
 use std::alloc::Global;
 
 /// Reads the session and goes on, if it is accepted.

@@ -22,9 +22,9 @@ use bar_hss::{PartyKey, SessionScheme};
 use bar_node::{Paths, Summary, run_peer};
 use bar_outside::{Fault, Files, Link, Place, Sink, create_file, read_file, show_bytes};
 use bar_peer::Peer;
-use bar_session_files::{read_fresh_key, read_session};
 use bar_record::head;
 use bar_roster::{KeyFileFault, Session, SessionFault};
+use bar_session_files::{read_fresh_key, read_session};
 use std::alloc::Global;
 
 /// Reads the session and goes on, if it is accepted.
