@@ -23,7 +23,7 @@ use Rattle.bar_laws.specs.Evidence.{BadKeysLeaveEvidence, KeptEvidenceIsShown, O
 use Rattle.bar_cli.specs.Headline.{AtEachMoment, HasProof, KeepsTheRules}
 use Rattle.bar_session_files.specs.Accepting.{fresh_key_of, secrets_of_key, session_of}
 use Rattle.bar_session_files.proofs.Accepted.{AreHeld, AreInRange, in-range_here}
-use Rattle.bar_live.specs.PeerPlan.{PeerAccepted, PeerNames}
+use Rattle.bar_party_commands.specs.PeerPlan.{PeerAccepted, PeerNames}
 use Rattle.bar_cli.specs.Replay.Plan.{ReplayFiles, Accepted, peer_of}
 
 -- the peer of an accepted key, fresh or not, is a member of its session

@@ -11,11 +11,11 @@ use Rattle.bar_outside.specs.Follows.{Follows}
 use Rattle.bar_outside.specs.Ends.{EndsWith}
 use Rattle.bar_outside.specs.declared.fault.Fault.{Fault}
 use Rattle.bar_outside.specs.declared.fault.Fault.TheVariants.{File, Link, Output, NoMemory as WantOfMemory}
-use Rattle.bar_live.specs.CasterPlan.{CasterNames}
-use Rattle.bar_live.specs.PeerPlan.{PeerNames}
-use Rattle.bar_live.specs.Views.{code_of_run as live_code_of_run}
-use Rattle.bar_live.specs.declared.ended.Ended.{Ended}
-use Rattle.bar_live.specs.declared.ended.Ended.TheVariants as live
+use Rattle.bar_party_commands.specs.CasterPlan.{CasterNames}
+use Rattle.bar_party_commands.specs.PeerPlan.{PeerNames}
+use Rattle.bar_party_commands.specs.Views.{code_of_run as live_code_of_run}
+use Rattle.bar_party_commands.specs.declared.ended.Ended.{Ended}
+use Rattle.bar_party_commands.specs.declared.ended.Ended.TheVariants as live
 use Rattle.bar_cli.specs.Audit.Plan.{AuditFiles}
 use Rattle.bar_cli.specs.Judge.Plan.{JudgeFiles}
 use Rattle.bar_cli.specs.Line.{Line, peer, broadcaster, replay, keygen, audit, judge, session_run, simulate, is_status_of, may_print, usage, pack, verify}

@@ -26,9 +26,9 @@ use Rattle.bar_laws.specs.Obedience.{IsRuled}
 use Rattle.bar_core.specs.Rules.{Send}
 use Rattle.bar_node.specs.Runs.{heard, taken_of}
 use Rattle.bar_node.specs.Stops.{IsFront}
-use Rattle.bar_live.specs.PeerPlan.{PeerNames, rules_by}
-use Rattle.bar_live.specs.PeerStands.{IsPeerOf}
-use Rattle.bar_live.specs.Stands.{packets}
+use Rattle.bar_party_commands.specs.PeerPlan.{PeerNames, rules_by}
+use Rattle.bar_party_commands.specs.PeerStands.{IsPeerOf}
+use Rattle.bar_party_commands.specs.Stands.{packets}
 use Rattle.bar_cli.specs.Replay.Plan.{ReplayFiles, Accepted, peer_of, transcript_of}
 use Rattle.bar_cli.specs.Replay.Transcript.{transcript}
 

@@ -8,11 +8,11 @@ use Rattle.bar_outside.specs.Wire.{Arrival}
 use Rattle.bar_lms.specs.declared.params.Height.{Height}
 use Rattle.bar_lms.specs.declared.params.Params.{Params}
 use Rattle.bar_roster.specs.NumberRanges.{most_long_rounds, most_peers, most_rounds}
-use Rattle.bar_words.specs.Numbers.{id_of, number_in}
-use Rattle.bar_words.specs.Options.{values_of}
-use Rattle.bar_children.specs.Names.{SessionNames}
-use Rattle.bar_live.specs.CasterPlan.{CasterNames, caster_plan}
-use Rattle.bar_live.specs.PeerPlan.{PeerNames, peer_plan}
+use Rattle.bar_arguments.specs.Numbers.{id_of, number_in}
+use Rattle.bar_arguments.specs.Options.{values_of}
+use Rattle.bar_child_processes.specs.Names.{SessionNames}
+use Rattle.bar_party_commands.specs.CasterPlan.{CasterNames, caster_plan}
+use Rattle.bar_party_commands.specs.PeerPlan.{PeerNames, peer_plan}
 use Rattle.bar_cli.specs.Keygen.Types.{levels_of, types_of}
 use Rattle.bar_cli.specs.Replay.Plan.{ReplayFiles, replay_plan}
 use Rattle.bar_cli.specs.Keygen.Plan.{Keygen, keygen_plan, leaves_for}

@@ -6,13 +6,13 @@ use Rattle.bar_outside.specs.Ends.{Says, SaysBy, is_plain}
 use Rattle.bar_outside.specs.Plan.{Outside}
 use Rattle.bar_outside.specs.Stages.{HasShown}
 use Rattle.bar_outside.specs.Stream.{Stream}
-use Rattle.bar_children.specs.Names.{SessionNames}
+use Rattle.bar_child_processes.specs.Names.{SessionNames}
 use Rattle.bar_world.specs.Ends.{sim_end}
-use Rattle.bar_live.specs.CasterPlan.{CasterNames}
-use Rattle.bar_live.specs.CasterStands as caster
-use Rattle.bar_live.specs.PeerPlan.{PeerNames}
-use Rattle.bar_live.specs.PeerStands as peer
-use Rattle.bar_live.specs.Running.{RunEnds, RunEndsWith}
+use Rattle.bar_party_commands.specs.CasterPlan.{CasterNames}
+use Rattle.bar_party_commands.specs.CasterStands as caster
+use Rattle.bar_party_commands.specs.PeerPlan.{PeerNames}
+use Rattle.bar_party_commands.specs.PeerStands as peer
+use Rattle.bar_party_commands.specs.Running.{RunEnds, RunEndsWith}
 use Rattle.bar_cli.specs.Audit.Audited.{AuditStays, HasAudited}
 use Rattle.bar_cli.specs.Audit.Plan.{AuditFiles}
 use Rattle.bar_cli.specs.Headline.{PeerHeadline, ReplayHeadline, SendsByTheRules}

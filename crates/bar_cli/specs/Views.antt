@@ -1,10 +1,10 @@
 -- What a command in the code stands for.
 use Rattle.std.specs.Prelude.{ℕ}
-use Rattle.bar_children.specs.Views as children
-use Rattle.bar_children.specs.declared.session_names.SessionNames.{SessionNames}
-use Rattle.bar_live.specs.Views as live
-use Rattle.bar_live.specs.declared.caster_names.CasterNames.{CasterNames}
-use Rattle.bar_live.specs.declared.peer_names.PeerNames.{PeerNames}
+use Rattle.bar_child_processes.specs.Views as children
+use Rattle.bar_child_processes.specs.declared.session_names.SessionNames.{SessionNames}
+use Rattle.bar_party_commands.specs.Views as live
+use Rattle.bar_party_commands.specs.declared.caster_names.CasterNames.{CasterNames}
+use Rattle.bar_party_commands.specs.declared.peer_names.PeerNames.{PeerNames}
 use Rattle.bar_cli.specs.declared.replay.names.ReplayNames.{ReplayNames}
 use Rattle.bar_cli.specs.declared.keygen.words.KeygenWords.{KeygenWords}
 use Rattle.bar_cli.specs.declared.audit.names.AuditNames.{AuditNames}

@@ -20,21 +20,21 @@ use crate::session::session;
 use crate::simulate::simulate_seed;
 use crate::status::{Status, report, status_of, status_of_live};
 use crate::verify::verify;
+use bar_arguments::WordsFault;
 use bar_laws::balance::balanced;
 use bar_laws::evidence::{bad_keys_leave_evidence, kept_evidence_is_shown};
 use bar_laws::framing::no_framing;
 use bar_laws::leaves::leaf_discipline;
 use bar_laws::obedience::signed_by_rule;
-use bar_live::{
+use bar_outside::{Files, Link, Sink, Spawner, plans_go_in_order};
+use bar_party_commands::{
     a_bound_broadcaster_has_spent_its_key, a_bound_peer_has_spent_its_key, a_broadcaster_is_done,
     a_broadcaster_stands, a_peer_is_done, a_peer_stands, broadcaster,
     only_its_files_are_changed_by_a_broadcaster, only_its_files_are_changed_by_a_peer, peer,
 };
-use bar_outside::{Files, Link, Sink, Spawner, plans_go_in_order};
 use bar_peer::rules_give_the_run;
 use bar_proof::laws::what_is_shown_is_packed;
 use bar_roster::laws::{accepted_secrets_are_held, accepted_sessions_are_in_range};
-use bar_words::WordsFault;
 use bar_world::laws::honest_peers_stay;
 use std::alloc::Global;
 

@@ -22,7 +22,7 @@ use Rattle.bar_audit.specs.Audits.{Audits}
 use Rattle.bar_audit.specs.Exchanges.{unbalanced}
 use Rattle.bar_audit.specs.Listed.{recorded}
 use Rattle.bar_audit.specs.Recordings.{Recording}
-use Rattle.bar_children.specs.Words.{named}
+use Rattle.bar_child_processes.specs.Words.{named}
 use Rattle.bar_session_files.specs.Accepting.{HasSession, session_of}
 use Rattle.bar_cli.specs.Audit.Text.{status_of_balance, text_for}
 use Rattle.bar_cli.specs.Refusals.{parties_refused, recording_refused, session_refused}

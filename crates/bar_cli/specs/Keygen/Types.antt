@@ -4,7 +4,7 @@ use Rattle.std.specs.Option.{option_and_then, option_map}
 use Rattle.bar_lms.specs.declared.params.Height.{Height}
 use Rattle.bar_lms.specs.declared.params.Params.{Params}
 use Rattle.bar_roster.specs.Shapes.{height_of, params_of}
-use Rattle.bar_words.specs.Numbers.{number_in}
+use Rattle.bar_arguments.specs.Numbers.{number_in}
 use Rattle.bar_cli.specs.declared.keygen.key_types.KeyTypes.{KeyTypes}
 
 -- the types of one level that two numbers name

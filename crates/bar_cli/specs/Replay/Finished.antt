@@ -9,10 +9,10 @@ use Rattle.bar_seeds.specs.declared.secrets.Secrets.{Secrets}
 use Rattle.bar_roster.specs.SessionText.{SessionData}
 use Rattle.bar_rules.specs.Members.{member_by}
 use Rattle.bar_rules.specs.Peer.Run.{sends_of}
-use Rattle.bar_live.specs.PeerPlan.{PeerAccepted, PeerNames}
-use Rattle.bar_live.specs.PeerStands as live
-use Rattle.bar_live.specs.PeerStands.{PeerDone}
-use Rattle.bar_live.specs.Stands.{packets}
+use Rattle.bar_party_commands.specs.PeerPlan.{PeerAccepted, PeerNames}
+use Rattle.bar_party_commands.specs.PeerStands as live
+use Rattle.bar_party_commands.specs.PeerStands.{PeerDone}
+use Rattle.bar_party_commands.specs.Stands.{packets}
 use Rattle.bar_cli.specs.Replay.Found.{evidence_of}
 use Rattle.bar_cli.specs.Replay.Plan.{HasOwnNames, ReplayFiles, replay_plan}
 use Rattle.bar_cli.specs.Replay.Transcript.{transcript}

@@ -5,8 +5,8 @@ ghost use Rattle.bar_roster.specs.Shapes.{params_of};
 ghost use Rattle.bar_cli.specs.Keygen.Types.{levels_of, types_of, types_view};
 
 use crate::keygen::key_types::KeyTypes;
+use bar_arguments::number_in;
 use bar_lms::Params;
-use bar_words::number_in;
 
 // The types that two numbers in their ranges name.
 fn params_of(lms: u32, ots: u32) -> Option<Params>

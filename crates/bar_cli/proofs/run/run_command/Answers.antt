@@ -1,11 +1,11 @@
 use Rattle.std.proofs.Common.{◌≡◌, ◌↔◌, ◌∙◌, ℕ, List, Option, Some, false, refl, ap, sym, subst, true≢false}
 use Rattle.bar_outside.specs.Children.{Children}
 use Rattle.bar_outside.specs.Plan.{Outside, with_files, with_wire}
-use Rattle.bar_live.specs.CasterPlan.{CasterNames}
-use Rattle.bar_live.specs.PeerPlan.{PeerNames}
-use Rattle.bar_live.specs.Views.{peer_view, caster_view}
-use Rattle.bar_children.specs.Names.{SessionNames}
-use Rattle.bar_children.specs.Views.{names_view as family_view}
+use Rattle.bar_party_commands.specs.CasterPlan.{CasterNames}
+use Rattle.bar_party_commands.specs.PeerPlan.{PeerNames}
+use Rattle.bar_party_commands.specs.Views.{peer_view, caster_view}
+use Rattle.bar_child_processes.specs.Names.{SessionNames}
+use Rattle.bar_child_processes.specs.Views.{names_view as family_view}
 use Rattle.bar_cli.specs.Keygen.Plan.{Keygen, HasFewLeaves}
 use Rattle.bar_cli.specs.Audit.Plan.{AuditFiles}
 use Rattle.bar_cli.specs.Judge.Plan.{JudgeFiles}

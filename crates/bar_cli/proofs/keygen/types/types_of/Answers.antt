@@ -3,7 +3,7 @@ use Rattle.bar_lms.specs.declared.params.Height.{Height}
 use Rattle.bar_lms.specs.declared.params.Params.{Params}
 use Rattle.bar_roster.proofs.Levels.{one_level}
 use Rattle.bar_roster.specs.Shapes.{params_of}
-use Rattle.bar_words.specs.Numbers.{number_in}
+use Rattle.bar_arguments.specs.Numbers.{number_in}
 use Rattle.bar_cli.specs.Keygen.Types.{types_of}
 use Rattle.bar_cli.proofs.keygen.types.types_of.Goals as goal
 
