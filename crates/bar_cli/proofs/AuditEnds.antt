@@ -13,11 +13,10 @@ use Rattle.bar_record.specs.declared.fault.RecordFault.{RecordFault}
 use Rattle.bar_roster.specs.declared.fault.SessionFault.{SessionFault}
 use Rattle.bar_roster.specs.SessionText.{SessionData}
 use Rattle.bar_audit.specs.Recordings.{Recording}
-use Rattle.bar_live.specs.Accepting.{session_of}
-use Rattle.bar_live.specs.PeerPlan.{HasSession}
-use Rattle.bar_cli.specs.Audited.{balance_in}
-use Rattle.bar_cli.specs.AuditPlan.{AuditAccepted, AuditFiles, HasBadParties, HasBadRecording, HasBadSession, HasParties, HasRecording, IsNextParty, audit_plan, balance_of, by_inputs, by_parties, by_session, inputs_listed, parties_of, parties_plan, recording_name, recordings_plan}
-use Rattle.bar_cli.specs.AuditText.{status_of_balance}
+use Rattle.bar_session_files.specs.Accepting.{session_of}
+use Rattle.bar_cli.specs.Audit.Audited.{balance_in}
+use Rattle.bar_cli.specs.Audit.Plan.{AuditAccepted, AuditFiles, HasBadParties, HasBadRecording, HasBadSession, HasParties, HasRecording, IsNextParty, audit_plan, balance_of, by_inputs, by_parties, by_session, inputs_listed, parties_of, parties_plan, recording_name, recordings_plan}
+use Rattle.bar_cli.specs.Audit.Text.{status_of_balance}
 use Rattle.bar_cli.specs.Refusals.{parties_refused, recording_refused, session_refused}
 
 -- ---- what comes behind each read

@@ -22,8 +22,8 @@ use Rattle.bar_audit.specs.Audits.{Audits}
 use Rattle.bar_audit.specs.Exchanges.{unbalanced}
 use Rattle.bar_audit.specs.Listed.{recorded}
 use Rattle.bar_audit.specs.Recordings.{Recording}
-use Rattle.bar_cli.specs.AuditPlan.{AuditFiles, Leaves, all_parties, audit_text, balance_of, inputs_listed, is_range, parties_of, parties_plan, recording_name, recordings_plan, telling_plan}
-use Rattle.bar_cli.specs.AuditText.{text_for}
+use Rattle.bar_cli.specs.Audit.Plan.{AuditFiles, Leaves, all_parties, audit_text, balance_of, inputs_listed, is_range, parties_of, parties_plan, recording_name, recordings_plan, telling_plan}
+use Rattle.bar_cli.specs.Audit.Text.{text_for}
 use Rattle.bar_cli.specs.Refusals.{parties_refused, recording_refused}
 use Rattle.bar_cli.proofs.AuditEnds.{with-recording}
 

@@ -16,11 +16,10 @@ use Rattle.bar_audit.specs.Laws.{KeysArePaid, RunsAreBalanced}
 use Rattle.bar_audit.specs.Listed.{IsListed, recorded}
 use Rattle.bar_audit.specs.Recordings.{Recording}
 use Rattle.bar_audit.specs.Runs.{AreOfRuns}
-use Rattle.bar_live.specs.Accepting.{session_of}
-use Rattle.bar_live.specs.PeerPlan.{HasSession}
-use Rattle.bar_cli.specs.Audited.{Audited, AuditedFront, AuditStays, balance_in}
-use Rattle.bar_cli.specs.AuditPlan.{AuditAccepted, AuditFiles, HasBadParties, HasBadRecording, HasBadSession, HasParties, HasRecording, HasRecordings, IsAuditCall, audit_plan, audit_text, balance_of, by_inputs, by_parties, by_session, inputs_listed, parties_of, recording_name, recordings_plan}
-use Rattle.bar_cli.specs.AuditText.{status_of_balance}
+use Rattle.bar_session_files.specs.Accepting.{HasSession, session_of}
+use Rattle.bar_cli.specs.Audit.Audited.{Audited, AuditedFront, AuditStays, balance_in}
+use Rattle.bar_cli.specs.Audit.Plan.{AuditAccepted, AuditFiles, HasBadParties, HasBadRecording, HasBadSession, HasParties, HasRecording, HasRecordings, IsAuditCall, audit_plan, audit_text, balance_of, by_inputs, by_parties, by_session, inputs_listed, parties_of, recording_name, recordings_plan}
+use Rattle.bar_cli.specs.Audit.Text.{status_of_balance}
 use Rattle.bar_cli.specs.Refusals.{parties_refused, recording_refused, session_refused}
 use Rattle.bar_cli.proofs.AuditEnds.{end-told, with-recording, with-session}
 use Rattle.bar_cli.proofs.EndLemmas.{differ, go-on}

@@ -13,8 +13,8 @@ use Rattle.bar_rules.proofs.LongerRuns.{state_after_both}
 use Rattle.bar_core.specs.Rules.{Send}
 use Rattle.bar_node.specs.Turns as node
 use Rattle.bar_peer.specs.Core.{peer_rules}
-use Rattle.bar_cli.specs.Transcript.{lines_of_sends}
-use Rattle.bar_cli.specs.Turns.{turn_actions, turn_of, turns_actions, turns_from}
+use Rattle.bar_cli.specs.Replay.Transcript.{lines_of_sends}
+use Rattle.bar_cli.specs.Replay.Turns.{turn_actions, turn_of, turns_actions, turns_from}
 
 -- each content is appended
 contents-appended : (played : List ℕ) (contents : List (List ℕ)) →

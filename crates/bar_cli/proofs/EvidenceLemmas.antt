@@ -10,7 +10,7 @@ use Rattle.bar_rules.specs.Judge.Verdict.{Verdict, verdict}
 use Rattle.bar_judge.specs.declared.table_fault.TableFault.{TableFault}
 use Rattle.bar_judge.specs.declared.table_fault.TableFault.TheVariants.{BadEntry, NoMemory}
 use Rattle.bar_judge.specs.TableFile.{HasLists, table_of}
-use Rattle.bar_cli.specs.Judging.{IsTableOf, lists_of, or_place, place_of, verdict_of}
+use Rattle.bar_cli.specs.Judge.Judging.{IsTableOf, lists_of, or_place, place_of, verdict_of}
 
 -- ---- evidence
 

@@ -21,15 +21,15 @@ use Rattle.bar_rules.specs.Member.{Member}
 use Rattle.bar_rules.specs.Members.{member_by}
 use Rattle.bar_rules.specs.Peer.Run.{played_by, sends_of}
 use Rattle.bar_node.specs.Runs.{inputs_of, taken_of}
-use Rattle.bar_live.specs.Accepting.{fresh_key_of, session_of}
-use Rattle.bar_live.specs.PeerPlan.{PeerAccepted, PeerNames, rules_by}
-use Rattle.bar_live.specs.PeerStands as live
-use Rattle.bar_live.specs.PeerStands.{PeerDone}
-use Rattle.bar_cli.specs.Finished.{ReadsWhatAPeerLeft, ShowsWhatWasSent}
-use Rattle.bar_cli.specs.Found.{evidence_of, manifest_of}
-use Rattle.bar_cli.specs.Replay.{recording_of, secrets_of_key}
-use Rattle.bar_cli.specs.ReplayPlan.{Accepted, HasOwnNames, ReplayFiles, Replayed}
-use Rattle.bar_cli.specs.Transcript.{transcript}
+use Rattle.bar_session_files.specs.Accepting.{fresh_key_of, secrets_of_key, session_of}
+use Rattle.bar_party_commands.specs.PeerPlan.{PeerAccepted, PeerNames, rules_by}
+use Rattle.bar_party_commands.specs.PeerStands as live
+use Rattle.bar_party_commands.specs.PeerStands.{PeerDone}
+use Rattle.bar_cli.specs.Replay.Finished.{ReadsWhatAPeerLeft, ShowsWhatWasSent}
+use Rattle.bar_cli.specs.Replay.Found.{evidence_of, manifest_of}
+use Rattle.bar_cli.specs.Replay.Recordings.{recording_of}
+use Rattle.bar_cli.specs.Replay.Plan.{Accepted, HasOwnNames, ReplayFiles, Replayed}
+use Rattle.bar_cli.specs.Replay.Transcript.{transcript}
 
 -- ---- what is there can be read, where it isn't too large
 

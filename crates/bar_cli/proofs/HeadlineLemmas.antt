@@ -12,12 +12,13 @@ use Rattle.bar_rules.specs.Member.{Member}
 use Rattle.bar_rules.specs.Peer.Log.{Log}
 use Rattle.bar_rules.specs.Peer.Run.{sends_of, step}
 use Rattle.bar_cli.specs.Headline.{KeepsTheRules, ReplayHeadline, ReplaySpoke}
-use Rattle.bar_cli.specs.ReplayPlan.{ReplayFiles, Accepted, PlayedUpTo, Replayed, peer_of, transcript_of}
-use Rattle.bar_cli.specs.Transcript.{transcript}
-use Rattle.bar_cli.specs.Turns.{Turn, shown_bytes, turn_of, turns_from}
+use Rattle.bar_cli.specs.Replay.Plan.{ReplayFiles, Accepted, PlayedUpTo, Replayed, peer_of, transcript_of}
+use Rattle.bar_cli.specs.Replay.Transcript.{transcript}
+use Rattle.bar_cli.specs.Replay.Turns.{Turn, shown_bytes, turn_of, turns_from}
 use Rattle.bar_cli.proofs.EndLemmas.{differ}
-use Rattle.bar_cli.proofs.MemberLemmas.{AreHeld, AreInRange, of-each_moment}
-use Rattle.bar_cli.proofs.Rows.{Outcome, replayed, stopped-replay}
+use Rattle.bar_session_files.proofs.Accepted.{AreHeld, AreInRange}
+use Rattle.bar_cli.proofs.MemberLemmas.{of-each_moment}
+use Rattle.bar_cli.proofs.ReplayRows.{Outcome, replayed, stopped-replay}
 use Rattle.bar_cli.proofs.Spoken.{same-front}
 use Rattle.bar_cli.proofs.TurnLemmas.{shown-turns_from}
 use Rattle.bar_cli.proofs.UpToLemmas.{front-of}

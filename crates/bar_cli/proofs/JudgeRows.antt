@@ -11,10 +11,10 @@ use Rattle.bar_roster.specs.declared.fault.SessionFault.{SessionFault}
 use Rattle.bar_roster.specs.SessionText.{SessionData}
 use Rattle.bar_rules.specs.Judge.Verdict.{Verdict, Fault, Why, Shown, NotShown}
 use Rattle.bar_proof.specs.ProofFile.{evidence_of}
-use Rattle.bar_cli.specs.Judging.{lists_of, verdict_of, verdict_line, status_of_verdict}
-use Rattle.bar_cli.specs.JudgePlan.{JudgeFiles, HasSession, HasTable, JudgeAccepted, HasBadSession, HasBadTable, HasBadEvidence, HasJudged, Judged, JudgedFront, IsJudgeCall, by_datagrams, by_lists, by_session, evidence_plan, judge_plan, table_plan, verdict_in}
+use Rattle.bar_cli.specs.Judge.Judging.{lists_of, verdict_of, verdict_line, status_of_verdict}
+use Rattle.bar_cli.specs.Judge.Plan.{JudgeFiles, HasSession, HasTable, JudgeAccepted, HasBadSession, HasBadTable, HasBadEvidence, HasJudged, Judged, JudgedFront, IsJudgeCall, by_datagrams, by_lists, by_session, evidence_plan, judge_plan, table_plan, verdict_in}
 use Rattle.bar_cli.specs.Refusals.{session_refused, table_refused, evidence_refused}
-use Rattle.bar_live.specs.Accepting.{session_of}
+use Rattle.bar_session_files.specs.Accepting.{session_of}
 use Rattle.bar_cli.proofs.EndLemmas.{differ, go-on}
 
 -- what comes behind each read

@@ -4,7 +4,7 @@ use Rattle.bar_outside.specs.Plan.{Outside}
 use Rattle.bar_outside.specs.Ends.{SameFiles, NothingPrinted}
 use Rattle.bar_outside.specs.Stages.{IsUnchanged}
 use Rattle.bar_roster.specs.KeyText.{key_text_of}
-use Rattle.bar_cli.specs.KeygenPlan.{Keygen, KeygenAccepted, KeyWritten, KeyBegun, key_made, lines_of}
+use Rattle.bar_cli.specs.Keygen.Plan.{Keygen, KeygenAccepted, KeyWritten, KeyBegun, key_made, lines_of}
 use Rattle.bar_cli.proofs.KeygenRows.{Outcome}
 use Rattle.bar_cli.proofs.MadeFiles.{IsBegun, made-so-far}
 

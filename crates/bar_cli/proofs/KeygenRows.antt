@@ -8,7 +8,7 @@ use Rattle.bar_outside.proofs.Unlinked.{IsUnlinked, unlinked-accepting, unlinked
 use Rattle.bar_roster.specs.declared.fault.SessionFault.{SessionFault}
 use Rattle.bar_roster.specs.KeyText.{key_text_of}
 use Rattle.bar_cli.specs.Refusals.{session_refused, secret_refused}
-use Rattle.bar_cli.specs.KeygenPlan.{Keygen, KeygenAccepted, KeyMade, HasEnoughLeaves, HasFewLeaves, IsKeygenCall, secret_of, key_made, lines_of, making_plan, secret_plan, keygen_plan, SecretRefused, leaves_for}
+use Rattle.bar_cli.specs.Keygen.Plan.{Keygen, KeygenAccepted, KeyMade, HasEnoughLeaves, HasFewLeaves, IsKeygenCall, secret_of, key_made, lines_of, making_plan, secret_plan, keygen_plan, SecretRefused, leaves_for}
 use Rattle.bar_cli.proofs.EndLemmas.{differ, go-on}
 use Rattle.bar_cli.proofs.MadeFiles.{made as made-file, others-untouched}
 

@@ -5,7 +5,7 @@ pub mod EndLemmas
 pub mod StatusLemmas
 pub mod MemberLemmas
 pub mod Spoken
-pub mod Rows
+pub mod ReplayRows
 pub mod AuditEnds
 pub mod AuditLemmas
 pub mod AuditRows

@@ -10,7 +10,7 @@ use Rattle.bar_outside.specs.declared.fault.Fault.{Fault}
 use Rattle.bar_outside.proofs.ActionLists.{with_file-same}
 use Rattle.bar_outside.proofs.Contents.{put_at-same, put_at-other, appended-same, appended-other}
 use Rattle.bar_outside.proofs.Untouched.{untouched-reached}
-use Rattle.bar_cli.specs.Turns.{Turn, played_bytes, shown_bytes}
+use Rattle.bar_cli.specs.Replay.Turns.{Turn, played_bytes, shown_bytes}
 use Rattle.bar_cli.proofs.UpToLemmas.{IsStopped, IsMadeAt, IsUpTo, stopped-played, unchanged-by}
 
 abbrev pub making : (path text lines : List ℕ) → List Action

@@ -4,10 +4,8 @@ use Rattle.std.proofs.lemmas.Bool.{false≢true}
 use Rattle.bar_outside.specs.Disk.{Content}
 use Rattle.bar_wire.specs.Inputs.{Input}
 use Rattle.bar_seeds.specs.declared.secrets.Secrets.{Secrets}
-use Rattle.bar_roster.specs.KeyFile.{IsHeldBy, key_file_of}
-use Rattle.bar_roster.specs.Sessions.{IsSession}
+use Rattle.bar_roster.specs.KeyFile.{key_file_of}
 use Rattle.bar_roster.specs.SessionText.{SessionData}
-use Rattle.bar_roster.specs.SessionText as text
 use Rattle.bar_rules.specs.Member.{Member, IsMember}
 use Rattle.bar_rules.specs.Members.{member_by}
 use Rattle.bar_window.specs.declared.exchange.Exchange.{Exchange}
@@ -23,29 +21,12 @@ use Rattle.bar_laws.specs.Leaves.{KeepsLeaves}
 use Rattle.bar_laws.specs.Obedience.{IsRuled}
 use Rattle.bar_laws.specs.Evidence.{BadKeysLeaveEvidence, KeptEvidenceIsShown, OpensBadly}
 use Rattle.bar_cli.specs.Headline.{AtEachMoment, HasProof, KeepsTheRules}
-use Rattle.bar_live.specs.Accepting.{fresh_key_of, session_of}
-use Rattle.bar_live.specs.PeerPlan.{PeerAccepted, PeerNames}
-use Rattle.bar_cli.specs.Replay.{secrets_of_key}
-use Rattle.bar_cli.specs.ReplayPlan.{ReplayFiles, Accepted, peer_of}
+use Rattle.bar_session_files.specs.Accepting.{fresh_key_of, secrets_of_key, session_of}
+use Rattle.bar_session_files.proofs.Accepted.{AreHeld, AreInRange, in-range_here}
+use Rattle.bar_party_commands.specs.PeerPlan.{PeerAccepted, PeerNames}
+use Rattle.bar_cli.specs.Replay.Plan.{ReplayFiles, Accepted, peer_of}
 
--- a key text is accepted only where the session holds its key
-abbrev pub AreHeld : Type 0
-AreHeld =
-    (s : SessionData) (caster fresh : Bool) (bytes : List ℕ) (k : Secrets) → key_file_of s caster fresh bytes ≡ Ok k → IsHeldBy s caster k
-
--- a session text is accepted only where its numbers are in their ranges
-abbrev pub AreInRange : Type 0
-AreInRange = (bytes : List ℕ) (s : SessionData) → text.session_of bytes ≡ Ok s → IsSession s
-
-pub held-here : AreHeld → (s : SessionData) (bytes : List ℕ) (k : Secrets) → secrets_of_key s bytes ≡ Ok k → IsHeldBy s false k
-unfolding secrets_of_key
-held-here held s bytes k is = held s false false bytes k is
-
-pub in-range_here : AreInRange → (bytes : List ℕ) (s : SessionData) → session_of bytes ≡ Ok s → IsSession s
-unfolding session_of
-in-range_here ranged bytes s is = ranged bytes s is
-
--- so the peer of an accepted key, fresh or not, is a member of its session
+-- the peer of an accepted key, fresh or not, is a member of its session
 member-of : AreHeld → AreInRange → (fresh : Bool) (text bytes : List ℕ) (s : SessionData) (k : Secrets) → session_of text ≡ Ok s →
     key_file_of s false fresh bytes ≡ Ok k → IsMember (member_by s k)
 member-of held ranged fresh text bytes s k session key =

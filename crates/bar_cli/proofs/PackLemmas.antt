@@ -14,9 +14,9 @@ use Rattle.bar_judge.specs.declared.why.Why.{Why}
 use Rattle.bar_proof.specs.declared.pack_fault.PackFault.TheVariants as fault
 use Rattle.bar_proof.specs.Packing.{IsPacked, IsRefused, packed_bytes}
 use Rattle.bar_proof.specs.ProofFile.{evidence_of}
-use Rattle.bar_cli.specs.Judging.{lists_of, or_place, verdict_of}
-use Rattle.bar_cli.specs.JudgePlan.{saying_plan}
-use Rattle.bar_cli.specs.PackPlan.{PackFiles, by_lists, by_verdict, packing_actions}
+use Rattle.bar_cli.specs.Judge.Judging.{lists_of, or_place, verdict_of}
+use Rattle.bar_cli.specs.Judge.Plan.{saying_plan}
+use Rattle.bar_cli.specs.Pack.{PackFiles, by_lists, by_verdict, packing_actions}
 use Rattle.bar_cli.specs.Refusals.{table_refused, evidence_refused}
 
 -- lists that are read are those of the plan

@@ -13,15 +13,14 @@ use Rattle.bar_judge.specs.TableFile.{table_of}
 use Rattle.bar_judge.specs.declared.table_fault.TableFault.{TableFault}
 use Rattle.bar_proof.specs.Packing.{IsPacked, ShownIsPacked, packed_bytes}
 use Rattle.bar_proof.specs.ProofFile.{evidence_of}
-use Rattle.bar_live.specs.Accepting.{session_of}
-use Rattle.bar_live.specs.PeerPlan.{HasSession}
-use Rattle.bar_cli.specs.Judging.{lists_of, or_place, verdict_of, verdict_line}
-use Rattle.bar_cli.specs.PackPlan.{PackFiles, HasInputs, HasTable, PackAccepted, HasBadTable, HasBadEvidence, HasShownOne, Packed, NotPacked, IsPackCall, packed_line, packing_actions, by_verdict, by_datagrams, by_lists, by_session, evidence_plan, table_plan, pack_plan, verdict_in, file_in, file_of}
-use Rattle.bar_cli.specs.VerifyPlan.{HasBadSession}
+use Rattle.bar_session_files.specs.Accepting.{HasSession, session_of}
+use Rattle.bar_cli.specs.Judge.Judging.{lists_of, or_place, verdict_of, verdict_line}
+use Rattle.bar_cli.specs.Pack.{PackFiles, HasInputs, HasTable, PackAccepted, HasBadTable, HasBadEvidence, HasShownOne, Packed, NotPacked, IsPackCall, packed_line, packing_actions, by_verdict, by_datagrams, by_lists, by_session, evidence_plan, table_plan, pack_plan, verdict_in, file_in, file_of}
+use Rattle.bar_cli.specs.Verify.{HasBadSession}
 use Rattle.bar_cli.specs.Refusals.{session_refused, table_refused, evidence_refused}
 use Rattle.bar_cli.proofs.EndLemmas.{differ, go-on}
 use Rattle.bar_cli.proofs.MadeFiles.{made, others-untouched}
-use Rattle.bar_cli.proofs.MemberLemmas.{AreInRange, in-range_here}
+use Rattle.bar_session_files.proofs.Accepted.{AreInRange, in-range_here}
 
 -- what comes behind each read
 

@@ -8,11 +8,11 @@ use Rattle.bar_outside.proofs.Contents.{put_at-same, put_at-other}
 use Rattle.bar_outside.proofs.ActionLists.{CanRun-append, content_after-append, shown-append, with_file-same}
 use Rattle.bar_outside.proofs.Appends.{appends-other, appends-same, can-appends, shown-appends}
 use Rattle.bar_outside.proofs.Unlinked.{IsUnlinked, unlinked-append, unlinked-appends, unlinked-shows}
-use Rattle.bar_cli.specs.Turns.{Turn, turn_actions, turns_actions, played_bytes, shown_bytes}
+use Rattle.bar_cli.specs.Replay.Turns.{Turn, turn_actions, turns_actions, played_bytes, shown_bytes}
 use Rattle.bar_findings.specs.Findings.{Finding, findings_actions}
 use Rattle.bar_findings.proofs.Holding.{AreWritten, all-written, can-write, shown-findings, unlinked-findings, unwritten}
 use Rattle.bar_findings.proofs.Names.{AreDistinct}
-use Rattle.bar_cli.specs.ReplayPlan.{ReplayFiles, playing_actions, replay_actions}
+use Rattle.bar_cli.specs.Replay.Plan.{ReplayFiles, playing_actions, replay_actions}
 
 can-shows : (lines : List (List ℕ)) (rest : List Action) (here : CreatedFiles) → CanRun rest here → CanRun (map show lines ++ rest) here
 can-shows [] rest here h = h

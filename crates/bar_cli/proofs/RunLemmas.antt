@@ -8,18 +8,19 @@ use Rattle.bar_outside.specs.Wire.{Arrival, Wire}
 use Rattle.bar_outside.proofs.Ending.{EndsWith-memory, Ends-or_memory, said, said-fixed}
 use Rattle.bar_seeds.specs.declared.secrets.Secrets.{Secrets}
 use Rattle.bar_roster.specs.SessionText.{SessionData}
-use Rattle.bar_live.specs.Accepting.{fresh_key_of, room_of, session_of, stream_in}
-use Rattle.bar_live.specs.CasterPlan.{CasterNames, caster_key_plan, caster_plan, caster_run_plan, caster_stream_plan}
-use Rattle.bar_live.specs.PeerPlan.{PeerNames, peer_key_plan, peer_plan, peer_run_plan}
-use Rattle.bar_live.specs.Refusals.{key_refused, session_refused, stream_refused}
-use Rattle.bar_live.specs.Running.{RunEnds, RunEndsWith}
+use Rattle.bar_session_files.specs.Accepting.{fresh_key_of, session_of}
+use Rattle.bar_party_commands.specs.Streams.{room_of, stream_in, stream_refused}
+use Rattle.bar_party_commands.specs.CasterPlan.{CasterNames, caster_key_plan, caster_plan, caster_run_plan, caster_stream_plan}
+use Rattle.bar_party_commands.specs.PeerPlan.{PeerNames, peer_key_plan, peer_plan, peer_run_plan}
+use Rattle.bar_session_files.specs.Refusals.{key_refused, session_refused}
+use Rattle.bar_party_commands.specs.Running.{RunEnds, RunEndsWith}
 use Rattle.bar_outside.proofs.Following.{Ran-nothing}
 use Rattle.bar_outside.proofs.Unlinked.{IsUnlinked}
 use Rattle.bar_node.proofs.Doing.{none-more}
-use Rattle.bar_live.proofs.Reaching.{nothing-reached, reached-unlinked}
-use Rattle.bar_live.proofs.RunFollowing.{heard-nothing}
+use Rattle.bar_party_commands.proofs.Reaching.{nothing-reached, reached-unlinked}
+use Rattle.bar_party_commands.proofs.RunFollowing.{heard-nothing}
 use Rattle.bar_cli.specs.Line.{Line, peer, broadcaster, replay, keygen, audit, judge, session_run, simulate, plan_of, reads_nothing, usage, pack, verify}
-use Rattle.bar_cli.specs.KeygenPlan.{secret_plan, leaves_for}
+use Rattle.bar_cli.specs.Keygen.Plan.{secret_plan, leaves_for}
 
 -- ---- which plan it was
 

@@ -6,13 +6,13 @@ use Rattle.bar_outside.specs.Plan.{Outside, Plan, is_stop, line_at, no_memory}
 use Rattle.bar_outside.specs.Stream.{Stream}
 use Rattle.bar_outside.specs.Ends.{EndsWith, Prints, SaysBy}
 use Rattle.bar_outside.proofs.Ending.{EndsWith-memory}
-use Rattle.bar_children.specs.Names.{SessionNames}
-use Rattle.bar_children.specs.Outcomes.{code_of}
-use Rattle.bar_children.specs.declared.outcome.Outcome.{Outcome}
-use Rattle.bar_children.specs.declared.outcome.Outcome.TheVariants.{Done, ChildFailed, OutputFailed, NoMemory}
+use Rattle.bar_child_processes.specs.Names.{SessionNames}
+use Rattle.bar_child_processes.specs.Outcomes.{code_of}
+use Rattle.bar_child_processes.specs.declared.outcome.Outcome.{Outcome}
+use Rattle.bar_child_processes.specs.declared.outcome.Outcome.TheVariants.{Done, ChildFailed, OutputFailed, NoMemory}
 use Rattle.bar_cli.specs.Line.{is_status_of, session_run}
 use Rattle.bar_cli.specs.Printing.{session_may_print}
-use Rattle.bar_cli.specs.SessionPlan.{SessionEnds, SessionGoes, SessionStopped, is_plain_end, line_of_end, session_line, session_plan}
+use Rattle.bar_cli.specs.Session.{SessionEnds, SessionGoes, SessionStopped, is_plain_end, line_of_end, session_line, session_plan}
 
 -- the statuses of its children
 pub outcome-status : (names : SessionNames) (outcome : Outcome) → IsTrue (is_status_of (Some (session_run names)) (code_of outcome))

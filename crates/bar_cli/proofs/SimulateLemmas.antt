@@ -9,7 +9,7 @@ use Rattle.bar_outside.proofs.Unlinked.{same-traffic}
 use Rattle.bar_world.specs.Ends.{sim_end}
 use Rattle.bar_world.specs.Shown.{IsEnd}
 use Rattle.bar_world.specs.declared.sim_end.SimEnd.{SimEnd}
-use Rattle.bar_cli.specs.SimulatePlan.{end_view, played_line, played_lines, simulate_plan, simulation_text, text_of}
+use Rattle.bar_cli.specs.Simulate.{end_view, played_line, played_lines, simulate_plan, simulation_text, text_of}
 use Rattle.bar_cli.proofs.UpToLemmas.{begun-shows}
 
 end-is : (seed : ℕ) (end : SimEnd) → IsEnd seed end → end_view end ≡ sim_end seed

@@ -17,12 +17,13 @@ use Rattle.bar_node.specs.Runs.{taken_of}
 use Rattle.bar_node.specs.Stops.{IsFront}
 use Rattle.bar_node.proofs.Doing.{none-more}
 use Rattle.bar_node.proofs.Yields.{front-behind, front-same}
-use Rattle.bar_live.specs.PeerPlan.{PeerNames, rules_by}
-use Rattle.bar_live.specs.PeerStands.{PeerDone, PeerStands, PeerStopped}
-use Rattle.bar_live.specs.Stands.{packets}
+use Rattle.bar_party_commands.specs.PeerPlan.{PeerNames, rules_by}
+use Rattle.bar_party_commands.specs.PeerStands.{PeerDone, PeerStands, PeerStopped}
+use Rattle.bar_party_commands.specs.Stands.{packets}
 use Rattle.bar_cli.specs.Headline.{KeepsTheRules, PeerHeadline, PeerSpoke}
 use Rattle.bar_cli.proofs.EndLemmas.{differ}
-use Rattle.bar_cli.proofs.MemberLemmas.{AreHeld, AreInRange, at-each_moment}
+use Rattle.bar_session_files.proofs.Accepted.{AreHeld, AreInRange}
+use Rattle.bar_cli.proofs.MemberLemmas.{at-each_moment}
 
 -- ---- all of the inputs before the last one that was begun was sent
 

@@ -11,24 +11,24 @@ use Rattle.bar_outside.specs.Follows.{Follows}
 use Rattle.bar_outside.specs.Ends.{EndsWith}
 use Rattle.bar_outside.specs.declared.fault.Fault.{Fault}
 use Rattle.bar_outside.specs.declared.fault.Fault.TheVariants.{File, Link, Output, NoMemory as WantOfMemory}
-use Rattle.bar_live.specs.CasterPlan.{CasterNames}
-use Rattle.bar_live.specs.PeerPlan.{PeerNames}
-use Rattle.bar_live.specs.Views.{code_of_run as live_code_of_run}
-use Rattle.bar_live.specs.declared.ended.Ended.{Ended}
-use Rattle.bar_live.specs.declared.ended.Ended.TheVariants as live
-use Rattle.bar_cli.specs.AuditPlan.{AuditFiles}
-use Rattle.bar_cli.specs.JudgePlan.{JudgeFiles}
+use Rattle.bar_party_commands.specs.CasterPlan.{CasterNames}
+use Rattle.bar_party_commands.specs.PeerPlan.{PeerNames}
+use Rattle.bar_party_commands.specs.Views.{code_of_run as live_code_of_run}
+use Rattle.bar_party_commands.specs.declared.ended.Ended.{Ended}
+use Rattle.bar_party_commands.specs.declared.ended.Ended.TheVariants as live
+use Rattle.bar_cli.specs.Audit.Plan.{AuditFiles}
+use Rattle.bar_cli.specs.Judge.Plan.{JudgeFiles}
 use Rattle.bar_cli.specs.Line.{Line, peer, broadcaster, replay, keygen, audit, judge, session_run, simulate, is_status_of, may_print, usage, pack, verify}
 use Rattle.bar_cli.specs.Printing.{audit_may_print, keygen_may_print, judge_may_print, replay_may_print}
 use Rattle.bar_cli.specs.Status.{code_of, said_at, code_of_run, is_replay_end, is_keygen_end, is_audit_end, is_judge_end, is_proof_end}
 use Rattle.bar_cli.specs.declared.status.Status.{Status}
 use Rattle.bar_cli.specs.declared.status.Status.TheVariants.{Done, NoFault, Unbalanced, Usage, FileFailed, LinkFailed, SessionRefused, KeyRefused, OutputFailed, ChildFailed, RecordingRefused, PartiesRefused, StreamRefused, SecretRefused, TableRefused, EvidenceRefused, NoMemory, ProofRefused}
 use Rattle.bar_rules.specs.Judge.Verdict.{Verdict, Shown, NotShown}
-use Rattle.bar_cli.specs.Judging.{status_of_verdict}
-use Rattle.bar_cli.specs.PackPlan.{PackFiles}
-use Rattle.bar_cli.specs.VerifyPlan.{VerifyFiles}
-use Rattle.bar_cli.specs.ReplayPlan.{ReplayFiles}
-use Rattle.bar_cli.specs.KeygenPlan.{Keygen}
+use Rattle.bar_cli.specs.Judge.Judging.{status_of_verdict}
+use Rattle.bar_cli.specs.Pack.{PackFiles}
+use Rattle.bar_cli.specs.Verify.{VerifyFiles}
+use Rattle.bar_cli.specs.Replay.Plan.{ReplayFiles}
+use Rattle.bar_cli.specs.Keygen.Plan.{Keygen}
 
 -- an outside over which nothing failed
 abbrev pub quiet : Outside

@@ -8,8 +8,8 @@ use Rattle.bar_rules.specs.Member.{Session, Member}
 use Rattle.bar_rules.specs.Runs.{played_from, sends_from}
 use Rattle.bar_rules.specs.Peer.Log.{Log}
 use Rattle.bar_rules.specs.Peer.Run.{step}
-use Rattle.bar_cli.specs.Transcript.{line_of_sent, lines_of_sends, transcript}
-use Rattle.bar_cli.specs.Turns.{turns_from, played_bytes, shown_bytes}
+use Rattle.bar_cli.specs.Replay.Transcript.{line_of_sent, lines_of_sends, transcript}
+use Rattle.bar_cli.specs.Replay.Turns.{turns_from, played_bytes, shown_bytes}
 
 -- the turns have what the rules play
 pub played-turns : (me : Member) (n : ℕ) (log : Log) (inputs : List Input) →

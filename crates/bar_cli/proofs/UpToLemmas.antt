@@ -11,7 +11,7 @@ use Rattle.bar_outside.proofs.Contents.{put_at-same}
 use Rattle.bar_outside.proofs.ActionLists.{content_after-append, shown-append, nil-cons, Begun-first, Begun-both, Begun-none, files-next, show-next, no-next, part-create}
 use Rattle.bar_outside.proofs.Stages.{part-shown}
 use Rattle.bar_outside.proofs.Unlinked.{IsUnlinked, no-link, same-traffic}
-use Rattle.bar_cli.specs.Turns.{Turn, turn_actions, turns_actions, played_bytes, shown_bytes}
+use Rattle.bar_cli.specs.Replay.Turns.{Turn, turn_actions, turns_actions, played_bytes, shown_bytes}
 use Rattle.bar_outside.proofs.Appends.{appends-same, begun-appends, no-show, shown-appends, take-more}
 use Rattle.bar_cli.proofs.ReplayLemmas.{turn-played, shown-turn}
 

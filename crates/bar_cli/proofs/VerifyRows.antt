@@ -9,11 +9,10 @@ use Rattle.bar_roster.specs.declared.fault.SessionFault.{SessionFault}
 use Rattle.bar_roster.specs.SessionText.{SessionData}
 use Rattle.bar_rules.specs.Judge.Verdict.{Verdict, Fault, Why, Shown, NotShown}
 use Rattle.bar_proof.specs.declared.proof_fault.ProofFault.{ProofFault}
-use Rattle.bar_live.specs.Accepting.{session_of}
-use Rattle.bar_live.specs.PeerPlan.{HasSession}
-use Rattle.bar_cli.specs.Judging.{verdict_of_proof, verdict_line, status_of_verdict}
-use Rattle.bar_cli.specs.JudgePlan.{saying_plan}
-use Rattle.bar_cli.specs.VerifyPlan.{VerifyFiles, VerifyAccepted, HasBadSession, HasBadProof, HasVerified, Verified, VerifiedFront, VerifyStands, IsVerifyCall, by_proof, by_session, proof_plan, verify_plan}
+use Rattle.bar_session_files.specs.Accepting.{HasSession, session_of}
+use Rattle.bar_cli.specs.Judge.Judging.{verdict_of_proof, verdict_line, status_of_verdict}
+use Rattle.bar_cli.specs.Judge.Plan.{saying_plan}
+use Rattle.bar_cli.specs.Verify.{VerifyFiles, VerifyAccepted, HasBadSession, HasBadProof, HasVerified, Verified, VerifiedFront, VerifyStands, IsVerifyCall, by_proof, by_session, proof_plan, verify_plan}
 use Rattle.bar_cli.specs.Refusals.{session_refused, proof_refused}
 use Rattle.bar_cli.proofs.EndLemmas.{differ, go-on}
 use Rattle.bar_cli.proofs.JudgeRows.{is-shown, is-not_shown, no-refusal}

@@ -7,10 +7,10 @@ use Rattle.std.specs.Option.{ok_or, option_and_then, option_map}
 use Rattle.bar_lms.specs.declared.params.Height.{Height}
 use Rattle.bar_lms.specs.declared.params.Params.{Params}
 use Rattle.bar_roster.specs.NumberRanges.{most_peers}
-use Rattle.bar_words.specs.Numbers.{id_of, number_in}
-use Rattle.bar_words.specs.Options.{texts}
-use Rattle.bar_words.specs.declared.options.WordsFault.{WordsFault}
-use Rattle.bar_words.specs.declared.options.WordsFault.TheVariants.{Usage}
+use Rattle.bar_arguments.specs.Numbers.{id_of, number_in}
+use Rattle.bar_arguments.specs.Options.{texts}
+use Rattle.bar_arguments.specs.declared.options.WordsFault.{WordsFault}
+use Rattle.bar_arguments.specs.declared.options.WordsFault.TheVariants.{Usage}
 use Rattle.bar_cli.specs.Line.{Line, asked_by, audit_line, broadcaster_line, hsskeygen_line, hsskeygen_values, judge_line, keygen, keygen_line, keygen_values, line_of, peer_line, replay_line, session_line, simulate_line, pack_line, verify_line}
 
 -- the values are found, and say what is asked for

@@ -13,9 +13,9 @@ use Rattle.bar_core.specs.Rules.{Rules}
 use Rattle.bar_findings.specs.Findings.{Finding, findings_actions}
 use Rattle.bar_node.specs.Runs.{replay_plan}
 use Rattle.bar_peer.specs.Core.{peer_rules}
-use Rattle.bar_cli.specs.Found.{found_by}
-use Rattle.bar_cli.specs.ReplayPlan.{ReplayFiles, playing_actions, replay_actions}
-use Rattle.bar_cli.specs.Turns.{Turn, turns_actions, turns_from}
+use Rattle.bar_cli.specs.Replay.Found.{found_by}
+use Rattle.bar_cli.specs.Replay.Plan.{ReplayFiles, playing_actions, replay_actions}
+use Rattle.bar_cli.specs.Replay.Turns.{Turn, turns_actions, turns_from}
 use Rattle.bar_cli.proofs.CoreTurns.{core-turns}
 
 -- the played file was not made

@@ -26,11 +26,11 @@ use Rattle.bar_laws.specs.Obedience.{IsRuled}
 use Rattle.bar_core.specs.Rules.{Send}
 use Rattle.bar_node.specs.Runs.{heard, taken_of}
 use Rattle.bar_node.specs.Stops.{IsFront}
-use Rattle.bar_live.specs.PeerPlan.{PeerNames, rules_by}
-use Rattle.bar_live.specs.PeerStands.{IsPeerOf}
-use Rattle.bar_live.specs.Stands.{packets}
-use Rattle.bar_cli.specs.ReplayPlan.{ReplayFiles, Accepted, peer_of, transcript_of}
-use Rattle.bar_cli.specs.Transcript.{transcript}
+use Rattle.bar_party_commands.specs.PeerPlan.{PeerNames, rules_by}
+use Rattle.bar_party_commands.specs.PeerStands.{IsPeerOf}
+use Rattle.bar_party_commands.specs.Stands.{packets}
+use Rattle.bar_cli.specs.Replay.Plan.{ReplayFiles, Accepted, peer_of, transcript_of}
+use Rattle.bar_cli.specs.Replay.Transcript.{transcript}
 
 -- at each moment over these inputs
 abbrev pub AtEachMoment : (Member → List Input → Type 0) → Member → List Input → Type 0

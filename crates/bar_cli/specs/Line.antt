@@ -8,20 +8,20 @@ use Rattle.bar_outside.specs.Wire.{Arrival}
 use Rattle.bar_lms.specs.declared.params.Height.{Height}
 use Rattle.bar_lms.specs.declared.params.Params.{Params}
 use Rattle.bar_roster.specs.NumberRanges.{most_long_rounds, most_peers, most_rounds}
-use Rattle.bar_words.specs.Numbers.{id_of, number_in}
-use Rattle.bar_words.specs.Options.{values_of}
-use Rattle.bar_children.specs.Names.{SessionNames}
-use Rattle.bar_live.specs.CasterPlan.{CasterNames, caster_plan}
-use Rattle.bar_live.specs.PeerPlan.{PeerNames, peer_plan}
-use Rattle.bar_cli.specs.Words.{levels_of, types_of}
-use Rattle.bar_cli.specs.ReplayPlan.{ReplayFiles, replay_plan}
-use Rattle.bar_cli.specs.KeygenPlan.{Keygen, keygen_plan, leaves_for}
-use Rattle.bar_cli.specs.AuditPlan.{AuditFiles, audit_plan}
-use Rattle.bar_cli.specs.JudgePlan.{JudgeFiles, judge_plan}
-use Rattle.bar_cli.specs.PackPlan.{PackFiles, pack_plan}
-use Rattle.bar_cli.specs.VerifyPlan.{VerifyFiles, verify_plan}
-use Rattle.bar_cli.specs.SessionPlan.{session_plan}
-use Rattle.bar_cli.specs.SimulatePlan.{simulate_plan}
+use Rattle.bar_arguments.specs.Numbers.{id_of, number_in}
+use Rattle.bar_arguments.specs.Options.{values_of}
+use Rattle.bar_child_processes.specs.Names.{SessionNames}
+use Rattle.bar_party_commands.specs.CasterPlan.{CasterNames, caster_plan}
+use Rattle.bar_party_commands.specs.PeerPlan.{PeerNames, peer_plan}
+use Rattle.bar_cli.specs.Keygen.Types.{levels_of, types_of}
+use Rattle.bar_cli.specs.Replay.Plan.{ReplayFiles, replay_plan}
+use Rattle.bar_cli.specs.Keygen.Plan.{Keygen, keygen_plan, leaves_for}
+use Rattle.bar_cli.specs.Audit.Plan.{AuditFiles, audit_plan}
+use Rattle.bar_cli.specs.Judge.Plan.{JudgeFiles, judge_plan}
+use Rattle.bar_cli.specs.Pack.{PackFiles, pack_plan}
+use Rattle.bar_cli.specs.Verify.{VerifyFiles, verify_plan}
+use Rattle.bar_cli.specs.Session.{session_plan}
+use Rattle.bar_cli.specs.Simulate.{simulate_plan}
 use Rattle.bar_cli.specs.Printing.{audit_may_print, judge_may_print, keygen_may_print, live_may_print, replay_may_print, session_may_print, simulate_may_print}
 
 -- one constructor for each command

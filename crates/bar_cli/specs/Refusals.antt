@@ -5,7 +5,8 @@ use Rattle.bar_record.specs.declared.fault.RecordFault.{RecordFault}
 use Rattle.bar_record.specs.declared.fault.RecordFault.TheVariants.{BadHead, BadEntry, NoEnd, AfterEnd, AfterLast}
 use Rattle.bar_proof.specs.declared.proof_fault.ProofFault.{ProofFault}
 use Rattle.bar_proof.specs.declared.proof_fault.ProofFault.TheVariants as proof
-pub use Rattle.bar_live.specs.Refusals.{session_refused, key_refused, stream_refused}
+pub use Rattle.bar_session_files.specs.Refusals.{key_refused, session_refused}
+pub use Rattle.bar_party_commands.specs.Streams.{stream_refused}
 
 -- the fault of a recording, with its place where it has one
 abbrev pub record_fault_text : RecordFault → List ℕ

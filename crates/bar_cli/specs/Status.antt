@@ -6,7 +6,7 @@ use Rattle.bar_outside.specs.declared.fault.Fault.{Fault}
 use Rattle.bar_cli.specs.declared.status.Status.{Status}
 use Rattle.bar_cli.specs.declared.status.Status.TheVariants.{Done, NoFault, Unbalanced, Usage, FileFailed, LinkFailed, SessionRefused, KeyRefused, OutputFailed, ChildFailed, RecordingRefused, PartiesRefused, StreamRefused, SecretRefused, TableRefused, EvidenceRefused, NoMemory, ProofRefused}
 use Rattle.bar_cli.specs.Line.{usage}
-use Rattle.bar_cli.specs.SessionPlan.{child_failed}
+use Rattle.bar_cli.specs.Session.{child_failed}
 use Rattle.bar_cli.specs.Refusals.{session_refused, key_refused, recording_refused, parties_refused, stream_refused, secret_refused, table_refused, evidence_refused, proof_refused}
 
 abbrev pub code_of : Status → ℕ

@@ -1,25 +1,25 @@
 -- What a command in the code stands for.
 use Rattle.std.specs.Prelude.{ℕ}
-use Rattle.bar_children.specs.Views as children
-use Rattle.bar_children.specs.declared.session_names.SessionNames.{SessionNames}
-use Rattle.bar_live.specs.Views as live
-use Rattle.bar_live.specs.declared.caster_names.CasterNames.{CasterNames}
-use Rattle.bar_live.specs.declared.peer_names.PeerNames.{PeerNames}
-use Rattle.bar_cli.specs.declared.replay_names.ReplayNames.{ReplayNames}
-use Rattle.bar_cli.specs.declared.keygen_words.KeygenWords.{KeygenWords}
-use Rattle.bar_cli.specs.declared.audit_names.AuditNames.{AuditNames}
-use Rattle.bar_cli.specs.declared.judge_names.JudgeNames.{JudgeNames}
-use Rattle.bar_cli.specs.declared.pack_names.PackNames.{PackNames}
-use Rattle.bar_cli.specs.declared.verify_names.VerifyNames.{VerifyNames}
+use Rattle.bar_child_processes.specs.Views as children
+use Rattle.bar_child_processes.specs.declared.session_names.SessionNames.{SessionNames}
+use Rattle.bar_party_commands.specs.Views as live
+use Rattle.bar_party_commands.specs.declared.caster_names.CasterNames.{CasterNames}
+use Rattle.bar_party_commands.specs.declared.peer_names.PeerNames.{PeerNames}
+use Rattle.bar_cli.specs.declared.replay.names.ReplayNames.{ReplayNames}
+use Rattle.bar_cli.specs.declared.keygen.words.KeygenWords.{KeygenWords}
+use Rattle.bar_cli.specs.declared.audit.names.AuditNames.{AuditNames}
+use Rattle.bar_cli.specs.declared.judge.names.JudgeNames.{JudgeNames}
+use Rattle.bar_cli.specs.declared.pack.names.PackNames.{PackNames}
+use Rattle.bar_cli.specs.declared.verify.names.VerifyNames.{VerifyNames}
 use Rattle.bar_cli.specs.declared.line.Command.{Command}
 use Rattle.bar_cli.specs.declared.line.Command.TheVariants.{Peer, Broadcaster, Replay, Keygen, Audit, Judge, Session, Simulate, Pack, Verify}
-use Rattle.bar_cli.specs.ReplayPlan.{ReplayFiles}
-use Rattle.bar_cli.specs.KeygenPlan as plan
-use Rattle.bar_cli.specs.AuditPlan.{AuditFiles}
-use Rattle.bar_cli.specs.JudgePlan.{JudgeFiles}
+use Rattle.bar_cli.specs.Replay.Plan.{ReplayFiles}
+use Rattle.bar_cli.specs.Keygen.Plan as plan
+use Rattle.bar_cli.specs.Audit.Plan.{AuditFiles}
+use Rattle.bar_cli.specs.Judge.Plan.{JudgeFiles}
 use Rattle.bar_cli.specs.Line.{Line, peer, broadcaster, replay, keygen, audit, judge, session_run, simulate, pack, verify}
-use Rattle.bar_cli.specs.PackPlan.{PackFiles}
-use Rattle.bar_cli.specs.VerifyPlan.{VerifyFiles}
+use Rattle.bar_cli.specs.Pack.{PackFiles}
+use Rattle.bar_cli.specs.Verify.{VerifyFiles}
 
 abbrev pub names_view : ReplayNames → ReplayFiles
 names_view names =

@@ -5,21 +5,26 @@ ghost use Rattle.bar_outside.specs.Ends.{EndsWith};
 ghost use Rattle.bar_rules.specs.Member.{Session as RulesSession};
 ghost use Rattle.bar_audit.specs.Audits.{Audits};
 ghost use Rattle.bar_audit.specs.Recordings.{Recording};
-ghost use Rattle.bar_cli.specs.AuditPlan.{audit_plan, is_range, parties_plan, telling_plan};
-ghost use Rattle.bar_cli.specs.AuditText.{status_of_balance};
+ghost use Rattle.bar_cli.specs.Audit.Plan.{audit_plan, is_range, parties_plan, telling_plan};
+ghost use Rattle.bar_cli.specs.Audit.Text.{status_of_balance};
 ghost use Rattle.bar_cli.specs.Printing.{audit_may_print};
 ghost use Rattle.bar_cli.specs.Status.{code_of, code_of_run, is_audit_end, said_at, said_by_run};
 ghost use Rattle.bar_cli.specs.Views.{audit_view};
 
-use crate::audit_names::AuditNames;
-use crate::audit_text::audit_text;
-use crate::auditing::read_recordings;
+pub mod laws;
+pub mod names;
+mod recordings;
+mod text;
+
+use crate::audit::names::AuditNames;
+use crate::audit::recordings::read_recordings;
+use crate::audit::text::audit_text;
 use crate::status::Status;
 use bar_audit::Audit;
 use bar_audit::laws::recorded_exchanges_are_one_list;
-use bar_live::read_session;
 use bar_outside::{Fault, Files, Sink, read_file, show_bytes};
 use bar_roster::{Session, SessionFault};
+use bar_session_files::read_session;
 use bar_window::Exchange;
 use std::alloc::Global;
 

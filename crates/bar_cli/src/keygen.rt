@@ -4,12 +4,17 @@ ghost use Rattle.bar_outside.specs.Plan.{Outside, with_files, with_out};
 ghost use Rattle.bar_outside.specs.Ends.{EndsWith};
 ghost use Rattle.bar_lms.specs.Params.{lms_type};
 ghost use Rattle.bar_roster.specs.KeyText.{key_text_of};
-ghost use Rattle.bar_cli.specs.KeygenPlan.{HasFewLeaves, anchor_for, anchor_line, key_line, key_made, keygen_plan, leaves_for, lines_of, public_of, secret_of, secret_plan};
+ghost use Rattle.bar_cli.specs.Keygen.Plan.{HasFewLeaves, anchor_for, anchor_line, key_line, key_made, keygen_plan, leaves_for, lines_of, public_of, secret_of, secret_plan};
 ghost use Rattle.bar_cli.specs.Printing.{keygen_may_print};
 ghost use Rattle.bar_cli.specs.Status.{code_of_run, said_by_run, is_keygen_end};
 ghost use Rattle.bar_cli.specs.Views.{keygen_view};
 
-use crate::keygen_words::KeygenWords;
+pub mod key_types;
+pub mod laws;
+pub mod types;
+pub mod words;
+
+use crate::keygen::words::KeygenWords;
 use crate::making::{Made, make_file};
 use crate::status::Status;
 use bar_hss::HssKey;
@@ -174,7 +179,7 @@ fn double_key(
 }
 
 // The end of the secret's chain of seeds.
-#[tactic(auto, unfolding(crate::specs::KeygenPlan::anchor_for))]
+#[tactic(auto, unfolding(crate::specs::Keygen::Plan::anchor_for))]
 fn anchor_for(
     alloc: Global,
     asked: &KeygenWords<'_>,

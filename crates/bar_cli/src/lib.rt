@@ -2,66 +2,49 @@
 #![tactic(auto)]
 
 mod audit;
-mod audit_laws;
-mod audit_names;
-mod audit_text;
-mod auditing;
 mod judge;
-mod judge_laws;
-mod judge_names;
-mod judging;
-mod key_types;
 mod keygen;
-mod keygen_laws;
-mod keygen_words;
-mod laws;
 mod line;
 mod making;
 mod pack;
-mod pack_laws;
-mod pack_names;
-mod proving;
 mod reading;
 mod replay;
-mod replay_names;
 mod run;
 mod session;
-mod simulating;
+mod simulate;
 mod status;
+mod verifier;
 mod verify;
-mod verify_laws;
-mod verify_names;
-mod words;
 
-pub use audit_laws::{
+pub use audit::laws::{
     a_front_of_an_audit_is_printed, an_audit_fails_only, an_audit_is_told,
     an_audit_is_told_where_all_is_accepted, an_audit_refuses_a_bad_session,
     an_audit_refuses_bad_parties_and_recordings, an_audit_stays,
 };
-pub use judge_laws::{
+pub use judge::laws::{
     a_bad_session_is_refused, a_bad_table_or_evidence_is_refused,
     a_front_of_the_verdict_is_printed, a_judge_changes_nothing, a_judge_fails_only,
     the_verdict_is_printed, the_verdict_is_printed_where_all_is_accepted,
 };
-pub use keygen_laws::{
+pub use keygen::laws::{
     a_front_of_the_key_is_made, key_made_exactly, key_made_where_all_is_accepted,
     keygen_failed_only, leaves_refused_exactly, only_the_key_is_changed,
     output_fails_behind_the_key, refused_keys_change_nothing, secret_refused_exactly,
 };
-pub use laws::{
-    a_finished_recording_is_replayed, a_front_is_played, a_replay_keeps_the_rules,
-    a_replay_stops_in_order, done_exactly, done_where_all_is_accepted, file_failed_only,
-    input_refused_exactly, key_refused_exactly, only_its_files_are_changed, output_failed_only,
-    refusals_change_nothing, session_refused_exactly,
-};
-pub use pack_laws::{
+pub use pack::laws::{
     a_bad_session_is_not_packed, a_bad_table_or_evidence_is_not_packed,
     a_front_of_the_proof_is_made, a_proof_is_packed, a_proof_is_packed_where_all_is_accepted,
     only_the_proof_is_changed, output_fails_behind_the_proof, packing_fails_only,
     refused_packing_changes_nothing,
 };
+pub use replay::laws::{
+    a_finished_recording_is_replayed, a_front_is_played, a_replay_keeps_the_rules,
+    a_replay_stops_in_order, done_exactly, done_where_all_is_accepted, file_failed_only,
+    input_refused_exactly, key_refused_exactly, only_its_files_are_changed, output_failed_only,
+    refusals_change_nothing, session_refused_exactly,
+};
 pub use run::bar_run;
-pub use verify_laws::{
+pub use verify::laws::{
     a_bad_proof_is_refused, a_bad_session_is_not_verified,
     a_front_of_the_proofs_verdict_is_printed, the_proof_is_judged,
     the_proof_is_judged_where_all_is_accepted, verifying_changes_nothing, verifying_fails_only,

@@ -1,25 +1,25 @@
 //! The words of the command line.
 ghost use Rattle.std.specs.Prelude.{◌≡◌, ◌≤◌, Some, None, Err, IfOk, map, string_bytes};
 ghost use Rattle.std.specs.Option.{option_map};
-ghost use Rattle.bar_words.specs.Options.{texts};
-ghost use Rattle.bar_words.specs.declared.options.WordsFault.TheVariants.{Usage};
+ghost use Rattle.bar_arguments.specs.Options.{texts};
+ghost use Rattle.bar_arguments.specs.declared.options.WordsFault.TheVariants.{Usage};
 ghost use Rattle.bar_cli.specs.Line.{audit_line, audit_values, broadcaster_line, broadcaster_values, asked_by, hsskeygen_line, hsskeygen_values, judge_files, judge_line, keygen_line, keygen_values, line_of, peer_line, peer_values, replay_files, replay_line, session_line, session_values, simulate_line, simulate_values, pack_files, pack_line, verify_files, verify_line};
-ghost use Rattle.bar_cli.specs.Words.{types_view};
+ghost use Rattle.bar_cli.specs.Keygen.Types.{types_view};
 ghost use Rattle.bar_roster.specs.NumberRanges.{most_long_rounds};
 ghost use Rattle.bar_cli.specs.Views.{asked_view, audited_view, broadcaster_view, command_view, judged_view, peer_view, replay_view, seed_view, session_view, packed_view, verified_view};
 
-use crate::audit_names::AuditNames;
-use crate::judge_names::JudgeNames;
-use crate::key_types::KeyTypes;
-use crate::keygen_words::KeygenWords;
-use crate::pack_names::PackNames;
-use crate::replay_names::ReplayNames;
-use crate::verify_names::VerifyNames;
-use crate::words::{levels_of, types_of};
-use bar_children::SessionNames;
-use bar_live::{CasterNames, PeerNames};
+use crate::audit::names::AuditNames;
+use crate::judge::names::JudgeNames;
+use crate::keygen::key_types::KeyTypes;
+use crate::keygen::types::{levels_of, types_of};
+use crate::keygen::words::KeygenWords;
+use crate::pack::names::PackNames;
+use crate::replay::names::ReplayNames;
+use crate::verify::names::VerifyNames;
+use bar_arguments::{WordsFault, id_of, number_in, option_values};
+use bar_child_processes::SessionNames;
+use bar_party_commands::{CasterNames, PeerNames};
 use bar_roster::{MOST_LONG_ROUNDS, MOST_PEERS, MOST_ROUNDS};
-use bar_words::{WordsFault, id_of, number_in, option_values};
 use std::alloc::Global;
 
 /// A command, with what its words say.

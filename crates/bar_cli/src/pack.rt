@@ -5,23 +5,27 @@ ghost use Rattle.bar_outside.specs.Ends.{EndsWith};
 ghost use Rattle.bar_judge.specs.Verdicts.{plain_why};
 ghost use Rattle.bar_proof.specs.Packing.{IsPacked, IsRefused};
 ghost use Rattle.bar_rules.specs.Judge.Verdict.{NotShown};
-ghost use Rattle.bar_cli.specs.JudgePlan.{saying_plan};
-ghost use Rattle.bar_cli.specs.Judging.{lists_of};
-ghost use Rattle.bar_cli.specs.PackPlan.{by_lists, evidence_plan, pack_plan, packed_line, table_plan};
+ghost use Rattle.bar_cli.specs.Judge.Plan.{saying_plan};
+ghost use Rattle.bar_cli.specs.Judge.Judging.{lists_of};
+ghost use Rattle.bar_cli.specs.Pack.{by_lists, evidence_plan, pack_plan, packed_line, table_plan};
 ghost use Rattle.bar_cli.specs.Printing.{judge_may_print};
 ghost use Rattle.bar_cli.specs.Status.{code_of, code_of_run, is_proof_end, said_by_run};
 ghost use Rattle.bar_cli.specs.Views.{packing_view};
 
+pub mod laws;
+pub mod names;
+mod packing;
+
 use crate::judge::say_verdict;
 use crate::making::{Made, make_file};
-use crate::pack_names::PackNames;
-use crate::proving::pack_evidence;
+use crate::pack::names::PackNames;
+use crate::pack::packing::pack_evidence;
 use crate::status::Status;
 use bar_judge::Verdict;
-use bar_live::read_session;
 use bar_outside::{Fault, Files, Sink, read_file};
 use bar_proof::PackFault;
 use bar_roster::{Session, SessionFault};
+use bar_session_files::read_session;
 use std::alloc::{AllocError, Global};
 
 /// Reads the session and goes on, if it is accepted.

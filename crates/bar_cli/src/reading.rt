@@ -1,29 +1,16 @@
-//! Reading the files of a replay.
-ghost use Rattle.std.specs.Prelude.{◌≡◌, ◌≤◌, ◌⊎◌, Ok, Err, IfOk, IfErr, false};
+//! Reading a recording.
+ghost use Rattle.std.specs.Prelude.{◌≡◌, ◌≤◌, Ok, Err, IfOk, IfErr};
 ghost use Rattle.bar_record.specs.Inputs.{inputs_left};
 ghost use Rattle.bar_record.specs.Pacing.{paced};
-ghost use Rattle.bar_hss.specs.Files.{IsPartyKeyOf};
 ghost use Rattle.bar_roster.specs.Time.{last_tick};
-ghost use Rattle.bar_cli.specs.AuditPlan.{inputs_listed};
-ghost use Rattle.bar_cli.specs.Replay.{recording_of, secrets_of_key};
+ghost use Rattle.bar_cli.specs.Audit.Plan.{inputs_listed};
+ghost use Rattle.bar_cli.specs.Replay.Recordings.{recording_of};
 
-use bar_hss::PartyKey;
 use bar_record::{Items, RecordFault, read};
-use bar_roster::{KeyFileFault, Session};
-use std::alloc::Global;
-
-/// The key of a peer of the session, spent or not.
-#[tactic(auto, unfolding(crate::specs::Replay::secrets_of_key))]
-pub fn read_key(alloc: Global, bytes: &[u8], session: &Session) -> Result<PartyKey, KeyFileFault>
-    ensures ok { IfOk result (λ key. secrets_of_key session.now bytes.now ≡ Ok key.secrets) }
-    ensures err { IfErr result (λ fault. (fault ≡ KeyFileFault.NoMemory) ⊎ (secrets_of_key session.now bytes.now ≡ Err fault)) }
-    ensures fits { IfOk result (IsPartyKeyOf session.now false) }
-{
-    PartyKey::read(alloc, bytes, session, false, false)
-}
+use bar_roster::Session;
 
 /// The inputs of a party's recording that bytes spell under a session, as they stand in it.
-#[tactic(auto, unfolding(crate::specs::AuditPlan::inputs_listed, crate::specs::Replay::recording_of))]
+#[tactic(auto, unfolding(crate::specs::Audit::Plan::inputs_listed, crate::specs::Replay::Recordings::recording_of))]
 pub fn read_recording<'a>(
     session: &Session,
     party: u16,

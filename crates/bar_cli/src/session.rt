@@ -1,17 +1,17 @@
 //! The command `session`.
 ghost use Rattle.std.specs.Prelude.{◌≡◌, false, Some, IsTrue};
 ghost use Rattle.bar_outside.specs.Plan.{Outside, with_files, with_out};
-ghost use Rattle.bar_children.specs.Views.{names_view};
+ghost use Rattle.bar_child_processes.specs.Views.{names_view};
 ghost use Rattle.bar_cli.specs.Line.{is_status_of, session_run};
 ghost use Rattle.bar_cli.specs.Printing.{session_may_print};
-ghost use Rattle.bar_cli.specs.SessionPlan.{SessionEnds};
+ghost use Rattle.bar_cli.specs.Session.{SessionEnds};
 ghost use Rattle.bar_cli.specs.Status.{code_of_run, said_by_run};
 
 use crate::status::Status;
-use bar_children::{SessionNames, run_children};
-use bar_live::read_session;
+use bar_child_processes::{SessionNames, run_children};
 use bar_outside::{Fault, Files, Sink, Spawner, read_file};
 use bar_roster::SessionFault;
+use bar_session_files::read_session;
 use std::alloc::Global;
 
 /// Reads the session, and runs its children, if it is accepted.

@@ -2,14 +2,14 @@
 ghost use Rattle.std.specs.Prelude.{◌≡◌, ◌⊎◌, ℕ, List, IfOk, Err, string_bytes};
 ghost use Rattle.bar_outside.specs.Ends.{Prints};
 ghost use Rattle.bar_cli.specs.Refusals.{session_refused, key_refused, record_fault_text, recording_refused, stream_refused, proof_fault_text, proof_refused, secret_refused, table_refused};
-ghost use Rattle.bar_live.specs.Views.{code_of as live_code_of, said_at as live_said_at, code_of_run as live_code_of_run, said_by_run as live_said_by_run};
-ghost use Rattle.bar_children.specs.Outcomes.{code_of as outcome_code};
-ghost use Rattle.bar_cli.specs.SessionPlan.{line_of_end};
+ghost use Rattle.bar_party_commands.specs.Views.{code_of as live_code_of, said_at as live_said_at, code_of_run as live_code_of_run, said_by_run as live_said_by_run};
+ghost use Rattle.bar_child_processes.specs.Outcomes.{code_of as outcome_code};
+ghost use Rattle.bar_cli.specs.Session.{line_of_end};
 ghost use Rattle.bar_cli.specs.Status.{code_of, said_at, code_of_run, said_by_run};
 
-use bar_children::Outcome;
-use bar_live::Ended;
+use bar_child_processes::Outcome;
 use bar_outside::{Fault, Sink, SinkFault};
+use bar_party_commands::Ended;
 use bar_proof::ProofFault;
 use bar_record::RecordFault;
 use bar_roster::{KeyFileFault, SessionFault};

@@ -2,19 +2,23 @@
 ghost use Rattle.std.specs.Prelude.{◌≡◌, false, IfOk, IsTrue};
 ghost use Rattle.bar_outside.specs.Plan.{Outside, with_files, with_out};
 ghost use Rattle.bar_outside.specs.Ends.{EndsWith};
-ghost use Rattle.bar_cli.specs.VerifyPlan.{proof_plan, verify_plan};
+ghost use Rattle.bar_cli.specs.Verify.{proof_plan, verify_plan};
 ghost use Rattle.bar_cli.specs.Printing.{judge_may_print};
 ghost use Rattle.bar_cli.specs.Status.{code_of, code_of_run, is_proof_end, said_by_run};
 ghost use Rattle.bar_cli.specs.Views.{verify_view};
 
+mod judging;
+pub mod laws;
+pub mod names;
+
 use crate::judge::say_verdict;
-use crate::proving::judge_file;
 use crate::status::Status;
-use crate::verify_names::VerifyNames;
-use bar_live::read_session;
+use crate::verify::judging::judge_file;
+use crate::verify::names::VerifyNames;
 use bar_outside::{Fault, Files, Sink, read_file};
 use bar_proof::ProofFault;
 use bar_roster::{Session, SessionFault};
+use bar_session_files::read_session;
 use std::alloc::Global;
 
 /// Reads the session and goes on, if it is accepted.

@@ -4,9 +4,11 @@
 #![tactic(auto)]
 
 #[cfg(test)]
+mod argument_tests;
+#[cfg(test)]
 mod audit_tests;
 #[cfg(test)]
-mod children_tests;
+mod child_process_tests;
 #[cfg(test)]
 mod cli_tests;
 #[cfg(test)]
@@ -16,16 +18,14 @@ mod judge_tests;
 #[cfg(test)]
 mod keygen_tests;
 #[cfg(test)]
-mod live_tests;
-#[cfg(test)]
 mod node_tests;
 #[cfg(test)]
 mod outcome;
 #[cfg(test)]
 mod outside_tests;
 #[cfg(test)]
+mod party_command_tests;
+#[cfg(test)]
 mod proof_tests;
 #[cfg(test)]
 mod session_tests;
-#[cfg(test)]
-mod words_tests;

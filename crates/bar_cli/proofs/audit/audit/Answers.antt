@@ -5,7 +5,7 @@ use Rattle.std.proofs.lemmas.Result.{err_from_is_err_and}
 use Rattle.bar_outside.specs.Plan.{with_out}
 use Rattle.bar_outside.proofs.Ending.{EndsWith-reading, EndsWith-accepted, EndsWith-refused, EndsWith-ending, EndsWith-memory, EndsWith-unread}
 use Rattle.bar_cli.specs.Refusals.{session_refused}
-use Rattle.bar_live.specs.Accepting.{session_of}
+use Rattle.bar_session_files.specs.Accepting.{session_of}
 use Rattle.bar_cli.proofs.audit.audit.Goals as goal
 
 pub returns-in-Ok-clause-ends : goal.returns-in-Ok-clause-ends

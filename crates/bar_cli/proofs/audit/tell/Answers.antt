@@ -2,8 +2,8 @@ use Rattle.std.proofs.Common.{◌≡◌, ◌∷◌, [], List, ℕ, Ok, Err, Opti
 use Rattle.std.proofs.lemmas.Result.{err_from_is_err_and}
 use Rattle.bar_outside.specs.Plan.Action.{show}
 use Rattle.bar_outside.proofs.Ending.{EndsWith-doing, EndsWith-memory}
-use Rattle.bar_cli.specs.AuditPlan.{audit_text, balance_of}
-use Rattle.bar_cli.specs.AuditText.{status_of_balance}
+use Rattle.bar_cli.specs.Audit.Plan.{audit_text, balance_of}
+use Rattle.bar_cli.specs.Audit.Text.{status_of_balance}
 use Rattle.bar_cli.proofs.AuditRows.{told-on}
 use Rattle.bar_cli.proofs.AuditLemmas.{balance-told, text-told}
 use Rattle.bar_cli.proofs.StatusLemmas.{never-file, never-link, quiet, untold-at}

@@ -3,7 +3,7 @@ use Rattle.std.proofs.lemmas.Result.{err_from_is_err_and}
 use Rattle.bar_outside.specs.Plan.{with_out}
 use Rattle.bar_outside.proofs.Ending.{EndsWith-reading, EndsWith-accepted, EndsWith-refused, EndsWith-doing, EndsWith-ending, EndsWith-memory, EndsWith-unread}
 use Rattle.bar_roster.specs.KeyText.{key_text_of}
-use Rattle.bar_cli.specs.KeygenPlan.{key_made, keygen_actions, lines_of}
+use Rattle.bar_cli.specs.Keygen.Plan.{key_made, keygen_actions, lines_of}
 use Rattle.bar_cli.specs.Refusals.{secret_refused}
 use Rattle.bar_cli.specs.Views.{keygen_view}
 use Rattle.bar_cli.proofs.MadeFiles.{can-make, made-of}

@@ -2,7 +2,7 @@ use Rattle.std.proofs.Common.{◌∙◌, sym, ap, Option}
 use Rattle.bar_lms.specs.Schemes.{public_by}
 use Rattle.bar_lms.specs.Secret.{Secret, public_key}
 use Rattle.bar_lms.specs.declared.params.Height.{Height}
-use Rattle.bar_cli.specs.KeygenPlan.{public_of}
+use Rattle.bar_cli.specs.Keygen.Plan.{public_of}
 use Rattle.bar_cli.proofs.keygen.single_key.Goals as goal
 
 pub returns : goal.returns

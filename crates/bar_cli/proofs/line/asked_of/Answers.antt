@@ -1,4 +1,4 @@
-use Rattle.bar_cli.specs.Words.{types_view}
+use Rattle.bar_cli.specs.Keygen.Types.{types_view}
 use Rattle.std.proofs.Common.{◌≡◌, Some, ap, sym}
 use Rattle.std.specs.Prelude.{option_map}
 use Rattle.bar_cli.proofs.WordLemmas.{keygen-asked}

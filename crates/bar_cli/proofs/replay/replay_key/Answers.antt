@@ -6,8 +6,8 @@ use Rattle.bar_record.specs.Inputs.{inputs_left}
 use Rattle.bar_record.specs.Pacing.{paced}
 use Rattle.bar_roster.specs.Time.{last_tick}
 use Rattle.bar_rules.specs.Members.{member_by}
-use Rattle.bar_cli.specs.Found.{found_by}
-use Rattle.bar_cli.specs.ReplayPlan.{replay_actions, turns_of}
+use Rattle.bar_cli.specs.Replay.Found.{found_by}
+use Rattle.bar_cli.specs.Replay.Plan.{replay_actions, turns_of}
 use Rattle.bar_cli.specs.Refusals.{recording_refused}
 use Rattle.bar_cli.specs.Views.{names_view}
 use Rattle.bar_cli.proofs.ReplayLemmas.{can-replay}

@@ -7,14 +7,14 @@ use Rattle.bar_outside.specs.Plan.{with_out}
 use Rattle.bar_outside.specs.declared.files.FileFault.{FileFault}
 use Rattle.bar_outside.specs.declared.files.FileFault.TheVariants as file
 use Rattle.bar_outside.proofs.Ending.{EndsWith-reading, EndsWith-accepted, EndsWith-refused, EndsWith-ending, EndsWith-memory, EndsWith-unread}
-use Rattle.bar_children.specs.Names.{SessionNames}
-use Rattle.bar_children.specs.Sessions.{SessionRan}
-use Rattle.bar_children.specs.Views.{names_view}
-use Rattle.bar_live.specs.Accepting.{session_of}
+use Rattle.bar_child_processes.specs.Names.{SessionNames}
+use Rattle.bar_child_processes.specs.Sessions.{SessionRan}
+use Rattle.bar_child_processes.specs.Views.{names_view}
+use Rattle.bar_session_files.specs.Accepting.{session_of}
 use Rattle.bar_cli.specs.Line.{is_status_of, session_run}
 use Rattle.bar_cli.specs.Printing.{session_may_print}
 use Rattle.bar_cli.specs.Refusals.{session_refused}
-use Rattle.bar_cli.specs.SessionPlan.{line_of_end}
+use Rattle.bar_cli.specs.Session.{line_of_end}
 use Rattle.bar_cli.proofs.SessionLemmas.{outcome-late, outcome-prints, outcome-status}
 use Rattle.bar_cli.proofs.session.session.Goals as goal
 

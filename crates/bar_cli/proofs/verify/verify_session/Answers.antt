@@ -5,7 +5,7 @@ use Rattle.bar_outside.proofs.Ending.{EndsWith-reading, EndsWith-accepted, EndsW
 use Rattle.bar_judge.specs.Verdicts.{plain_verdict}
 use Rattle.bar_proof.specs.declared.proof_fault.ProofFault.{ProofFault}
 use Rattle.bar_proof.specs.declared.proof_fault.ProofFault.TheVariants.{NoMemory}
-use Rattle.bar_cli.specs.Judging.{verdict_of_proof}
+use Rattle.bar_cli.specs.Judge.Judging.{verdict_of_proof}
 use Rattle.bar_cli.specs.Refusals.{proof_refused}
 use Rattle.bar_cli.proofs.StatusLemmas.{proof-end}
 use Rattle.bar_cli.proofs.verify.verify_session.Goals as goal

@@ -1,0 +1,60 @@
+-- What `clap` takes, computed at words that are written out.
+use Rattle.std.proofs.Common.{◌≡◌, refl, [], ◌∷◌, codes}
+use Rattle.std.specs.Prelude.{Some, None}
+use Rattle.clap.proofs.OnLiterals.{clap_on_literals}
+use Rattle.bar_arguments.specs.Options.{is_taken, options_of, value_of, values_of}
+use Rattle.bar_arguments.specs.Worked.{names}
+
+-- in any order, in both forms; the values are in the order of the names
+pub pairs-line : values_of names (codes "--found" ∷ codes "f" ∷ codes "--key=k" ∷ []) ≡ Some (codes "k" ∷ codes "f" ∷ [])
+unfolding clap_on_literals is_taken value_of options_of names
+pairs-line = refl
+
+-- an empty value
+pub empty-line : values_of names (codes "--found" ∷ [] ∷ codes "--key=" ∷ []) ≡ Some ([] ∷ [] ∷ [])
+unfolding clap_on_literals is_taken value_of options_of names
+empty-line = refl
+
+-- a lone dash is a value
+pub dash-line : values_of names (codes "--found" ∷ codes "-" ∷ codes "--key=k" ∷ []) ≡ Some (codes "k" ∷ codes "-" ∷ [])
+unfolding clap_on_literals is_taken value_of options_of names
+dash-line = refl
+
+-- another word that begins with a dash is none, but behind an equals sign
+pub dashed-line : values_of names (codes "--found" ∷ codes "-f" ∷ codes "--key=k" ∷ []) ≡ None
+unfolding clap_on_literals is_taken value_of options_of names
+dashed-line = refl
+
+pub dashes-line : values_of names (codes "--found" ∷ codes "--" ∷ codes "f" ∷ codes "--key=k" ∷ []) ≡ None
+unfolding clap_on_literals is_taken value_of options_of names
+dashes-line = refl
+
+pub equals-line : values_of names (codes "--found=--key" ∷ codes "--key=a=b" ∷ []) ≡ Some (codes "a=b" ∷ codes "--key" ∷ [])
+unfolding clap_on_literals is_taken value_of options_of names
+equals-line = refl
+
+-- twice, missing, a stray word, help, a name cut short
+pub twice-line : values_of names (codes "--found=f" ∷ codes "--key=k" ∷ codes "--key=k" ∷ []) ≡ None
+unfolding clap_on_literals is_taken value_of options_of names
+twice-line = refl
+
+pub missing-line : values_of names (codes "--found=f" ∷ []) ≡ None
+unfolding clap_on_literals is_taken value_of options_of names
+missing-line = refl
+
+pub stray-line : values_of names (codes "--found=f" ∷ codes "x" ∷ codes "--key=k" ∷ []) ≡ None
+unfolding clap_on_literals is_taken value_of options_of names
+stray-line = refl
+
+pub help-line : values_of names (codes "--found=f" ∷ codes "--key=k" ∷ codes "--help" ∷ []) ≡ None
+unfolding clap_on_literals is_taken value_of options_of names
+help-line = refl
+
+pub short-line : values_of names (codes "--found=f" ∷ codes "--ke=k" ∷ []) ≡ None
+unfolding clap_on_literals is_taken value_of options_of names
+short-line = refl
+
+-- a `--` at the end takes nothing away
+pub end-line : values_of names (codes "--found=f" ∷ codes "--key=k" ∷ codes "--" ∷ []) ≡ Some (codes "k" ∷ codes "f" ∷ [])
+unfolding clap_on_literals is_taken value_of options_of names
+end-line = refl

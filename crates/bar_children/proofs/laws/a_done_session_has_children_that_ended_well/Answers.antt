@@ -1,5 +1,0 @@
-use Rattle.bar_children.proofs.LawLemmas.{done}
-use Rattle.bar_children.proofs.laws.a_done_session_has_children_that_ended_well.Goals as goal
-
-pub returns : goal.returns
-returns c = done

@@ -1,5 +1,0 @@
-use Rattle.bar_children.proofs.LawLemmas.{failed_output}
-use Rattle.bar_children.proofs.laws.a_failed_output_is_counted.Goals as goal
-
-pub returns : goal.returns
-returns c = failed_output

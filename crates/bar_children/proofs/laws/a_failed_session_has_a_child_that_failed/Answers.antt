@@ -1,5 +1,0 @@
-use Rattle.bar_children.proofs.LawLemmas.{failed}
-use Rattle.bar_children.proofs.laws.a_failed_session_has_a_child_that_failed.Goals as goal
-
-pub returns : goal.returns
-returns c = failed

@@ -1,5 +1,0 @@
-use Rattle.bar_children.proofs.LawLemmas.{faultless}
-use Rattle.bar_children.proofs.laws.sessions_without_faults_are_told_by_their_children.Goals as goal
-
-pub returns : goal.returns
-returns c = faultless

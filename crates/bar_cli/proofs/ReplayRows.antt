@@ -1,0 +1,510 @@
+-- The rows of the status table, from how a replay ended.
+use Rattle.std.proofs.Common.{◌≡◌, ◌⊎◌, ◌==◌, ℕ, List, [], ◌∷◌, ◌++◌, true, false, IsTrue, Option, Some, None, Result, Ok, Err, refl, sym, ap, ◌∙◌, subst, IsSomeAnd, inl, inr, map, take, length, ◌≢◌, ◌<◌, ◌^◌, append-nil, append_assoc, arith}
+use Rattle.std.proofs.Math.Seq.{take-length}
+use Rattle.std.specs.List.{AllByRecursion}
+use Rattle.bar_outside.specs.Disk.{Content, Failure, readable}
+use Rattle.bar_outside.specs.Plan.{Outside, Plan, Begun, Reached, IsShowNext, Names, Touches, accepting, ending, content_after, shown, is_stop, Action}
+use Rattle.bar_outside.specs.Plan.Action.{append, show}
+use Rattle.bar_outside.specs.Stages.{Went, IsUnchanged, ReadsFirst, EndsThere, NamesFirst}
+use Rattle.bar_outside.proofs.ActionLists.{Names-split, Reached-both, content_after-append, shown-append}
+use Rattle.bar_outside.proofs.Appends.{named-appends, touched-appends}
+use Rattle.bar_outside.proofs.Unlinked.{IsUnlinked, unlinked-accepting, unlinked-reading}
+use Rattle.bar_outside.proofs.Untouched.{Touches-split, untouched-reached}
+use Rattle.bar_wire.specs.Inputs.{Input}
+use Rattle.bar_seeds.specs.declared.secrets.Secrets.{Secrets}
+use Rattle.bar_roster.specs.declared.fault.SessionFault.{SessionFault}
+use Rattle.bar_roster.specs.declared.key_fault.KeyFileFault.{KeyFileFault}
+use Rattle.bar_roster.specs.SessionText.{SessionData}
+use Rattle.bar_record.specs.declared.fault.RecordFault.{RecordFault}
+use Rattle.bar_rules.specs.Member.{Member}
+use Rattle.bar_rules.specs.Peer.Run.{played_by}
+use Rattle.bar_rules.specs.Members.{member_by}
+use Rattle.bar_findings.specs.Findings.{Finding, IsFindingName, IsWrittenUpTo, findings_actions}
+use Rattle.bar_findings.proofs.Holding.{AreWritten, begun-others, evidence-there, named-findings, silent-findings, table-there, touched-findings, written-front, written-since}
+use Rattle.bar_findings.proofs.Lists.{all-so}
+use Rattle.bar_findings.proofs.Names.{AreDistinct, finding-names, findings-distinct}
+use Rattle.bar_cli.specs.Replay.Found.{evidence_of, found_by, manifest_of}
+use Rattle.bar_cli.specs.Refusals.{session_refused, key_refused, recording_refused}
+use Rattle.bar_session_files.specs.Accepting.{secrets_of_key, session_of}
+use Rattle.bar_cli.specs.Replay.Recordings.{recording_of}
+use Rattle.bar_cli.specs.Replay.Turns.{Turn, shown_bytes, turns_actions}
+use Rattle.bar_cli.specs.Replay.Plan.{ReplayFiles, SessionAccepted, SessionRefused, KeyAccepted, KeyRefused, InputRefused, Accepted, Replayed, PlayedFront, PlayedUpTo, FoundUpTo, HasOwnNames, OthersAreSame, IsUntouched, IsMade, IsReplayCall, found_in, peer_of, turns_in, turns_of, transcript_of, replay_plan, key_plan, recording_plan, run_plan, playing_actions, replay_actions}
+use Rattle.bar_cli.proofs.EndLemmas.{differ, go-on}
+use Rattle.bar_session_files.proofs.Accepted.{AreHeld, AreInRange, held-here, in-range_here}
+use Rattle.bar_cli.proofs.ReplayLemmas.{all-played, final-found, final-other, final-played, others-unplayed, shown-playing, shown-replay, unlinked-playing, unlinked-replay}
+use Rattle.bar_cli.proofs.TurnLemmas.{played-turns, shown-turns_from}
+use Rattle.bar_cli.proofs.UpToLemmas.{IsStopped, stopped-played, unchanged-by, front-played, front-shown}
+
+-- what comes behind each read, by what the bytes stand for
+
+abbrev by-inputs : ReplayFiles → SessionData → Secrets → Result (List Input) RecordFault → Content → Plan
+by-inputs names session secrets inputs =
+    accepting inputs (run_plan names session secrets) (λ fault. ending 8 (recording_refused fault))
+
+abbrev by-secrets : ReplayFiles → SessionData → Result Secrets KeyFileFault → Content → Plan
+by-secrets names session secrets = accepting secrets (recording_plan names session) (λ fault. ending 5 (key_refused fault))
+
+abbrev by-session : ReplayFiles → Result SessionData SessionFault → Content → Plan
+by-session names session = accepting session (key_plan names) (λ fault. ending 4 (session_refused fault))
+
+abbrev with-recording : ReplayFiles → SessionData → Secrets → List ℕ → Content → Plan
+with-recording names session secrets bytes = by-inputs names session secrets (recording_of session secrets.party bytes)
+
+abbrev with-key : ReplayFiles → SessionData → List ℕ → Content → Plan
+with-key names session bytes = by-secrets names session (secrets_of_key session bytes)
+
+abbrev with-session : ReplayFiles → List ℕ → Content → Plan
+with-session names text = by-session names (session_of text)
+
+-- nothing is done over the link
+pub unlinked-plan : (names : ReplayFiles) (content : Content) → IsUnlinked (replay_plan names content).actions
+unlinked-plan names content =
+    unlinked-reading names.session (with-session names) content
+    (λ text. unlinked-accepting (session_of text) (key_plan names) _ content
+    (λ session. unlinked-reading names.key (with-key names session) content
+    (λ key. unlinked-accepting (secrets_of_key session key) (recording_plan names session) _ content
+    (λ secrets. unlinked-reading names.recording (with-recording names session secrets) content
+    (λ bytes. unlinked-accepting (recording_of session secrets.party bytes) (run_plan names session secrets) _ content
+    (λ inputs. unlinked-replay names (turns_of session secrets inputs) (found_by names.found (member_by session secrets) inputs))
+    (λ fault. tt))) (λ fault. tt))) (λ fault. tt))
+
+-- ---- how far a replay came
+
+-- the file that was refused
+abbrev pub IsRefused : ReplayFiles → Content → ℕ → Type 0
+IsRefused names content status =
+    ((status ≡ 4) × ((text : List ℕ) × (fault : SessionFault) × SessionRefused names content text fault))
+    ⊎ (((status ≡ 5) × ((session : SessionData) × (bytes : List ℕ) × (fault : KeyFileFault) × KeyRefused names content session bytes fault))
+    ⊎ ((status ≡ 8)
+    × ((session : SessionData) × (secrets : Secrets) × (bytes : List ℕ) × (fault : RecordFault)
+    × InputRefused names content session secrets bytes fault)))
+
+-- nothing was changed or printed, for a stop or a refusal; or all were accepted, and the turns went so
+abbrev pub Outcome : ReplayFiles → Outside → Outside → ℕ → Type 0
+Outcome names old new status =
+    (IsUnchanged status old new × ((is_stop status ≡ true) ⊎ IsRefused names old.files.content status))
+    ⊎ ((a : Accepted names old.files.content) × Went (run_plan names a.session a.secrets a.inputs old.files.content) old new status)
+
+module _ (reads : ReadsFirst) (ends : EndsThere) (names : ReplayFiles) (old new : Outside) (status : ℕ) (told : IsTrue old.files.told) where
+  refused : (final : ℕ) (line : List ℕ) → Went (ending final line old.files.content) old new status →
+      (status ≡ final → IsRefused names old.files.content status) → Outcome names old new status
+  refused final line w why =
+      let e = ends final line old new status told w in inl (e.0, elim e.1 [ inl same ↦ inr (why same) | inr stop ↦ inl stop ])
+
+  outcome-inputs : (session : SessionData) (secrets : Secrets) (bytes : List ℕ) (o : Result (List Input) RecordFault) →
+      KeyAccepted names old.files.content session secrets → readable old.files.content names.recording ≡ Some bytes →
+      recording_of session secrets.party bytes ≡ o → Went (by-inputs names session secrets o old.files.content) old new status →
+      Outcome names old new status
+  outcome-inputs session secrets bytes (Err fault) k r e w =
+      refused 8 (recording_refused fault) w
+      (λ s. inr (inr (s, (session, secrets, bytes, fault, record { by_key = k; read = r; is = e }))))
+  outcome-inputs session secrets bytes (Ok inputs) k r e w =
+      inr (record { session = session; secrets = secrets; inputs = inputs; by_key = k; bytes = bytes; read = r; is = e }, w)
+
+  outcome-secrets : (session : SessionData) (bytes : List ℕ) (r : Result Secrets KeyFileFault) →
+      SessionAccepted names old.files.content session → readable old.files.content names.key ≡ Some bytes →
+      secrets_of_key session bytes ≡ r →
+      Went (by-secrets names session r old.files.content) old new status → Outcome names old new status
+  outcome-secrets session bytes (Err fault) s r e w =
+      refused 5 (key_refused fault) w (λ k. inr (inl (k, (session, bytes, fault, record { in_session = s; read = r; is = e }))))
+  outcome-secrets session bytes (Ok secrets) s r e w =
+      elim (reads names.recording (with-recording names session secrets) old new status told w) [
+        | inl same ↦ inl (same.0, inl same.1)
+        | inr on ↦
+            outcome-inputs session secrets on.bytes (recording_of session secrets.party on.bytes)
+            (record { in_session = s; bytes = bytes; read = r; is = e }) on.read refl on.rest
+      ]
+
+  outcome-session : (text : List ℕ) (r : Result SessionData SessionFault) → readable old.files.content names.session ≡ Some text →
+      session_of text ≡ r →
+      Went (by-session names r old.files.content) old new status → Outcome names old new status
+  outcome-session text (Err fault) r e w = refused 4 (session_refused fault) w (λ s. inl (s, (text, fault, record { read = r; is = e })))
+  outcome-session text (Ok session) r e w =
+      elim (reads names.key (with-key names session) old new status told w) [
+        | inl same ↦ inl (same.0, inl same.1)
+        | inr on ↦ outcome-secrets session on.bytes (secrets_of_key session on.bytes)
+            (record { text = text; read = r; is = e }) on.read refl on.rest
+      ]
+
+  pub outcome : Went (replay_plan names old.files.content) old new status → Outcome names old new status
+  outcome w =
+      elim (reads names.session (with-session names) old new status told w) [
+        | inl same ↦ inl (same.0, inl same.1)
+        | inr on ↦ outcome-session on.bytes (session_of on.bytes) on.read refl on.rest
+      ]
+
+-- ---- what was found
+
+found-names : (names : ReplayFiles) (me : Member) (inputs : List Input) →
+    AllByRecursion (λ f. IsFindingName names.found f.name) (found_by names.found me inputs)
+found-names names me inputs =
+    finding-names names.found (manifest_of me inputs) me.session.shape.rounds (evidence_of me inputs) me.session.shape.peers
+
+-- none of it is in the played file
+own-names : (names : ReplayFiles) (me : Member) (inputs : List Input) → HasOwnNames names →
+    AllByRecursion (λ f. f.name ≢ names.played) (found_by names.found me inputs)
+own-names names me inputs own =
+    all-so (λ f. IsFindingName names.found f.name) (λ f. f.name ≢ names.played) (found_by names.found me inputs)
+    (λ f named. differs f.name named) (found-names names me inputs)
+  where
+    differs : (name : List ℕ) → IsFindingName names.found name → name ≢ names.played
+    differs name (inl e) = λ h. own.table (sym h ∙ e)
+    differs name (inr p) = λ h. own.evidence p.0 (sym h ∙ p.1)
+
+-- no two of its files have one name
+distinct-in : AreInRange → (names : ReplayFiles) (content : Content) (a : Accepted names content) → AreDistinct (found_in names content a)
+distinct-in ranged names content a =
+    let most = (in-range_here ranged a.by_key.in_session.text a.session a.by_key.in_session.is).shape.peers_high in
+    let few : a.session.shape.peers < 2 ^ 64 = omega arith in
+    findings-distinct names.found (manifest_of (peer_of names content a) a.inputs) a.session.shape.rounds
+    (evidence_of (peer_of names content a) a.inputs) a.session.shape.peers few
+
+-- some of it was written
+written-some : (names : ReplayFiles) (me : Member) (inputs : List Input) (content : Content) (done : List Action) →
+    AreDistinct (found_by names.found me inputs) → Begun (findings_actions (found_by names.found me inputs)) done →
+    IsWrittenUpTo (found_by names.found me inputs) content (content_after done content) × (shown done ≡ [])
+written-some names me inputs content done distinct b =
+    elim (written-front (found_by names.found me inputs) content done distinct b) [ inl none ↦ absurd (some none.0) | inr w ↦ w ]
+  where
+    some : found_by names.found me inputs ≡ [] → ⊥
+    some e = cc
+
+-- ---- the rows
+
+module _ (names : ReplayFiles) (old new : Outside) where
+  -- at 0 the turns went to their end
+  pub replayed : AreHeld → AreInRange → IsTrue old.files.told → Outcome names old new 0 → Replayed names old new
+  replayed held ranged told (inl r) = absurd (elim r.1 [
+    | inl stop ↦ go-on 0 refl stop
+    | inr why ↦ elim why [ inl k ↦ differ 0 4 refl k.0 | inr two ↦ elim two [ inl k ↦ differ 0 5 refl k.0 | inr k ↦ differ 0 8 refl k.0 ] ]
+  ])
+  replayed held ranged told (inr p) =
+      let a = p.0 in
+      let ran = (p.1.carried refl).ran in
+      let me : Member = peer_of names old.files.content a in
+      let turns : List Turn = turns_in names old.files.content a in
+      let findings : List Finding = found_in names old.files.content a in
+      let whole : AreWritten findings new.files.content =
+      subst (AreWritten findings) (sym (ran.files told))
+      (final-found names turns findings old.files.content (distinct-in ranged names old.files.content a)) in
+      record {
+        accepted = a;
+        fits = (held-here held a.session a.by_key.bytes a.secrets a.by_key.is).fits;
+        played = λ own. ap (λ (holds : Content). holds names.played) (ran.files told)
+            ∙ final-played names turns findings old.files.content (own-names names me a.inputs own)
+            ∙ ap Some (played-turns me 1 [] a.inputs);
+        sent = λ tells. ran.out tells
+            ∙ ap (λ bytes. old.out.bytes ++ bytes) (shown-replay names turns findings ∙ shown-turns_from me 1 [] a.inputs);
+        table = table-there names.found (manifest_of me a.inputs) a.session.shape.rounds (evidence_of me a.inputs) a.session.shape.peers
+            new.files.content whole;
+        evidence = evidence-there names.found (manifest_of me a.inputs) a.session.shape.rounds (evidence_of me a.inputs)
+            a.session.shape.peers new.files.content whole;
+        others = λ q differs differ. ap (λ (holds : Content). holds q) (ran.files told)
+            ∙ final-other names turns findings old.files.content q differs differ;
+      }
+
+  -- at a refusal nothing was changed or printed
+  pub refused_so : (status : ℕ) → (status == 0) ≡ false → is_stop status ≡ false → Outcome names old new status →
+      IsUnchanged status old new × IsRefused names old.files.content status
+  refused_so status other go (inl r) = (r.0, elim r.1 [ inl stop ↦ absurd (go-on status go stop) | inr why ↦ why ])
+  refused_so status other go (inr p) = absurd (differ status 0 other (p.1.carried go).is)
+
+  pub refused-session : Outcome names old new 4 → (text : List ℕ) × (fault : SessionFault)
+      × SessionRefused names old.files.content text fault
+  refused-session o =
+      elim (refused_so 4 refl refl o).1 [
+        | inl k ↦ k.1
+        | inr two ↦ absurd (elim two [ inl k ↦ differ 4 5 refl k.0 | inr k ↦ differ 4 8 refl k.0 ])
+      ]
+
+  pub refused-key : Outcome names old new 5 →
+      (session : SessionData) × (bytes : List ℕ) × (fault : KeyFileFault) × KeyRefused names old.files.content session bytes fault
+  refused-key o =
+      elim (refused_so 5 refl refl o).1 [
+        | inl k ↦ absurd (differ 5 4 refl k.0)
+        | inr two ↦ elim two [ inl k ↦ k.1 | inr k ↦ absurd (differ 5 8 refl k.0) ]
+      ]
+
+  pub refused-input : Outcome names old new 8 →
+      (session : SessionData) × (secrets : Secrets) × (bytes : List ℕ) × (fault : RecordFault)
+      × InputRefused names old.files.content session secrets bytes fault
+  refused-input o =
+      elim (refused_so 8 refl refl o).1 [
+        | inl k ↦ absurd (differ 8 4 refl k.0)
+        | inr two ↦ elim two [ inl k ↦ absurd (differ 8 5 refl k.0) | inr k ↦ k.1 ]
+      ]
+
+pub as-untouched : (status : ℕ) (old new : Outside) → IsUnchanged status old new → IsUntouched old new
+as-untouched status old new same = record { files = same.files; out = same.out }
+
+pub refused-untouched : (names : ReplayFiles) (old new : Outside) (status : ℕ) → (status == 0) ≡ false → is_stop status ≡ false →
+    Outcome names old new status → IsUntouched old new
+refused-untouched names old new status other go o = as-untouched status old new (refused_so names old new status other go o).0
+
+-- the turns touch the played file alone
+
+touched-shows : (lines : List (List ℕ)) (rest : List Action) (path : List ℕ) → Touches (map show lines ++ rest) path → Touches rest path
+touched-shows [] rest path h = h
+touched-shows (x ∷ xs) rest path h = touched-shows xs rest path h
+
+touched-turns : (played : List ℕ) (turns : List Turn) (path : List ℕ) → Touches (turns_actions played turns) path → path ≡ played
+touched-turns played [] path h = absurd h
+touched-turns played (t ∷ ts) path h =
+    elim (touched-appends played t.contents (map show t.lines ++ turns_actions played ts) path
+    (subst (λ plan. Touches plan path) (append_assoc (map (append played) t.contents) (map show t.lines) (turns_actions played ts)) h)) [
+      | inl e ↦ e
+      | inr k ↦ touched-turns played ts path (touched-shows t.lines (turns_actions played ts) path k)
+    ]
+
+touched-playing : (played : List ℕ) (turns : List Turn) (path : List ℕ) → Touches (playing_actions played turns) path → path ≡ played
+touched-playing played turns path (inl e) = e
+touched-playing played turns path (inr h) = touched-turns played turns path h
+
+-- and what is written then, its own
+touched-run : (names : ReplayFiles) (turns : List Turn) (me : Member) (inputs : List Input) (path : List ℕ) →
+    Touches (replay_actions names turns (found_by names.found me inputs)) path → (path ≡ names.played) ⊎ IsFindingName names.found path
+touched-run names turns me inputs path h =
+    elim (Touches-split (playing_actions names.played turns) (findings_actions (found_by names.found me inputs)) path h) [
+      | inl now ↦ inl (touched-playing names.played turns path now)
+      | inr later ↦
+          inr (touched-findings (IsFindingName names.found) (found_by names.found me inputs) path (found-names names me inputs) later)
+    ]
+
+-- whatever the status, no other file was changed
+pub other-untouched : (names : ReplayFiles) (old new : Outside) (status : ℕ) (path : List ℕ) → IsTrue old.files.told →
+    (path ≡ names.played → ⊥) →
+    (IsFindingName names.found path → ⊥) → Outcome names old new status → new.files.content path ≡ old.files.content path
+other-untouched names old new status path told differs differ (inl r) = ap (λ (holds : Content). holds path) r.0.files
+other-untouched names old new status path told differs differ (inr p) =
+    let a = p.0 in
+    let me : Member = peer_of names old.files.content a in
+    let turns : List Turn = turns_in names old.files.content a in
+    untouched-reached (replay_actions names turns (found_by names.found me a.inputs)) path old new status p.1.part told
+    (λ h. elim (touched-run names turns me a.inputs path h) [ inl e ↦ differs e | inr named ↦ differ named ])
+
+-- ---- how far it came, whatever stopped it
+
+-- nothing was changed or printed, or the played file was made, or the turns were done so far, or what was found was written so far
+abbrev StoppedAt : ReplayFiles → ℕ → Outside → Outside → Type 0
+StoppedAt names status old new =
+    IsUnchanged status old new
+    ⊎ ((Accepted names old.files.content × IsMade names old new × (status ≡ 7 → ⊥))
+    ⊎ (PlayedUpTo names status old new ⊎ FoundUpTo names status old new))
+
+-- as far as the turns came, only the played file is changed
+others-same : (names : ReplayFiles) (turns : List Turn) (status : ℕ) (old new : Outside) → IsTrue old.files.told →
+    Reached (playing_actions names.played turns) status old new → OthersAreSame names old new
+others-same names turns status old new told d = λ path differs.
+    untouched-reached (playing_actions names.played turns) path old new status d told
+    (λ h. differs (touched-playing names.played turns path h))
+
+stopped-playing : (names : ReplayFiles) (old new : Outside) (status : ℕ) → IsTrue old.files.told → (a : Accepted names old.files.content)
+    (d : Reached (playing_actions names.played (turns_in names old.files.content a)) status old new) →
+    IsStopped names.played (turns_in names old.files.content a) old.files.content (content_after d.done old.files.content)
+    (shown d.done) d.begun.rest → StoppedAt names status old new
+unfolding IsStopped
+stopped-playing names old new status told a d (inl quiet) =
+    inl (unchanged-by (playing_actions names.played (turns_in names old.files.content a)) status old new told
+    (unlinked-playing names.played (turns_in names old.files.content a)) d quiet)
+stopped-playing names old new status told a d (inr (inl made)) =
+    inr (inl (
+      a,
+      record {
+        played = ap (λ (holds : Content). holds names.played) (d.ran.files told) ∙ made.made;
+        out = λ tells. d.ran.out tells ∙ ap (λ bytes. old.out.bytes ++ bytes) made.out ∙ append-nil old.out.bytes;
+        others = others-same names (turns_in names old.files.content a) status old new told d;
+      },
+      λ e. made.silent (d.at_output e),
+    ))
+stopped-playing names old new status told a d (inr (inr up)) =
+    inr (inr (inl (record {
+      accepted = a;
+      earlier = up.earlier;
+      this = up.this;
+      later = up.later;
+      played_count = up.played_count;
+      shown_count = up.shown_count;
+      turns = up.is;
+      played = ap (λ (holds : Content). holds names.played) (d.ran.files told) ∙ up.played;
+      shown = λ tells. d.ran.out tells ∙ ap (λ bytes. old.out.bytes ++ bytes) up.printed;
+      order = up.order;
+      at_file = λ e. up.at_file (d.at_file e);
+      at_output = λ e. up.at_output (d.at_output e);
+      others = others-same names (turns_in names old.files.content a) status old new told d;
+    })))
+
+-- all turns were done, and some of what is written then
+found-so_far : AreInRange → (names : ReplayFiles) (old new : Outside) (status : ℕ) → IsTrue old.files.told →
+    (a : Accepted names old.files.content)
+    (d : Reached (replay_actions names (turns_in names old.files.content a) (found_in names old.files.content a)) status old new)
+    (more : List Action) → d.done ≡ playing_actions names.played (turns_in names old.files.content a) ++ more →
+    (m : Begun (findings_actions (found_in names old.files.content a)) more) → m.rest ≡ d.begun.rest → FoundUpTo names status old new
+found-so_far ranged names old new status told a d more is m next =
+    let me : Member = peer_of names old.files.content a in
+    let turns : List Turn = turns_in names old.files.content a in
+    let findings : List Finding = found_in names old.files.content a in
+    let mid : Content = content_after (playing_actions names.played turns) old.files.content in
+    let after : new.files.content ≡ content_after more mid =
+    d.ran.files told ∙ ap (λ xs. content_after xs old.files.content) is
+    ∙ content_after-append (playing_actions names.played turns) more old.files.content in
+    let written = written-some names me a.inputs mid more (distinct-in ranged names old.files.content a) m in
+    let printed : shown d.done ≡ shown_bytes turns =
+    ap shown is ∙ shown-append (playing_actions names.played turns) more
+    ∙ ap (λ bytes. shown (playing_actions names.played turns) ++ bytes) written.1
+    ∙ append-nil (shown (playing_actions names.played turns)) ∙ shown-playing names.played turns in
+    record {
+      accepted = a;
+      played = λ own. ap (λ (c : Content). c names.played) after
+          ∙ begun-others findings mid more names.played m (own-names names me a.inputs own)
+          ∙ all-played names.played turns old.files.content ∙ ap Some (played-turns me 1 [] a.inputs);
+      sent = λ tells. d.ran.out tells ∙ ap (λ bytes. old.out.bytes ++ bytes) (printed ∙ shown-turns_from me 1 [] a.inputs);
+      found = λ own.
+          written-since findings old.files.content mid new.files.content
+          (all-so (λ f. f.name ≢ names.played) (λ f. mid f.name ≡ old.files.content f.name) findings
+          (λ f differs. others-unplayed names.played turns old.files.content f.name differs) (own-names names me a.inputs own))
+          (subst (IsWrittenUpTo findings mid) (sym after) written.0);
+      no_output = λ e. silent-findings findings more m (subst IsShowNext (sym next) (d.at_output e));
+    }
+
+stopped-at : AreInRange → (names : ReplayFiles) (old new : Outside) (status : ℕ) → IsTrue old.files.told → Outcome names old new status →
+    StoppedAt names status old new
+stopped-at ranged names old new status told (inl r) = inl r.0
+stopped-at ranged names old new status told (inr p) =
+    let turns : List Turn = turns_in names old.files.content p.0 in
+    elim (Reached-both (playing_actions names.played turns)
+    (findings_actions (found_in names old.files.content p.0)) status old new p.1.part) [
+      | inl d ↦
+          stopped-playing names old new status told p.0 d (stopped-played names.played turns old.files.content d.done d.begun)
+      | inr m ↦ inr (inr (inr (found-so_far ranged names old new status told p.0 p.1.part m.0 m.1 m.2 m.3)))
+    ]
+
+-- how far a replay came
+pub stopped-replay : AreInRange → (names : ReplayFiles) (old new : Outside) (status : ℕ) → IsTrue old.files.told →
+    Outcome names old new status →
+    IsUntouched old new ⊎ (IsMade names old new ⊎ (PlayedUpTo names status old new ⊎ FoundUpTo names status old new))
+stopped-replay ranged names old new status told o =
+    elim (stopped-at ranged names old new status told o) [
+      | inl same ↦ inl (as-untouched status old new same)
+      | inr two ↦ elim two [ inl made ↦ inr (inl made.1) | inr up ↦ inr (inr up) ]
+    ]
+
+-- a write fails behind all that an input plays
+pub failed-output : AreInRange → (names : ReplayFiles) (old new : Outside) → IsTrue old.files.told → Outcome names old new 7 →
+    PlayedUpTo names 7 old new
+failed-output ranged names old new told o =
+    elim (stopped-at ranged names old new 7 told o) [
+      | inl same ↦ absurd (same.no_output refl)
+      | inr two ↦ elim two [
+        | inl made ↦ absurd (made.2 refl)
+        | inr more ↦ elim more [ inl up ↦ up | inr up ↦ absurd (up.no_output refl) ]
+      ]
+    ]
+
+front-up_to : (names : ReplayFiles) (old new : Outside) (status : ℕ) → PlayedUpTo names status old new → PlayedFront names old new
+front-up_to names old new status up =
+    let turns = turns_in names old.files.content up.accepted in
+    let me = peer_of names old.files.content up.accepted in
+    let played = front-played turns up.earlier up.this up.later up.played_count up.turns in
+    let printed = front-shown turns up.earlier up.this up.later up.shown_count up.turns in
+    record {
+      accepted = up.accepted;
+      played_count = played.0;
+      shown_count = printed.0;
+      played = λ own. up.played ∙ ap Some (played.1 ∙ ap (take played.0) (played-turns me 1 [] up.accepted.inputs));
+      shown = λ tells. up.shown tells
+          ∙ ap (λ bytes. old.out.bytes ++ bytes) (printed.1 ∙ ap (take printed.0) (shown-turns_from me 1 [] up.accepted.inputs));
+    }
+
+-- all is a front
+front-found : (names : ReplayFiles) (old new : Outside) (status : ℕ) → FoundUpTo names status old new → PlayedFront names old new
+front-found names old new status up =
+    let all : List ℕ = played_by (peer_of names old.files.content up.accepted) up.accepted.inputs in
+    let lines : List ℕ = transcript_of names old.files.content up.accepted in
+    record {
+      accepted = up.accepted;
+      played_count = length all;
+      shown_count = length lines;
+      played = λ own. up.played own ∙ ap Some (sym (take-length all));
+      shown = λ tells. up.sent tells ∙ ap (λ bytes. old.out.bytes ++ bytes) (sym (take-length lines));
+    }
+
+-- whatever the status, all is as it was, or a front was played and a front shown
+pub a_front : AreInRange → (names : ReplayFiles) (old new : Outside) (status : ℕ) → IsTrue old.files.told → Outcome names old new status →
+    IsUntouched old new ⊎ PlayedFront names old new
+a_front ranged names old new status told o =
+    elim (stopped-at ranged names old new status told o) [
+      | inl same ↦ inl (as-untouched status old new same)
+      | inr two ↦ elim two [
+        | inl made ↦
+            inr (record {
+              accepted = made.0;
+              played_count = 0;
+              shown_count = 0;
+              played = λ own. made.1.played;
+              shown = λ tells. made.1.out tells ∙ sym (append-nil old.out.bytes);
+            })
+        | inr more ↦ elim more [
+          | inl up ↦ inr (front-up_to names old new status up)
+          | inr up ↦ inr (front-found names old new status up)
+        ]
+      ]
+    ]
+
+-- ---- the calls
+
+named-shows : (lines : List (List ℕ)) (rest : List Action) (call : Failure) → Names (map show lines ++ rest) call → Names rest call
+named-shows [] rest call h = h
+named-shows (x ∷ xs) rest call h = named-shows xs rest call h
+
+named-turns : (names : ReplayFiles) (turns : List Turn) (call : Failure) →
+    Names (turns_actions names.played turns) call → IsReplayCall names call
+named-turns names [] call h = absurd h
+named-turns names (t ∷ ts) call h =
+    elim (named-appends names.played t.contents (map show t.lines ++ turns_actions names.played ts) call
+    (subst (λ plan. Names plan call)
+    (append_assoc (map (append names.played) t.contents) (map show t.lines) (turns_actions names.played ts)) h)) [
+      | inl e ↦ inr (inl (inr e))
+      | inr k ↦ named-turns names ts call (named-shows t.lines (turns_actions names.played ts) call k)
+    ]
+
+named-run : (names : ReplayFiles) (turns : List Turn) (me : Member) (inputs : List Input) (call : Failure) →
+    Names (replay_actions names turns (found_by names.found me inputs)) call → IsReplayCall names call
+named-run names turns me inputs call (inl e) = inr (inl (inl e))
+named-run names turns me inputs call (inr h) =
+    elim (Names-split (turns_actions names.played turns) (findings_actions (found_by names.found me inputs)) call h) [
+      | inl now ↦ named-turns names turns call now
+      | inr later ↦
+          inr (inr (named-findings (IsFindingName names.found) (found_by names.found me inputs) call (found-names names me inputs) later))
+    ]
+
+module _ (first : NamesFirst) (names : ReplayFiles) (content : Content) (call : Failure) where
+  call-inputs : (session : SessionData) (secrets : Secrets) (o : Result (List Input) RecordFault) →
+      Names (by-inputs names session secrets o content).actions call → IsReplayCall names call
+  call-inputs session secrets (Err fault) h = absurd h
+  call-inputs session secrets (Ok inputs) h = named-run names (turns_of session secrets inputs) (member_by session secrets) inputs call h
+
+  call-secrets : (session : SessionData) (r : Result Secrets KeyFileFault) → Names (by-secrets names session r content).actions call →
+      IsReplayCall names call
+  call-secrets session (Err fault) h = absurd h
+  call-secrets session (Ok secrets) h =
+      elim (first names.recording (with-recording names session secrets) content call h) [
+        | inl e ↦ inl (inr (inr e))
+        | inr m ↦ call-inputs session secrets (recording_of session secrets.party m.0) m.2
+      ]
+
+  call-session : (r : Result SessionData SessionFault) → Names (by-session names r content).actions call → IsReplayCall names call
+  call-session (Err fault) h = absurd h
+  call-session (Ok session) h =
+      elim (first names.key (with-key names session) content call h) [
+        | inl e ↦ inl (inr (inl e))
+        | inr m ↦ call-secrets session (secrets_of_key session m.0) m.2
+      ]
+
+  pub call-named : Names (replay_plan names content).actions call → IsReplayCall names call
+  call-named h =
+      elim (first names.session (with-session names) content call h) [ inl e ↦ inl (inl e) | inr m ↦ call-session (session_of m.0) m.2 ]
+
+pub named-some : (first : NamesFirst) (names : ReplayFiles) (content : Content) (o : Option Failure) →
+    IsSomeAnd o (Names (replay_plan names content).actions) → IsSomeAnd o (IsReplayCall names)
+named-some first names content (Some call) h = call-named first names content call h
+named-some first names content None h = h

@@ -1,8 +1,0 @@
-use Rattle.bar_cli.specs.Views.{audit_view}
-use Rattle.bar_cli.proofs.AuditLemmas.{Gathered}
-use Rattle.bar_cli.proofs.auditing.read_recordings.Given as goal
-
--- the recordings so far were accepted and given
-abbrev pub invariant-loop-place : goal.invariant-loop-place
-invariant-loop-place g l =
-    Gathered (audit_view l.names) l.session l.place l.audit (g.F.Files.disk l.fn.files) (g.F.Files.disk l.files)

@@ -1,8 +1,0 @@
-use Rattle.bar_cli.specs.JudgePlan.{judge_plan}
-use Rattle.bar_cli.proofs.JudgeRows.{bad_session, outcome}
-use Rattle.bar_cli.proofs.judge_laws.a_bad_session_is_refused.Goals as goal
-
-pub returns-clause-only : goal.returns-clause-only
-returns-clause-only c = λ names old new ends told.
-    let law = c.plans_go_in_order.ensures in
-    bad_session names old new (outcome law.reads law.ends law.shows names old new 4 told (law.went (judge_plan names) old new 4 ends told))

@@ -1,7 +1,0 @@
-use Rattle.std.proofs.Common.{refl}
-use Rattle.bar_cli.proofs.Rows.{named-some}
-use Rattle.bar_cli.proofs.laws.file_failed_only.Goals as goal
-
-pub returns-clause-named : goal.returns-clause-named
-returns-clause-named c = λ names old new ends told.
-    named-some c.plans_go_in_order.ensures.names names old.files.content new.files.failed (ends.file_named refl told)

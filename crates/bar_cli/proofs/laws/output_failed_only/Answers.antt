@@ -1,9 +1,0 @@
-use Rattle.bar_cli.specs.ReplayPlan.{replay_plan}
-use Rattle.bar_cli.proofs.Rows.{failed-output, outcome}
-use Rattle.bar_cli.proofs.laws.output_failed_only.Goals as goal
-
-pub returns-clause-in_order : goal.returns-clause-in_order
-returns-clause-in_order c = λ names old new ends told.
-    let law = c.plans_go_in_order.ensures in
-    failed-output c.accepted_sessions_are_in_range.ensures names old new told
-    (outcome law.reads law.ends names old new 7 told (law.went (replay_plan names) old new 7 ends told))

@@ -1,4 +1,0 @@
-use Rattle.bar_cli.proofs.proving.judge_file.Given as goal
-
-abbrev pub ghosts-judge_counted : goal.ghosts-judge_counted
-ghosts-judge_counted a = record { name = a.blank.name; parts = a.blank.parts }

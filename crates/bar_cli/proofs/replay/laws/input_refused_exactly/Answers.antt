@@ -1,0 +1,8 @@
+use Rattle.bar_cli.specs.Replay.Plan.{replay_plan}
+use Rattle.bar_cli.proofs.ReplayRows.{outcome, refused-input}
+use Rattle.bar_cli.proofs.replay.laws.input_refused_exactly.Goals as goal
+
+pub returns-clause-only : goal.returns-clause-only
+returns-clause-only c = λ names old new ends told.
+    let law = c.plans_go_in_order.ensures in
+    refused-input names old new (outcome law.reads law.ends names old new 8 told (law.went (replay_plan names) old new 8 ends told))

@@ -1,0 +1,10 @@
+use Rattle.std.proofs.Common.{rules}
+use Rattle.bar_outside.proofs.Unlinked.{done-unlinked}
+use Rattle.bar_cli.specs.Verify.{verify_plan}
+use Rattle.bar_cli.proofs.VerifyRows.{unlinked-plan}
+use Rattle.bar_cli.proofs.verify.laws.the_proof_is_judged_where_all_is_accepted.Goals as goal
+
+pub returns-clause-without_faults : goal.returns-clause-without_faults
+returns-clause-without_faults c = λ names verdict old new status ends told accepted no_file no_output.
+    let done = done-unlinked (verify_plan names) old new status ends told (unlinked-plan names old.files.content) no_file no_output in
+    search rules

@@ -1,0 +1,181 @@
+-- What `audit` does.
+use Rattle.std.specs.Prelude.{◌≡◌, ◌⊎◌, ℕ, suc, ◌-◌, ◌&&◌, Bool, List, [], ◌∷◌, ◌++◌, Option, Some, None, Result, Ok, Err, IfOk, codes, map, nat_le}
+use Rattle.std.specs.Bool.{then_some}
+use Rattle.std.specs.List.{AllByRecursion, range_with_len}
+use Rattle.std.specs.Option.{ok_or}
+use Rattle.bar_outside.specs.Disk.{Content, Failure, readable}
+use Rattle.bar_outside.specs.declared.files.CallKind.TheVariants.{Read}
+use Rattle.bar_outside.specs.declared.fault.Fault.{Fault}
+use Rattle.bar_outside.specs.Ends.{EndsWith}
+use Rattle.bar_outside.specs.Faults.{code_of_fault, line_of_fault}
+use Rattle.bar_outside.specs.Plan.{Outside, Plan, reading, accepting, ending, doing}
+use Rattle.bar_outside.specs.Plan.Action.{show}
+use Rattle.bar_window.specs.declared.exchange.Exchange.{Exchange}
+use Rattle.bar_wire.specs.Inputs.{Input}
+use Rattle.bar_record.specs.Recording as entries
+use Rattle.bar_record.specs.declared.fault.RecordFault.{RecordFault}
+use Rattle.bar_roster.specs.declared.fault.SessionFault.{SessionFault}
+use Rattle.bar_roster.specs.SessionText.{SessionData}
+use Rattle.bar_roster.specs.Time.{last_tick}
+use Rattle.bar_audit.specs.declared.audit.Audit.{Audit}
+use Rattle.bar_audit.specs.Audits.{Audits}
+use Rattle.bar_audit.specs.Exchanges.{unbalanced}
+use Rattle.bar_audit.specs.Listed.{recorded}
+use Rattle.bar_audit.specs.Recordings.{Recording}
+use Rattle.bar_child_processes.specs.Words.{named}
+use Rattle.bar_session_files.specs.Accepting.{HasSession, session_of}
+use Rattle.bar_cli.specs.Audit.Text.{status_of_balance, text_for}
+use Rattle.bar_cli.specs.Refusals.{parties_refused, recording_refused, session_refused}
+
+-- the session's text, the front of the recordings' names, and the first and the last party whose recordings are read
+pub record AuditFiles : Type 0 where
+  pub session : List ℕ
+  pub results : List ℕ
+  pub first : ℕ
+  pub last : ℕ
+
+-- ---- what is read
+
+-- the name of a party's recording
+abbrev pub recording_name : List ℕ → ℕ → List ℕ
+recording_name results party = named results party ++ codes ".recording"
+
+-- the inputs of the recording that bytes spell under a session, as they stand in it, if they spell one of this party; or its first fault
+unfoldable pub inputs_listed : SessionData → ℕ → List ℕ → Result (List Input) RecordFault
+inputs_listed s party bytes = entries.recording_of s.shape.id party (last_tick s) bytes
+
+-- whether the parties are peers of a session of so many, the first not above the last
+abbrev pub is_range : AuditFiles → ℕ → Bool
+is_range names peers = nat_le 1 names.first && nat_le names.first names.last && nat_le names.last peers
+
+-- from the first to the last
+unfoldable pub all_parties : AuditFiles → List ℕ
+all_parties names = range_with_len names.first (suc (names.last - names.first))
+
+-- the parties whose recordings are read, in order
+abbrev pub parties_of : AuditFiles → SessionData → Option (List ℕ)
+parties_of names s = then_some (is_range names s.shape.peers) (all_parties names)
+
+-- ---- what is told
+
+-- the first of the recorded exchanges that isn't balanced
+unfoldable pub balance_of : SessionData → List Recording → Option Exchange
+balance_of s recordings = unbalanced s recordings (recorded s recordings)
+
+-- a line for each recorded exchange, in order, and then the balance
+unfoldable pub audit_text : SessionData → List Recording → List ℕ
+audit_text s recordings = text_for s recordings (recorded s recordings)
+
+-- ---- the plan
+
+abbrev pub telling_plan : SessionData → List Recording → Content → Plan
+telling_plan s recordings = doing (show (audit_text s recordings) ∷ []) (status_of_balance (balance_of s recordings)) []
+
+-- behind recordings that were accepted that of a party is accepted, or refused
+abbrev pub by_inputs : (List Recording → Content → Plan) → ℕ → List Recording → Result (List Input) RecordFault → Content → Plan
+by_inputs others party given r =
+    accepting r (λ inputs. others (given ++ (record { party = party; inputs = inputs }) ∷ []))
+    (λ fault. ending 8 (recording_refused fault))
+
+-- behind recordings that were accepted that of each of these parties is read, and accepted or refused before the next
+abbrev pub recordings_plan : List ℕ → SessionData → List ℕ → List Recording → Content → Plan
+recordings_plan results s [] given = telling_plan s given
+recordings_plan results s (party ∷ parties) given =
+    reading (recording_name results party)
+    (λ bytes. by_inputs (recordings_plan results s parties) party given (inputs_listed s party bytes))
+
+-- the parties are accepted, or refused
+abbrev pub by_parties : AuditFiles → SessionData → Option (List ℕ) → Content → Plan
+by_parties names s parties =
+    accepting (ok_or parties (tt {0})) (λ ps. recordings_plan names.results s ps []) (λ _. ending 8 parties_refused)
+
+abbrev pub parties_plan : AuditFiles → SessionData → Content → Plan
+parties_plan names s = by_parties names s (parties_of names s)
+
+-- the session is read, and accepted or refused
+abbrev pub by_session : AuditFiles → Result SessionData SessionFault → Content → Plan
+by_session names session = accepting session (parties_plan names) (λ fault. ending 4 (session_refused fault))
+
+abbrev pub audit_plan : AuditFiles → Content → Plan
+audit_plan names = reading names.session (λ text. by_session names (session_of text))
+
+-- ---- how far the recordings were read
+
+-- what ends by the rest of a plan from here ends by the whole of it from there
+abbrev pub Leaves : (Content → Plan) → (Content → Plan) → Outside → Outside → Type 0
+Leaves whole rest old now =
+    (new : Outside) (status : ℕ) (line : List ℕ) → EndsWith rest now new status line → EndsWith whole old new status line
+
+-- All recordings were accepted and given to an auditor, and what it knows is to be told; or one was refused, or the outside failed.
+abbrev pub ReadsRecordings : AuditFiles → SessionData → Result (Result Audit RecordFault) Fault → Outside → Outside → Type 0
+ReadsRecordings names s (Ok (Ok audit)) old new =
+    (recordings : List Recording) × Audits s recordings audit
+    × Leaves (recordings_plan names.results s (all_parties names) []) (telling_plan s recordings) old new
+ReadsRecordings names s (Ok (Err fault)) old new =
+    EndsWith (recordings_plan names.results s (all_parties names) []) old new 8 (recording_refused fault)
+ReadsRecordings names s (Err fault) old new =
+    EndsWith (recordings_plan names.results s (all_parties names) []) old new (code_of_fault fault) (line_of_fault fault)
+
+-- ---- what was accepted, and what was refused
+
+-- the recording of its party is there and accepted, and lists these inputs
+pub record HasRecording (results : List ℕ) (content : Content) (s : SessionData) (r : Recording) : Type 0 where
+  pub bytes : List ℕ
+  pub read : readable content (recording_name results r.party) ≡ Some bytes
+  pub is : inputs_listed s r.party bytes ≡ Ok r.inputs
+
+-- so are the recordings of these parties, in order
+pub record HasRecordings (results : List ℕ) (content : Content) (s : SessionData) (parties : List ℕ) (recordings : List Recording) : Type 0
+  where
+    pub order : map (λ (r : Recording). r.party) recordings ≡ parties
+    pub each : AllByRecursion (HasRecording results content s) recordings
+
+-- the session is accepted, and these are peers of it
+pub record HasParties (names : AuditFiles) (content : Content) (s : SessionData) (parties : List ℕ) : Type 0 where
+  pub in_session : HasSession names.session content s
+  pub are : parties_of names s ≡ Some parties
+
+-- and so are all recordings
+pub record AuditAccepted (names : AuditFiles) (content : Content) : Type 0 where
+  pub session : SessionData
+  pub parties : List ℕ
+  pub recordings : List Recording
+  pub by_parties : HasParties names content session parties
+  pub has : HasRecordings names.results content session parties recordings
+
+-- the session's text is there, and refused for this fault
+pub record HasBadSession (names : AuditFiles) (content : Content) (fault : SessionFault) : Type 0 where
+  pub text : List ℕ
+  pub read : readable content names.session ≡ Some text
+  pub is : session_of text ≡ Err fault
+
+-- the session is accepted, and the parties aren't peers of it, or the first is above the last
+pub record HasBadParties (names : AuditFiles) (content : Content) : Type 0 where
+  pub session : SessionData
+  pub in_session : HasSession names.session content session
+  pub is : parties_of names session ≡ None
+
+-- the parties are accepted, and so are the recordings of those before this one
+pub record IsNextParty (names : AuditFiles) (content : Content) (s : SessionData) (party : ℕ) : Type 0 where
+  pub parties : List ℕ
+  pub by_parties : HasParties names content s parties
+  pub before : List ℕ
+  pub after : List ℕ
+  pub order : parties ≡ before ++ party ∷ after
+  pub recordings : List Recording
+  pub has : HasRecordings names.results content s before recordings
+
+-- so it is, and its recording is there and refused for this fault
+pub record HasBadRecording (names : AuditFiles) (content : Content) (fault : RecordFault) : Type 0 where
+  pub session : SessionData
+  pub party : ℕ
+  pub next : IsNextParty names content session party
+  pub bytes : List ℕ
+  pub read : readable content (recording_name names.results party) ≡ Some bytes
+  pub is : inputs_listed session party bytes ≡ Err fault
+
+-- a call that `audit` makes: it reads its files alone
+abbrev pub IsAuditCall : AuditFiles → Failure → Type 0
+IsAuditCall names call =
+    (call ≡ record { kind = Read; path = names.session })
+    ⊎ ((party : ℕ) × (call ≡ record { kind = Read; path = recording_name names.results party }))

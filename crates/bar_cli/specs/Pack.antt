@@ -1,0 +1,181 @@
+-- What `pack` does.
+use Rattle.std.specs.Prelude.{◌≡◌, ◌≢◌, ◌⊎◌, ℕ, List, [], ◌∷◌, ◌++◌, codes, length, Option, Some, None, Result, Ok, Err, take, IsTrue}
+use Rattle.std.specs.Fmt.{decimal}
+use Rattle.std.specs.Option.{ok_or}
+use Rattle.bar_outside.specs.Disk.{Content, Failure, readable}
+use Rattle.bar_outside.specs.declared.files.CallKind.TheVariants.{Read, Create, Append}
+use Rattle.bar_outside.specs.Plan.{Action, Outside, Plan, reading, accepting, ending, doing}
+use Rattle.bar_outside.specs.Plan.Action.{create, append, show}
+use Rattle.bar_outside.specs.Ends.{SameFiles, NothingPrinted}
+use Rattle.bar_terms.specs.Table.{Lists}
+use Rattle.bar_roster.specs.declared.fault.SessionFault.{SessionFault}
+use Rattle.bar_roster.specs.SessionText.{SessionData}
+use Rattle.bar_rules.specs.Judge.Verdict.{Fault, Why, Verdict, Shown, NotShown}
+use Rattle.bar_proof.specs.Packing.{IsPacked, packed_bytes}
+use Rattle.bar_proof.specs.ProofFile.{evidence_of}
+use Rattle.bar_session_files.specs.Accepting.{HasSession, session_of}
+use Rattle.bar_cli.specs.Judge.Judging.{lists_of, verdict_of, verdict_line}
+use Rattle.bar_cli.specs.Judge.Plan.{saying_plan}
+use Rattle.bar_cli.specs.Refusals.{session_refused, table_refused, evidence_refused}
+
+-- the files of `pack`: three that it reads, and the proof file
+pub record PackFiles : Type 0 where
+  pub session : List ℕ
+  pub table : List ℕ
+  pub evidence : List ℕ
+  pub proof : List ℕ
+
+-- the line of a proof file's length
+abbrev pub packed_line : List ℕ → List ℕ
+packed_line file = codes "packed " ++ (decimal (length file) ++ codes " bytes\n")
+
+-- the proof file is created and written, and its length is printed
+abbrev pub packing_actions : List ℕ → List ℕ → List Action
+packing_actions proof file = create proof ∷ append proof file ∷ show (packed_line file) ∷ []
+
+-- so it is where a fault is shown; else the reason is printed
+abbrev pub by_verdict : PackFiles → List ℕ → Verdict → Content → Plan
+by_verdict names file (Shown party fault) = doing (packing_actions names.proof file) 0 []
+by_verdict names file (NotShown why) = saying_plan (NotShown why)
+
+-- the evidence is accepted or refused
+abbrev pub by_datagrams : PackFiles → SessionData → List ℕ → Lists → Option (List (List ℕ)) → Content → Plan
+by_datagrams names session table lists datagrams =
+    accepting (ok_or datagrams (tt {0})) (λ ds. by_verdict names (packed_bytes session lists table ds) (verdict_of session lists ds))
+    (λ _. ending 8 evidence_refused)
+
+-- the table is accepted or refused before
+abbrev pub by_lists : PackFiles → SessionData → List ℕ → List ℕ → Result Lists ℕ → Content → Plan
+by_lists names session table evidence lists =
+    accepting lists (λ ls. by_datagrams names session table ls (evidence_of evidence)) (λ at. ending 8 (table_refused at))
+
+-- both are read before
+abbrev pub evidence_plan : PackFiles → SessionData → List ℕ → Content → Plan
+evidence_plan names session table = reading names.evidence (λ evidence. by_lists names session table evidence (lists_of session table))
+
+abbrev pub table_plan : PackFiles → SessionData → Content → Plan
+table_plan names session = reading names.table (evidence_plan names session)
+
+-- the session is read, and accepted or refused, before either is read
+abbrev pub by_session : PackFiles → Result SessionData SessionFault → Content → Plan
+by_session names session = accepting session (table_plan names) (λ fault. ending 4 (session_refused fault))
+
+abbrev pub pack_plan : PackFiles → Content → Plan
+pack_plan names = reading names.session (λ text. by_session names (session_of text))
+
+-- the session's text is there and accepted, and the table and the evidence are there
+pub record HasInputs (names : PackFiles) (content : Content) : Type 0 where
+  pub session : SessionData
+  pub in_session : HasSession names.session content session
+  pub table : List ℕ
+  pub table_read : readable content names.table ≡ Some table
+  pub evidence : List ℕ
+  pub evidence_read : readable content names.evidence ≡ Some evidence
+
+-- the table is accepted, and has these lists
+pub record HasTable (names : PackFiles) (content : Content) : Type 0 where
+  pub inputs : HasInputs names content
+  pub lists : Lists
+  pub is : lists_of inputs.session inputs.table ≡ Ok lists
+
+-- and so is the evidence, which has these datagrams
+pub record PackAccepted (names : PackFiles) (content : Content) : Type 0 where
+  pub by_table : HasTable names content
+  pub datagrams : List (List ℕ)
+  pub is : evidence_of by_table.inputs.evidence ≡ Some datagrams
+
+-- the table is refused at this place
+pub record HasBadTable (names : PackFiles) (content : Content) (at : ℕ) : Type 0 where
+  pub inputs : HasInputs names content
+  pub is : lists_of inputs.session inputs.table ≡ Err at
+
+-- the table is accepted, and the evidence is refused
+pub record HasBadEvidence (names : PackFiles) (content : Content) : Type 0 where
+  pub by_table : HasTable names content
+  pub is : evidence_of by_table.inputs.evidence ≡ None
+
+-- what the rules say of it
+abbrev pub verdict_in : (names : PackFiles) (content : Content) → PackAccepted names content → Verdict
+verdict_in names content a = verdict_of a.by_table.inputs.session a.by_table.lists a.datagrams
+
+-- and what is packed of it
+abbrev pub file_in : (names : PackFiles) (content : Content) → PackAccepted names content → List ℕ
+file_in names content a = packed_bytes a.by_table.inputs.session a.by_table.lists a.by_table.inputs.table a.datagrams
+
+-- all were accepted, and the rules show this fault of this party
+pub record HasShownOne (names : PackFiles) (content : Content) : Type 0 where
+  pub accepted : PackAccepted names content
+  pub party : ℕ
+  pub fault : Fault
+  pub shown : verdict_in names content accepted ≡ Shown party fault
+
+-- what is to be packed of it
+abbrev pub file_of : (names : PackFiles) (content : Content) → HasShownOne names content → List ℕ
+file_of names content one = file_in names content one.accepted
+
+-- A fault is shown, the proof file has exactly what is packed of it, its length was printed, and no other file was changed. What is packed is
+-- the evidence with the one manifest of the table that it needs, or with none, and is judged as shown against the same party with the same
+-- fault, and stays so under every table that extends its own.
+pub record Packed (names : PackFiles) (old new : Outside) : Type 0 where
+  pub one : HasShownOne names old.files.content
+  pub packed : IsPacked one.accepted.by_table.inputs.session one.accepted.by_table.inputs.table one.accepted.by_table.inputs.evidence
+      (file_of names old.files.content one)
+  pub party_is : packed.party ≡ one.party
+  pub fault_is : packed.fault ≡ one.fault
+  pub written : new.files.content names.proof ≡ Some (file_of names old.files.content one)
+  pub printed : IsTrue old.out.told → new.out.bytes ≡ old.out.bytes ++ packed_line (file_of names old.files.content one)
+  pub others : (path : List ℕ) → path ≢ names.proof → new.files.content path ≡ old.files.content path
+
+-- all were accepted, the rules show nothing for this reason, its line was printed, and nothing else was done
+pub record NotPacked (names : PackFiles) (old new : Outside) : Type 0 where
+  pub accepted : PackAccepted names old.files.content
+  pub why : Why
+  pub is : verdict_in names old.files.content accepted ≡ NotShown why
+  pub printed : IsTrue old.out.told → new.out.bytes ≡ old.out.bytes ++ verdict_line (NotShown why)
+  pub files : SameFiles old new
+
+-- all were accepted, the rules show nothing for this reason, a front of its line was printed, and nothing else was done
+pub record NotPackedFront (names : PackFiles) (old new : Outside) : Type 0 where
+  pub accepted : PackAccepted names old.files.content
+  pub why : Why
+  pub is : verdict_in names old.files.content accepted ≡ NotShown why
+  pub printed : IsTrue old.out.told → (k : ℕ) × (new.out.bytes ≡ old.out.bytes ++ take k (verdict_line (NotShown why)))
+  pub files : SameFiles old new
+
+-- a fault is shown, the proof file has exactly what is packed of it, and a front of its line was printed
+pub record ProofWritten (names : PackFiles) (old new : Outside) : Type 0 where
+  pub one : HasShownOne names old.files.content
+  pub printed_count : ℕ
+  pub written : new.files.content names.proof ≡ Some (file_of names old.files.content one)
+  pub printed : IsTrue old.out.told →
+      new.out.bytes ≡ old.out.bytes ++ take printed_count (packed_line (file_of names old.files.content one))
+
+-- a fault is shown, the proof file has a front of what is packed of it, and behind all of it a front of its line was printed
+pub record ProofBegun (names : PackFiles) (old new : Outside) : Type 0 where
+  pub one : HasShownOne names old.files.content
+  pub written_count : ℕ
+  pub printed_count : ℕ
+  pub written : new.files.content names.proof ≡ Some (take written_count (file_of names old.files.content one))
+  pub printed : IsTrue old.out.told →
+      new.out.bytes ≡ old.out.bytes ++ take printed_count (packed_line (file_of names old.files.content one))
+  pub order : (printed_count ≡ 0) ⊎ (new.files.content names.proof ≡ Some (file_of names old.files.content one))
+
+-- a call that `pack` makes: it reads its three files, and creates and writes the proof file
+abbrev pub IsPackCall : PackFiles → Failure → Type 0
+IsPackCall names call =
+    (call ≡ record { kind = Read; path = names.session })
+    ⊎ ((call ≡ record { kind = Read; path = names.table })
+    ⊎ ((call ≡ record { kind = Read; path = names.evidence })
+    ⊎ ((call ≡ record { kind = Create; path = names.proof }) ⊎ (call ≡ record { kind = Append; path = names.proof }))))
+
+-- nothing was changed or printed, or only the reason, or the proof file was begun
+abbrev pub PackFront : PackFiles → Outside → Outside → Type 0
+PackFront names old new = (SameFiles old new × NothingPrinted old new) ⊎ (NotPackedFront names old new ⊎ ProofBegun names old new)
+
+-- What holds of `pack`, whatever its status: at 0 the proof was packed, and at 1 only the reason was printed why nothing is shown. No file is
+-- changed but the proof file, and that only where a fault is shown.
+pub record PackStands (names : PackFiles) (old new : Outside) (status : ℕ) : Type 0 where
+  pub packed : status ≡ 0 → Packed names old new
+  pub not_packed : status ≡ 1 → NotPacked names old new
+  pub front : PackFront names old new
+  pub others : (path : List ℕ) → path ≢ names.proof → new.files.content path ≡ old.files.content path

@@ -1,0 +1,137 @@
+-- What `bar_run` promises: what was done, what stands by the rules over these inputs, and what standard error has of it.
+use Rattle.std.specs.Prelude.{◌≡◌, ◌≤◌, ◌⊎◌, ◌||◌, ℕ, Contains, List, [], Option, None, Some, true, false, IsTrue}
+use Rattle.bar_outside.specs.Children.{Children}
+use Rattle.bar_outside.specs.Disk.{Disk}
+use Rattle.bar_outside.specs.Ends.{Says, SaysBy, is_plain}
+use Rattle.bar_outside.specs.Plan.{Outside}
+use Rattle.bar_outside.specs.Stages.{HasShown}
+use Rattle.bar_outside.specs.Stream.{Stream}
+use Rattle.bar_child_processes.specs.Names.{SessionNames}
+use Rattle.bar_world.specs.Ends.{sim_end}
+use Rattle.bar_party_commands.specs.CasterPlan.{CasterNames}
+use Rattle.bar_party_commands.specs.CasterStands as caster
+use Rattle.bar_party_commands.specs.PeerPlan.{PeerNames}
+use Rattle.bar_party_commands.specs.PeerStands as peer
+use Rattle.bar_party_commands.specs.Running.{RunEnds, RunEndsWith}
+use Rattle.bar_cli.specs.Audit.Audited.{AuditStays, HasAudited}
+use Rattle.bar_cli.specs.Audit.Plan.{AuditFiles}
+use Rattle.bar_cli.specs.Headline.{PeerHeadline, ReplayHeadline, SendsByTheRules}
+use Rattle.bar_cli.specs.Judge.Plan.{HasJudged, JudgeFiles}
+use Rattle.bar_cli.specs.Keygen.Plan.{HasFewLeaves, Keygen, KeyMade}
+use Rattle.bar_cli.specs.Line.{Line, has_plan, is_status_of, may_print, plan_of, reads_nothing, starts_children, uses_link}
+use Rattle.bar_cli.specs.Line as line
+use Rattle.bar_cli.specs.Pack.{PackFiles, PackStands}
+use Rattle.bar_cli.specs.Replay.Plan.{ReplayFiles, Replayed}
+use Rattle.bar_cli.specs.Session.{SessionEnds, SessionRuns, is_plain_end, session_line}
+use Rattle.bar_cli.specs.Simulate.{simulation_text}
+use Rattle.bar_cli.specs.Verify.{VerifyFiles, VerifyStands}
+
+-- What was done where the words ask for this, or aren't a line, and the status is this: which status comes when, and what was read,
+-- written, printed, given over the link and started.
+pub record WasDone (wanted : Option Line) (old new : Outside) (kids kids_new : Children) (status : ℕ) : Type 0 where
+  -- 2 exactly where the words aren't a line, but for want of memory
+  pub usage : status ≡ 2 → wanted ≡ None
+  pub no_line : wanted ≡ None → (status ≡ 2) ⊎ (status ≡ 70)
+  -- no other status comes
+  pub statuses : IsTrue (is_status_of wanted status)
+  -- what was done, and which status comes when
+  pub ends : has_plan wanted ≡ true → RunEnds (plan_of wanted) old new status
+  -- what a session does, and which status comes when: its text is accepted and its children are started by their words and waited for,
+  -- each status is printed, and no file is changed
+  pub session_runs : (names : SessionNames) → wanted ≡ Some (line.session_run names) → SessionRuns names old new kids kids_new status
+  -- only `session` starts children
+  pub childless : starts_children wanted ≡ false → kids_new ≡ kids
+  -- 4 comes at `keygen` exactly where there are too few leaves, but for want of memory, whatever the files tell
+  pub few_leaves : (asked : Keygen) → wanted ≡ Some (line.keygen asked) → status ≡ 4 → HasFewLeaves asked
+  pub leaves_refused : (asked : Keygen) → wanted ≡ Some (line.keygen asked) → HasFewLeaves asked → (status ≡ 4) ⊎ (status ≡ 70)
+  -- nothing is printed where the words aren't a line, and none but at the statuses at which the command may print
+  pub unprinted : may_print wanted status ≡ false → new.out ≡ old.out
+  -- files are left alone where the words aren't a line, by `simulate`, and by `keygen` where there are too few leaves
+  pub unread : reads_nothing wanted ≡ true → new.files ≡ old.files
+  -- only `peer` and `broadcaster` use the link
+  pub unlinked : uses_link wanted ≡ false → new.wire ≡ old.wire
+  -- the link of a peer is as it was, or bound to the key's party, and then the key is spent
+  pub peer_bound : (names : PeerNames) → wanted ≡ Some (line.peer names) → IsTrue old.files.told → peer.IsBoundOrUnused names old new
+  -- and no file is changed but its own
+  pub peer_files : (names : PeerNames) → wanted ≡ Some (line.peer names) → IsTrue old.files.told → (path : List ℕ) →
+      (peer.IsPeerFile names path → ⊥) → new.files.content path ≡ old.files.content path
+  -- the link of a broadcaster is as it was, or bound to party 0, and then the key is spent
+  pub broadcaster_bound : (names : CasterNames) → wanted ≡ Some (line.broadcaster names) → IsTrue old.files.told →
+      caster.IsBoundOrUnused names old new
+  -- and no file is changed but its own
+  pub broadcaster_files : (names : CasterNames) → wanted ≡ Some (line.broadcaster names) → IsTrue old.files.told → (path : List ℕ) →
+      (caster.IsCasterFile names path → ⊥) → new.files.content path ≡ old.files.content path
+  -- a key that was made has its file and its lines
+  pub key_made : (asked : Keygen) → wanted ≡ Some (line.keygen asked) → IsTrue old.files.told → status ≡ 0 → KeyMade asked old new
+  -- whatever its status, a judge changes no file
+  pub only_reads : (names : JudgeFiles) → wanted ≡ Some (line.judge names) → IsTrue old.files.told → new.files.content ≡ old.files.content
+
+-- What stands by the rules over these inputs, for the same words and the same status.
+pub record ByTheRules (wanted : Option Line) (old new : Outside) (status : ℕ) : Type 0 where
+  -- a peer that ends with 0 took what the link gave up to its end or to the last tick, has sent, played and recorded exactly what the
+  -- rules have it over these inputs, paced, and has written and printed what it found
+  pub peer_done : (names : PeerNames) → wanted ≡ Some (line.peer names) → IsTrue old.files.told → status ≡ 0 → peer.PeerDone names old new
+  -- whatever its status, a peer stands so far: nothing was changed, or its files are begun, or its run was done up to an input
+  pub peer_stands : (names : PeerNames) → wanted ≡ Some (line.peer names) → IsTrue old.files.told → peer.PeerStands names old new
+  -- whatever its status, a peer did nothing over the link, or what it sent is a front of what the rules send over the inputs that it took,
+  -- all of it at 0; and at each moment over them each datagram is signed by rule, its exchanges balance, its keys go to partners, bad keys
+  -- leave evidence, all evidence that it keeps is shown, nobody frames it, and no leaf signs twice
+  pub peer_headline : (names : PeerNames) → wanted ≡ Some (line.peer names) → IsTrue old.files.told → PeerHeadline names old new status
+  -- a broadcaster that ends with 0 took what the link gave up to its end or to the last tick, has sent exactly what the rules have it
+  -- over these inputs, paced, and has written and printed what it found
+  pub broadcaster_done : (names : CasterNames) → wanted ≡ Some (line.broadcaster names) → IsTrue old.files.told → status ≡ 0 →
+      caster.CasterDone names old new
+  -- whatever its status, a broadcaster stands so far
+  pub broadcaster_stands : (names : CasterNames) → wanted ≡ Some (line.broadcaster names) → IsTrue old.files.told →
+      caster.CasterStands names old new
+  -- a replay that ends with 0 has played and shown exactly what the rules of its peer play and send over the recording's inputs, paced,
+  -- and written what the peer found
+  pub headline : (names : ReplayFiles) → wanted ≡ Some (line.replay names) → IsTrue old.files.told → status ≡ 0 → Replayed names old new
+  -- so it sends exactly the datagrams of the rules
+  pub sends : (names : ReplayFiles) → wanted ≡ Some (line.replay names) → IsTrue old.files.told → status ≡ 0 → SendsByTheRules names old new
+  -- whatever its status, a replay printed nothing, or a front of the transcript up to one place of its recording; and whatever the
+  -- recording's inputs are, at each moment, each datagram is signed by rule, exchanges balance, keys go to partners, bad keys leave
+  -- evidence, all evidence is shown, nobody frames the peer, and no leaf signs twice
+  pub replay_headline : (names : ReplayFiles) → wanted ≡ Some (line.replay names) → IsTrue old.files.told →
+      ReplayHeadline names old new status
+  -- an audit that ends with 0 or 1 has printed a line for each exchange that its recordings record, in order, and then that all are
+  -- balanced, at 0, or the first that isn't, at 1; at 0 each party whose key was received holds its partner's briefcase, by whose terms
+  -- both sides promise equally many items
+  pub audited : (names : AuditFiles) → wanted ≡ Some (line.audit names) → IsTrue old.files.told → (status ≡ 0) ⊎ (status ≡ 1) →
+      HasAudited names status old new
+  -- whatever its status, an audit changes no file, and it calls no exchange of obedient parties unbalanced
+  pub audit_stays : (names : AuditFiles) → wanted ≡ Some (line.audit names) → IsTrue old.files.told → AuditStays names old new status
+  -- a judge that ends with 0 or 1 has printed the line of the rules' verdict on its files, which says a fault at 0 and none at 1
+  pub judged : (names : JudgeFiles) → wanted ≡ Some (line.judge names) → IsTrue old.files.told → (status ≡ 0) ⊎ (status ≡ 1) →
+      HasJudged names status old new
+  -- whatever its status, `pack` stands so: at 0 the proof file has exactly what is packed and its length was printed, at 1 the reason was
+  -- printed why nothing is shown, and no file but the proof file is changed, and it only where a fault is shown
+  pub packed : (names : PackFiles) → wanted ≡ Some (line.pack names) → IsTrue old.files.told → PackStands names old new status
+  -- whatever its status, `verify` stands so: at 0 and at 1 it has printed the line of the rules' verdict on the proof file under its own
+  -- table, which says a fault at 0 and none at 1, and no file is changed
+  pub verified : (names : VerifyFiles) → wanted ≡ Some (line.verify names) → IsTrue old.files.told → VerifyStands names old new status
+  -- a simulation prints how the simulation of its seed ends, all of it where it ends with 0, and nothing else is done
+  pub simulated : (seed : ℕ) → wanted ≡ Some (line.simulate seed) → HasShown (simulation_text seed) 0 old new status
+  -- in which, whatever the seed, none of the peers that keep the rules is evicted
+  pub spared : (seed peer : ℕ) → 1 ≤ peer → peer ≤ 4 → Contains (sim_end seed).evicted peer → ⊥
+
+-- What standard error has of it.
+pub record WasSaid (wanted : Option Line) (files : Disk) (err err_new : Stream) (status : ℕ) : Type 0 where
+  -- the line of a status is the same whatever the link gives
+  pub said : has_plan wanted ≡ true → IsTrue (files.told || is_plain status || reads_nothing wanted) →
+      Says (plan_of wanted [] files.content) status err err_new
+  -- nothing is said at 0 and at 1
+  pub silent : (status ≡ 0) ⊎ (status ≡ 1) → err_new ≡ err
+  -- what it has of a session
+  pub session_said : (names : SessionNames) → wanted ≡ Some (line.session_run names) → IsTrue (files.told || is_plain_end status) →
+      SaysBy (session_line names files.content) status err err_new
+
+-- What was done before the line of a status is said, which may yet end for want of memory.
+pub record CommandRan (wanted : Option Line) (old new : Outside) (kids kids_new : Children) (status : ℕ) (said : List ℕ) : Type 0 where
+  pub ends : has_plan wanted ≡ true → RunEndsWith (plan_of wanted) old new status said
+  pub statuses : IsTrue (is_status_of wanted status)
+  pub unprinted : may_print wanted status ≡ false → new.out ≡ old.out
+  pub unread : reads_nothing wanted ≡ true → new.files ≡ old.files
+  pub unlinked : uses_link wanted ≡ false → new.wire ≡ old.wire
+  pub session : (names : SessionNames) → wanted ≡ Some (line.session_run names) → SessionEnds names old new kids kids_new status said
+  pub childless : starts_children wanted ≡ false → kids_new ≡ kids

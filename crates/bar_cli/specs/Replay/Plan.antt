@@ -1,0 +1,208 @@
+-- What `replay` does.
+use Rattle.std.specs.Prelude.{◌≡◌, ◌≢◌, ◌⊎◌, ◌≤◌, ℕ, List, [], ◌∷◌, ◌++◌, Some, Ok, Err, IfSome, take, IsTrue}
+use Rattle.std.specs.List.{AllByRecursion, concat}
+use Rattle.bar_outside.specs.Disk.{Content, Failure, readable}
+use Rattle.bar_outside.specs.declared.files.CallKind.TheVariants.{Read}
+use Rattle.bar_outside.specs.Plan.{Outside, Action, Plan, reading, accepting, ending, doing}
+use Rattle.bar_outside.specs.Plan.Action.{create}
+use Rattle.bar_outside.specs.Ends.{SameFiles, NothingPrinted}
+use Rattle.bar_wire.specs.Inputs.{Input}
+use Rattle.bar_seeds.specs.declared.secrets.Secrets.{Secrets}
+use Rattle.bar_roster.specs.declared.fault.SessionFault.{SessionFault}
+use Rattle.bar_roster.specs.declared.key_fault.KeyFileFault.{KeyFileFault}
+use Rattle.bar_roster.specs.SessionText.{SessionData}
+use Rattle.bar_record.specs.declared.fault.RecordFault.{RecordFault}
+use Rattle.bar_roster.specs.KeyFile.{Fits}
+use Rattle.bar_rules.specs.Member.{Member}
+use Rattle.bar_rules.specs.Members.{member_by}
+use Rattle.bar_rules.specs.Peer.Run.{played_by, sends_of}
+use Rattle.bar_judge.specs.TableFile.{table_bytes}
+use Rattle.bar_findings.specs.Findings.{Finding, IsFindingName, IsWriteTo, IsWrittenUpTo, evidence_name, findings_actions, in_order, table_name}
+use Rattle.bar_cli.specs.Refusals.{session_refused, key_refused, recording_refused}
+use Rattle.bar_cli.specs.Replay.Found.{evidence_of, found_by, manifest_of}
+use Rattle.bar_session_files.specs.Accepting.{secrets_of_key, session_of}
+use Rattle.bar_cli.specs.Replay.Recordings.{recording_of}
+use Rattle.bar_cli.specs.Replay.Transcript.{transcript}
+use Rattle.bar_cli.specs.Replay.Turns.{Turn, turns_from, turns_actions, played_bytes, shown_bytes}
+
+-- the files of a replay
+pub record ReplayFiles : Type 0 where
+  pub session : List ℕ
+  pub key : List ℕ
+  pub recording : List ℕ
+  pub played : List ℕ
+  pub found : List ℕ
+
+-- the played file is created, and each turn is done
+abbrev pub playing_actions : List ℕ → List Turn → List Action
+playing_actions played turns = create played ∷ turns_actions played turns
+
+-- and then what was found is written
+abbrev pub replay_actions : ReplayFiles → List Turn → List Finding → List Action
+replay_actions names turns findings = playing_actions names.played turns ++ findings_actions findings
+
+-- the turns of a peer over these inputs, from the start
+abbrev pub turns_of : SessionData → Secrets → List Input → List Turn
+turns_of s secrets inputs = turns_from (member_by s secrets) 1 [] inputs
+
+abbrev pub run_plan : ReplayFiles → SessionData → Secrets → List Input → Content → Plan
+run_plan names session secrets inputs =
+    doing (replay_actions names (turns_of session secrets inputs) (found_by names.found (member_by session secrets) inputs)) 0 []
+
+-- the recording of the key's party is read, and accepted or refused
+abbrev pub recording_plan : ReplayFiles → SessionData → Secrets → Content → Plan
+recording_plan names session secrets =
+    reading names.recording (λ bytes.
+    accepting (recording_of session secrets.party bytes) (run_plan names session secrets) (λ fault. ending 8 (recording_refused fault)))
+
+-- the key file is read, and accepted or refused
+abbrev pub key_plan : ReplayFiles → SessionData → Content → Plan
+key_plan names session =
+    reading names.key (λ bytes. accepting (secrets_of_key session bytes) (recording_plan names session)
+    (λ fault. ending 5 (key_refused fault)))
+
+-- the session is read, and accepted or refused
+abbrev pub replay_plan : ReplayFiles → Content → Plan
+replay_plan names =
+    reading names.session (λ text. accepting (session_of text) (key_plan names) (λ fault. ending 4 (session_refused fault)))
+
+-- the session's text is there and accepted
+pub record SessionAccepted (names : ReplayFiles) (content : Content) (session : SessionData) : Type 0 where
+  pub text : List ℕ
+  pub read : readable content names.session ≡ Some text
+  pub is : session_of text ≡ Ok session
+
+-- so is the key file, which holds these secrets
+pub record KeyAccepted (names : ReplayFiles) (content : Content) (session : SessionData) (secrets : Secrets) : Type 0 where
+  pub in_session : SessionAccepted names content session
+  pub bytes : List ℕ
+  pub read : readable content names.key ≡ Some bytes
+  pub is : secrets_of_key session bytes ≡ Ok secrets
+
+-- and so is the recording, which holds these inputs, paced
+pub record Accepted (names : ReplayFiles) (content : Content) : Type 0 where
+  pub session : SessionData
+  pub secrets : Secrets
+  pub inputs : List Input
+  pub by_key : KeyAccepted names content session secrets
+  pub bytes : List ℕ
+  pub read : readable content names.recording ≡ Some bytes
+  pub is : recording_of session secrets.party bytes ≡ Ok inputs
+
+-- the session's text is there, and refused for this fault
+pub record SessionRefused (names : ReplayFiles) (content : Content) (text : List ℕ) (fault : SessionFault) : Type 0 where
+  pub read : readable content names.session ≡ Some text
+  pub is : session_of text ≡ Err fault
+
+-- the session is accepted, and the key file is there and refused for this fault
+pub record KeyRefused (names : ReplayFiles) (content : Content) (session : SessionData) (bytes : List ℕ)
+    (fault : KeyFileFault) : Type 0 where
+  pub in_session : SessionAccepted names content session
+  pub read : readable content names.key ≡ Some bytes
+  pub is : secrets_of_key session bytes ≡ Err fault
+
+-- both are accepted, and the recording is there and refused for this fault
+pub record InputRefused (names : ReplayFiles) (content : Content) (session : SessionData) (secrets : Secrets) (bytes : List ℕ)
+    (fault : RecordFault) : Type 0 where
+  pub by_key : KeyAccepted names content session secrets
+  pub read : readable content names.recording ≡ Some bytes
+  pub is : recording_of session secrets.party bytes ≡ Err fault
+
+-- the peer whose key it is
+abbrev pub peer_of : (names : ReplayFiles) (content : Content) → Accepted names content → Member
+peer_of names content accepted = member_by accepted.session accepted.secrets
+
+-- the turns of this peer over the recording's inputs
+abbrev pub turns_in : (names : ReplayFiles) (content : Content) → Accepted names content → List Turn
+turns_in names content accepted = turns_of accepted.session accepted.secrets accepted.inputs
+
+-- the transcript of this peer over the recording's inputs
+abbrev pub transcript_of : (names : ReplayFiles) (content : Content) → Accepted names content → List ℕ
+transcript_of names content accepted = transcript accepted.session (sends_of (peer_of names content accepted) accepted.inputs)
+
+-- what this peer found over the recording's inputs
+abbrev pub found_in : (names : ReplayFiles) (content : Content) → Accepted names content → List Finding
+found_in names content accepted = found_by names.found (peer_of names content accepted) accepted.inputs
+
+-- the played file is none of the files of what was found
+pub record HasOwnNames (names : ReplayFiles) : Type 0 where
+  pub table : names.played ≢ table_name names.found
+  pub evidence : (party : ℕ) → names.played ≢ evidence_name names.found party
+
+-- All were accepted, the session holds the public key and the anchor that come from the key file's secret, and over the recording's inputs
+-- the played file has exactly what the rules of this peer play, and the transcript exactly what they send, in order. The table file has
+-- exactly the manifests that the peer admitted, by round, and each party that it keeps evidence against has a file with exactly this
+-- evidence. No other file is changed.
+pub record Replayed (names : ReplayFiles) (old new : Outside) : Type 0 where
+  pub accepted : Accepted names old.files.content
+  pub fits : Fits accepted.session accepted.secrets.party accepted.secrets.secret
+  pub played : HasOwnNames names →
+      new.files.content names.played ≡ Some (played_by (peer_of names old.files.content accepted) accepted.inputs)
+  pub sent : IsTrue old.out.told → new.out.bytes ≡ old.out.bytes ++ transcript_of names old.files.content accepted
+  pub table : new.files.content (table_name names.found) ≡
+      Some (table_bytes (in_order (manifest_of (peer_of names old.files.content accepted) accepted.inputs) accepted.session.shape.rounds))
+  pub evidence : (party : ℕ) → 1 ≤ party → party ≤ accepted.session.shape.peers →
+      IfSome (evidence_of (peer_of names old.files.content accepted) accepted.inputs party)
+      (λ kept. new.files.content (evidence_name names.found party) ≡ Some kept)
+  pub others : (path : List ℕ) → path ≢ names.played → AllByRecursion (λ f. f.name ≢ path) (found_in names old.files.content accepted) →
+      new.files.content path ≡ old.files.content path
+
+-- all were accepted, and the played file has a front of what the rules of this peer play, and the transcript a front of what they send
+pub record PlayedFront (names : ReplayFiles) (old new : Outside) : Type 0 where
+  pub accepted : Accepted names old.files.content
+  pub played_count : ℕ
+  pub shown_count : ℕ
+  pub played : HasOwnNames names →
+      new.files.content names.played ≡ Some (take played_count (played_by (peer_of names old.files.content accepted) accepted.inputs))
+  pub shown : IsTrue old.out.told → new.out.bytes ≡ old.out.bytes ++ take shown_count (transcript_of names old.files.content accepted)
+
+-- no file holds anything else than before, and nothing was printed
+pub record IsUntouched (old new : Outside) : Type 0 where
+  pub files : SameFiles old new
+  pub out : NothingPrinted old new
+
+-- no file but the played one was changed
+abbrev pub OthersAreSame : ReplayFiles → Outside → Outside → Type 0
+OthersAreSame names old new = (path : List ℕ) → path ≢ names.played → new.files.content path ≡ old.files.content path
+
+-- the played file was made and is empty, no other was changed, and nothing was printed
+pub record IsMade (names : ReplayFiles) (old new : Outside) : Type 0 where
+  pub played : new.files.content names.played ≡ Some []
+  pub out : NothingPrinted old new
+  pub others : OthersAreSame names old new
+
+-- All were accepted, and there is one input such that the played file has all that earlier inputs play and a front of what this one plays,
+-- and the transcript all that earlier inputs send and a front of what this one sends. What is shown of an input comes behind all that it
+-- plays. Where a call of the files failed, nothing is shown of it, and where a write failed, all that it plays stands. Nothing that was
+-- found is written yet.
+pub record PlayedUpTo (names : ReplayFiles) (status : ℕ) (old new : Outside) : Type 0 where
+  pub accepted : Accepted names old.files.content
+  pub earlier : List Turn
+  pub this : Turn
+  pub later : List Turn
+  pub played_count : ℕ
+  pub shown_count : ℕ
+  pub turns : turns_in names old.files.content accepted ≡ earlier ++ this ∷ later
+  pub played : new.files.content names.played ≡ Some (played_bytes earlier ++ take played_count (concat this.contents))
+  pub shown : IsTrue old.out.told → new.out.bytes ≡ old.out.bytes ++ (shown_bytes earlier ++ take shown_count (concat this.lines))
+  pub order : (shown_count ≡ 0) ⊎ (take played_count (concat this.contents) ≡ concat this.contents)
+  pub at_file : status ≡ 3 → shown_count ≡ 0
+  pub at_output : status ≡ 7 → take played_count (concat this.contents) ≡ concat this.contents
+  pub others : OthersAreSame names old new
+
+-- All were accepted, all that the inputs play and send stands, and what was found behind them is written so far: the earlier files whole, a
+-- front of one, and the later ones as they were. No write failed.
+pub record FoundUpTo (names : ReplayFiles) (status : ℕ) (old new : Outside) : Type 0 where
+  pub accepted : Accepted names old.files.content
+  pub played : HasOwnNames names →
+      new.files.content names.played ≡ Some (played_by (peer_of names old.files.content accepted) accepted.inputs)
+  pub sent : IsTrue old.out.told → new.out.bytes ≡ old.out.bytes ++ transcript_of names old.files.content accepted
+  pub found : HasOwnNames names → IsWrittenUpTo (found_in names old.files.content accepted) old.files.content new.files.content
+  pub no_output : status ≢ 7
+
+-- a call that a replay makes: a read of a file that it reads, or a create or an append of the played one, or of one of what was found
+abbrev pub IsReplayCall : ReplayFiles → Failure → Type 0
+IsReplayCall names call =
+    ((call ≡ record { kind = Read; path = names.session })
+    ⊎ ((call ≡ record { kind = Read; path = names.key }) ⊎ (call ≡ record { kind = Read; path = names.recording })))
+    ⊎ (IsWriteTo names.played call ⊎ ((path : List ℕ) × IsFindingName names.found path × IsWriteTo path call))

@@ -1,0 +1,127 @@
+//! What each exit status of `pack` means, and what then stands.
+ghost use Rattle.std.specs.Prelude.{◌≡◌, ◌≢◌, ◌⊎◌, ℕ, List, [], None, IsSomeAnd, true};
+ghost use Rattle.bar_outside.specs.Causes.{Rose};
+ghost use Rattle.bar_outside.specs.Disk.{Content, readable};
+ghost use Rattle.bar_outside.specs.Follows.{IsReliable};
+ghost use Rattle.bar_outside.specs.Plan.{Outside, is_stop, line_at};
+ghost use Rattle.bar_outside.specs.Ends.{Ends, OfEachEnd, AtEnd, UnlessStopped, SameFiles, NothingPrinted};
+ghost use Rattle.bar_roster.specs.declared.fault.SessionFault.{SessionFault};
+ghost use Rattle.bar_roster.specs.SessionText.{SessionData};
+ghost use Rattle.bar_session_files.specs.Accepting.{HasSession};
+ghost use Rattle.bar_cli.specs.Judge.Judging.{status_of_verdict};
+ghost use Rattle.bar_cli.specs.Refusals.{session_refused, table_refused, evidence_refused};
+ghost use Rattle.bar_cli.specs.Pack.{PackFiles, PackAccepted, HasBadTable, HasBadEvidence, Packed, NotPacked, NotPackedFront, ProofWritten, PackFront, IsPackCall, pack_plan, verdict_in};
+ghost use Rattle.bar_cli.specs.Verify.{HasBadSession};
+
+use bar_outside::plans_go_in_order;
+use bar_proof::laws::what_is_shown_is_packed;
+use bar_roster::laws::accepted_sessions_are_in_range;
+
+/// Where all files are accepted, the status is 0 exactly where the rules show a fault, and 1 exactly where they show none, but for a fault
+/// of the outside or want of memory; and these come only there. At 0 the proof file has exactly what is packed, and its length was printed; at
+/// 1 the reason was printed and no file is changed. Nothing was printed on standard error.
+pub fn a_proof_is_packed()
+    ensures shown { (names : PackFiles) → AtEnd 0 (pack_plan names) (Packed names) }
+    ensures not_shown { (names : PackFiles) → AtEnd 1 (pack_plan names) (NotPacked names) }
+    ensures then { (names : PackFiles) → OfEachEnd (pack_plan names) (λ old new status.
+        (accepted : PackAccepted names old.files.content) →
+        UnlessStopped (status_of_verdict (verdict_in names old.files.content accepted)) status) }
+    ensures line { (names : PackFiles) (content : Content) (accepted : PackAccepted names content) →
+        line_at (pack_plan names content) (status_of_verdict (verdict_in names content accepted)) ≡ [] }
+{
+    plans_go_in_order();
+    what_is_shown_is_packed();
+    accepted_sessions_are_in_range();
+}
+
+/// Where all files are accepted and no count rose, the status is that of the verdict, but for want of memory. So it is where nothing fails
+/// by itself.
+pub fn a_proof_is_packed_where_all_is_accepted()
+    ensures without_faults { (names : PackFiles) → OfEachEnd (pack_plan names) (λ old new status.
+        (accepted : PackAccepted names old.files.content) →
+        (Rose old.files.faults new.files.faults → ⊥) → (Rose old.out.faults new.out.faults → ⊥) →
+        (status ≡ status_of_verdict (verdict_in names old.files.content accepted)) ⊎ (status ≡ 70)) }
+    ensures reliable { (names : PackFiles) (old new : Outside) (status : ℕ) → Ends (pack_plan names) old new status → IsReliable old →
+        (accepted : PackAccepted names old.files.content) →
+        (status ≡ status_of_verdict (verdict_in names old.files.content accepted)) ⊎ (status ≡ 70) }
+{}
+
+/// 3 comes only where the files' count rose, and where they tell, by a call that `pack` makes; 7 only where the count of the output rose. A
+/// file that isn't there or is too large stops it: the evidence does so even where the table is refused.
+pub fn packing_fails_only()
+    ensures file { (names : PackFiles) (old new : Outside) → Ends (pack_plan names) old new 3 → Rose old.files.faults new.files.faults }
+    ensures named { (names : PackFiles) → AtEnd 3 (pack_plan names) (λ old new. IsSomeAnd new.files.failed (IsPackCall names)) }
+    ensures output { (names : PackFiles) (old new : Outside) → Ends (pack_plan names) old new 7 → Rose old.out.faults new.out.faults }
+    ensures no_session { (names : PackFiles) → OfEachEnd (pack_plan names) (λ old new status.
+        readable old.files.content names.session ≡ None → is_stop status ≡ true) }
+    ensures no_table { (names : PackFiles) (session : SessionData) → OfEachEnd (pack_plan names) (λ old new status.
+        HasSession names.session old.files.content session → readable old.files.content names.table ≡ None → is_stop status ≡ true) }
+    ensures no_evidence { (names : PackFiles) (session : SessionData) → OfEachEnd (pack_plan names) (λ old new status.
+        HasSession names.session old.files.content session → readable old.files.content names.evidence ≡ None → is_stop status ≡ true) }
+{
+    plans_go_in_order();
+}
+
+/// 7 comes only behind all that is refused: where the files tell, the proof file has all that is packed and a front of its line was printed, or
+/// nothing is shown, no file is changed and a front of the reason's line was printed.
+pub fn output_fails_behind_the_proof()
+    ensures { (names : PackFiles) → AtEnd 7 (pack_plan names) (λ old new. ProofWritten names old new ⊎ NotPackedFront names old new) }
+{
+    plans_go_in_order();
+}
+
+/// 4 comes exactly where the session is there and refused, but for a fault or want of memory; its line has the first fault.
+pub fn a_bad_session_is_not_packed()
+    ensures only { (names : PackFiles) → AtEnd 4 (pack_plan names) (λ old new.
+        (fault : SessionFault) × HasBadSession names.session old.files.content fault) }
+    ensures then { (names : PackFiles) (fault : SessionFault) → OfEachEnd (pack_plan names) (λ old new status.
+        HasBadSession names.session old.files.content fault → UnlessStopped 4 status) }
+    ensures line { (names : PackFiles) (content : Content) (fault : SessionFault) → HasBadSession names.session content fault →
+        line_at (pack_plan names content) 4 ≡ session_refused fault }
+{
+    plans_go_in_order();
+}
+
+/// 8 comes exactly where the session is accepted, the table and the evidence are there, and the table is refused, or the table is accepted
+/// and the evidence is refused, but for a fault or want of memory; its line has the place of the table's bad entry, or names the evidence.
+pub fn a_bad_table_or_evidence_is_not_packed()
+    ensures only { (names : PackFiles) → AtEnd 8 (pack_plan names) (λ old new.
+        ((at : ℕ) × HasBadTable names old.files.content at) ⊎ HasBadEvidence names old.files.content) }
+    ensures table { (names : PackFiles) (at : ℕ) → OfEachEnd (pack_plan names) (λ old new status.
+        HasBadTable names old.files.content at → UnlessStopped 8 status) }
+    ensures evidence { (names : PackFiles) → OfEachEnd (pack_plan names) (λ old new status.
+        HasBadEvidence names old.files.content → UnlessStopped 8 status) }
+    ensures table_line { (names : PackFiles) (content : Content) (at : ℕ) → HasBadTable names content at →
+        line_at (pack_plan names content) 8 ≡ table_refused at }
+    ensures evidence_line { (names : PackFiles) (content : Content) → HasBadEvidence names content →
+        line_at (pack_plan names content) 8 ≡ evidence_refused }
+{
+    plans_go_in_order();
+}
+
+/// Whatever the status, only the proof file is changed.
+pub fn only_the_proof_is_changed()
+    ensures { (names : PackFiles) (path : List ℕ) → OfEachEnd (pack_plan names) (λ old new status.
+        path ≢ names.proof → new.files.content path ≡ old.files.content path) }
+{
+    plans_go_in_order();
+}
+
+/// After a refusal every file is as it was, and nothing was printed.
+pub fn refused_packing_changes_nothing()
+    ensures session { (names : PackFiles) → AtEnd 4 (pack_plan names) SameFiles }
+    ensures session_printed { (names : PackFiles) → AtEnd 4 (pack_plan names) NothingPrinted }
+    ensures input { (names : PackFiles) → AtEnd 8 (pack_plan names) SameFiles }
+    ensures input_printed { (names : PackFiles) → AtEnd 8 (pack_plan names) NothingPrinted }
+{
+    plans_go_in_order();
+}
+
+/// Whatever the status, all files are as they were and nothing was printed; or nothing is shown, all files are as they were, and a front of
+/// the reason's line was printed; or a fault is shown, the proof file has a front of what is packed, and behind all of it a front of its line
+/// was printed.
+pub fn a_front_of_the_proof_is_made()
+    ensures { (names : PackFiles) → OfEachEnd (pack_plan names) (λ old new status. PackFront names old new) }
+{
+    plans_go_in_order();
+}

@@ -1,0 +1,183 @@
+//! What each exit status of a replay means, and what then stands.
+ghost use Rattle.std.specs.Prelude.{◌≡◌, ◌≢◌, ◌⊎◌, ℕ, List, [], Some, None, IsSomeAnd, true};
+ghost use Rattle.bar_outside.specs.Causes.{Rose};
+ghost use Rattle.bar_outside.specs.Disk.{Content, readable};
+ghost use Rattle.bar_outside.specs.Follows.{IsReliable};
+ghost use Rattle.bar_outside.specs.Plan.{Outside, is_stop, ending, line_at};
+ghost use Rattle.bar_outside.specs.Ends.{Ends, OfEachEnd, AtEnd, UnlessStopped};
+ghost use Rattle.bar_seeds.specs.declared.secrets.Secrets.{Secrets};
+ghost use Rattle.bar_roster.specs.declared.fault.SessionFault.{SessionFault};
+ghost use Rattle.bar_roster.specs.declared.key_fault.KeyFileFault.{KeyFileFault};
+ghost use Rattle.bar_roster.specs.SessionText.{SessionData};
+ghost use Rattle.bar_record.specs.declared.fault.RecordFault.{RecordFault};
+ghost use Rattle.bar_findings.specs.Findings.{IsFindingName};
+ghost use Rattle.bar_cli.specs.Replay.Finished.{IsReplayed};
+ghost use Rattle.bar_cli.specs.Headline.{ReplayHeadline};
+ghost use Rattle.bar_cli.specs.Line.{usage};
+ghost use Rattle.bar_cli.specs.Refusals.{session_refused, key_refused, recording_refused};
+ghost use Rattle.bar_cli.specs.Replay.Plan.{ReplayFiles, SessionAccepted, SessionRefused, KeyAccepted, KeyRefused, InputRefused, Accepted, Replayed, PlayedFront, PlayedUpTo, FoundUpTo, IsUntouched, IsMade, IsReplayCall, replay_plan};
+
+use bar_laws::balance::balanced;
+use bar_laws::evidence::{bad_keys_leave_evidence, kept_evidence_is_shown};
+use bar_laws::framing::no_framing;
+use bar_laws::leaves::leaf_discipline;
+use bar_laws::obedience::signed_by_rule;
+use bar_outside::plans_go_in_order;
+use bar_record::{paced_inputs_stay_paced, recordings_read_back};
+use bar_roster::laws::{
+    accepted_keys_are_read_back, accepted_secrets_are_held, accepted_sessions_are_in_range,
+};
+
+/// 0 comes exactly where all files are accepted, but for a fault or want of memory; then all inputs were played, and what was found behind
+/// them is written.
+pub fn done_exactly()
+    ensures only { (names : ReplayFiles) → AtEnd 0 (replay_plan names) (Replayed names) }
+    ensures then { (names : ReplayFiles) → OfEachEnd (replay_plan names) (λ old new status.
+        Accepted names old.files.content → UnlessStopped 0 status) }
+    ensures line { (names : ReplayFiles) (content : Content) → Accepted names content → line_at (replay_plan names content) 0 ≡ [] }
+{
+    accepted_secrets_are_held();
+    accepted_sessions_are_in_range();
+    plans_go_in_order();
+}
+
+/// Where all files are accepted and no count rose, the status is 0, but for want of memory. So it is where nothing fails by itself.
+pub fn done_where_all_is_accepted()
+    ensures without_faults { (names : ReplayFiles) → OfEachEnd (replay_plan names) (λ old new status.
+        Accepted names old.files.content → (Rose old.files.faults new.files.faults → ⊥) → (Rose old.out.faults new.out.faults → ⊥) →
+        (status ≡ 0) ⊎ (status ≡ 70)) }
+    ensures reliable { (names : ReplayFiles) (old new : Outside) (status : ℕ) → Ends (replay_plan names) old new status → IsReliable old →
+        Accepted names old.files.content → (status ≡ 0) ⊎ (status ≡ 70) }
+{}
+
+/// 3 comes only where the files' count rose, and where they tell, by a call that a replay makes. A file that isn't there or is too large
+/// stops it.
+pub fn file_failed_only()
+    ensures rose { (names : ReplayFiles) (old new : Outside) → Ends (replay_plan names) old new 3 → Rose old.files.faults new.files.faults }
+    ensures named { (names : ReplayFiles) → AtEnd 3 (replay_plan names) (λ old new. IsSomeAnd new.files.failed (IsReplayCall names)) }
+    ensures no_session { (names : ReplayFiles) → OfEachEnd (replay_plan names) (λ old new status.
+        readable old.files.content names.session ≡ None → is_stop status ≡ true) }
+    ensures no_key { (names : ReplayFiles) (session : SessionData) → OfEachEnd (replay_plan names) (λ old new status.
+        SessionAccepted names old.files.content session → readable old.files.content names.key ≡ None → is_stop status ≡ true) }
+    ensures no_recording { (names : ReplayFiles) (session : SessionData) (k : Secrets) → OfEachEnd (replay_plan names) (λ old new status.
+        KeyAccepted names old.files.content session k → readable old.files.content names.recording ≡ None → is_stop status ≡ true) }
+{
+    plans_go_in_order();
+}
+
+/// 4 comes exactly where the session is there and refused, but for a fault or want of memory; its line has the first fault.
+pub fn session_refused_exactly()
+    ensures only { (names : ReplayFiles) → AtEnd 4 (replay_plan names) (λ old new.
+        (text : List ℕ) × (fault : SessionFault) × SessionRefused names old.files.content text fault) }
+    ensures then { (names : ReplayFiles) (text : List ℕ) (fault : SessionFault) → OfEachEnd (replay_plan names) (λ old new status.
+        SessionRefused names old.files.content text fault → UnlessStopped 4 status) }
+    ensures line { (names : ReplayFiles) (content : Content) (text : List ℕ) (fault : SessionFault) →
+        SessionRefused names content text fault → line_at (replay_plan names content) 4 ≡ session_refused fault }
+{
+    plans_go_in_order();
+}
+
+/// 5 comes exactly where the session is accepted, and the key file is there and refused, but for a fault or want of memory; its line has
+/// the first fault.
+pub fn key_refused_exactly()
+    ensures only { (names : ReplayFiles) → AtEnd 5 (replay_plan names) (λ old new.
+        (session : SessionData) × (bytes : List ℕ) × (fault : KeyFileFault) × KeyRefused names old.files.content session bytes fault) }
+    ensures then { (names : ReplayFiles) (session : SessionData) (bytes : List ℕ) (fault : KeyFileFault) →
+        OfEachEnd (replay_plan names) (λ old new status. KeyRefused names old.files.content session bytes fault → UnlessStopped 5 status) }
+    ensures line { (names : ReplayFiles) (content : Content) (session : SessionData) (bytes : List ℕ) (fault : KeyFileFault) →
+        KeyRefused names content session bytes fault → line_at (replay_plan names content) 5 ≡ key_refused fault }
+{
+    plans_go_in_order();
+}
+
+/// 8 comes exactly where the session and the key are accepted, and the recording is there and refused, but for a fault or want of memory;
+/// its line has the first fault.
+pub fn input_refused_exactly()
+    ensures only { (names : ReplayFiles) → AtEnd 8 (replay_plan names) (λ old new.
+        (session : SessionData) × (secrets : Secrets) × (bytes : List ℕ) × (fault : RecordFault)
+        × InputRefused names old.files.content session secrets bytes fault) }
+    ensures then { (names : ReplayFiles) (session : SessionData) (k : Secrets) (bytes : List ℕ) (fault : RecordFault) → OfEachEnd
+        (replay_plan names) (λ old new status. InputRefused names old.files.content session k bytes fault → UnlessStopped 8 status) }
+    ensures line { (names : ReplayFiles) (content : Content) (session : SessionData) (secrets : Secrets) (bytes : List ℕ)
+        (fault : RecordFault) → InputRefused names content session secrets bytes fault →
+        line_at (replay_plan names content) 8 ≡ recording_refused fault }
+{
+    plans_go_in_order();
+}
+
+/// 7 comes only where the count of out rose. Where the files tell, all were accepted then, and it comes behind all that an input plays, and
+/// before anything that was found is written.
+pub fn output_failed_only()
+    ensures rose { (names : ReplayFiles) (old new : Outside) → Ends (replay_plan names) old new 7 → Rose old.out.faults new.out.faults }
+    ensures in_order { (names : ReplayFiles) → AtEnd 7 (replay_plan names) (PlayedUpTo names 7) }
+{
+    accepted_sessions_are_in_range();
+    plans_go_in_order();
+}
+
+/// Where the files tell, this is how far a replay came, whatever stopped it: nothing was changed and nothing printed; or the played file
+/// was made and is empty; or there is one input such that the played file and the transcript have all that belongs to earlier inputs and
+/// nothing that belongs to later ones; or all that belongs to the inputs stands, and what was found behind them is written so far, in
+/// order.
+pub fn a_replay_stops_in_order()
+    ensures { (names : ReplayFiles) → OfEachEnd (replay_plan names) (λ old new status.
+        IsUntouched old new ⊎ (IsMade names old new ⊎ (PlayedUpTo names status old new ⊎ FoundUpTo names status old new))) }
+{
+    accepted_sessions_are_in_range();
+    plans_go_in_order();
+}
+
+/// Whatever the status, only the played file is changed, and those of what was found.
+pub fn only_its_files_are_changed()
+    ensures { (names : ReplayFiles) (path : List ℕ) → OfEachEnd (replay_plan names) (λ old new status.
+        path ≢ names.played → (IsFindingName names.found path → ⊥) → new.files.content path ≡ old.files.content path) }
+{
+    plans_go_in_order();
+}
+
+/// After a refusal, and where the words aren't a line, every file is as it was, and nothing is printed.
+pub fn refusals_change_nothing()
+    ensures usage { OfEachEnd (ending 2 usage) (λ old new status. IsUntouched old new) }
+    ensures session { (names : ReplayFiles) → AtEnd 4 (replay_plan names) IsUntouched }
+    ensures key { (names : ReplayFiles) → AtEnd 5 (replay_plan names) IsUntouched }
+    ensures input { (names : ReplayFiles) → AtEnd 8 (replay_plan names) IsUntouched }
+{
+    plans_go_in_order();
+}
+
+/// Whatever the status, all is as it was, or the played file has a front of what the rules play over the recording's inputs, and the
+/// transcript a front of what they send.
+pub fn a_front_is_played()
+    ensures { (names : ReplayFiles) → OfEachEnd (replay_plan names) (λ old new status.
+        IsUntouched old new ⊎ PlayedFront names old new) }
+{
+    accepted_sessions_are_in_range();
+    plans_go_in_order();
+}
+
+/// Whatever its status, a replay printed nothing; or its files were accepted, what it printed is a front of the transcript up to one place
+/// of its recording, and its peer keeps the rules at each moment of the recording.
+pub fn a_replay_keeps_the_rules()
+    ensures { (names : ReplayFiles) → OfEachEnd (replay_plan names) (ReplayHeadline names) }
+{
+    accepted_secrets_are_held();
+    accepted_sessions_are_in_range();
+    bad_keys_leave_evidence();
+    balanced();
+    kept_evidence_is_shown();
+    leaf_discipline();
+    no_framing();
+    plans_go_in_order();
+    signed_by_rule();
+}
+
+/// A replay of the recording that a peer left which is done ends with 0, but for a fault or want of memory. Then it shows exactly what the
+/// peer sent, plays the same bytes, and finds the same.
+pub fn a_finished_recording_is_replayed()
+    ensures { IsReplayed }
+{
+    accepted_keys_are_read_back();
+    done_exactly();
+    paced_inputs_stay_paced();
+    recordings_read_back();
+}

@@ -1,0 +1,100 @@
+//! What each exit status of `verify` means, and what then stands.
+ghost use Rattle.std.specs.Prelude.{◌≡◌, ◌⊎◌, ℕ, [], None, IsSomeAnd, true};
+ghost use Rattle.bar_outside.specs.Causes.{Rose};
+ghost use Rattle.bar_outside.specs.Disk.{Content, readable};
+ghost use Rattle.bar_outside.specs.Follows.{IsReliable};
+ghost use Rattle.bar_outside.specs.Plan.{Outside, is_stop, line_at};
+ghost use Rattle.bar_outside.specs.Ends.{Ends, OfEachEnd, AtEnd, UnlessStopped, SameFiles, NothingPrinted};
+ghost use Rattle.bar_roster.specs.declared.fault.SessionFault.{SessionFault};
+ghost use Rattle.bar_roster.specs.SessionText.{SessionData};
+ghost use Rattle.bar_rules.specs.Judge.Verdict.{Fault, Verdict, Why, Shown, NotShown};
+ghost use Rattle.bar_proof.specs.declared.proof_fault.ProofFault.{ProofFault};
+ghost use Rattle.bar_session_files.specs.Accepting.{HasSession};
+ghost use Rattle.bar_cli.specs.Judge.Judging.{status_of_verdict};
+ghost use Rattle.bar_cli.specs.Refusals.{session_refused, proof_refused};
+ghost use Rattle.bar_cli.specs.Verify.{VerifyFiles, VerifyAccepted, HasBadSession, HasBadProof, Verified, VerifiedFront, IsVerifyCall, verify_plan};
+
+use bar_outside::plans_go_in_order;
+
+/// Where both files are accepted, the status is 0 exactly where the rules show a fault under the proof file's own table, and 1 exactly where
+/// they show none, but for a fault of the outside or want of memory; and these come only there. Then the line of the verdict was printed, and
+/// nothing on standard error.
+pub fn the_proof_is_judged()
+    ensures shown { (names : VerifyFiles) → AtEnd 0 (verify_plan names) (λ old new.
+        (party : ℕ) × (fault : Fault) × Verified names (Shown party fault) old new) }
+    ensures not_shown { (names : VerifyFiles) → AtEnd 1 (verify_plan names) (λ old new. (why : Why) × Verified names (NotShown why) old new) }
+    ensures then { (names : VerifyFiles) (verdict : Verdict) → OfEachEnd (verify_plan names) (λ old new status.
+        VerifyAccepted names old.files.content verdict → UnlessStopped (status_of_verdict verdict) status) }
+    ensures line { (names : VerifyFiles) (verdict : Verdict) (content : Content) → VerifyAccepted names content verdict →
+        line_at (verify_plan names content) (status_of_verdict verdict) ≡ [] }
+{
+    plans_go_in_order();
+}
+
+/// Where both files are accepted and no count rose, the status is that of the verdict, but for want of memory. So it is where nothing fails
+/// by itself.
+pub fn the_proof_is_judged_where_all_is_accepted()
+    ensures without_faults { (names : VerifyFiles) (verdict : Verdict) → OfEachEnd (verify_plan names) (λ old new status.
+        VerifyAccepted names old.files.content verdict →
+        (Rose old.files.faults new.files.faults → ⊥) → (Rose old.out.faults new.out.faults → ⊥) →
+        (status ≡ status_of_verdict verdict) ⊎ (status ≡ 70)) }
+    ensures reliable { (names : VerifyFiles) (verdict : Verdict) (old new : Outside) (status : ℕ) → Ends (verify_plan names) old new status →
+        IsReliable old → VerifyAccepted names old.files.content verdict → (status ≡ status_of_verdict verdict) ⊎ (status ≡ 70) }
+{}
+
+/// 3 comes only where the files' count rose, and where they tell, by a read of one of both files; 7 only where the count of the output rose,
+/// and where the files tell, only after both were accepted. A file that isn't there or is too large stops it.
+pub fn verifying_fails_only()
+    ensures file { (names : VerifyFiles) (old new : Outside) → Ends (verify_plan names) old new 3 → Rose old.files.faults new.files.faults }
+    ensures named { (names : VerifyFiles) → AtEnd 3 (verify_plan names) (λ old new. IsSomeAnd new.files.failed (IsVerifyCall names)) }
+    ensures output { (names : VerifyFiles) (old new : Outside) → Ends (verify_plan names) old new 7 → Rose old.out.faults new.out.faults }
+    ensures in_order { (names : VerifyFiles) → AtEnd 7 (verify_plan names) (VerifiedFront names) }
+    ensures no_session { (names : VerifyFiles) → OfEachEnd (verify_plan names) (λ old new status.
+        readable old.files.content names.session ≡ None → is_stop status ≡ true) }
+    ensures no_proof { (names : VerifyFiles) (session : SessionData) → OfEachEnd (verify_plan names) (λ old new status.
+        HasSession names.session old.files.content session → readable old.files.content names.proof ≡ None → is_stop status ≡ true) }
+{
+    plans_go_in_order();
+}
+
+/// 4 comes exactly where the session is there and refused, but for a fault or want of memory; its line has the first fault.
+pub fn a_bad_session_is_not_verified()
+    ensures only { (names : VerifyFiles) → AtEnd 4 (verify_plan names) (λ old new.
+        (fault : SessionFault) × HasBadSession names.session old.files.content fault) }
+    ensures then { (names : VerifyFiles) (fault : SessionFault) → OfEachEnd (verify_plan names) (λ old new status.
+        HasBadSession names.session old.files.content fault → UnlessStopped 4 status) }
+    ensures line { (names : VerifyFiles) (content : Content) (fault : SessionFault) → HasBadSession names.session content fault →
+        line_at (verify_plan names content) 4 ≡ session_refused fault }
+{
+    plans_go_in_order();
+}
+
+/// 8 comes exactly where the session is accepted and the proof file is there and refused, but for a fault or want of memory; its line has the
+/// first fault from the left, and the place of a manifest.
+pub fn a_bad_proof_is_refused()
+    ensures only { (names : VerifyFiles) → AtEnd 8 (verify_plan names) (λ old new.
+        (fault : ProofFault) × HasBadProof names old.files.content fault) }
+    ensures then { (names : VerifyFiles) (fault : ProofFault) → OfEachEnd (verify_plan names) (λ old new status.
+        HasBadProof names old.files.content fault → UnlessStopped 8 status) }
+    ensures line { (names : VerifyFiles) (content : Content) (fault : ProofFault) → HasBadProof names content fault →
+        line_at (verify_plan names content) 8 ≡ proof_refused fault }
+{
+    plans_go_in_order();
+}
+
+/// Whatever the status, no file is changed; after a refusal nothing was printed.
+pub fn verifying_changes_nothing()
+    ensures files { (names : VerifyFiles) → OfEachEnd (verify_plan names) (λ old new status. SameFiles old new) }
+    ensures session { (names : VerifyFiles) → AtEnd 4 (verify_plan names) NothingPrinted }
+    ensures proof { (names : VerifyFiles) → AtEnd 8 (verify_plan names) NothingPrinted }
+{
+    plans_go_in_order();
+}
+
+/// Whatever the status, nothing was printed, or all was accepted and a front of the verdict's line was.
+pub fn a_front_of_the_proofs_verdict_is_printed()
+    ensures { (names : VerifyFiles) → OfEachEnd (verify_plan names) (λ old new status.
+        NothingPrinted old new ⊎ VerifiedFront names old new) }
+{
+    plans_go_in_order();
+}

@@ -1,9 +1,0 @@
-use Rattle.bar_live.specs.CasterPlan.{caster_plan}
-use Rattle.bar_live.proofs.CasterRows.{others-untouched, outcome}
-use Rattle.bar_live.proofs.caster_laws.only_its_files_are_changed_by_a_broadcaster.Goals as goal
-
-pub returns : goal.returns
-returns c = λ names path old new status run told none.
-    let law = c.plans_go_in_order.ensures in
-    others-untouched names run.given path old new status told none
-    (outcome law.reads law.ends names run.given old new status told (law.went (caster_plan names run.given) old new status run.ends told))

@@ -1,0 +1,29 @@
+-- What the status of a run tells, and what an unchanged outside is.
+use Rattle.std.proofs.Common.{◌≡◌, ◌⊎◌, ℕ, Bool, true, false, cond, refl, inl, inr, arith}
+use Rattle.bar_outside.specs.Plan.{Outside}
+use Rattle.bar_outside.specs.Stages.{IsUnchanged}
+use Rattle.bar_party_commands.specs.Stands.{IsUntouched}
+
+-- a run that is done and has not the status of the link was at its end
+pub ended-at : (ended : Bool) (status : ℕ) → (status ≡ 6 → ⊥) → status ≡ cond ended 0 6 → ended ≡ true
+ended-at true status other e = refl
+ended-at false status other e = absurd (other e)
+
+-- a plan whose link is asked again isn't at its end
+pub not-ended : (ended : Bool) → ◌≡◌ {A = ℕ} (cond ended 0 6) 6 → ended ≡ false
+not-ended true e = absurd (omega arith)
+not-ended false e = refl
+
+-- a refusal's status is none of a run's
+pub no-refusal : (ended : Bool) (status : ℕ) → (status ≡ 0 → ⊥) → (status ≡ 6 → ⊥) → status ≡ cond ended 0 6 → ⊥
+no-refusal true status done asked e = done e
+no-refusal false status done asked e = asked e
+
+-- a run whose link was never refused has status 0, but for want of memory
+pub done-or-memory : (ended : Bool) (status : ℕ) → (status ≡ 6 → ⊥) → (status ≡ cond ended 0 6) ⊎ (status ≡ 70) → (status ≡ 0) ⊎ (status ≡ 70)
+done-or-memory true status answered either = either
+done-or-memory false status answered (inl e) = absurd (answered e)
+done-or-memory false status answered (inr memory) = inr memory
+
+pub as-untouched : (status : ℕ) (old new : Outside) → IsUnchanged status old new → IsUntouched old new
+as-untouched status old new same = record { files = same.files; out = same.out; wire = same.wire }

@@ -1,0 +1,102 @@
+-- What stands behind the binding of a peer's link, and before it.
+use Rattle.std.proofs.Common.{◌≡◌, ◌⊎◌, ℕ, List, [], false, Some, ◌∙◌, inl, inr, IsTrue}
+use Rattle.bar_outside.specs.Disk.{Content, appended, created}
+use Rattle.bar_outside.specs.Wire.{Arrival}
+use Rattle.bar_outside.specs.Plan.{Action, Begun, Outside, Ran, content_after}
+use Rattle.bar_outside.proofs.Contents.{appended-other, appended-same, put_at-other, put_at-same}
+use Rattle.bar_seeds.specs.declared.secrets.Secrets.{Secrets}
+use Rattle.bar_roster.specs.SessionText.{SessionData}
+use Rattle.bar_record.specs.Recording.{head_bytes}
+use Rattle.bar_party_commands.specs.PeerPlan.{PeerAccepted, PeerNames, before_binding, peer_actions, peer_run}
+use Rattle.bar_party_commands.specs.PeerStands.{HasOwnNames, IsBound, IsBoundOrUnused, IsPeerOf}
+use Rattle.bar_party_commands.specs.Running.{place_of, spent_text}
+use Rattle.bar_session_files.proofs.Accepted.{AreHeld, fits-here}
+use Rattle.bar_party_commands.proofs.PeerRows.{IsRunFile, Outcome, peer-kinds, peer_last}
+use Rattle.bar_party_commands.proofs.RunSplits.{IsBehind, all-behind, begun-first, bound-behind, kept-behind, split-binding}
+
+pub is-of : AreHeld → (names : PeerNames) (content : Content) (s : SessionData) (k : Secrets) → PeerAccepted names content s k →
+    IsPeerOf names content s k
+is-of held names content s k a = record { accepted = a; fits = fits-here held s false a.bytes k a.is }
+
+-- ---- what the files hold at the binding
+
+module _ (names : PeerNames) (own : HasOwnNames names) (s : SessionData) (k : Secrets) (content : Content) where
+  abbrev text : List ℕ
+  text = spent_text s k
+
+  abbrev head : List ℕ
+  head = head_bytes s.shape.id k.party
+
+  abbrev with-key : Content
+  with-key = appended (created content names.key) names.key text
+
+  abbrev with-played : Content
+  with-played = created with-key names.played
+
+  abbrev with-recording : Content
+  with-recording = created with-played names.recording
+
+  abbrev at-binding : Content
+  at-binding = content_after (before_binding names s k) content
+
+  key-at : at-binding names.key ≡ Some text
+  key-at =
+      appended-other with-recording names.recording head names.key own.not_recording
+      ∙ put_at-other with-played names.recording [] names.key own.not_recording
+      ∙ put_at-other with-key names.played [] names.key own.not_played
+      ∙ appended-same (created content names.key) names.key text [] (put_at-same content names.key [])
+
+  pub played-at : at-binding names.played ≡ Some []
+  played-at =
+      appended-other with-recording names.recording head names.played own.apart.differ
+      ∙ put_at-other with-played names.recording [] names.played own.apart.differ
+      ∙ put_at-same with-key names.played []
+
+  pub recorded-at : at-binding names.recording ≡ Some head
+  recorded-at = appended-same with-recording names.recording head [] (put_at-same with-played names.recording [])
+
+-- the key file is none that the run writes
+key-apart : (names : PeerNames) → HasOwnNames names → IsRunFile names names.key → ⊥
+key-apart names own (inl e) = own.not_recording e
+key-apart names own (inr (inl e)) = own.not_played e
+key-apart names own (inr (inr (inl e))) = own.not_found.table e
+key-apart names own (inr (inr (inr p))) = own.not_found.evidence p.0 p.1
+
+-- ---- before the binding, and behind it
+
+-- The actions of a peer were done behind the binding.
+abbrev pub IsPeerBehind : PeerNames → SessionData → Secrets → List Arrival → List Action → Type 0
+IsPeerBehind names s k given done =
+    IsBehind (before_binding names s k) (place_of names.begin_ms s k) (peer_run names s k given) (peer_last s k given) done
+
+module _ (names : PeerNames) (s : SessionData) (k : Secrets) (given : List Arrival) where
+  abbrev pub all-peer : IsPeerBehind names s k given (peer_actions names s k given)
+  all-peer = all-behind (before_binding names s k) (place_of names.begin_ms s k) (peer_run names s k given) (peer_last s k given)
+
+  pub split-peer : {done : List Action} → Begun (peer_actions names s k given) done →
+      Begun (before_binding names s k) done ⊎ IsPeerBehind names s k given done
+  split-peer {done} b =
+      split-binding (before_binding names s k) (place_of names.begin_ms s k) (peer_run names s k given) (peer_last s k given)
+      done b
+
+  pub is-bound : {done : List Action} {old new : Outside} → Ran done old new → IsTrue old.files.told → IsPeerBehind names s k given done →
+      IsBound names s k old new
+  is-bound {old} ran told b =
+      let kinds = peer-kinds names s k given in
+      record {
+        bound = bound-behind kinds ran b;
+        spent = λ own. kept-behind kinds ran b told names.key (key-apart names own) ∙ key-at names own s k old.files.content;
+      }
+
+-- whatever the status, nothing was done over the link, or it is bound and the key is spent
+pub bound-or_not : AreHeld → (names : PeerNames) (given : List Arrival) (old new : Outside) (status : ℕ) → IsTrue old.files.told →
+    Outcome names given old new status → IsBoundOrUnused names old new
+bound-or_not held names given old new status told (inl r) = inl r.0.wire
+bound-or_not held names given old new status told (inr b) =
+    let s : SessionData = b.session in
+    let k : Secrets = b.secrets in
+    let d = b.went.part in
+    elim (split-peer names s k given d.begun) [
+      | inl front ↦ inl (begun-first (peer-kinds names s k given) d.ran front).wire
+      | inr behind ↦ inr (s, k, is-of held names old.files.content s k b.accepted, is-bound names s k given d.ran told behind)
+    ]

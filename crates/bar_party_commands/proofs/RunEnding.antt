@@ -1,0 +1,198 @@
+-- How commands end that run over a link.
+use Rattle.std.proofs.Common.{◌≡◌, ◌⊎◌, ℕ, List, [], ◌∷◌, ◌∙◌, append-nil, Vec, Result, Ok, Err, IsTrue, false, if◌then◌else◌, refl, sym, ap, subst, inl, inr}
+use Rattle.std.proofs.Common.{arith}
+use Rattle.std.specs.declared.alloc.Global.{Global}
+use Rattle.bar_outside.specs.Disk.{Content, CreatedFiles, Disk, Reads}
+use Rattle.bar_outside.specs.Stream.{Stream}
+use Rattle.bar_outside.specs.declared.files.FileFault.{FileFault}
+use Rattle.bar_outside.specs.declared.files.FileFault.TheVariants as file
+use Rattle.bar_outside.specs.declared.fault.Fault.{Fault}
+use Rattle.bar_outside.specs.declared.fault.Fault.TheVariants.{File, Link, NoMemory, Output}
+use Rattle.bar_outside.specs.Ends.{EndsWith}
+use Rattle.bar_outside.specs.Follows.{IsReliable}
+use Rattle.bar_outside.specs.Faults.{code_after, code_of_fault, fault_of_file, line_after, line_of_fault}
+use Rattle.bar_outside.specs.Plan.{Action, CanRun, Outside, Plan, Ran, accepting, before, doing, is_stop, line_at, no_memory, outside, read_then, reading}
+use Rattle.bar_outside.specs.Plan.Action.{read}
+use Rattle.bar_outside.specs.Wire.{Arrival, Wire}
+use Rattle.bar_outside.proofs.Ending.{EndsWith-accepted, EndsWith-doing, EndsWith-memory, EndsWith-reading, EndsWith-refused}
+use Rattle.bar_outside.proofs.Ending.{EndsWith-unread, no_stop}
+use Rattle.bar_outside.proofs.Following.{later-files}
+use Rattle.bar_core.specs.Rules.{Rules}
+use Rattle.bar_node.proofs.Doing.{none-more}
+use Rattle.bar_party_commands.specs.Running.{HasReached, RunEndsWith, RunFollows, status_of}
+use Rattle.bar_party_commands.proofs.Reaching.{nothing-reached, reached-behind}
+use Rattle.bar_party_commands.proofs.RunFollowing.{heard-nothing}
+
+-- a fault that isn't want of memory
+pub other-fault : {E : Type 0} (fault memory : E) (P : Type 0) → (fault ≡ memory) ⊎ P → (fault ≡ memory → ⊥) → P
+other-fault fault memory P (inl e) other = absurd (other e)
+other-fault fault memory P (inr p) other = p
+
+-- the run wasn't begun
+unbegun : (plan : List Arrival → Content → Plan) (old mid : Disk) (out : Stream) (wire : Wire) (status : ℕ) (line : List ℕ) →
+    mid.content ≡ old.content → (status ≡ 6 → ⊥) → EndsWith (plan []) (outside old out wire) (outside mid out wire) status line →
+    RunEndsWith plan (outside old out wire) (outside mid out wire) status line
+unbegun plan old mid out wire status line same other h = record {
+  given = [];
+  heard = heard-nothing (outside old out wire) (outside mid out wire) (λ told. refl);
+  ends = h;
+  reached = λ told.
+      nothing-reached (plan [] old.content).actions _ _
+      (record { files = λ tells. same; out = λ tells. sym (append-nil out.bytes); wire = λ tells. refl });
+  asked = λ told front next rest e. absurd (none-more front next rest e);
+  answers = λ reliable. other;
+}
+
+-- a read that isn't answered is no fault of the link
+no-link-read : (cause : FileFault) → code_of_fault (fault_of_file cause) ≡ 6 → ⊥
+no-link-read file.Failed e = absurd (omega arith)
+no-link-read file.NoMemory e = absurd (omega arith)
+
+-- the files are as reliable behind a read
+still-reliable : (path : List ℕ) (old mid : Disk) (out : Stream) (wire : Wire) (result : Result (Vec ℕ Global) FileFault) →
+    Reads path old mid result → IsReliable (outside old out wire) → IsReliable (outside mid out wire)
+still-reliable path old mid out wire result reads r = record {
+  told = subst IsTrue (sym reads.call.told) r.told;
+  files = subst IsTrue (sym reads.call.reliable) r.files;
+  out = r.out;
+  wire = r.wire;
+}
+
+-- ---- a file that is read, and the rest goes by what it stands for
+
+module _ {A E : Type 0} (path : List ℕ) (meaning : List ℕ → Result A E) (others : List Arrival → A → Content → Plan)
+    (refused : E → Content → Plan) (old mid : Disk) (out : Stream) (wire : Wire) where
+  abbrev plan : List Arrival → Content → Plan
+  plan given = reading path (λ text. accepting (meaning text) (others given) refused)
+
+  abbrev EndsSo : Outside → ℕ → List ℕ → Type 0
+  EndsSo new status line = RunEndsWith plan (outside old out wire) new status line
+
+  abbrev was : Outside
+  was = outside mid out wire
+
+  -- it wasn't read
+  pub unread : (cause : FileFault) → Reads path old mid (Err cause) →
+      EndsSo was (code_of_fault (fault_of_file cause)) (line_of_fault (fault_of_file cause))
+  unread cause reads =
+      unbegun plan old mid out wire _ _ reads.same (no-link-read cause)
+      (EndsWith-unread path (λ text. accepting (meaning text) (others []) refused) old mid was cause reads)
+
+  module _ (bytes : Vec ℕ Global) (reads : Reads path old mid (Ok bytes)) where
+    -- memory was wanting
+    pub unmeant : EndsSo was 70 no_memory
+    unmeant =
+        unbegun plan old mid out wire 70 no_memory reads.same (λ e. absurd (omega arith))
+        (EndsWith-reading path (λ text. accepting (meaning text) (others []) refused) old mid was was bytes 70 no_memory reads
+        (EndsWith-memory (accepting (meaning bytes.items) (others []) refused) was))
+
+    -- it is refused
+    pub refused-so : (fault : E) (status : ℕ) (line : List ℕ) → meaning bytes.items ≡ Err fault → is_stop status ≡ false →
+        EndsWith (refused fault) was was status line → EndsSo was status line
+    refused-so fault status line e go h =
+        unbegun plan old mid out wire status line reads.same (no_stop 6 refl status go)
+        (EndsWith-reading path (λ text. accepting (meaning text) (others []) refused) old mid was was bytes status line reads
+        (EndsWith-refused (meaning bytes.items) fault (others []) refused was was status line e h))
+
+    -- what comes behind it where it is accepted
+    plan-is : (meant : A) → meaning bytes.items ≡ Ok meant → IsTrue old.told → (given : List Arrival) →
+        plan given old.content ≡ before (read path) (others given meant mid.content)
+    plan-is meant e told given =
+        ap (read_then path (λ text. accepting (meaning text) (others given) refused) old.content) (reads.found told)
+        ∙ ap (λ r. before (read path) (accepting r (others given) refused old.content)) e
+        ∙ ap (λ c. before (read path) (others given meant c)) (sym reads.same)
+
+    read-first : Ran (read path ∷ []) (outside old out wire) was
+    read-first = record { files = λ tells. reads.same; out = λ tells. sym (append-nil out.bytes); wire = λ tells. refl }
+
+    -- it is accepted
+    pub accepted-so : (meant : A) (new : Outside) (status : ℕ) (line : List ℕ) → meaning bytes.items ≡ Ok meant →
+        RunEndsWith (λ given. others given meant) was new status line → EndsSo new status line
+    accepted-so meant new status line e h = record {
+      given = h.given;
+      heard = record { taken = h.heard.taken; told_end = h.heard.told_end; within = h.heard.within };
+      ends =
+          EndsWith-reading path (λ text. accepting (meaning text) (others h.given) refused) old mid was new bytes status line reads
+          (EndsWith-accepted (meaning bytes.items) meant (others h.given) refused was new status line e h.ends);
+      reached = λ told.
+          subst (λ (p : Plan). HasReached p.actions h.given (outside old out wire) new) (sym (plan-is meant e told h.given))
+          (reached-behind (read path ∷ []) (others h.given meant mid.content).actions [] h.given (outside old out wire) was new
+          (later-files old mid was reads.call.told reads.call.reliable (λ told. reads.same_here) reads.call.cause.later) read-first refl
+          (h.reached (subst IsTrue (sym reads.call.told) told)));
+      asked = λ told front next rest is.
+          ap (λ (p : Plan). p.status) (plan-is meant e told front)
+          ∙ h.asked (subst IsTrue (sym reads.call.told) told) front next rest is;
+      answers = λ reliable. h.answers (still-reliable path old mid out wire (Ok bytes) reads reliable);
+    }
+
+-- ---- actions that go by what the link gave
+
+-- a fault ends a plan of these actions at any status
+at-fault : (actions : List Action) (first final : ℕ) (line : List ℕ) (old new : Outside) (fault : Fault) →
+    (code_of_fault fault ≡ first → ⊥) → EndsWith (doing actions first line) old new (code_of_fault fault) (line_of_fault fault) →
+    EndsWith (doing actions final line) old new (code_of_fault fault) (line_of_fault fault)
+at-fault actions first final line old new fault other h = record {
+  ends = record {
+    later = h.ends.later;
+    file_rose = h.ends.file_rose;
+    file_named = h.ends.file_named;
+    link_rose = h.ends.link_rose;
+    output_rose = h.ends.output_rose;
+    carried = λ told go. absurd (no-end fault go);
+    part = h.ends.part;
+    fixed = λ is go. absurd (no-end fault go);
+    fixed_part = λ is. h.ends.fixed_part (record { same = λ other. refl; unread = is.unread });
+    complete = λ reliable. elim (h.ends.complete reliable) [ inl e ↦ absurd (other e) | inr e ↦ inr e ];
+  };
+  line_is = λ either. same-line fault;
+  fixed_line = λ is. same-line fault;
+}
+  where
+    no-end : (stop : Fault) → is_stop (code_of_fault stop) ≡ false → ⊥
+    no-end File e = cc
+    no-end Link e = cc
+    no-end Output e = cc
+    no-end NoMemory e = cc
+
+    same-line : (stop : Fault) → line_of_fault stop ≡ line_at (doing actions final line old.files.content) (code_of_fault stop)
+    same-line File = refl
+    same-line Link = refl
+    same-line Output = refl
+    same-line NoMemory = refl
+
+no-zero : (fault : Fault) → code_of_fault fault ≡ 0 → ⊥
+no-zero File e = absurd (omega arith)
+no-zero Link e = absurd (omega arith)
+no-zero Output e = absurd (omega arith)
+no-zero NoMemory e = absurd (omega arith)
+
+no-link-fault : {T : Type 0} (fault : Fault) → ◌≡◌ {A = Result T Fault} (Err fault) (Err NoMemory) → code_of_fault fault ≡ 6 → ⊥
+no-link-fault File e six = absurd (omega arith)
+no-link-fault Link e six = cc
+no-link-fault Output e six = absurd (omega arith)
+no-link-fault NoMemory e six = absurd (omega arith)
+
+-- so a command ends that follows them
+pub following : {T : Type 0} (actions : List Arrival → List Action) (r : Rules) (old new : Outside) (result : Result T Fault) →
+    ((given : List Arrival) (here : CreatedFiles) → CanRun (actions given) here) → RunFollows actions r old new result →
+    RunEndsWith (λ given. doing (actions given) (status_of r given) []) old new (code_after 0 result) (line_after [] result)
+following actions r old new (Ok x) can h = record {
+  given = h.given;
+  heard = h.heard;
+  reached = λ told. h.reached;
+  asked = λ told front next rest e. ap (λ b. if b then 0 else 6) (h.asked front next rest e);
+  ends =
+      subst (λ b. EndsWith (doing (actions h.given) (if b then 0 else 6) []) old new 0 []) (sym h.ended)
+      (EndsWith-doing (actions h.given) 0 [] old new (λ told. can h.given old.files.created_here) refl (Ok x) h.follows);
+  answers = λ reliable e. absurd (omega arith);
+}
+following {T} actions r old new (Err fault) can h = record {
+  given = h.given;
+  heard = h.heard;
+  reached = λ told. h.reached;
+  asked = λ told front next rest e. ap (λ b. if b then 0 else 6) (h.asked front next rest e);
+  ends =
+      at-fault (actions h.given) 0 (status_of r h.given) [] old new fault (no-zero fault)
+      (EndsWith-doing (actions h.given) 0 [] old new (λ told. can h.given old.files.created_here) refl (Err fault) h.follows);
+  answers = λ reliable. no-link-fault {T = T} fault (h.follows.complete reliable (can h.given old.files.created_here));
+}

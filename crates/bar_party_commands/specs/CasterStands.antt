@@ -1,0 +1,127 @@
+-- What stands after `broadcaster`.
+use Rattle.std.specs.Prelude.{◌≡◌, ◌⊎◌, ◌<◌, ℕ, List, [], ◌++◌, Some, Ok, Err, IsTrue, length, true}
+use Rattle.bar_outside.specs.Disk.{Content, readable}
+use Rattle.bar_outside.specs.Ends.{SameTraffic}
+use Rattle.bar_outside.specs.Plan.{Outside, shown}
+use Rattle.bar_outside.specs.Wire.{Arrival}
+use Rattle.bar_findings.specs.Findings.{IsFindingName}
+use Rattle.bar_seeds.specs.declared.secrets.Secrets.{Secrets}
+use Rattle.bar_roster.specs.declared.fault.SessionFault.{SessionFault}
+use Rattle.bar_roster.specs.declared.key_fault.KeyFileFault.{KeyFileFault}
+use Rattle.bar_roster.specs.SessionText.{SessionData}
+use Rattle.bar_roster.specs.KeyFile.{Fits}
+use Rattle.bar_rules.specs.Broadcaster.Sending.{caster_step}
+use Rattle.bar_rules.specs.Members.{member_by}
+use Rattle.bar_rules.specs.Runs.{sends_from}
+use Rattle.bar_node.specs.Runs.{IsGiven, has_end, heard, is_ended, taken_of}
+use Rattle.bar_node.specs.Stops.{IsApart, StoppedSending}
+use Rattle.bar_session_files.specs.Accepting.{HasSession, fresh_key_of, session_of}
+use Rattle.bar_party_commands.specs.Streams.{room_of}
+use Rattle.bar_party_commands.specs.CasterPlan.{CasterAccepted, CasterNames, rules_by}
+use Rattle.bar_party_commands.specs.Running.{place_of, spending, spent_text}
+use Rattle.bar_party_commands.specs.Stands.{AreFound, IsBegun, IsFrontPrinted, IsUntouched, packets}
+use Rattle.bar_party_commands.specs.Summaries.{caster_summary}
+
+-- The files were accepted, and the session holds the public key that comes from the key file's secret.
+pub record IsCasterOf (names : CasterNames) (content : Content) (s : SessionData) (k : Secrets) (stream : List ℕ) : Type 0 where
+  pub accepted : CasterAccepted names content s k stream
+  pub fits : Fits s k.party k.secret
+
+-- The link is bound to the key's party, and the key file is spent.
+pub record IsBound (names : CasterNames) (s : SessionData) (k : Secrets) (old new : Outside) : Type 0 where
+  pub bound : IsTrue old.wire.told → new.wire.traffic.bound ≡ Some (place_of names.begin_ms s k)
+  pub spent : IsApart names.key names.found → new.files.content names.key ≡ Some (spent_text s k)
+
+-- A broadcaster that ended with 0: what the link gave was taken, and over these inputs, paced, all that its rules send was sent. The run was
+-- at its end. What was found is written, and the summary printed.
+pub record CasterDone (names : CasterNames) (old new : Outside) : Type 0 where
+  pub session : SessionData
+  pub secrets : Secrets
+  pub stream : List ℕ
+  pub is_of : IsCasterOf names old.files.content session secrets stream
+  pub bound : IsBound names session secrets old new
+  pub given : List Arrival
+  pub is_given : IsGiven (rules_by session secrets stream) given
+  pub taken : IsTrue old.wire.told → new.wire.traffic.taken ≡ old.wire.traffic.taken ++ heard given
+  -- the link told its end exactly where it gave it
+  pub told_end : IsTrue old.wire.told → new.wire.traffic.ended ≡ has_end given
+  pub ended : IsTrue (is_ended (rules_by session secrets stream) given)
+  pub sent : IsTrue old.wire.told → new.wire.traffic.sent
+      ≡ old.wire.traffic.sent
+      ++ packets session
+      (sends_from (caster_step (member_by session secrets) stream) [] 1 (taken_of (rules_by session secrets stream) given))
+  pub found : AreFound names.found (rules_by session secrets stream) (taken_of (rules_by session secrets stream) given) new.files.content
+  pub printed : IsTrue old.out.told → new.out.bytes
+      ≡ old.out.bytes
+      ++ shown (caster_summary (rules_by session secrets stream) (taken_of (rules_by session secrets stream) given))
+
+-- A broadcaster that was stopped behind the binding of its link.
+pub record CasterStopped (names : CasterNames) (old new : Outside) : Type 0 where
+  pub session : SessionData
+  pub secrets : Secrets
+  pub stream : List ℕ
+  pub is_of : IsCasterOf names old.files.content session secrets stream
+  pub bound : IsBound names session secrets old new
+  pub given : List Arrival
+  pub is_given : IsGiven (rules_by session secrets stream) given
+  pub taken : IsTrue old.wire.told → new.wire.traffic.taken ≡ old.wire.traffic.taken ++ heard given
+  -- the link told its end exactly where it gave it
+  pub told_end : IsTrue old.wire.told → new.wire.traffic.ended ≡ has_end given
+  pub run : StoppedSending (rules_by session secrets stream) given old.wire new.wire
+  -- a front of the summary may be printed, where the run was at its end
+  pub printed :
+      IsFrontPrinted (caster_summary (rules_by session secrets stream) (taken_of (rules_by session secrets stream) given)) old new
+
+-- The files were accepted, and it was stopped before the link was bound: the key file is spent so far.
+pub record CasterBegun (names : CasterNames) (old new : Outside) : Type 0 where
+  pub session : SessionData
+  pub secrets : Secrets
+  pub stream : List ℕ
+  pub is_of : IsCasterOf names old.files.content session secrets stream
+  pub begun : IsBegun (spending names.key session secrets) old new
+
+-- whatever the status
+abbrev pub CasterStands : CasterNames → Outside → Outside → Type 0
+CasterStands names old new = IsUntouched old new ⊎ (CasterBegun names old new ⊎ CasterStopped names old new)
+
+-- a file that a broadcaster writes
+abbrev pub IsCasterFile : CasterNames → List ℕ → Type 0
+IsCasterFile names path = (path ≡ names.key) ⊎ IsFindingName names.found path
+
+-- the session's text is there, and refused
+abbrev pub SessionRefused : CasterNames → Content → Type 0
+SessionRefused names content =
+    (text : List ℕ) × (fault : SessionFault) × (readable content names.session ≡ Some text) × (session_of text ≡ Err fault)
+
+-- the session is accepted, and the key file is there and refused: spent, or not the broadcaster's
+abbrev pub KeyRefused : CasterNames → Content → Type 0
+KeyRefused names content =
+    (s : SessionData)
+    × (bytes : List ℕ)
+    × (fault : KeyFileFault)
+    × HasSession names.session content s
+    × (readable content names.key ≡ Some bytes)
+    × (fresh_key_of true s bytes ≡ Err fault)
+
+-- both are accepted, and the stream is there and longer than the session has room for
+abbrev pub StreamRefused : CasterNames → Content → Type 0
+StreamRefused names content =
+    (s : SessionData)
+    × (bytes : List ℕ)
+    × (k : Secrets)
+    × (stream : List ℕ)
+    × HasSession names.session content s
+    × (readable content names.key ≡ Some bytes)
+    × (fresh_key_of true s bytes ≡ Ok k)
+    × (readable content names.stream ≡ Some stream)
+    × (room_of s < length stream)
+
+-- Nothing was done over the link; or the files were accepted, the link is bound to party 0, and the key is spent.
+abbrev pub IsBoundOrUnused : CasterNames → Outside → Outside → Type 0
+IsBoundOrUnused names old new =
+    SameTraffic old new
+    ⊎ ((s : SessionData)
+    × (k : Secrets)
+    × (stream : List ℕ)
+    × IsCasterOf names old.files.content s k stream
+    × IsBound names s k old new)

@@ -1,0 +1,9 @@
+pub mod Streams
+pub mod Summaries
+pub mod Running
+pub mod PeerPlan
+pub mod CasterPlan
+pub mod Stands
+pub mod PeerStands
+pub mod CasterStands
+pub mod Views

@@ -1,0 +1,18 @@
+-- Which streams a session has room for, and how others are refused.
+use Rattle.std.specs.Prelude.{ℕ, ◌*◌, ◌++◌, List, Result, Ok, Err, codes, length, nat_le, if◌then◌else◌}
+use Rattle.std.specs.Fmt.{decimal}
+use Rattle.bar_wire.specs.Limits.{largest_content}
+use Rattle.bar_roster.specs.SessionText.{SessionData}
+
+-- how many bytes of a stream a session's rounds carry
+abbrev pub room_of : SessionData → ℕ
+room_of s = s.shape.rounds * s.shape.per_round * largest_content
+
+-- a stream that fits, or how long it is
+abbrev pub stream_in : SessionData → List ℕ → Result (List ℕ) ℕ
+stream_in s bytes = if nat_le (length bytes) (room_of s) then Ok bytes else Err (length bytes)
+
+-- a stream is longer than a session has room for
+abbrev pub stream_refused : ℕ → ℕ → List ℕ
+stream_refused have room =
+    codes "bar: input refused: stream have " ++ (decimal have ++ (codes " room " ++ (decimal room ++ codes "\n")))

@@ -1,0 +1,12 @@
+-- The lines by which a session's text and a key text are refused.
+use Rattle.std.specs.Prelude.{ℕ, List, ◌++◌, codes}
+use Rattle.bar_roster.specs.declared.fault.SessionFault.{SessionFault}
+use Rattle.bar_roster.specs.declared.key_fault.KeyFileFault.{KeyFileFault}
+use Rattle.bar_roster.specs.FaultText.{fault_text}
+use Rattle.bar_roster.specs.KeyFaultText.{key_fault_text}
+
+abbrev pub session_refused : SessionFault → List ℕ
+session_refused fault = codes "bar: session refused: " ++ (fault_text fault ++ codes "\n")
+
+abbrev pub key_refused : KeyFileFault → List ℕ
+key_refused fault = codes "bar: key refused: " ++ (key_fault_text fault ++ codes "\n")
