@@ -19,8 +19,12 @@ from barscript import progress
 # the ending of a source that stands outside the crates
 TEMPLATE = ".in"
 
-# what stands in no copy of the crates: what `rt` made, and what no build reads
-LEFT_OUT = shutil.ignore_patterns("out", "must-fail", "tests*", "README.md")
+# what stands in no copy of the crates: what `rt` keeps of checks, and what no build reads. Proved libraries are copied, so that those that are
+# there aren't proved again; `rt` takes them only where all that they were made of is the same, their tests among it
+LEFT_OUT = shutil.ignore_patterns("incremental", "must-fail", "README.md")
+
+# what else isn't copied of the crate in whose place a program stands
+REPLACED = shutil.ignore_patterns("out", "tests*")
 
 
 @dataclasses.dataclass(frozen=True)
@@ -74,9 +78,20 @@ def lines_with(lines, build):
     return f"{others}{used}\n"
 
 
+def left_out(build):
+    """What of the crates isn't copied for a program, for `shutil.copytree`."""
+    own = ROOT / "crates" / build.crate
+
+    def names_in(folder, names):
+        left = LEFT_OUT(folder, names)
+        return left | REPLACED(folder, names) if pathlib.Path(folder).is_relative_to(own) else left
+
+    return names_in
+
+
 def lay_out(build, room):
     """Copies the crates to a folder and puts the program's sources in their places. Returns the folder of its crate."""
-    shutil.copytree(ROOT / "crates", room / "crates", ignore=LEFT_OUT)
+    shutil.copytree(ROOT / "crates", room / "crates", ignore=left_out(build))
     shutil.copy(ROOT / "HANDLES", room)
     (room / "crates.txt").write_text(lines_with((ROOT / "crates.txt").read_text(), build))
     folder = room / "crates" / build.crate
