@@ -203,8 +203,8 @@ class Disturbed(RoomCase):
         return lines_of(lambda: barmaking.make(wanted, PROGRAM))[0]
 
     def simulated(self, name, network):
-        """Simulates a session: its folder, its outcome and the lines that were printed."""
-        folder, session = self.made(name)
+        """Simulates a session, which takes no port: its folder, its outcome and the lines that were printed."""
+        folder, session = self.made(name, port=20_000)
 
         def simulate():
             return barrunning.outcome_of_run(folder, session, PROGRAM, barsimulation.simulate(folder, session, network))
