@@ -1,5 +1,6 @@
 //! What a broadcaster is to send, as orders.
 ghost use Rattle.std.specs.Prelude.{◌≡◌, ◌+◌, ◌*◌, ◌≤◌, ◌++◌, filter, length, is_none};
+ghost use Rattle.bar_core.specs.Orders.{HasSameRoom};
 ghost use Rattle.bar_rules.specs.Broadcaster.Sending.{served};
 ghost use Rattle.bar_rules.specs.Broadcaster.Stream.{is_in_fanout, round_blocks};
 ghost use Rattle.bar_rules.specs.Peer.Log.{Log, kept, round_now};
@@ -23,8 +24,7 @@ pub fn send_to_all(memory: &Memory, orders: &mut Orders<Order>, item: Item)
     ensures sent { (log : Log) → Tells log memory.now → length orders.old.list.items + memory.now.session.shape.peers ≤ orders.old.room
         → orders.new.list.items ≡ orders.old.list.items ++ orders_to item (served memory.now.session log) }
     ensures few { length orders.new.list.items ≤ length orders.old.list.items + memory.now.session.shape.peers }
-    ensures room { orders.new.room ≡ orders.old.room }
-    ensures given { orders.new.given ≡ orders.old.given }
+    ensures room { HasSameRoom orders.old orders.new }
 {
     for before in 0..memory.session.shape().peers {
         let peer = before + 1;
@@ -42,8 +42,7 @@ fn send_block(memory: &Memory, ranks: &Ranks, orders: &mut Orders<Order>, index:
         → orders.new.list.items ≡ orders.old.list.items ++ orders_to (items.Block index)
         (filter (is_in_fanout (member_of memory.now) (update_now log index)) (served memory.now.session log)) }
     ensures few { length orders.new.list.items ≤ length orders.old.list.items + memory.now.session.shape.peers }
-    ensures room { orders.new.room ≡ orders.old.room }
-    ensures given { orders.new.given ≡ orders.old.given }
+    ensures room { HasSameRoom orders.old orders.new }
 {
     let item = Item::Block(index);
     for before in 0..memory.session.shape().peers {
@@ -66,8 +65,7 @@ pub fn send_blocks<L: Ledger>(
         → length orders.old.list.items + memory.now.session.shape.per_round * memory.now.session.shape.peers ≤ orders.old.room
         → orders.new.list.items ≡ orders.old.list.items ++ block_orders (member_of memory.now) log 0
         (length (round_blocks memory.now.session (stream_of memory.now) (round_now log))) }
-    ensures room { orders.new.room ≡ orders.old.room }
-    ensures given { orders.new.given ≡ orders.old.given }
+    ensures room { HasSameRoom orders.old orders.new }
     ensures ranks { length ranks.new ≡ length ranks.old }
     ensures cost { steps.new ≤ steps.old + memory.now.session.shape.per_round * memory.now.session.shape.peers }
 {

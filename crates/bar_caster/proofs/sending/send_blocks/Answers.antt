@@ -23,8 +23,8 @@ loop-index-preserved g c =
       ranks = c.fill.ensures.count ∙ l.invariant.ranks;
       cost = omega (arith, more, c.fill.ensures.cost, l.invariant.cost, l.invariant.ranks, c.requires);
       few = omega (arith, more, c.send_block.ensures.few, l.invariant.few);
-      room = c.send_block.ensures.room ∙ l.invariant.room;
-      given = c.send_block.ensures.given ∙ l.invariant.given;
+      room = c.send_block.ensures.room.room ∙ l.invariant.room;
+      given = c.send_block.ensures.room.given ∙ l.invariant.given;
       sent = λ log tells room.
           orders-more me log n c.args.orders.now.list.items l.orders.list.items c.send_block.new.orders.list.items
           (l.invariant.sent log tells room)

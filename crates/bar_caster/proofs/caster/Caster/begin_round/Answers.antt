@@ -68,4 +68,4 @@ returns-clause-stands g c inputs stood =
     (c.send_to_all.ensures.sent with_manifest t (omega (arith, many, none, c.args.self.now.room)))
     c.requires.empty)
     (c.send_to_all-2.ensures.sent (Said (notice_now (member_of n) with_manifest) ∷ with_manifest) tells
-    (omega (arith, many, as-many, none, c.send_to_all.ensures.few, c.send_to_all.ensures.room, c.args.self.now.room)))
+    (omega (arith, many, as-many, none, c.send_to_all.ensures.few, c.send_to_all.ensures.room.room, c.args.self.now.room)))
