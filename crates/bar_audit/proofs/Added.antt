@@ -25,7 +25,7 @@ use Rattle.bar_audit.specs.Found.{Promised, promised_by, case_in, has_key_in, ca
 use Rattle.bar_audit.specs.Given.{GivesCases, GivesKeys}
 use Rattle.bar_audit.specs.Recordings.{Recording, inputs_of, is_given}
 use Rattle.bar_audit.specs.Sides.{side_at}
-use Rattle.bar_audit.proofs.Equality.{same_exchange-is, exchange-refl}
+use Rattle.bar_laws.proofs.Logs.{same_exchange-is, same_exchange_refl}
 use Rattle.bar_audit.proofs.Lists.{contains-filter, filter-contains, contains-any}
 
 -- ---- whose recordings are given
@@ -152,7 +152,7 @@ are-recorded s recordings ps xs ys is listed rising = record {
   exactly = λ x. (
     (λ c.
         let p = contains-filter (are_given ps) ys x (subst (λ zs. Contains zs x) listed c) in
-        sym (is x) ∙ and_from _ _ p.0 (contains-any (same_exchange x) ys x p.1 (exchange-refl x))),
+        sym (is x) ∙ and_from _ _ p.0 (contains-any (same_exchange x) ys x p.1 (same_exchange_refl x))),
     (λ t.
         let p = and_parts (are_given ps x) (has_exchange ys x) (is x ∙ t) in
         subst (λ zs. Contains zs x) (sym listed)

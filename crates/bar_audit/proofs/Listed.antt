@@ -20,19 +20,12 @@ use Rattle.bar_audit.specs.Exchanges.{AreRecorded, IsRising, is_found, is_record
 use Rattle.bar_audit.specs.Found.{is_case, is_key, case_in, has_key_in, case_from, has_key_from}
 use Rattle.bar_audit.specs.Listed.{exchanges_in, exchanges_named, in_order, recorded}
 use Rattle.bar_audit.specs.Recordings.{Recording, datagrams_in, inputs_of}
-use Rattle.bar_audit.proofs.Equality.{exchange-refl, same_exchange-is}
-use Rattle.bar_audit.proofs.Lists.{IsFound, any-found, contains-cases, contains-filter, contains-here, contains-more, filter-contains, find-found, mapped}
+use Rattle.bar_laws.proofs.Logs.{same_exchange-is, same_exchange_refl}
+use Rattle.bar_window.proofs.Ranges.{Contains-later}
+use Rattle.bar_laws.proofs.Memory.{all-inserted}
+use Rattle.bar_audit.proofs.Lists.{IsFound, any-found, contains-cases, contains-filter, contains-here, filter-contains, find-found, mapped}
 
 -- ---- one more is put into a rising list
-
-all-inserted : (P : Exchange → Type 0) (x : Exchange) (xs : List Exchange) → P x → AllByRecursion P xs → AllByRecursion P (inserted x xs)
-all-inserted P x [] h k = (h, tt)
-all-inserted P x (y ∷ ys) h k = go (same_exchange x y) (precedes x y) (all-inserted P x ys h k.1)
-  where
-    go : (a b : Bool) → AllByRecursion P (inserted x ys) → AllByRecursion P (cond a (y ∷ ys) (cond b (x ∷ y ∷ ys) (y ∷ inserted x ys)))
-    go true b w = k
-    go false true w = (h, k)
-    go false false w = (k.0, w)
 
 all-further : (x y : Exchange) (ys : List Exchange) → precedes x y ≡ true → AllByRecursion (λ z. precedes y z ≡ true) ys
     → AllByRecursion (λ z. precedes x z ≡ true) ys
@@ -63,7 +56,7 @@ inserted-holds x (y ∷ ys) = go (same_exchange x y) (precedes x y) refl (insert
         → Contains (cond a (y ∷ ys) (cond b (x ∷ y ∷ ys) (y ∷ inserted x ys))) x
     go true b e w = contains-here y x ys (sym (same_exchange-is x y e))
     go false true e w = contains-here x x (y ∷ ys) refl
-    go false false e w = contains-more y x (inserted x ys) w
+    go false false e w = Contains-later y x (inserted x ys) w
 
 inserted-keeps : (x z : Exchange) (xs : List Exchange) → Contains xs z → Contains (inserted x xs) z
 inserted-keeps x z [] c = absurd (omega (arith, c.1))
@@ -72,10 +65,10 @@ inserted-keeps x z (y ∷ ys) c = go (same_exchange x y) (precedes x y) (inserte
     go : (a b : Bool) → (Contains ys z → Contains (inserted x ys) z)
         → Contains (cond a (y ∷ ys) (cond b (x ∷ y ∷ ys) (y ∷ inserted x ys))) z
     go true b rest = c
-    go false true rest = contains-more x z (y ∷ ys) c
+    go false true rest = Contains-later x z (y ∷ ys) c
     go false false rest =
         contains-cases (Contains (y ∷ inserted x ys) z) y z ys c (λ same. contains-here y z (inserted x ys) same)
-        (λ more. contains-more y z (inserted x ys) (rest more))
+        (λ more. Contains-later y z (inserted x ys) (rest more))
 
 inserted-only : (x z : Exchange) (xs : List Exchange) → Contains (inserted x xs) z → (x ≡ z) ⊎ Contains xs z
 inserted-only x z [] c = contains-cases ((x ≡ z) ⊎ Contains [] z) x z [] c (λ same. inl same) (λ more. inr more)
@@ -87,7 +80,7 @@ inserted-only x z (y ∷ ys) c = go (same_exchange x y) (precedes x y) c (insert
     go false true c rest = contains-cases ((x ≡ z) ⊎ Contains (y ∷ ys) z) x z (y ∷ ys) c (λ same. inl same) (λ more. inr more)
     go false false c rest =
         contains-cases ((x ≡ z) ⊎ Contains (y ∷ ys) z) y z (inserted x ys) c (λ same. inr (contains-here y z ys same))
-        (λ more. elim (rest more) [ inl e ↦ inl e | inr k ↦ inr (contains-more y z ys k) ])
+        (λ more. elim (rest more) [ inl e ↦ inl e | inr k ↦ inr (Contains-later y z ys k) ])
 
 in_order-keeps : (z : Exchange) (xs : List Exchange) → Contains xs z → Contains (in_order xs) z
 in_order-keeps z [] c = c
@@ -101,7 +94,7 @@ in_order-only z [] c = c
 in_order-only z (x ∷ xs) c =
     elim (inserted-only x z (in_order xs) c) [
       | inl same ↦ contains-here x z xs same
-      | inr more ↦ contains-more x z xs (in_order-only z xs more)
+      | inr more ↦ Contains-later x z xs (in_order-only z xs more)
     ]
 
 -- ---- rising lists with the same members are one
@@ -112,7 +105,7 @@ precedes-all x z (y ∷ ys) h c =
     contains-cases (precedes x z ≡ true) y z ys c (λ same. subst (λ w. precedes x w ≡ true) same h.0) (λ more. precedes-all x z ys h.1 more)
 
 not-itself : (x : Exchange) → precedes x x ≡ true → ⊥
-not-itself x e = both_ways (precedes x x) (precedes-not_same x x (exchange-refl x)) e
+not-itself x e = both_ways (precedes x x) (precedes-not_same x x (same_exchange_refl x)) e
 
 same-heads : (x y : Exchange) (xs ys : List Exchange) → AllByRecursion (λ z. precedes x z ≡ true) xs
     → AllByRecursion (λ z. precedes y z ≡ true) ys → Contains (y ∷ ys) x → Contains (x ∷ xs) y → x ≡ y
@@ -124,7 +117,7 @@ same-heads x y xs ys h k c d =
 tail-holds : (x y z : Exchange) (xs ys : List Exchange) → x ≡ y → AllByRecursion (λ w. precedes x w ≡ true) xs
     → (Contains (x ∷ xs) z → Contains (y ∷ ys) z) → Contains xs z → Contains ys z
 tail-holds x y z xs ys e h into c =
-    contains-cases (Contains ys z) y z ys (into (contains-more x z xs c))
+    contains-cases (Contains ys z) y z ys (into (Contains-later x z xs c))
     (λ same. absurd (not-itself x (subst (λ w. precedes x w ≡ true) (sym (e ∙ same)) (precedes-all x z xs h c)))) (λ more. more)
 
 one-list : (xs ys : List Exchange) → IsRising xs → IsRising ys → ((z : Exchange) → Contains xs z ↔ Contains ys z) → xs ≡ ys
@@ -171,11 +164,11 @@ contains-left : (xs ys : List Exchange) (x : Exchange) → Contains xs x → Con
 contains-left [] ys x c = absurd (omega (arith, c.1))
 contains-left (y ∷ xs) ys x c =
     contains-cases (Contains (y ∷ (xs ++ ys)) x) y x xs c (λ same. contains-here y x (xs ++ ys) same)
-    (λ more. contains-more y x (xs ++ ys) (contains-left xs ys x more))
+    (λ more. Contains-later y x (xs ++ ys) (contains-left xs ys x more))
 
 contains-right : (xs ys : List Exchange) (x : Exchange) → Contains ys x → Contains (xs ++ ys) x
 contains-right [] ys x c = c
-contains-right (y ∷ xs) ys x c = contains-more y x (xs ++ ys) (contains-right xs ys x c)
+contains-right (y ∷ xs) ys x c = Contains-later y x (xs ++ ys) (contains-right xs ys x c)
 
 given-named : (s : Session) (x : Exchange) (recordings : List Recording) (party : ℕ) (inputs : List Input)
     → inputs_of recordings party ≡ Some inputs → Contains (exchanges_in s inputs) x → Contains (exchanges_named s recordings) x

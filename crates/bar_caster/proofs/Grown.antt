@@ -19,20 +19,20 @@ use Rattle.bar_rules.specs.Member.{Member, Session}
 use Rattle.bar_rules.specs.Peer.Log.{Log, Entry, Ticked, Heard, Said, Kept, first_said, has_kind_and_round, if_passes, kept, kept_in}
 use Rattle.bar_rules.specs.Peer.Log.{round_now, said_in, ticks}
 use Rattle.bar_laws.specs.Broadcasting.{SignsOnce}
+use Rattle.bar_laws.proofs.Logs.{or-none}
 use Rattle.bar_caster.specs.declared.evictions.Evictions.{Evictions}
 use Rattle.bar_caster.specs.Evictions.{AreOfLog}
 use Rattle.bar_caster.specs.Ticking.{begins_round, begun_round}
-use Rattle.bar_caster.proofs.Listing.{or_none}
 
 -- ---- what was said
 
 -- an entry that is no signed datagram leaves what was said
 pub same_said : (p : Message → Bool) (x : Entry) (log : Log) → said_in x ≡ None → first_said p (x ∷ log) ≡ first_said p log
-same_said p x log none = (λ i. option_or (first_said p log) (if_passes p (none i))) ∙ or_none (first_said p log)
+same_said p x log none = (λ i. option_or (first_said p log) (if_passes p (none i))) ∙ or-none (first_said p log)
 
 -- so does a datagram that does not pass
 pub said_other : (p : Message → Bool) (d : Datagram) (log : Log) → p d.message ≡ false → first_said p (Said d ∷ log) ≡ first_said p log
-said_other p d log other = (λ i. option_or (first_said p log) (then_some (other i) d)) ∙ or_none (first_said p log)
+said_other p d log other = (λ i. option_or (first_said p log) (then_some (other i) d)) ∙ or-none (first_said p log)
 
 -- where none was said before, the datagram is the first
 pub said_first : (p : Message → Bool) (d : Datagram) (log : Log) → first_said p log ≡ None → p d.message ≡ true
@@ -85,7 +85,7 @@ not_said_yet me stream log kind round h later = go (first_said (has_kind_and_rou
 
 -- an entry that keeps no evidence leaves what is kept
 pub same_kept : (x : Entry) (log : Log) → ((q : ℕ) → kept_in q x ≡ None) → (q : ℕ) → kept (x ∷ log) q ≡ kept log q
-same_kept x log none q = (λ i. option_or (kept log q) (none q i)) ∙ or_none (kept log q)
+same_kept x log none q = (λ i. option_or (kept log q) (none q i)) ∙ or-none (kept log q)
 
 pub same_evicted : (s : Session) (x : Entry) (log : Log) → ((q : ℕ) → kept_in q x ≡ None) → evicted s (x ∷ log) ≡ evicted s log
 same_evicted s x log none = λ i. filter (λ q. is_some (same_kept x log none q i)) (peers_of s)

@@ -36,11 +36,11 @@ use Rattle.bar_judge.specs.declared.verdicts.Verdict.TheVariants as verdicts
 use Rattle.bar_judge.specs.Verdicts.{plain_verdict}
 use Rattle.bar_laws.specs.Broadcasting.{ShownIsShort}
 use Rattle.bar_laws.specs.Ignoring.{evicts, is_news}
+use Rattle.bar_laws.proofs.Logs.{or-none}
 use Rattle.bar_caster.specs.declared.evictions.Evictions.{Evictions}
 use Rattle.bar_caster.specs.declared.memory.Memory.{Memory}
 use Rattle.bar_caster.specs.Evictions.{AreOfLog}
 use Rattle.bar_caster.specs.Memory.{Tells, IsOfTheSame, member_of, said_of, stream_of}
-use Rattle.bar_caster.proofs.Listing.{or_none}
 
 -- A memory has what another has, but for the evictions.
 pub record HasOtherEvictions (m n : Memory) : Type 0 where
@@ -78,7 +78,7 @@ tells_with log new m n h time said evictions tells =
 tells_kept : (log : Log) (m n : Memory) (party : ℕ) (evidence : List (List ℕ)) → HasOtherEvictions m n → Tells log m
     → AreOfLog m.session n.evictions (Kept party evidence ∷ log) → Tells (Kept party evidence ∷ log) n
 tells_kept log m n party evidence h tells evictions =
-    tells_with log (Kept party evidence ∷ log) m n h (omega arith) (λ kind round. or_none (said_of kind round log)) evictions tells
+    tells_with log (Kept party evidence ∷ log) m n h (omega arith) (λ kind round. or-none (said_of kind round log)) evictions tells
 
 -- the same evictions are those of the same log
 pub tells_still : (log : Log) (m n : Memory) → HasOtherEvictions m n → n.evictions ≡ m.evictions → Tells log m → Tells log n

@@ -1,5 +1,5 @@
 -- The evicted peers of rooms and of a log.
-use Rattle.std.proofs.Common.{◌≡◌, ◌∙◌, ℕ, zero, suc, ◌+◌, ◌≤◌, ◌<◌, ◌==◌, ◌++◌, Bool, true, false, List, [], ◌∷◌, Option, Some, None}
+use Rattle.std.proofs.Common.{◌≡◌, ◌∙◌, ℕ, zero, suc, ◌+◌, ◌==◌, ◌++◌, Bool, true, false, List, [], ◌∷◌, Option, Some, None}
 use Rattle.std.proofs.Common.{is_some, refl, sym, ap, subst, arith, inl, inr}
 use Rattle.std.specs.Prelude.{filter, option_copied, option_map, if◌then◌else◌}
 use Rattle.std.specs.Option.{option_or}
@@ -11,11 +11,13 @@ use Rattle.std.proofs.lemmas.List.{map-id, append-nil}
 use Rattle.std.proofs.lemmas.List.FromFn.{filter_of_map_range_with_len_more}
 use Rattle.bar_bytes.specs.declared.rooms.Rooms.{Rooms}
 use Rattle.bar_bytes.specs.Rooms.{kept_in}
+use Rattle.bar_window.proofs.Ranges.{filter_agree_from}
 use Rattle.bar_wire.specs.Evidence.{evidence_bytes}
 use Rattle.bar_wire.specs.Grammar.{IsPeer}
 use Rattle.bar_rules.specs.Member.{Session}
 use Rattle.bar_rules.specs.Peer.Log.{Log, Kept, kept}
 use Rattle.bar_rules.specs.Broadcaster.Sending.{evicted}
+use Rattle.bar_laws.proofs.Logs.{or-none}
 use Rattle.bar_caster.specs.declared.evictions.Evictions.{Evictions}
 use Rattle.bar_caster.specs.Evictions.{AreOfLog}
 use Rattle.bar_caster.specs.Listed.{peers_with_evidence}
@@ -37,15 +39,6 @@ pub listed-skip : (rooms : Rooms) (n : ℕ) → is_some (kept_in rooms (n + 1)) 
     → peers_with_evidence rooms n ≡ peers_with_evidence rooms (n + 1)
 listed-skip rooms n is = sym (append-nil (peers_with_evidence rooms n)) ∙ sym (one_more (λ q. is_some (kept_in rooms q)) n false is)
 
--- tests that agree on a run of numbers let the same through
-same_filtered : (p q : ℕ → Bool) (a n : ℕ) → ((i : ℕ) → a ≤ i → i < a + n → p i ≡ q i)
-    → filter p (range_with_len a n) ≡ filter q (range_with_len a n)
-same_filtered p q a zero each = refl
-same_filtered p q a (suc n) each =
-    let rest : filter p (range_with_len (a + 1) n) ≡ filter q (range_with_len (a + 1) n) =
-    same_filtered p q (a + 1) n (λ i low high. each i (omega (arith, low)) (omega (arith, high))) in
-    λ i. if each a (omega arith) (omega arith) i then a ∷ rest i else rest i
-
 -- ---- what a log keeps
 
 some_mapped : {X Y : Type 0} (f : X → Y) (o : Option X) → is_some (option_map f o) ≡ is_some o
@@ -56,15 +49,11 @@ pub some-copied : {X : Type 0} (o : Option (Bor X)) → is_some (option_copied o
 some-copied None = refl
 some-copied (Some v) = refl
 
-pub or_none : {X : Type 0} (o : Option X) → option_or o None ≡ o
-or_none None = refl
-or_none (Some v) = refl
-
 pub kept_here : (log : Log) (q : ℕ) (ev : List (List ℕ)) → kept log q ≡ None → kept (Kept q ev ∷ log) q ≡ Some ev
 kept_here log q ev none = λ i. option_or (none i) (then_some (eq-eqb q q refl i) ev)
 
 pub kept_elsewhere : (log : Log) (q p : ℕ) (ev : List (List ℕ)) → (q == p) ≡ false → kept (Kept q ev ∷ log) p ≡ kept log p
-kept_elsewhere log q p ev other = (λ i. option_or (kept log p) (then_some (other i) ev)) ∙ or_none (kept log p)
+kept_elsewhere log q p ev other = (λ i. option_or (kept log p) (then_some (other i) ev)) ∙ or-none (kept log p)
 
 -- ---- the evictions after evidence
 
@@ -103,7 +92,7 @@ listed_so : (s : Session) (rooms : Rooms) (log : Log)
     → ((p : ℕ) → IsPeer s.shape p → kept_in rooms p ≡ option_map evidence_bytes (kept log p))
     → peers_with_evidence rooms s.shape.peers ≡ evicted s log
 listed_so s rooms log is =
-    same_filtered (λ q. is_some (kept_in rooms q)) (λ q. is_some (kept log q)) 1 s.shape.peers
+    filter_agree_from (λ q. is_some (kept_in rooms q)) (λ q. is_some (kept log q)) 1 s.shape.peers
     (λ p low high. ap is_some (is p (omega (arith, low), omega (arith, high))) ∙ some_mapped evidence_bytes (kept log p))
 
 pub evicts : (s : Session) (e f : Evictions) (log : Log) (q : ℕ) (ev : List (List ℕ)) → AreOfLog s e log → IsPeer s.shape q
@@ -128,7 +117,7 @@ stays s e log q ev h other =
       peers = h.peers;
       evidence = λ p peer. h.evidence p peer ∙ ap (option_map evidence_bytes) (same p peer);
       others = h.others;
-      list = h.list ∙ same_filtered (λ q. is_some (kept log q)) (λ p. is_some (kept (Kept q ev ∷ log) p)) 1 s.shape.peers
+      list = h.list ∙ filter_agree_from (λ q. is_some (kept log q)) (λ p. is_some (kept (Kept q ev ∷ log) p)) 1 s.shape.peers
           (λ p low high. ap is_some (same p (omega (arith, low), omega (arith, high))));
     }
 

@@ -1,7 +1,6 @@
 -- The rows of the status table, from how `audit` ended.
 use Rattle.std.proofs.Common.{append-nil, append_assoc, ◌≡◌, ◌⊎◌, ℕ, List, [], ◌∷◌, ◌++◌, Option, Some, None, Result, Ok, Err, false, true, IsTrue, refl, sym, ap, ◌∙◌, subst, map, IsSomeAnd, inl, inr}
 use Rattle.std.proofs.lemmas.List.{map-append}
-use Rattle.std.specs.List.{AllByRecursion}
 use Rattle.std.specs.Option.{ok_or}
 use Rattle.bar_outside.specs.Disk.{Content, Failure, readable}
 use Rattle.bar_outside.specs.Plan.{Outside, Plan, Names, ending, is_stop}
@@ -17,6 +16,7 @@ use Rattle.bar_audit.specs.Listed.{IsListed, recorded}
 use Rattle.bar_audit.specs.Recordings.{Recording}
 use Rattle.bar_audit.specs.Runs.{AreOfRuns}
 use Rattle.bar_session_files.specs.Accepting.{HasSession, session_of}
+use Rattle.bar_wire.proofs.Lists.{AllByRecursion-push}
 use Rattle.bar_cli.specs.Audit.Audited.{Audited, AuditedFront, AuditStays, balance_in}
 use Rattle.bar_cli.specs.Audit.Plan.{AuditAccepted, AuditFiles, HasBadParties, HasBadRecording, HasBadSession, HasParties, HasRecording, HasRecordings, IsAuditCall, audit_plan, audit_text, balance_of, by_inputs, by_parties, by_session, inputs_listed, parties_of, recording_name, recordings_plan}
 use Rattle.bar_cli.specs.Audit.Text.{status_of_balance}
@@ -44,16 +44,12 @@ no-refusal (Some x) status which e = elim which [ inl four ↦ differ 4 1 refl (
 
 -- ---- one recording more
 
-all-more : {A : Type 0} (P : A → Type 0) (xs : List A) (x : A) → AllByRecursion P xs → P x → AllByRecursion P (xs ++ x ∷ [])
-all-more P [] x h k = (k, tt)
-all-more P (y ∷ ys) x h k = (h.0, all-more P ys x h.1 k)
-
 has-more : (results : List ℕ) (content : Content) (s : SessionData) (before : List ℕ) (given : List Recording) (r : Recording) →
     HasRecordings results content s before given → HasRecording results content s r →
     HasRecordings results content s (before ++ r.party ∷ []) (given ++ r ∷ [])
 has-more results content s before given r h k = record {
   order = map-append (λ (r : Recording). r.party) given (r ∷ []) ∙ ap (λ parties. parties ++ r.party ∷ []) h.order;
-  each = all-more (HasRecording results content s) given r h.each k;
+  each = AllByRecursion-push (HasRecording results content s) given r h.each k;
 }
 
 -- ---- how far an audit came

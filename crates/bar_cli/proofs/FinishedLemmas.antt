@@ -25,6 +25,7 @@ use Rattle.bar_session_files.specs.Accepting.{fresh_key_of, secrets_of_key, sess
 use Rattle.bar_party_commands.specs.PeerPlan.{PeerAccepted, PeerNames, rules_by}
 use Rattle.bar_party_commands.specs.PeerStands as live
 use Rattle.bar_party_commands.specs.PeerStands.{PeerDone}
+use Rattle.bar_laws.proofs.Logs.{some-same}
 use Rattle.bar_cli.specs.Replay.Finished.{ReadsWhatAPeerLeft, ShowsWhatWasSent}
 use Rattle.bar_cli.specs.Replay.Found.{evidence_of, manifest_of}
 use Rattle.bar_cli.specs.Replay.Recordings.{recording_of}
@@ -123,9 +124,6 @@ module _ (peer : PeerNames) (names : ReplayFiles) (before after old : Outside) (
       }
 
 -- ---- files are accepted in one way
-
-some-same : {A : Type 0} (o : Option A) (x y : A) → o ≡ Some x → o ≡ Some y → x ≡ y
-some-same o x y e f = cc
 
 same-session : (names : ReplayFiles) (content : Content) (a b : Accepted names content) → a.session ≡ b.session
 same-session names content a b =

@@ -26,3 +26,4 @@ pub mod SessionLemmas
 pub mod SimulateLemmas
 pub mod HeadlineLemmas
 pub mod FinishedLemmas
+pub mod Alternatives

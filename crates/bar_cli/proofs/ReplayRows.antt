@@ -21,7 +21,6 @@ use Rattle.bar_rules.specs.Peer.Run.{played_by}
 use Rattle.bar_rules.specs.Members.{member_by}
 use Rattle.bar_findings.specs.Findings.{Finding, IsFindingName, IsWrittenUpTo, findings_actions}
 use Rattle.bar_findings.proofs.Holding.{AreWritten, begun-others, evidence-there, named-findings, silent-findings, table-there, touched-findings, written-front, written-since}
-use Rattle.bar_findings.proofs.Lists.{all-so}
 use Rattle.bar_findings.proofs.Names.{AreDistinct, finding-names, findings-distinct}
 use Rattle.bar_cli.specs.Replay.Found.{evidence_of, found_by, manifest_of}
 use Rattle.bar_cli.specs.Refusals.{session_refused, key_refused, recording_refused}
@@ -31,6 +30,7 @@ use Rattle.bar_cli.specs.Replay.Turns.{Turn, shown_bytes, turns_actions}
 use Rattle.bar_cli.specs.Replay.Plan.{ReplayFiles, SessionAccepted, SessionRefused, KeyAccepted, KeyRefused, InputRefused, Accepted, Replayed, PlayedFront, PlayedUpTo, FoundUpTo, HasOwnNames, OthersAreSame, IsUntouched, IsMade, IsReplayCall, found_in, peer_of, turns_in, turns_of, transcript_of, replay_plan, key_plan, recording_plan, run_plan, playing_actions, replay_actions}
 use Rattle.bar_cli.proofs.EndLemmas.{differ, go-on}
 use Rattle.bar_session_files.proofs.Accepted.{AreHeld, AreInRange, held-here, in-range_here}
+use Rattle.bar_laws.proofs.Logs.{all-map}
 use Rattle.bar_cli.proofs.ReplayLemmas.{all-played, final-found, final-other, final-played, others-unplayed, shown-playing, shown-replay, unlinked-playing, unlinked-replay}
 use Rattle.bar_cli.proofs.TurnLemmas.{played-turns, shown-turns_from}
 use Rattle.bar_cli.proofs.UpToLemmas.{IsStopped, stopped-played, unchanged-by, front-played, front-shown}
@@ -144,7 +144,7 @@ found-names names me inputs =
 own-names : (names : ReplayFiles) (me : Member) (inputs : List Input) → HasOwnNames names →
     AllByRecursion (λ f. f.name ≢ names.played) (found_by names.found me inputs)
 own-names names me inputs own =
-    all-so (λ f. IsFindingName names.found f.name) (λ f. f.name ≢ names.played) (found_by names.found me inputs)
+    all-map (λ f. IsFindingName names.found f.name) (λ f. f.name ≢ names.played) (found_by names.found me inputs)
     (λ f named. differs f.name named) (found-names names me inputs)
   where
     differs : (name : List ℕ) → IsFindingName names.found name → name ≢ names.played
@@ -360,7 +360,7 @@ found-so_far ranged names old new status told a d more is m next =
       sent = λ tells. d.ran.out tells ∙ ap (λ bytes. old.out.bytes ++ bytes) (printed ∙ shown-turns_from me 1 [] a.inputs);
       found = λ own.
           written-since findings old.files.content mid new.files.content
-          (all-so (λ f. f.name ≢ names.played) (λ f. mid f.name ≡ old.files.content f.name) findings
+          (all-map (λ f. f.name ≢ names.played) (λ f. mid f.name ≡ old.files.content f.name) findings
           (λ f differs. others-unplayed names.played turns old.files.content f.name differs) (own-names names me a.inputs own))
           (subst (IsWrittenUpTo findings mid) (sym after) written.0);
       no_output = λ e. silent-findings findings more m (subst IsShowNext (sym next) (d.at_output e));

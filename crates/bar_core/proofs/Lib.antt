@@ -2,3 +2,4 @@ pub mod Stepwise
 pub mod Mapped
 pub mod OverLists
 pub mod Entries
+pub mod Left

@@ -12,8 +12,9 @@ use Rattle.bar_outside.proofs.Unlinked.{IsUnlinked, unlinked-append, unlinked-ap
 use Rattle.bar_outside.proofs.Untouched.{Touches-begun, Touches-split, content-untouched}
 use Rattle.bar_judge.specs.TableFile.{table_bytes}
 use Rattle.bar_wire.specs.Grammar.{entry as entry_bytes}
+use Rattle.bar_laws.proofs.Logs.{all-map}
 use Rattle.bar_findings.specs.Findings.{Finding, Found, IsWriteTo, IsWrittenUpTo, bytes_of, evidence_name, file_of, finding_actions, findings_actions, findings_of, in_order, table_name}
-use Rattle.bar_findings.proofs.Lists.{all-at, all-both, all-rest, all-so}
+use Rattle.bar_findings.proofs.Lists.{all-at, all-joined, all-rest}
 use Rattle.bar_findings.proofs.Names.{AreDistinct}
 
 -- each file is created before it is added to
@@ -160,7 +161,7 @@ behind-finding f fs content new differ whole w =
       is = ap (λ xs. f ∷ xs) w.is;
       whole = (whole, w.whole);
       part = elim w.part [ inl as_was ↦ inl (as_was ∙ same w.this behind.0) | inr front ↦ inr front ];
-      others = all-both (λ g. new g.name ≡ mid g.name) (λ g. g.name ≢ f.name) (λ g. new g.name ≡ content g.name) w.later
+      others = all-joined (λ g. new g.name ≡ mid g.name) (λ g. g.name ≢ f.name) (λ g. new g.name ≡ content g.name) w.later
           (λ g e d. e ∙ same g d) w.others behind.1;
     }
 
@@ -181,7 +182,7 @@ written-front (f ∷ fs) content done distinct b =
               is = refl;
               whole = tt;
               part = now.0;
-              others = all-so (λ g. g.name ≢ f.name) (λ g. content_after done content g.name ≡ content g.name) fs
+              others = all-map (λ g. g.name ≢ f.name) (λ g. content_after done content g.name ≡ content g.name) fs
                   (λ g d. begun-other f content done g.name m.2 d) distinct.0;
             },
             now.1,
@@ -230,7 +231,7 @@ written-since findings old mid new same w =
       is = w.is;
       whole = w.whole;
       part = elim w.part [ inl as_was ↦ inl (as_was ∙ behind.0) | inr front ↦ inr front ];
-      others = all-both (λ f. new f.name ≡ mid f.name) (λ f. mid f.name ≡ old f.name) (λ f. new f.name ≡ old f.name) w.later
+      others = all-joined (λ f. new f.name ≡ mid f.name) (λ f. mid f.name ≡ old f.name) (λ f. new f.name ≡ old f.name) w.later
           (λ f e d. e ∙ d) w.others behind.1;
     }
 

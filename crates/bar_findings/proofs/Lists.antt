@@ -2,10 +2,7 @@
 use Rattle.std.proofs.Common.{ℕ, zero, suc, ◌+◌, ◌≤◌, ◌<◌, List, [], ◌∷◌, ◌++◌, inl, inr, subst, arith}
 use Rattle.std.proofs.Math.Nat.{eq-or-lt_of_le}
 use Rattle.std.specs.List.{AllByRecursion, flat_map, range_with_len}
-
-pub all-append : {X : Type 0} (P : X → Type 0) (xs ys : List X) → AllByRecursion P xs → AllByRecursion P ys → AllByRecursion P (xs ++ ys)
-all-append P [] ys h k = k
-all-append P (x ∷ xs) ys h k = (h.0, all-append P xs ys h.1 k)
+use Rattle.bar_laws.proofs.Logs.{all-both}
 
 pub all-front : {X : Type 0} (P : X → Type 0) (xs ys : List X) → AllByRecursion P (xs ++ ys) → AllByRecursion P xs
 all-front P [] ys h = tt
@@ -15,14 +12,10 @@ pub all-rest : {X : Type 0} (P : X → Type 0) (xs ys : List X) → AllByRecursi
 all-rest P [] ys h = h
 all-rest P (x ∷ xs) ys h = all-rest P xs ys h.1
 
-pub all-so : {X : Type 0} (P Q : X → Type 0) (xs : List X) → ((x : X) → P x → Q x) → AllByRecursion P xs → AllByRecursion Q xs
-all-so P Q [] so h = tt
-all-so P Q (x ∷ xs) so h = (so x h.0, all-so P Q xs so h.1)
-
-pub all-both : {X : Type 0} (P Q R : X → Type 0) (xs : List X) → ((x : X) → P x → Q x → R x) → AllByRecursion P xs → AllByRecursion Q xs →
+pub all-joined : {X : Type 0} (P Q R : X → Type 0) (xs : List X) → ((x : X) → P x → Q x → R x) → AllByRecursion P xs → AllByRecursion Q xs →
     AllByRecursion R xs
-all-both P Q R [] so h k = tt
-all-both P Q R (x ∷ xs) so h k = (so x h.0 k.0, all-both P Q R xs so h.1 k.1)
+all-joined P Q R [] so h k = tt
+all-joined P Q R (x ∷ xs) so h k = (so x h.0 k.0, all-joined P Q R xs so h.1 k.1)
 
 -- of those of a range of numbers, and of those of one number
 pub all-range : {X : Type 0} (P : X → Type 0) (f : ℕ → List X) (a n : ℕ) → ((i : ℕ) → a ≤ i → i < a + n → AllByRecursion P (f i)) →
@@ -31,7 +24,7 @@ all-range P f a zero h = tt
 all-range P f a (suc n) h =
     let low : a ≤ a = omega arith in
     let high : a < a + suc n = omega arith in
-    all-append P (f a) (flat_map f (range_with_len (a + 1) n)) (h a low high) (all-range P f (a + 1) n (λ i l u. h i (above i l) (below i u)))
+    all-both P (f a) (flat_map f (range_with_len (a + 1) n)) (h a low high) (all-range P f (a + 1) n (λ i l u. h i (above i l) (below i u)))
   where
     above : (i : ℕ) → a + 1 ≤ i → a ≤ i
     above i l = omega arith

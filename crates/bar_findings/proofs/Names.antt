@@ -5,8 +5,9 @@ use Rattle.std.proofs.lemmas.List.{append_cancel_left}
 use Rattle.std.specs.Fmt.{decimal}
 use Rattle.std.specs.Str.Parse.{AllDigits}
 use Rattle.std.specs.List.{AllByRecursion, flat_map, range_with_len}
+use Rattle.bar_laws.proofs.Logs.{all-map}
 use Rattle.bar_findings.specs.Findings.{Finding, Found, IsFindingName, table_name, evidence_name, file_of, findings_of}
-use Rattle.bar_findings.proofs.Lists.{all-range, all-so}
+use Rattle.bar_findings.proofs.Lists.{all-range}
 
 -- the files of two parties are different
 pub parties-differ : (found : List ℕ) (p q : ℕ) → p < 2 ^ 64 → q < 2 ^ 64 → evidence_name found p ≡ evidence_name found q → p ≡ q
@@ -36,7 +37,7 @@ pub finding-names : (found : List ℕ) (manifests : Found) (rounds : ℕ) (evide
 finding-names found manifests rounds evidence parties = (
   inl refl,
   all-range (λ f. IsFindingName found f.name) (λ party. file_of (evidence_name found party) (evidence party)) 1 parties
-      (λ party low high. all-so (λ f. f.name ≡ evidence_name found party) (λ f. IsFindingName found f.name)
+      (λ party low high. all-map (λ f. f.name ≡ evidence_name found party) (λ f. IsFindingName found f.name)
       (file_of (evidence_name found party) (evidence party)) (λ f e. inr (party, e)) (file-names (evidence_name found party) (evidence party))),
 )
 
@@ -51,7 +52,7 @@ files-from : (found : List ℕ) (evidence : Found) (a n : ℕ) (P : List ℕ →
     AllByRecursion (λ f. P f.name) (flat_map (λ party. file_of (evidence_name found party) (evidence party)) (range_with_len a n))
 files-from found evidence a n P h =
     all-range (λ f. P f.name) (λ party. file_of (evidence_name found party) (evidence party)) a n
-    (λ party low high. all-so (λ f. f.name ≡ evidence_name found party) (λ f. P f.name)
+    (λ party low high. all-map (λ f. f.name ≡ evidence_name found party) (λ f. P f.name)
     (file_of (evidence_name found party) (evidence party)) (λ f e. subst P (sym e) (h party low high))
     (file-names (evidence_name found party) (evidence party)))
 

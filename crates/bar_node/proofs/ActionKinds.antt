@@ -10,7 +10,8 @@ use Rattle.bar_outside.specs.Plan.Action.{append, create, link, read, show}
 use Rattle.bar_outside.specs.Plan.LinkCall.{bind, receive, send}
 use Rattle.bar_outside.proofs.ActionLists.{shown-append}
 use Rattle.bar_outside.proofs.Appends.{take-more}
-use Rattle.bar_findings.proofs.Lists.{all-append, all-front, all-rest}
+use Rattle.bar_findings.proofs.Lists.{all-front, all-rest}
+use Rattle.bar_laws.proofs.Logs.{all-both}
 use Rattle.bar_node.specs.Effects.{received_in}
 use Rattle.bar_node.specs.Runs.{has_end}
 
@@ -76,7 +77,7 @@ module _ (P : List ℕ → Type 0) (C : LinkCall → Type 0) (S : Type 0) where
   among-begun plan done b k =
       let all = subst (AreAmong P C S) b.plan_is k in
       subst (AreAmong P C S) (sym b.done_is)
-      (all-append (IsAmong P C S) b.front b.part (all-front (IsAmong P C S) b.front b.rest all)
+      (all-both (IsAmong P C S) b.front b.part (all-front (IsAmong P C S) b.front b.rest all)
       (among-next b.part b.rest b.part_is (all-rest (IsAmong P C S) b.front b.rest all)))
 
   -- they touch only files of such names

@@ -10,10 +10,10 @@ use Rattle.bar_outside.specs.Wire.{Arrival}
 use Rattle.bar_outside.specs.Plan.{Action, Begun, Outside, Ran}
 use Rattle.bar_outside.specs.Plan.Action.{append}
 use Rattle.bar_findings.specs.Findings.{IsFindingName}
-use Rattle.bar_findings.proofs.Lists.{all-so}
 use Rattle.bar_findings.proofs.Names.{finding-names}
 use Rattle.bar_core.specs.Rules.{Rules}
 use Rattle.bar_core.specs.Runs.{contents_over}
+use Rattle.bar_laws.proofs.Logs.{all-map}
 use Rattle.bar_node.specs.Turns.{Layout, kept, node_layout, sent, turn}
 use Rattle.bar_node.specs.Effects.{added_by, added_in}
 use Rattle.bar_node.specs.Runs.{behind, found_after, is_ended, node_plan, taken_of}
@@ -117,18 +117,18 @@ module _ (recording played : List ℕ) where
 module _ (path found : List ℕ) (apart : IsApart path found) (r : Rules) (taken : List Input) where
   other-names : AllByRecursion (λ f. path ≢ f.name) (found_after found r taken)
   other-names =
-      all-so (λ f. IsFindingName found f.name) (λ f. path ≢ f.name) (found_after found r taken)
+      all-map (λ f. IsFindingName found f.name) (λ f. path ≢ f.name) (found_after found r taken)
       (λ f is. elim is [ inl e ↦ λ same. apart.table (same ∙ e) | inr p ↦ λ same. apart.evidence p.0 (same ∙ p.1) ])
       (finding-names found (r.manifest taken) r.rounds (r.evidence taken) r.peers)
 
   none-added : AllByRecursion (λ f. GivesNone (added_by path) f.name) (found_after found r taken)
   none-added =
-      all-so (λ f. path ≢ f.name) (λ f. GivesNone (added_by path) f.name) (found_after found r taken)
+      all-map (λ f. path ≢ f.name) (λ f. GivesNone (added_by path) f.name) (found_after found r taken)
       (λ f differ. (refl, λ bytes. ap (λ b. cond b bytes []) (other-name path f.name differ))) other-names
 
   none-made : AllByRecursion (λ f. GivesNone (made_by path) f.name) (found_after found r taken)
   none-made =
-      all-so (λ f. path ≢ f.name) (λ f. GivesNone (made_by path) f.name) (found_after found r taken)
+      all-map (λ f. path ≢ f.name) (λ f. GivesNone (made_by path) f.name) (found_after found r taken)
       (λ f differ. (ap (λ b. cond b (tt ∷ []) []) (other-name path f.name differ), λ bytes. refl)) other-names
 
 -- ---- what a file has of a stopped run

@@ -9,9 +9,9 @@ use Rattle.bar_outside.specs.Plan.{Action}
 use Rattle.bar_outside.specs.Plan.Action.{append, link}
 use Rattle.bar_outside.specs.Plan.LinkCall.{receive}
 use Rattle.bar_findings.specs.Findings.{Finding, IsFindingName, finding_actions, findings_actions}
-use Rattle.bar_findings.proofs.Lists.{all-append, all-so}
 use Rattle.bar_findings.proofs.Names.{finding-names}
 use Rattle.bar_core.specs.Rules.{Rules, Send}
+use Rattle.bar_laws.proofs.Logs.{all-both, all-map}
 use Rattle.bar_node.specs.Turns.{Layout, kept, node_layout, sent, turn, turns}
 use Rattle.bar_node.specs.Runs.{behind, closing, due_if, found_after, input_of, is_ended, node_from, node_plan, run_if, taken_of}
 use Rattle.bar_node.proofs.ActionKinds.{AreAmong, IsAmong, IsUnbinding}
@@ -26,7 +26,7 @@ module _ (P : List ℕ → Type 0) where
 
   of-all : {X : Type 0} (f : X → List Action) (xs : List X) → ((x : X) → AreOfRun (f x)) → AreOfRun (flat_map f xs)
   of-all f [] h = tt
-  of-all f (x ∷ xs) h = all-append IsOfRun (f x) (flat_map f xs) (h x) (of-all f xs h)
+  of-all f (x ∷ xs) h = all-both IsOfRun (f x) (flat_map f xs) (h x) (of-all f xs h)
 
   of-kept : (path : Option (List ℕ)) (bytes : List ℕ) → IfSome path P → AreOfRun (kept path bytes)
   of-kept None bytes h = tt
@@ -41,7 +41,7 @@ module _ (P : List ℕ → Type 0) where
   of-findings : (findings : List Finding) → AllByRecursion (λ f. P f.name) findings → AreOfRun (findings_actions findings)
   of-findings [] h = tt
   of-findings (f ∷ fs) h =
-      all-append IsOfRun (finding_actions f) (findings_actions fs) (h.0, of-pieces f.name f.pieces h.0) (of-findings fs h.1)
+      all-both IsOfRun (finding_actions f) (findings_actions fs) (h.0, of-pieces f.name f.pieces h.0) (of-findings fs h.1)
 
   -- ---- the turns, and the whole run
 
@@ -54,16 +54,16 @@ module _ (P : List ℕ → Type 0) where
         let contents : List (List ℕ) = r.contents before input in
         let sends : List Send = r.sends before input in
         let number : ℕ = length before + 1 in
-        all-append IsOfRun (kept recording (entry_bytes input)) (flat_map (kept played) contents ++ flat_map (sent number) sends)
+        all-both IsOfRun (kept recording (entry_bytes input)) (flat_map (kept played) contents ++ flat_map (sent number) sends)
         (of-kept recording (entry_bytes input) of_recording)
-        (all-append IsOfRun (flat_map (kept played) contents) (flat_map (sent number) sends)
+        (all-both IsOfRun (flat_map (kept played) contents) (flat_map (sent number) sends)
         (of-all (kept played) contents (λ content. of-kept played content of_played))
         (of-all (sent number) sends (λ next. (tt, tt))))
 
     of-turns : (before inputs : List Input) → AreOfRun (turns lay r before inputs)
     of-turns before [] = tt
     of-turns before (input ∷ inputs) =
-        all-append IsOfRun (turn lay r before input) (turns lay r (before ++ input ∷ []) inputs) (of-turn before input)
+        all-both IsOfRun (turn lay r before input) (turns lay r (before ++ input ∷ []) inputs) (of-turn before input)
         (of-turns (before ++ input ∷ []) inputs)
 
     of-arrivals : (before : List Input) (run : ℕ) (given : List Arrival) → AreOfRun (node_from lay r before run given)
@@ -72,7 +72,7 @@ module _ (P : List ℕ → Type 0) where
         let now : List Input = due_if r.last (ticks_of before) run (input_of a) in
         let next : ℕ = run_if run (input_of a) in (
           tt,
-          all-append IsOfRun (turns lay r before now) (node_from lay r (before ++ now) next given) (of-turns before now)
+          all-both IsOfRun (turns lay r before now) (node_from lay r (before ++ now) next given) (of-turns before now)
               (of-arrivals (before ++ now) next given),
         )
 
@@ -80,8 +80,8 @@ module _ (P : List ℕ → Type 0) where
       of-closing : AreOfRun (closing recording found r (taken_of r given))
       of-closing =
           let findings : List Finding = found_after found r (taken_of r given) in
-          all-append IsOfRun (kept recording (0 ∷ [])) (findings_actions findings) (of-kept recording (0 ∷ []) of_recording)
-          (of-findings findings (all-so (λ f. IsFindingName found f.name) (λ f. P f.name) findings (λ f is. of_found f.name is)
+          all-both IsOfRun (kept recording (0 ∷ [])) (findings_actions findings) (of-kept recording (0 ∷ []) of_recording)
+          (of-findings findings (all-map (λ f. IsFindingName found f.name) (λ f. P f.name) findings (λ f is. of_found f.name is)
           (finding-names found (r.manifest (taken_of r given)) r.rounds (r.evidence (taken_of r given)) r.peers)))
 
       of-behind : AreOfRun (behind recording found r given)
@@ -93,4 +93,4 @@ module _ (P : List ℕ → Type 0) where
 
       pub of-run : AreOfRun (node_plan recording played found r given)
       of-run =
-          all-append IsOfRun (node_from lay r [] 0 given) (behind recording found r given) (of-arrivals [] 0 given) of-behind
+          all-both IsOfRun (node_from lay r [] 0 given) (behind recording found r given) (of-arrivals [] 0 given) of-behind

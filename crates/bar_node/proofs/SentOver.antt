@@ -9,10 +9,10 @@ use Rattle.bar_outside.specs.Plan.{Action, IsPartOfNext, Outside, Ran, traffic_a
 use Rattle.bar_outside.specs.Plan.Action.{append, create, link, read, show}
 use Rattle.bar_outside.specs.Plan.LinkCall.{bind, receive, send}
 use Rattle.bar_findings.specs.Findings.{IsFindingName}
-use Rattle.bar_findings.proofs.Lists.{all-so}
 use Rattle.bar_findings.proofs.Names.{finding-names}
 use Rattle.bar_core.specs.Rules.{Rules, Send}
 use Rattle.bar_core.specs.Runs.{sends_over}
+use Rattle.bar_laws.proofs.Logs.{all-map}
 use Rattle.bar_node.specs.Turns.{Layout, kept, node_layout, sent, turn}
 use Rattle.bar_node.specs.Effects.{sent_by, sent_in}
 use Rattle.bar_node.specs.Runs.{behind, found_after, node_plan, taken_of}
@@ -83,7 +83,7 @@ sent-behind : (recording : Option (List ℕ)) (found : List ℕ) (r : Rules) (gi
 sent-behind recording found r given =
     let taken : List Input = taken_of r given in
     behind-none sent_by recording found r given refl
-    (all-so (λ f. IsFindingName found f.name) (λ f. GivesNone sent_by f.name) (found_after found r taken) (λ f is. (refl, λ bytes. refl))
+    (all-map (λ f. IsFindingName found f.name) (λ f. GivesNone sent_by f.name) (found_after found r taken) (λ f is. (refl, λ bytes. refl))
     (finding-names found (r.manifest taken) r.rounds (r.evidence taken) r.peers))
     (sent-kept recording (0 ∷ []))
 

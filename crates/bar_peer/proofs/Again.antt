@@ -20,6 +20,7 @@ use Rattle.bar_rules.specs.Peer.Agreement.{IsRecent}
 use Rattle.bar_rules.specs.Peer.Knowledge.{Knowledge}
 use Rattle.bar_rules.specs.Peer.Replies.{heard_like, if_same, repeated}
 use Rattle.bar_balanced.specs.Balanced.{AreSpelled}
+use Rattle.bar_exchange.proofs.FourTests.{some_of}
 use Rattle.bar_peer.specs.Repeats.{IsInTime}
 
 -- a ledger tells what was admitted at a place, while the exchange may be asked about
@@ -35,10 +36,6 @@ pub like_none : (s : Session) (k : Knowledge) (m : Message) → place_of m ≡ N
     → option_map (datagram_bytes s) (heard_like k m.body (place_of m)) ≡ None
 like_none s k m is = λ i. option_map (datagram_bytes s) (heard_like k m.body (is i))
 
-is_some_mapped : {A B : Type 0} (f : A → B) (o : Option A) → is_some (option_map f o) ≡ is_some o
-is_some_mapped f (Some a) = refl
-is_some_mapped f None = refl
-
 pub is_some_copied : {A : Type 0} (o : Option (Bor A)) → is_some (option_copied o) ≡ is_some o
 is_some_copied (Some a) = refl
 is_some_copied None = refl
@@ -53,14 +50,14 @@ named_like s k from to (raw.Manifest round count digests) other neither = absurd
 named_like s k from to (raw.Evict round count parties) other neither = absurd (neither round count parties refl)
 named_like s k from to (raw.Block round index block) other neither = refl
 named_like s k from to (raw.Evidence count datagrams) other neither = refl
-named_like s k from to (raw.Request round seed commitment) other neither = is_some_mapped (datagram_bytes s) _
-named_like s k from to (raw.Response round hb) other neither = is_some_mapped (datagram_bytes s) _
-named_like s k from to (raw.Divulge round nonce ha) other neither = is_some_mapped (datagram_bytes s) _
-named_like s k from to (raw.Query round seed young aged) other neither = is_some_mapped (datagram_bytes s) _
-named_like s k from to (raw.Reply round want give junk) other neither = is_some_mapped (datagram_bytes s) _
-named_like s k from to (raw.Case round xkind role updates junk terms cipher) other neither = is_some_mapped (datagram_bytes s) _
-named_like s k from to (raw.KeyReq round xkind role) other neither = is_some_mapped (datagram_bytes s) _
-named_like s k from to (raw.Key round xkind role key) other neither = is_some_mapped (datagram_bytes s) _
+named_like s k from to (raw.Request round seed commitment) other neither = some_of (datagram_bytes s) _
+named_like s k from to (raw.Response round hb) other neither = some_of (datagram_bytes s) _
+named_like s k from to (raw.Divulge round nonce ha) other neither = some_of (datagram_bytes s) _
+named_like s k from to (raw.Query round seed young aged) other neither = some_of (datagram_bytes s) _
+named_like s k from to (raw.Reply round want give junk) other neither = some_of (datagram_bytes s) _
+named_like s k from to (raw.Case round xkind role updates junk terms cipher) other neither = some_of (datagram_bytes s) _
+named_like s k from to (raw.KeyReq round xkind role) other neither = some_of (datagram_bytes s) _
+named_like s k from to (raw.Key round xkind role key) other neither = some_of (datagram_bytes s) _
 
 -- ---- repeats
 

@@ -1,16 +1,14 @@
 -- A partner who is asked for an exchange.
 use Rattle.std.proofs.Common.{◌≡◌, ℕ, ◌∙◌, Bool, true, false, not, List, [], ◌∷◌, ◌++◌, sym, ap, subst, arith}
 use Rattle.std.specs.Prelude.{if◌then◌else◌}
-use Rattle.std.proofs.lemmas.Bool.{eq-eqb}
 use Rattle.bar_window.specs.declared.exchange.Exchange.{Exchange}
-use Rattle.bar_window.specs.declared.exchange.Role.TheVariants.{Initiator, Responder}
 use Rattle.bar_window.specs.declared.exchange.XKind.{XKind}
 use Rattle.bar_wire.specs.Datagram.{Datagram}
 use Rattle.bar_wire.specs.declared.shape.Shape.{Shape}
 use Rattle.bar_seeds.specs.Partners as partners
 use Rattle.bar_seeds.specs.Seeds as seeds
 use Rattle.bar_rules.specs.Member.{Member}
-use Rattle.bar_rules.specs.Peer.Exchanges.{role_of, request_kind}
+use Rattle.bar_rules.specs.Peer.Exchanges.{request_kind}
 use Rattle.bar_rules.specs.Peer.Knowledge.{Knowledge, known, this_round}
 use Rattle.bar_rules.specs.Peer.Orders.{Ask}
 use Rattle.bar_rules.specs.Peer.Replies.{orders_when}
@@ -73,9 +71,6 @@ one_asked me before round kind to x is kept x_is =
     (Ask (record { round = round; kind = kind; initiator = me.party; responder = is i }) ∷ []))
 
 -- ---- the side of who asks
-
-pub asks_first : (me : Member) (x : Exchange) → x.initiator ≡ me.party → role_of me x ≡ Initiator
-asks_first me x e = ap (λ (b : Bool). if b then Initiator else Responder) (eq-eqb x.initiator me.party e)
 
 -- a request of this round may be sent
 pub asks_timely : (me : Member) (k : Knowledge) (x : Exchange) → x.round ≡ this_round k

@@ -3,7 +3,6 @@ use Rattle.std.proofs.Common.{◌≡◌, ◌∙◌, ◌+◌, ℕ, List, [], ◌�
 use Rattle.std.specs.Prelude.{option_map}
 use Rattle.std.specs.List.{AllByRecursion}
 use Rattle.std.specs.Bool.{then_some}
-use Rattle.std.specs.Option.{option_or}
 use Rattle.bar_window.specs.declared.exchange.Exchange.{Exchange}
 use Rattle.bar_window.specs.declared.exchange.Role.{Role}
 use Rattle.bar_window.specs.declared.exchange.Role.TheVariants.{Initiator}
@@ -22,6 +21,7 @@ use Rattle.bar_rules.specs.Peer.Rules.{IsObedient}
 use Rattle.bar_rules.specs.Peer.Run.{Out, say_or_repeat, perform}
 use Rattle.bar_exchange.specs.declared.say.Say.{Say}
 use Rattle.bar_exchange.proofs.Said.{or_none}
+use Rattle.bar_laws.proofs.Logs.{option_or-some}
 use Rattle.bar_peer.specs.declared.order.Order.{Order as Queued}
 use Rattle.bar_peer.specs.declared.order.Order.TheVariants as queued
 use Rattle.bar_peer.specs.Sending.{send_now, order_now, report_of, IsTimely, IsOrderTimely, Answers, IsOwn}
@@ -72,9 +72,6 @@ pub record Grows (old new : Knowledge) : Type 0 where
 same_ticks : (n : ℕ) → n + 0 ≡ n
 same_ticks n = omega arith
 
-first_stays : {X : Type 0} (o more : Option X) (v : X) → o ≡ Some v → option_or o more ≡ Some v
-first_stays o more v is = ap (λ o. option_or o more) is
-
 pub grows : (me : Member) (out : Out) (o : Order) → Grows (known me out.state) (known me (perform me out o).state)
 grows me out o =
     state_after_order (λ log. Grows (known me out.state) (known me log)) me out o
@@ -83,9 +80,9 @@ grows me out o =
     record {
       time = ap round_after (same_ticks (ticks out.state));
       said = λ kind x role e is.
-          first_stays ((known me out.state).said kind x role) (then_some (is_of kind x role d.message) d) e is;
+          option_or-some ((known me out.state).said kind x role) (then_some (is_of kind x role d.message) d) e is;
       revealed = λ x a is.
-          first_stays ((known me out.state).revealed x)
+          option_or-some ((known me out.state).revealed x)
           (then_some (is_of kinds.Request x Initiator d.message) (committed me (known me out.state).block x)) a is;
       evidence = λ party. or_none (earliest (λ before e. kept_in party e) out.state);
     })

@@ -38,15 +38,12 @@ use Rattle.bar_ledger.specs.Totals.{AreSound, totals_by}
 use Rattle.bar_ledger.specs.declared.totals.Totals.{Totals as Told}
 use Rattle.bar_exchange.proofs.FourTests.{some_of}
 use Rattle.bar_exchange.proofs.Places.{same_side}
+use Rattle.bar_laws.proofs.Logs.{some-is}
 use Rattle.bar_peer.specs.Telling.{IsTold, AreTotals, no_totals}
 use Rattle.bar_peer.proofs.Keys.{is_case}
 use Rattle.bar_peer.proofs.Sends.{none_of}
 
 -- ---- options
-
-value_of : {X : Type 0} (o : Option X) → is_some o ≡ true → (x : X) × (o ≡ Some x)
-value_of None h = absurd (false≢true h)
-value_of (Some x) h = (x, refl)
 
 of_then : {X : Type 0} (b : Bool) (x y : X) → then_some b x ≡ Some y → x ≡ y
 of_then true x y h = same_Some x y h
@@ -69,7 +66,7 @@ promised_by me k x d (Some t) e said is =
 promised : (me : Member) (k : Knowledge) (x : Exchange) → IsRewritten me k → has_said_of k kinds.Case x (role_of me x) ≡ true
     → IsPromised me k x
 promised me k x rewritten said =
-    let d = value_of (k.said kinds.Case x (role_of me x)) said in
+    let d = some-is (k.said kinds.Case x (role_of me x)) said in
     promised_by me k x d.0 (terms_of me k x) refl d.1 (rewritten.same kinds.Case x d.0 d.1)
 
 -- ---- what was heard

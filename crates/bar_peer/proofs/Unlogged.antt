@@ -1,5 +1,5 @@
 -- Orders that put nothing into a log.
-use Rattle.std.proofs.Common.{◌≡◌, ◌∙◌, ℕ, List, [], ◌∷◌, ◌++◌, Option, Some, None, not, refl}
+use Rattle.std.proofs.Common.{◌≡◌, ◌∙◌, List, [], ◌∷◌, ◌++◌, Option, Some, None, not, refl}
 use Rattle.std.specs.Prelude.{option_map, if◌then◌else◌}
 use Rattle.std.specs.List.{AllByRecursion, flat_map}
 use Rattle.std.proofs.lemmas.Bool.{cond_both}
@@ -8,15 +8,15 @@ use Rattle.bar_window.specs.declared.exchange.Role.{Role}
 use Rattle.bar_window.specs.declared.exchange.Role.TheVariants.{Initiator, Responder}
 use Rattle.bar_window.specs.declared.exchange.XKind.{XKind}
 use Rattle.bar_window.specs.declared.exchange.XKind.TheVariants.{Balanced, Push}
-use Rattle.bar_wire.specs.Datagram.{Datagram, Body, Divulge, KeyReq, Evidence}
+use Rattle.bar_wire.specs.Datagram.{Datagram, Divulge, KeyReq, Evidence}
 use Rattle.bar_wire.specs.declared.kind.Kind.TheVariants as kinds
 use Rattle.bar_rules.specs.Member.{Member}
 use Rattle.bar_rules.specs.Peer.Exchanges.{role_of, partner_in, request_kind}
 use Rattle.bar_rules.specs.Peer.Knowledge.{Knowledge, known}
-use Rattle.bar_rules.specs.Peer.Machine.{send_if}
 use Rattle.bar_rules.specs.Peer.Orders.{Order, Ask, Answer, Reveal, GiveCase, AskKey, GiveKey, Resend, Report}
 use Rattle.bar_rules.specs.Peer.Run.{Out, perform, perform_all, say_or_repeat}
 use Rattle.bar_rules.specs.Peer.Ticks.{again, reveals, lacks_answer, lacks_case, lacks_key}
+use Rattle.bar_laws.proofs.Runs.{send_if-log}
 use Rattle.bar_peer.specs.Ticking.{orders_of_open}
 
 abbrev IsUnlogged : Order → Type 0
@@ -30,20 +30,16 @@ resent_state : (me : Member) (out : Out) (x : Exchange) (o : Option Datagram) �
 resent_state me out x None = refl
 resent_state me out x (Some d) = refl
 
-sent_if_state : (me : Member) (out : Out) (to : ℕ) (b : Option Body) → (send_if me out to b).state ≡ out.state
-sent_if_state me out to None = refl
-sent_if_state me out to (Some b) = refl
-
 unlogged_state : (me : Member) (out : Out) (o : Order) → IsUnlogged o → (perform me out o).state ≡ out.state
 unlogged_state me out (Resend kind x) h = resent_state me out x ((known me out.state).said kind x (role_of me x))
 unlogged_state me out (Reveal x) h =
-    sent_if_state me out (partner_in me x) (option_map (λ a. Divulge x.round a.0 a.1) ((known me out.state).revealed x))
-unlogged_state me out (AskKey x) h = sent_if_state me out (partner_in me x) (Some (KeyReq x.round x.kind (role_of me x)))
+    send_if-log me out (partner_in me x) (option_map (λ a. Divulge x.round a.0 a.1) ((known me out.state).revealed x))
+unlogged_state me out (AskKey x) h = send_if-log me out (partner_in me x) (Some (KeyReq x.round x.kind (role_of me x)))
 unlogged_state me out (Ask x) h = absurd h
 unlogged_state me out (Answer x) h = absurd h
 unlogged_state me out (GiveCase x) h = absurd h
 unlogged_state me out (GiveKey x) h = absurd h
-unlogged_state me out (Report q) h = sent_if_state me out 0 (option_map Evidence ((known me out.state).evidence q))
+unlogged_state me out (Report q) h = send_if-log me out 0 (option_map Evidence ((known me out.state).evidence q))
 
 all_unlogged_state : (me : Member) (out : Out) (os : List Order) → AllByRecursion IsUnlogged os → (perform_all me out os).state ≡ out.state
 all_unlogged_state me out [] h = refl

@@ -8,10 +8,11 @@ use Rattle.bar_terms.specs.Table.{Table, Lists, no_lists, digests_of}
 use Rattle.bar_wire.specs.Bodies.{is_manifest_of}
 use Rattle.bar_wire.specs.Datagram.{Datagram, Body, Manifest}
 use Rattle.bar_rules.specs.Member.{Session}
-use Rattle.bar_rules.specs.Values.{datagram_of, is_signed_by}
+use Rattle.bar_rules.specs.Values.{datagram_of}
 use Rattle.bar_rules.specs.Judge.Verdict.{Shown, verdict}
 use Rattle.bar_laws.specs.Verdicts.{ShownStaysShown}
 use Rattle.bar_judge.specs.TableFile.{RoundList, list_in, list_of_signed, if_after, list_after, lists_of}
+use Rattle.bar_judge.proofs.TableSizes.{list_signed}
 use Rattle.bar_proof.specs.Needs.{is_shown, needs, only, needed}
 use Rattle.bar_proof.specs.ProofFile.{is_of_round, manifests_for}
 use Rattle.bar_proof.specs.Laws.{NeededIsEnough, PackedIsShown}
@@ -27,13 +28,6 @@ pub record Gives (s : Session) (last : ℕ) (manifest : List ℕ) (entry : Round
 list-named : (b : Body) (entry : RoundList) (round : ℕ) → list_in b ≡ Some entry → is_manifest_of round b ≡ (entry.0 == round)
 list-named (Manifest r digests) entry round e = (let same : (r, digests) ≡ entry = same_Some (r, digests) entry e in ap (λ (z : RoundList). z.0 == round) same)
 list-named b entry round e = cc
-
-list-signed : (s : Session) (d : Datagram) (entry : RoundList) → list_of_signed s d ≡ Some entry → list_in d.message.body ≡ Some entry
-list-signed s d entry e = go (is_signed_by s d) e
-  where
-    go : (b : Bool) → cond b (list_in d.message.body) None ≡ Some entry → list_in d.message.body ≡ Some entry
-    go true e = e
-    go false e = cc
 
 after-is : (last : ℕ) (any entry : RoundList) → if_after last any ≡ Some entry → (any ≡ entry) × (last < entry.0)
 after-is last any entry e = go (nat_lt last any.0) refl e
@@ -56,7 +50,7 @@ gives s last manifest entry listed =
     record {
       later = a.1;
       again = λ low h. ap (option_and_then (if_after low)) is ∙ after-low low entry h;
-      named = λ round. ap (λ o. option_map_or (λ (z : Datagram). is_manifest_of round z.message.body) o false) read ∙ list-named d.message.body entry round (list-signed s d entry signed);
+      named = λ round. ap (λ o. option_map_or (λ (z : Datagram). is_manifest_of round z.message.body) o false) read ∙ list-named d.message.body entry round (list_signed s d entry signed);
     }))
 
 -- ---- the manifests of one round

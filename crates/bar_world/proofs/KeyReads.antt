@@ -6,9 +6,9 @@ use Rattle.bar_wire.specs.Bodies.{evidence_in}
 use Rattle.bar_wire.specs.Datagram.{Message, Datagram, Key, KeyGiven}
 use Rattle.bar_wire.specs.Grammar.{message_bytes}
 use Rattle.bar_wire.specs.Places.{datagram_of, datagram_at}
+use Rattle.bar_wire.proofs.ReadBack.{u16_back}
 use Rattle.std.proofs.Common.{◌≡◌, ℕ, Bool, true, false, List, [], ◌++◌, ◌^◌, ◌<◌, length, take, drop, refl, sym, ap, ◌∙◌, append_assoc}
 use Rattle.std.proofs.Math.Seq.{drop-append_seam, take-append_seam}
-use Rattle.std.proofs.lemmas.Nat.{from_be_bytes-to_be_bytes_2}
 use Rattle.std.specs.Bool.{then_some}
 use Rattle.std.specs.Int.{w16, from_be_bytes}
 use Rattle.std.specs.Prelude.{Some, slice_range}
@@ -21,10 +21,6 @@ length-u16 : (n : ℕ) → length (u16_bytes n) ≡ 2
 unfolding u16_bytes
 length-u16 n = refl
 
-u16-back : (n : ℕ) → n < 2 ^ 16 → from_be_bytes w16 (u16_bytes n) ≡ n
-unfolding u16_bytes
-u16-back n h = from_be_bytes-to_be_bytes_2 n h
-
 abbrev pub key_message : ℕ → ℕ → KeyGiven → Message
 key_message from to k = record { from = from; to = to; body = Key k }
 
@@ -32,7 +28,7 @@ key_message from to k = record { from = from; to = to; body = Key k }
 sender-at : (s : Shape) (from to : ℕ) (k : KeyGiven) (sig : List ℕ) → from < 2 ^ 16
     → from_be_bytes w16 (slice_range (message_bytes s (key_message from to k) ++ sig) 12 14) ≡ from
 sender-at s from to k sig h =
-    ap (λ z. from_be_bytes w16 z) (second-part 8 2 s.id (u16_bytes from) _ sig s.shaped.id_long (length-u16 from)) ∙ u16-back from h
+    ap (λ z. from_be_bytes w16 z) (second-part 8 2 s.id (u16_bytes from) _ sig s.shaped.id_long (length-u16 from)) ∙ u16_back from h
 
 then-is : {X : Type 0} (b : Bool) (x y : X) → then_some b x ≡ Some y → x ≡ y
 then-is true x y e = cc

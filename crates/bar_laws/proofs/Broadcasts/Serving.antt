@@ -13,7 +13,8 @@ use Rattle.bar_wire.specs.Inputs as event
 use Rattle.std.proofs.Common.{◌≡◌, ℕ, Bool, true, false, List, ◌∷◌, sym, ◌∙◌}
 use Rattle.std.specs.Prelude.{cond, nat_le}
 use Rattle.std.specs.List.{AllByRecursion}
-use Rattle.bar_laws.proofs.Logs.{all-snoc, or-none}
+use Rattle.bar_wire.proofs.Lists.{AllByRecursion-push}
+use Rattle.bar_laws.proofs.Logs.{or-none}
 use Rattle.bar_laws.proofs.Runs.{ticked-low}
 use Rattle.bar_laws.proofs.Broadcasts.Steps.{IsKept, IsServed, tick-keeps}
 
@@ -23,7 +24,7 @@ Serves me log out = ((q : ℕ) → kept out.state q ≡ kept log q) × AllByRecu
 
 serves-kept : (me : Member) (stream : List ℕ) (log : Log) → IsKept me stream (Serves me log)
 serves-kept me stream log = record {
-  sent = λ out to d s h. (h.0, all-snoc (λ (send : ℕ × Datagram). IsServed me.session log send.0) out.sends (to, d) h.1 (s.0, sym (h.0 to) ∙ s.1));
+  sent = λ out to d s h. (h.0, AllByRecursion-push (λ (send : ℕ × Datagram). IsServed me.session log send.0) out.sends (to, d) h.1 (s.0, sym (h.0 to) ∙ s.1));
   said = λ out d s n h. (λ q. or-none (kept out.state q) ∙ h.0 q, h.1);
 }
 

@@ -17,7 +17,7 @@ use Rattle.bar_wire.specs.Inputs.{Input}
 use Rattle.bar_wire.specs.Inputs as event
 use Rattle.std.proofs.Common.{◌≡◌, ℕ, Bool, true, false, List, [], ◌∷◌, ◌+◌, ◌-◌, ◌*◌, ◌^◌, ◌<◌, ◌≤◌, not, length, arith, refl, sym, ap, subst, inl, inr}
 use Rattle.std.specs.Prelude.{Option, Some, None, is_some, cond, nat_le, nat_lt, filter}
-use Rattle.bar_laws.proofs.Logs.{first_said-was, SaidIn, said-in, all-of, all-kept, all-map, all-snoc}
+use Rattle.bar_laws.proofs.Logs.{first_said-was, SaidIn, said-in, all-of, all-kept, all-map}
 use Rattle.bar_laws.proofs.Runs.{Adds, SentBy, adds-send, sent-said, came, ticked-low}
 use Rattle.bar_laws.proofs.Fitting.SignedAccepted.{signed-accepted}
 use Rattle.bar_lms.specs.Schemes.{leaves_by}
@@ -26,6 +26,7 @@ use Rattle.bar_roster.specs.Sessions.{IsSession}
 use Rattle.bar_wire.specs.Grammar.{IsDatagram}
 use Rattle.std.specs.List.{AllByRecursion}
 use Rattle.std.proofs.lemmas.Bool.{leb-true, ltb-true}
+use Rattle.bar_wire.proofs.Lists.{AllByRecursion-push}
 
 -- a body that a party signs: no evidence, and a manifest only as the stream has it
 abbrev pub IsOwnBody : Session → List ℕ → Body → Type 0
@@ -87,7 +88,7 @@ own-grows s stream x log none own d (inr h) = let o = own d h in (o.0, begun-gro
 
 casts-send : (me : Member) (stream : List ℕ) (log : Log) (o : Option Datagram) (out : Out) (to : ℕ) (d : Datagram) → Casts me stream log o out → SentBy me out.state (to, d) → IsDatagram me.session.shape d → Casts me stream log o (sending out to d)
 casts-send me stream log o out to d a s fits =
-    record { adds = adds-send me log o out to d a.adds s; own = a.own; fair = a.fair; fits = all-snoc (λ (send : ℕ × Datagram). IsDatagram me.session.shape send.1) out.sends (to, d) a.fits fits }
+    record { adds = adds-send me log o out to d a.adds s; own = a.own; fair = a.fair; fits = AllByRecursion-push (λ (send : ℕ × Datagram). IsDatagram me.session.shape send.1) out.sends (to, d) a.fits fits }
 
 casts-all : (me : Member) (stream : List ℕ) (log : Log) (o : Option Datagram) (ps : List ℕ) (out : Out) (d : Datagram) → Casts me stream log o out → SaidIn out.state d → Casts me stream log o (send_all out ps d)
 casts-all me stream log o [] out d a s = a

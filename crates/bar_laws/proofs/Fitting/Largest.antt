@@ -7,30 +7,24 @@ use Rattle.bar_rules.specs.Peer.Sizes.{most_fields, largest}
 use Rattle.bar_window.specs.Terms.{Terms}
 use Rattle.bar_window.specs.Terms as forms
 use Rattle.bar_window.specs.declared.exchange.XKind.{XKind}
-use Rattle.bar_window.specs.declared.update.UpdateId.{UpdateId}
 use Rattle.bar_wire.specs.Datagram.{Datagram, Body, Manifest, Block, Request, Response, Divulge, Query, Reply, Case, KeyReq, Key, Evidence, Evict, kind_of}
-use Rattle.bar_wire.specs.Grammar.{IsDatagram, IsEntryInRange, HasForm, HasTermForm, InRange, entry, pieces, term_pieces, set_bytes, words_of, message_bytes, spelling}
+use Rattle.bar_wire.specs.Grammar.{IsDatagram, IsEntryInRange, HasForm, HasTermForm, InRange, entry, pieces, term_pieces, message_bytes, spelling}
 use Rattle.bar_wire.specs.Limits.{largest_datagram}
 use Rattle.bar_wire.specs.Places.{window_len}
 use Rattle.bar_wire.specs.declared.shape.Shape.{Shape}
-use Rattle.std.proofs.Common.{◌≡◌, ℕ, ◌+◌, ◌*◌, ◌≤◌, List, [], ◌∷◌, length, refl, arith, length-append}
+use Rattle.std.proofs.Common.{◌≡◌, ℕ, ◌+◌, ◌*◌, ◌≤◌, List, [], ◌∷◌, length, arith, length-append}
 use Rattle.std.proofs.Math.Nat.{le-max_left, le-max_right}
 use Rattle.std.specs.List.{concat, flat_map, AllByRecursion}
 use Rattle.std.specs.Prelude.{max}
+use Rattle.bar_wire.proofs.FieldLengths.{length_digests, length_parties}
+use Rattle.bar_wire.proofs.WindowLaws.{length_set}
+use Rattle.bar_wire.proofs.Written.{message_len}
 use Rattle.bar_laws.specs.Sizes.{FitRooms}
-use Rattle.bar_laws.proofs.Logs.{length_window_bytes, was-heard-fits}
+use Rattle.bar_laws.proofs.Logs.{was-heard-fits}
 use Rattle.bar_laws.proofs.Judging.{heard-was}
-use Rattle.bar_laws.proofs.Fitting.MessageLengths.{length-u16, length-u32, header-is}
+use Rattle.bar_laws.proofs.Fitting.MessageLengths.{length-u16, length-u32}
 
 -- ---- the parts
-
-digests-length : (ds : List (List ℕ)) → AllByRecursion (λ d. length d ≡ 32) ds → length (concat ds) ≡ 32 * length ds
-digests-length [] fit = refl
-digests-length (d ∷ ds) fit = omega (arith, length-append d (concat ds), fit.0, digests-length ds fit.1)
-
-parties-length : (ps : List ℕ) → length (flat_map u16_bytes ps) ≡ 2 * length ps
-parties-length [] = refl
-parties-length (p ∷ ps) = omega (arith, length-append (u16_bytes p) (flat_map u16_bytes ps), length-u16 p, parties-length ps)
 
 entries-short : (ds : List (List ℕ)) → AllByRecursion IsEntryInRange ds → length (flat_map entry ds) ≤ (2 + largest_datagram) * length ds
 entries-short [] fit = omega arith
@@ -38,36 +32,33 @@ entries-short (d ∷ ds) fit =
     let first : length (entry d) ≡ 2 + length d = omega (arith, length-append (u16_bytes (length d)) d, length-u16 (length d)) in
     omega (arith, length-append (entry d) (flat_map entry ds), first, fit.0.1, entries-short ds fit.1)
 
-set-length : (s : Shape) (round : ℕ) (us : List UpdateId) → length (set_bytes s round us) ≡ window_len s
-set-length s round us = length_window_bytes (words_of s) s.life round us
-
 terms-largest : (s : Shape) (round : ℕ) (kind : XKind) (t : Terms) → HasTermForm s round kind t → length (concat (term_pieces s round t)) ≤ max (32 + 2 * window_len s) (4 * window_len s + 1)
 terms-largest s round kind (forms.Balanced nonce ha hb) form =
     let most = le-max_left (32 + 2 * window_len s) (4 * window_len s + 1) in
-    let a = set-length s round ha in
-    let b = set-length s round hb in
+    let a = length_set s round ha in
+    let b = length_set s round hb in
     simp length-append (omega (arith, most, a, b, form.1))
 terms-largest s round kind (forms.Push young aged want give junk) form =
     let most = le-max_right (32 + 2 * window_len s) (4 * window_len s + 1) in
-    let a = set-length s round young in
-    let b = set-length s round aged in
-    let c = set-length s round want in
-    let d = set-length s round give in
+    let a = length_set s round young in
+    let b = length_set s round aged in
+    let c = length_set s round want in
+    let d = length_set s round give in
     simp length-append (omega (arith, most, a, b, c, d))
 
 fields-largest : (s : Shape) (b : Body) → HasForm s b → InRange s b → length (concat (pieces s b)) ≤ most_fields s (kind_of b)
-fields-largest s (Manifest r digests) form range = let long = digests-length digests form.1 in simp (length-append, length-u32) (omega (arith, long, range.1))
+fields-largest s (Manifest r digests) form range = let long = length_digests digests form.1 in simp (length-append, length-u32) (omega (arith, long, range.1))
 fields-largest s (Block u block) form range = simp (length-append, length-u32) (omega (arith, form.1))
 fields-largest s (Request r seed commitment) form range = simp (length-append, length-u32) (omega (arith, form.1, form.2))
-fields-largest s (Response r hb) form range = let a = set-length s r hb in simp (length-append, length-u32) (omega (arith, a))
-fields-largest s (Divulge r nonce ha) form range = let a = set-length s r ha in simp (length-append, length-u32) (omega (arith, form.1, a))
+fields-largest s (Response r hb) form range = let a = length_set s r hb in simp (length-append, length-u32) (omega (arith, a))
+fields-largest s (Divulge r nonce ha) form range = let a = length_set s r ha in simp (length-append, length-u32) (omega (arith, form.1, a))
 fields-largest s (Query r seed young aged) form range =
-    let a = set-length s r young in
-    let b = set-length s r aged in
+    let a = length_set s r young in
+    let b = length_set s r aged in
     simp (length-append, length-u32) (omega (arith, form.1, a, b))
 fields-largest s (Reply r want give junk) form range =
-    let a = set-length s r want in
-    let b = set-length s r give in
+    let a = length_set s r want in
+    let b = length_set s r give in
     simp (length-append, length-u32) (omega (arith, a, b))
 fields-largest s (Case c) form range =
     let a = terms-largest s c.round c.kind c.terms form.1 in
@@ -75,13 +66,13 @@ fields-largest s (Case c) form range =
 fields-largest s (KeyReq r kind role) form range = simp (length-append, length-u32) (omega arith)
 fields-largest s (Key k) form range = simp (length-append, length-u32) (omega (arith, form.1))
 fields-largest s (Evidence datagrams) form range = let a = entries-short datagrams range.2 in simp length-append (omega (arith, a, range.1))
-fields-largest s (Evict r parties) form range = let a = parties-length parties in simp (length-append, length-u32) (omega (arith, a, range.1.1))
+fields-largest s (Evict r parties) form range = let a = length_parties parties in simp (length-append, length-u32) (omega (arith, a, range.1.1))
 
 -- ---- the datagram
 
 pub fits-largest : (s : Shape) (d : Datagram) → IsDatagram s d → length (spelling s d) ≤ largest s (kind_of d.message.body)
 fits-largest s d fits =
-    let header = header-is s d.message in
+    let header = message_len s d.message in
     let fields = fields-largest s d.message.body fits.form fits.range in
     let whole = length-append (message_bytes s d.message) d.signature in
     omega (arith, whole, header, fields, fits.signature_long)

@@ -34,7 +34,8 @@ use Rattle.std.proofs.Common.{◌≡◌, ◌≢◌, ℕ, ◌+◌, ◌<◌, ◌�
 use Rattle.std.specs.Prelude.{Option, Some, None, option_map, map, nat_le}
 use Rattle.std.specs.List.{AllByRecursion}
 use Rattle.std.proofs.lemmas.Bool.{eqb-true, eq-eqb, both_ways}
-use Rattle.bar_laws.proofs.Logs.{allowed-at, signed_long, IsFormed, IsBetween, between-by, party-peer, fits-formed, revealed-formed, heard-fits, was-heard-fits, part-in-range, first_said-was, said-rule, SaidIn, was-said, said-in, all-both, all-flat-map, all-kept, all-snoc}
+use Rattle.bar_wire.proofs.Lists.{AllByRecursion-push}
+use Rattle.bar_laws.proofs.Logs.{allowed-at, signed_long, IsFormed, IsBetween, between-by, party-peer, fits-formed, revealed-formed, heard-fits, was-heard-fits, part-in-range, first_said-was, said-rule, SaidIn, was-said, said-in, all-both, all-flat-map, all-kept}
 use Rattle.bar_laws.proofs.Fitting.EvidenceFits.{evidence-fits}
 use Rattle.bar_laws.proofs.Runs.{keeps-leaves, send_if-log, step-obedient, repeated-heard, when-all, said-contains}
 use Rattle.bar_laws.proofs.Fitting.SaidFits.{sign-formed, all-formed, round-small}
@@ -132,25 +133,25 @@ say-fits : (me : Member) (out : Out) (kind : Kind) (x : Exchange) (b : Option Bo
 say-fits me out kind x b is h a = go (first_said (is_of kind x (role_of me x)) out.state) b refl h
   where
     go : (q : Option Datagram) (b : Option Body) → first_said (is_of kind x (role_of me x)) out.state ≡ q → IsObedient me (say_or_repeat me out x q b).state → AllByRecursion (Fits me) (say_or_repeat me out x q b).sends
-    go (Some d) b e h = all-snoc (Fits me) out.sends (partner_in me x, d) a (said-fits me out.state d is h (said-in out.state d (first_said-was (is_of kind x (role_of me x)) out.state d e).0))
+    go (Some d) b e h = AllByRecursion-push (Fits me) out.sends (partner_in me x, d) a (said-fits me out.state d is h (said-in out.state d (first_said-was (is_of kind x (role_of me x)) out.state d e).0))
     go None None e h = a
     go None (Some b) e h =
         let d : Datagram = signed me (known me out.state) (message_to me x b) in
-        all-snoc (Fits me) out.sends (partner_in me x, d) a (said-fits me (Said d ∷ out.state) d is h (inl refl))
+        AllByRecursion-push (Fits me) out.sends (partner_in me x, d) a (said-fits me (Said d ∷ out.state) d is h (inl refl))
 
 reveal-fits : (me : Member) (out : Out) (x : Exchange) → IsMember me → IsObedient me out.state → AllByRecursion (Fits me) out.sends → AllByRecursion (Fits me) (perform me out (Reveal x)).sends
 reveal-fits me out x is h a = go (revealed me out.state x) refl
   where
     go : (o : Option (List ℕ × List UpdateId)) → revealed me out.state x ≡ o → AllByRecursion (Fits me) (send_if me out (partner_in me x) (option_map (λ a. Divulge x.round a.0 a.1) o)).sends
     go None e = a
-    go (Some v) e = all-snoc (Fits me) out.sends (partner_in me x, unsigned (record { from = me.party; to = partner_in me x; body = Divulge x.round v.0 v.1 })) a (divulge-fits me out.state x v is h e)
+    go (Some v) e = AllByRecursion-push (Fits me) out.sends (partner_in me x, unsigned (record { from = me.party; to = partner_in me x; body = Divulge x.round v.0 v.1 })) a (divulge-fits me out.state x v is h e)
 
 report-fits : (me : Member) (out : Out) (q : ℕ) → IsMember me → IsObedient me out.state → AllByRecursion (Fits me) out.sends → AllByRecursion (Fits me) (perform me out (Report q)).sends
 report-fits me out q is h a = go (kept out.state q) refl
   where
     go : (o : Option (List (List ℕ))) → kept out.state q ≡ o → AllByRecursion (Fits me) (send_if me out 0 (option_map Evidence o)).sends
     go None e = a
-    go (Some v) e = all-snoc (Fits me) out.sends (0, unsigned (record { from = me.party; to = 0; body = Evidence v })) a (evidence-fits me out.state q v is h e)
+    go (Some v) e = AllByRecursion-push (Fits me) out.sends (0, unsigned (record { from = me.party; to = 0; body = Evidence v })) a (evidence-fits me out.state q v is h e)
 
 -- what stood before an order is obedient where what stands after it is
 say-before : (me : Member) (out : Out) (kind : Kind) (x : Exchange) (b : Option Body) → IsObedient me (say me out kind x b).state → IsObedient me out.state
@@ -185,7 +186,7 @@ perform-fits me out (GiveCase x) is h p a = say-fits me out kinds.Case x _ is h 
 perform-fits me out (GiveKey x) is h p a = say-fits me out kinds.Key x _ is h a
 perform-fits me out (Resend kind x) is h p a = say-fits me out kind x None is h a
 perform-fits me out (Reveal x) is h p a = reveal-fits me out x is (perform-before me out (Reveal x) h) a
-perform-fits me out (AskKey x) is h p a = all-snoc (Fits me) out.sends (partner_in me x, unsigned (record { from = me.party; to = partner_in me x; body = KeyReq x.round x.kind (role_of me x) })) a (key_request-fits me x is p)
+perform-fits me out (AskKey x) is h p a = AllByRecursion-push (Fits me) out.sends (partner_in me x, unsigned (record { from = me.party; to = partner_in me x; body = KeyReq x.round x.kind (role_of me x) })) a (key_request-fits me x is p)
 perform-fits me out (Report q) is h p a = report-fits me out q is (perform-before me out (Report q) h) a
 
 perform_all-fits : (me : Member) (os : List Order) (out : Out) → IsMember me → IsObedient me (perform_all me out os).state → AllByRecursion (IsProperOrder me) os → AllByRecursion (Fits me) out.sends → AllByRecursion (Fits me) (perform_all me out os).sends

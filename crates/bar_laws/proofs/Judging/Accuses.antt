@@ -17,6 +17,7 @@ use Rattle.std.proofs.Common.{◌≡◌, Bool, true, false, [], ◌∷◌, refl,
 use Rattle.std.specs.Prelude.{Option, Some, None, is_some, option_map}
 use Rattle.std.specs.List.{list_all}
 use Rattle.std.proofs.lemmas.Bool.{and_from, eq-eqb}
+use Rattle.bar_laws.proofs.Runs.{some-more}
 
 -- what makes a pair of a briefcase and a key show a bad opening
 pub record IsBadPair (s : Session) (t : Table) (d e : Datagram) (c : Briefcase) (k : KeyGiven) : Type 0 where
@@ -68,10 +69,6 @@ pair-serves s t d e c k p =
     let named : accuses e.message.from (verdict s t (datagram_bytes s d ∷ datagram_bytes s e ∷ [])) ≡ true = rw (pair-shown s t d e c k p).1 (eq-eqb _ _ p.from) in
     rw named refl
 
-or-first : {A : Type 0} (o p : Option A) → is_some o ≡ true → is_some (option_or o p) ≡ true
-or-first (Some a) p h = refl
-or-first None p h = cc
-
 pub or-second : {A : Type 0} (o p : Option A) → is_some p ≡ true → is_some (option_or o p) ≡ true
 or-second (Some a) p h = refl
 or-second None p h = h
@@ -86,8 +83,8 @@ bad-completed me log d e c k found tried p =
     let case : is_some (pair_with me.session (table log) e (first_heard (is_of kinds.Case x k.role) log)) ≡ true =
     subst (λ o. is_some (pair_with me.session (table log) e o) ≡ true) (sym found) (pair-serves me.session (table log) d e c k p) in
     let pairs : is_some (pairs_in me.session (known me log) e x k.role) ≡ true =
-    or-second (pair_with me.session (table log) e (first_heard (is_of (opening_kind x.kind k.role) x k.role) log)) _ (or-first _ _ case) in
+    or-second (pair_with me.session (table log) e (first_heard (is_of (opening_kind x.kind k.role) x k.role) log)) _ (some-more _ _ case) in
     rw tried
     (or-second (if_accuses me.session (table log) e.message.from (datagram_bytes me.session e ∷ [])) _
-    (or-first _ (pairs_elsewhere me (known me log) e (option_map (place_by e.message.from e.message.to) (part_of e.message.body)))
+    (some-more _ (pairs_elsewhere me (known me log) e (option_map (place_by e.message.from e.message.to) (part_of e.message.body)))
     (subst (λ b. is_some (pairs_by me.session (known me log) e (option_map (place_by e.message.from e.message.to) (part_of b))) ≡ true) (sym p.key) pairs)))

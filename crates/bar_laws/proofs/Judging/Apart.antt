@@ -17,30 +17,19 @@ use Rattle.bar_wire.specs.Datagram.{Message, Datagram, Body, Request, Response, 
 use Rattle.bar_rules.specs.Values.{leaf_named}
 use Rattle.bar_rules.specs.Member.{Session}
 use Rattle.bar_rules.specs.Judge.Verdict.{LeafTwice, same_place, key_fits, pair_opening, bad_opening, is_twice, fault_by_case, fault_in_order, fault_of_two}
-use Rattle.bar_laws.proofs.Logs.{same_bytes-is, same_exchange-is, same_exchange_refl}
-use Rattle.bar_laws.proofs.Judging.ShownStays.{case_of-is, key_of-is}
+use Rattle.bar_wire.proofs.Codes.{same_kind_code, same_role_code}
+use Rattle.bar_laws.proofs.Logs.{same_bytes-is, same_exchange-is, same_exchange_refl, briefcase-is}
+use Rattle.bar_laws.proofs.Judging.ShownStays.{key_of-is}
 
 -- ---- what identities name
-
-kinds-differ : (a b : XKind) → kind_code a ≡ kind_code b → a ≡ b
-kinds-differ Balanced Balanced e = refl
-kinds-differ Push Push e = refl
-kinds-differ Balanced Push e = cc
-kinds-differ Push Balanced e = cc
-
-roles-differ : (a b : Role) → role_code a ≡ role_code b → a ≡ b
-roles-differ Initiator Initiator e = refl
-roles-differ Responder Responder e = refl
-roles-differ Initiator Responder e = cc
-roles-differ Responder Initiator e = cc
 
 abbrev Part : Type 0
 Part = ℕ × XKind × Role
 
 same-part : (r q : ℕ) (k j : XKind) (role side : Role) → r ≡ q → kind_code k ≡ kind_code j → role_code role ≡ role_code side → ◌≡◌ {A = Option Part} (Some (r, k, role)) (Some (q, j, side))
 same-part r q k j role side a b c =
-    let kinds : k ≡ j = kinds-differ k j b in
-    let roles : role ≡ side = roles-differ role side c in
+    let kinds : k ≡ j = same_kind_code k j b in
+    let roles : role ≡ side = same_role_code role side c in
     λ i. Some (a i, kinds i, roles i)
 
 -- what peers sign of one identity is of one part of an exchange
@@ -141,7 +130,7 @@ no-opening s t d e a = go (briefcase_in d.message.body) (key_in e.message.body) 
     go (Some c) (Some k) p q =
         and_left (key_fits d.message c e.message k) (pair_opening s t d.message c k)
         (and_left (eqb d.message.to e.message.to && same_exchange (exchange_by c.round c.kind c.role d.message.from d.message.to) (exchange_by k.round k.kind k.role e.message.from e.message.to)) (same_role c.role k.role)
-        (and_right (eqb d.message.to e.message.to) _ (of-two c k (case_of-is d.message.body c p) (key_of-is e.message.body k q))))
+        (and_right (eqb d.message.to e.message.to) _ (of-two c k (briefcase-is d.message.body c p) (key_of-is e.message.body k q))))
 
 no-words-of_case : (s : Session) (m n : Message) (o : Option Briefcase) → same_place m n ≡ false → fault_by_case s m n o ≡ None
 no-words-of_case s m n None e = refl

@@ -5,7 +5,7 @@ use Rattle.bar_wire.specs.declared.kind.Kind.TheVariants as kinds
 use Rattle.bar_case.specs.Items.{junk_key}
 use Rattle.bar_case.specs.Opened.{opening, opened, findings, is_bad}
 use Rattle.bar_case.specs.Opened as briefcases
-use Rattle.bar_rules.specs.Peer.Admission.{is_admitted, is_row_met, are_terms, has_valid_signature}
+use Rattle.bar_rules.specs.Peer.Admission.{is_admitted, is_row_met, has_valid_signature}
 use Rattle.bar_rules.specs.Peer.Evidence.{is_tried, new_evidence}
 use Rattle.bar_rules.specs.Peer.Exchanges.{role_of, partner_in}
 use Rattle.bar_rules.specs.Peer.Knowledge.{known}
@@ -29,14 +29,15 @@ use Rattle.bar_window.specs.declared.exchange.Role.TheVariants.{Initiator, Respo
 use Rattle.bar_window.specs.declared.update.UpdateId.{UpdateId}
 use Rattle.bar_wire.specs.Datagram.{Datagram, Case, Key, Briefcase, KeyGiven, is_of, is_signed, part_of, round_of, exchange_by, exchange_of, place_by, Place}
 use Rattle.std.proofs.Common.{◌≡◌, ℕ, ◌+◌, Bool, true, false, List, [], ◌∷◌, ◌++◌, refl, sym, ap, ◌∙◌, subst, ◌&&◌, not, inl, inr, map, take, drop, zero, suc, ◌<◌, length, arith}
-use Rattle.std.specs.Prelude.{Option, Some, None, ◌⊎◌, is_some, option_and_then, option_map, nat_le, Contains, slice_index_or}
+use Rattle.std.specs.Prelude.{Some, ◌⊎◌, is_some, option_and_then, option_map, nat_le, Contains, slice_index_or}
 use Rattle.std.specs.List.{AllByRecursion, range_with_len}
 use Rattle.std.proofs.lemmas.Bool.{and_parts, and_from, eq-eqb, both_ways, cases_Bool, not_from_false}
 use Rattle.bar_laws.specs.Evidence.{OpensBadly}
-use Rattle.bar_laws.proofs.Logs.{IsEntry, allowed-at, IsLater, WasHeard, WasSaid, later-entry, find-later, first_heard-was, first_said-was, said-rule, some-is, terms_of-later, same_terms-is, same_exchange_refl, same_role_refl, table-later, within-extends, known-digest-extends, admitted-row, all-take, all-filtered, IsOwn, heard-own, inside-all, IsCaseOf, is_of-case, sender-on, receiver-on, party-on, party-over, receiver-role, receiver-partner, other-other}
+use Rattle.bar_laws.proofs.Logs.{IsEntry, allowed-at, IsLater, WasHeard, WasSaid, later-entry, find-later, first_heard-was, first_said-was, said-rule, some-is, terms_of-later, same_exchange_refl, same_role_refl, table-later, within-extends, known-digest-extends, admitted-row, all-take, all-filtered, IsOwn, heard-own, inside-all, IsCaseOf, is_of-case, sender-on, receiver-on, party-on, party-over, receiver-role, receiver-partner, other-other}
 use Rattle.bar_laws.proofs.Judging.ShownStays.{terms_ok-extends}
 use Rattle.bar_laws.proofs.Judging.Accuses.{IsBadPair, bad-completed}
 use Rattle.bar_laws.proofs.Judging.KeptEvidence.{IsWatchful, watchful-at}
+use Rattle.bar_laws.proofs.Runs.{terms-same}
 
 -- ---- an opening depends on the digests of the promised updates alone
 
@@ -134,10 +135,6 @@ pub record HeardBriefcase (me : Member) (log : Log) (x : Exchange) (role : Role)
   pub counts : counts_ok me.session case ≡ true
   pub within : is_within (table log) (promised_updates me.session.cap case.terms case.role) ≡ true
 
-terms-are : (t : Terms) (o : Option Terms) → are_terms t o ≡ true → o ≡ Some t
-terms-are t (Some u) e = ap Some (same_terms-is u t e)
-terms-are t None e = cc
-
 empty-extends : (t : Table) → Extends no_lists t
 empty-extends t = record { same = λ round ds e. cc }
 
@@ -148,7 +145,7 @@ heard-briefcase me log x role d h w e =
     let row : is_row_met me (known me w.before) d.message.from d.message.to (Case c.case) ≡ true = subst (λ b. is_row_met me (known me w.before) d.message.from d.message.to b ≡ true) c.body (admitted-row me w.before d al.0.0) in
     let p = and_parts _ _ (and_parts _ _ row).0 in
     let q = and_parts _ _ p.0 in
-    let told : terms_of me (known me w.before) x ≡ Some c.case.terms = subst (λ y. terms_of me (known me w.before) y ≡ Some c.case.terms) c.exchange (terms-are c.case.terms _ q.1) in
+    let told : terms_of me (known me w.before) x ≡ Some c.case.terms = subst (λ y. terms_of me (known me w.before) y ≡ Some c.case.terms) c.exchange (terms-same c.case.terms _ q.1) in
     let said : SaidTerms me w.before x = said-terms me w.before x (other_role c.case.role) al.1 (subst (λ y. has_said (is_of kinds.Case y (other_role c.case.role)) w.before ≡ true) c.exchange q.0) in
     let same : said.terms ≡ c.case.terms = (let t = said.told in cc) in
     record {

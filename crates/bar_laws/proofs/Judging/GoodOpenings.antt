@@ -19,7 +19,7 @@ use Rattle.std.specs.List.{list_all, prefix_len, position_or_len, range_with_len
 use Rattle.std.specs.Simd.{first_chunks}
 use Rattle.std.specs.Str.{bytes_eq}
 use Rattle.std.proofs.lemmas.Bool.{and_parts, and_from, ltb-true, false_from_ne_true}
-use Rattle.bar_laws.proofs.Logs.{eqb_refl}
+use Rattle.bar_window.proofs.Sets.{same_self}
 
 -- ---- where none passes there is no place
 
@@ -78,9 +78,6 @@ good-opening s t x c key bad within =
 
 -- ---- the blocks of an opening
 
-same-self : (u : UpdateId) → same_update u u ≡ true
-same-self u = and_from _ _ (eqb_refl u.round) (eqb_refl u.index)
-
 found-block : (u : UpdateId) (us : List UpdateId) (bytes : List ℕ) → Contains us u → is_some (option_map (λ p. p.1) (find (λ p. same_update u p.0) (zip us (first_chunks 1024 (length us) bytes)))) ≡ true
 found-block u [] bytes c = absurd (omega (arith, c.1))
 found-block u (v ∷ us) bytes c = go c.0 c.1 c.2 (found-block u us (drop 1024 bytes))
@@ -91,7 +88,7 @@ found-block u (v ∷ us) bytes c = go c.0 c.1 c.2 (found-block u us (drop 1024 b
     go : (k : ℕ) → k < length (v ∷ us) → slice_index_or (v ∷ us) k u ≡ u
         → (Contains us u → is_some (option_map (λ p. p.1) (find (λ p. same_update u p.0) (zip us (first_chunks 1024 (length us) (drop 1024 bytes))))) ≡ true)
         → is_some (rest (same_update u v)) ≡ true
-    go zero below at f = ap (λ b. is_some (rest b)) (subst (λ z. same_update u z ≡ true) (sym at) (same-self u))
+    go zero below at f = ap (λ b. is_some (rest b)) (subst (λ z. same_update u z ≡ true) (sym at) (same_self u))
     go (suc k) below at f = by (same_update u v) (f (k, omega (arith, below), at))
       where
         by : (b : Bool) → is_some (option_map (λ p. p.1) (find (λ p. same_update u p.0) (zip us (first_chunks 1024 (length us) (drop 1024 bytes))))) ≡ true → is_some (rest b) ≡ true

@@ -29,8 +29,7 @@ use Rattle.std.specs.Prelude.{Option, Some, None, option_map, option_and_then}
 use Rattle.std.specs.Bool.{then_some}
 use Rattle.std.specs.Option.{option_map_or}
 use Rattle.std.proofs.lemmas.Bool.{eq-eqb, or_from}
-use Rattle.bar_laws.proofs.Judging.ShownStays.{case_of-is}
-use Rattle.bar_laws.proofs.Logs.{IsEntry, find-of, same_exchange-is, same_role-is, WasSaid, said-rule, SaidIn, said-in, never_twice, same_bytes_refl, parts-of, receiver-on, own-unheard, is_of-part}
+use Rattle.bar_laws.proofs.Logs.{IsEntry, find-of, same_exchange-is, same_role-is, WasSaid, said-rule, SaidIn, said-in, never_twice, same_bytes_refl, parts-of, receiver-on, own-unheard, is_of-part, briefcase-is}
 use Rattle.bar_laws.proofs.Runs.{names-itself}
 use Rattle.bar_laws.proofs.Judging.SaidOnce.{said-same, told-said, SaidBriefcase, said-briefcase}
 
@@ -85,7 +84,7 @@ other_window_refl s r us = ap not (same_bytes_refl (window_bytes s r us))
 window-same : (s : Session) (r : ℕ) (us vs : List UpdateId) → us ≡ vs → other_window s r us vs ≡ false
 window-same s r us vs e = rw e (other_window_refl s r vs)
 
-when-false : (a b : Bool) → (a ≡ true → b ≡ false) → (a && b) ≡ false
+pub when-false : (a b : Bool) → (a ≡ true → b ≡ false) → (a && b) ≡ false
 when-false true b f = f refl
 when-false false b f = refl
 
@@ -237,7 +236,7 @@ never-by_case me log m n h p q = go (briefcase_in n.message.body) refl
 
     go : (o : Option Briefcase) → briefcase_in n.message.body ≡ o → fault_by_case me.session m.message n.message o ≡ None
     go None e = refl
-    go (Some c) e = at c (case_of-is n.message.body c e) _ refl
+    go (Some c) e = at c (briefcase-is n.message.body c e) _ refl
 
 -- two said messages show nothing by their words
 pub never-by_words : (me : Member) (log : Log) (m n : Datagram) → IsObedient me log → SaidIn log m → SaidIn log n → fault_by_words me.session m.message n.message ≡ None

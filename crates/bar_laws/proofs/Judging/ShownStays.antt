@@ -17,7 +17,7 @@ use Rattle.std.proofs.Common.{◌≡◌, ℕ, Bool, true, false, List, [], ◌�
 use Rattle.std.specs.Prelude.{Option, Some, None, ◌⊎◌, if◌then◌else◌}
 use Rattle.std.specs.List.{list_all}
 use Rattle.std.specs.Bool.{then_some}
-use Rattle.bar_laws.proofs.Logs.{no-value, digest-extends}
+use Rattle.bar_laws.proofs.Logs.{no-value, digest-extends, briefcase-is}
 use Rattle.std.proofs.lemmas.Bool.{and_parts, and_from, both_ways, not-true, not_from_false, cases_Bool}
 
 -- what bar_case ensures of an opening that is bad: it stays so under longer tables
@@ -81,10 +81,6 @@ bad_opening-stays law s old new m n (Some c) (Some k) h e =
     and_from _ _ p.0
     (and_from _ _ q.0 (law s.shape.id (exchange_by c.round c.kind c.role m.from m.to) s.cap c.terms c.role c.cipher k.key old new h q.1))
 
-pub case_of-is : (b : Body) (c : Briefcase) → briefcase_in b ≡ Some c → b ≡ Case c
-case_of-is (Case d) c e = cc
-case_of-is b c e = absurd (no-value (briefcase_in b) c refl e)
-
 pub key_of-is : (b : Body) (k : KeyGiven) → key_in b ≡ Some k → b ≡ Key k
 key_of-is (Key d) k e = cc
 key_of-is b k e = absurd (no-value (key_in b) k refl e)
@@ -96,7 +92,7 @@ bad_opening-kinds s table m n e = go (briefcase_in m.body) (key_in n.body) refl 
   where
     go : (oc : Option Briefcase) (ok : Option KeyGiven) → briefcase_in m.body ≡ oc → key_in n.body ≡ ok → bad_opening s table m n oc ok ≡ true
         → ((c : Briefcase) × (m.body ≡ Case c)) × ((k : KeyGiven) × (n.body ≡ Key k))
-    go (Some c) (Some k) p q e = ((c, case_of-is m.body c p), (k, key_of-is n.body k q))
+    go (Some c) (Some k) p q e = ((c, briefcase-is m.body c p), (k, key_of-is n.body k q))
     go (Some c) None p q e = cc
     go None ok p q e = cc
 
@@ -162,7 +158,7 @@ not_asked s m P e = go (briefcase_in m.body) refl e
   where
     go : (o : Option Briefcase) → briefcase_in m.body ≡ o → option_map_or P o false ≡ true → option_map_or (wrong_partner s m) (choice_in m.body) false ≡ false
     go None p e = cc
-    go (Some c) p e = let q : m.body ≡ Case c = case_of-is m.body c p in rw q refl
+    go (Some c) p e = let q : m.body ≡ Case c = briefcase-is m.body c p in rw q refl
 
 pub fault_of_one-stays : (s : Session) (old new : Table) (d : Datagram) (f : Fault) → Extends old new → fault_of_one s old d ≡ Some f → fault_of_one s new d ≡ Some f
 fault_of_one-stays s old new d f h e =

@@ -29,10 +29,10 @@ use Rattle.std.specs.Str.{bytes_eq}
 use Rattle.std.specs.List.{AllByRecursion, list_all}
 use Rattle.std.specs.Option.{option_or, option_map_or}
 use Rattle.std.proofs.lemmas.Bool.{and_parts, and_from, and_right, both_ways, eq-eqb, eqb-true, not_from_true}
-use Rattle.bar_laws.proofs.Logs.{own_key, own_seed, allowed-at, same_exchange-is, same_role-is, WasSaid, later-entry, said-rule, some-is, held-known, table-later, SaidIn, was-said, never_bad_terms, agrees-before, party-on, role-own, sign-elsewhere, same_bytes_refl}
+use Rattle.bar_laws.proofs.Logs.{own_key, own_seed, allowed-at, same_exchange-is, same_role-is, WasSaid, later-entry, said-rule, some-is, held-known, table-later, SaidIn, was-said, never_bad_terms, agrees-before, party-on, role-own, sign-elsewhere, same_bytes_refl, briefcase-is}
 use Rattle.bar_laws.proofs.Runs.{named-once}
-use Rattle.bar_laws.proofs.Judging.ShownStays.{case_of-is, key_of-is}
-use Rattle.bar_laws.proofs.Judging.OwnWordsAgree.{never-by_words}
+use Rattle.bar_laws.proofs.Judging.ShownStays.{key_of-is}
+use Rattle.bar_laws.proofs.Judging.OwnWordsAgree.{never-by_words, when-false}
 use Rattle.bar_laws.proofs.Judging.PromisesHeld.{AllHeld, promise-held}
 use Rattle.bar_laws.proofs.Judging.WholeBlocks.{blocks-whole}
 
@@ -92,10 +92,6 @@ never-opens_bad me log two m n c k h p q e f agree fits =
     let good : is_bad (opening_of me.session two (exchange_by c.round c.kind c.role me.party m.message.to) c k.key) ≡ false = subst (λ z. is_bad (opening_of me.session two (exchange_by c.round c.kind c.role me.party m.message.to) c z) ≡ false) (sym key) (own-opens me w.before two m.message.to c before near (sign-elsewhere me w.before m.message before sm.rule) rc) in
     subst (λ z. is_bad (opening_of me.session two z c k.key) ≡ false) cx good
 
-and-not : (a b : Bool) → (a ≡ true → b ≡ false) → (a && b) ≡ false
-and-not true b f = f refl
-and-not false b f = refl
-
 never-bad_opening : (me : Member) (log : Log) (two : Table) (m n : Datagram) → IsObedient me log → SaidIn log m → SaidIn log n → Agrees (table log) two
     → bad_opening me.session two m.message n.message (briefcase_in m.message.body) (key_in n.message.body) ≡ false
 never-bad_opening me log two m n h p q agree = go (briefcase_in m.message.body) (key_in n.message.body) refl refl
@@ -104,9 +100,9 @@ never-bad_opening me log two m n h p q agree = go (briefcase_in m.message.body) 
     go None ok e f = refl
     go (Some c) None e f = refl
     go (Some c) (Some k) e f =
-        and-not (key_fits m.message c n.message k) (pair_opening me.session two m.message c k)
+        when-false (key_fits m.message c n.message k) (pair_opening me.session two m.message c k)
         (λ fits. and_right (terms_ok me.session no_lists (exchange_by c.round c.kind c.role m.message.from m.message.to) c.terms && counts_ok me.session c) _
-        (never-opens_bad me log two m n c k h p q (case_of-is m.message.body c e) (key_of-is n.message.body k f) agree fits))
+        (never-opens_bad me log two m n c k h p q (briefcase-is m.message.body c e) (key_of-is n.message.body k f) agree fits))
 
 -- ---- one message
 
@@ -140,7 +136,7 @@ never-bad_terms_of me log two m h p agree = go (briefcase_in m.message.body) ref
   where
     go : (o : Option Briefcase) → briefcase_in m.message.body ≡ o → option_map_or (bad_terms me.session two m.message) o false ≡ false
     go None e = refl
-    go (Some c) e = never_bad_terms me log two m c h p (case_of-is m.message.body c e) agree
+    go (Some c) e = never_bad_terms me log two m c h p (briefcase-is m.message.body c e) agree
 
 -- ---- no framing
 

@@ -3,7 +3,7 @@ use Rattle.bar_rules.specs.Peer.Admission.{same_terms}
 use Rattle.bar_window.specs.Exchange.{same_kind, same_role, same_exchange}
 use Rattle.bar_window.specs.Terms.{Terms}
 use Rattle.bar_window.specs.Terms as forms
-use Rattle.bar_window.specs.Updates.{same_update, same_updates}
+use Rattle.bar_window.specs.Updates.{same_updates}
 use Rattle.bar_window.specs.declared.exchange.Exchange.{Exchange}
 use Rattle.bar_window.specs.declared.exchange.Role.{Role}
 use Rattle.bar_window.specs.declared.exchange.Role.TheVariants.{Initiator, Responder}
@@ -17,6 +17,7 @@ use Rattle.bar_wire.specs.declared.kind.Kind.{Kind}
 use Rattle.std.proofs.Common.{◌≡◌, ℕ, true, false, List, [], ◌∷◌, refl, ap, eqb}
 use Rattle.std.specs.Prelude.{Option, Some, is_some, unwrap_or}
 use Rattle.std.proofs.lemmas.Bool.{and_parts, both_ways, eq-eqb, eqb-true}
+use Rattle.bar_window.proofs.Sets.{same_is}
 
 pub same_bytes-is : (xs ys : List ℕ) → bytes_eq xs ys ≡ true → xs ≡ ys
 same_bytes-is [] [] e = refl
@@ -61,18 +62,11 @@ same_exchange-is x y e =
     let d : x.responder ≡ y.responder = eqb-true _ _ p.1 in
     λ i. record { round = a i; kind = b i; initiator = c i; responder = d i }
 
-pub same_update-is : (x y : UpdateId) → same_update x y ≡ true → x ≡ y
-same_update-is x y e =
-    let p = and_parts _ _ e in
-    let a : x.round ≡ y.round = eqb-true _ _ p.0 in
-    let b : x.index ≡ y.index = eqb-true _ _ p.1 in
-    λ i. record { round = a i; index = b i }
-
 pub same_updates-is : (xs ys : List UpdateId) → same_updates xs ys ≡ true → xs ≡ ys
 same_updates-is [] [] e = refl
 same_updates-is (x ∷ xs) (y ∷ ys) e =
     let p = and_parts _ _ e in
-    let head : x ≡ y = same_update-is _ _ p.0 in
+    let head : x ≡ y = same_is _ _ p.0 in
     let tail : xs ≡ ys = same_updates-is xs ys p.1 in cc
 same_updates-is [] (y ∷ ys) e = cc
 same_updates-is (x ∷ xs) [] e = cc

@@ -7,9 +7,6 @@ pub all-both : {X : Type 0} (P : X → Type 0) (xs ys : List X) → AllByRecursi
 all-both P [] ys a b = b
 all-both P (x ∷ xs) ys a b = (a.0, all-both P xs ys a.1 b)
 
-pub all-snoc : {X : Type 0} (P : X → Type 0) (xs : List X) (x : X) → AllByRecursion P xs → P x → AllByRecursion P (xs ++ x ∷ [])
-all-snoc P xs x a p = all-both P xs (x ∷ []) a (p, tt)
-
 -- what follows from a property holds where it holds
 pub all-map : {X : Type 0} (P Q : X → Type 0) (xs : List X) → ((x : X) → P x → Q x) → AllByRecursion P xs → AllByRecursion Q xs
 all-map P Q [] f a = tt

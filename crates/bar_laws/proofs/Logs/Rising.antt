@@ -1,14 +1,14 @@
 -- The updates of successive rounds, in order.
 use Rattle.bar_window.specs.Updates.{is_before, is_rising, is_inside, updates_of}
 use Rattle.bar_window.specs.declared.update.UpdateId.{UpdateId}
-use Rattle.std.proofs.Common.{◌≡◌, ℕ, zero, suc, ◌+◌, ◌*◌, ◌<◌, Bool, true, false, List, [], ◌∷◌, ◌++◌, take, refl, sym, ap, ◌∙◌, subst, cond, arith}
-use Rattle.std.specs.Prelude.{filter, flat_map, map}
+use Rattle.std.proofs.Common.{◌≡◌, ℕ, zero, suc, ◌+◌, ◌*◌, ◌<◌, Bool, true, List, [], ◌∷◌, ◌++◌, take, refl, sym, ap, ◌∙◌, subst, arith}
+use Rattle.std.specs.Prelude.{flat_map, map}
 use Rattle.std.specs.List.{list_all, range_with_len}
 use Rattle.std.proofs.lemmas.Bool.{and_parts, and_from, or_left, or_right, lt-ltb}
 use Rattle.std.proofs.lemmas.List.{append_assoc}
 use Rattle.std.proofs.lemmas.List.Folds.{list_any-append, list_all-append}
 use Rattle.bar_laws.proofs.Logs.OneIdentity.{eqb_refl}
-use Rattle.bar_laws.proofs.Logs.Valid.{all-take, all-filtered, inside_refl}
+use Rattle.bar_laws.proofs.Logs.Valid.{all-take, inside_refl}
 
 -- ---- rising lists
 
@@ -16,14 +16,6 @@ pub rising-take : (k : ℕ) (us : List UpdateId) → is_rising us ≡ true → i
 rising-take zero us e = refl
 rising-take (suc k) [] e = refl
 rising-take (suc k) (u ∷ us) e = let p = and_parts _ _ e in and_from _ _ (all-take (is_before u) k us p.0) (rising-take k us p.1)
-
-pub rising-filter : (p : UpdateId → Bool) (us : List UpdateId) → is_rising us ≡ true → is_rising (filter p us) ≡ true
-rising-filter p [] e = refl
-rising-filter p (u ∷ us) e = let q = and_parts _ _ e in go (p u) (all-filtered (is_before u) p us q.0) (rising-filter p us q.1)
-  where
-    go : (b : Bool) → list_all (is_before u) (filter p us) ≡ true → is_rising (filter p us) ≡ true → is_rising (cond b (u ∷ filter p us) (filter p us)) ≡ true
-    go true h k = and_from _ _ h k
-    go false h k = k
 
 rising-append : (us vs : List UpdateId) → is_rising us ≡ true → is_rising vs ≡ true → list_all (λ u. list_all (is_before u) vs) us ≡ true → is_rising (us ++ vs) ≡ true
 rising-append [] vs e f g = f

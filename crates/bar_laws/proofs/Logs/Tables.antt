@@ -22,8 +22,9 @@ use Rattle.std.specs.Prelude.{Option, Some, None, ◌⊎◌, option_and_then, op
 use Rattle.std.specs.Bool.{then_some}
 use Rattle.std.specs.List.{list_all}
 use Rattle.std.proofs.lemmas.Bool.{and_parts, and_from}
+use Rattle.bar_window.proofs.Sets.{same_is}
 use Rattle.bar_laws.proofs.Logs.FirstFinds.{IsEntry, IsFind, find-of, allowed-at, earliest-more}
-use Rattle.bar_laws.proofs.Logs.EqualityTests.{no-value, same_bytes-is, same_update-is}
+use Rattle.bar_laws.proofs.Logs.EqualityTests.{no-value, same_bytes-is}
 use Rattle.bar_laws.proofs.Logs.Facts.{good_told}
 use Rattle.bar_laws.proofs.Logs.LaterLogs.{IsLater, later-entry, some-is}
 
@@ -95,7 +96,7 @@ told-found t u (v ∷ us) (b ∷ blocks) block told e = go (same_update u v) ref
     go : (c : Bool) → same_update u v ≡ c
         → (option_map (λ p. p.1) (find (λ p. same_update u p.0) (zip us blocks)) ≡ Some block → IsBlockOf t u block)
         → option_map (λ p. p.1) (cond c (Some (v, b)) (find (λ p. same_update u p.0) (zip us blocks))) ≡ Some block → IsBlockOf t u block
-    go true h k g = let w : u ≡ v = same_update-is u v h in let z : b ≡ block = cc in rw (← z, w) told.0
+    go true h k g = let w : u ≡ v = same_is u v h in let z : b ≡ block = cc in rw (← z, w) told.0
     go false h k g = k g
 
 good-is : (o : Opening) → is_good o ≡ true → (n : ℕ) × (o ≡ Good n)
@@ -119,7 +120,7 @@ from-known me before u m (Block v block') block row e = go (same_update u v) ref
     go : (b : Bool) → same_update u v ≡ b → then_some b block' ≡ Some block → IsBlockOf (table before) u block
     go false h g = cc
     go true h g =
-        let w : u ≡ v = same_update-is u v h in
+        let w : u ≡ v = same_is u v h in
         let z : block' ≡ block = cc in
         rw (w, ← z) (digest-is _ _ (and_parts _ _ (and_parts _ _ row).0).0)
 from-known me before u m (Key k) block row e = go (is_alive me.session u.round (round_now before)) (case_heard_from before x k.role) e

@@ -19,7 +19,7 @@ use Rattle.bar_terms.specs.Table.{Table, is_within, none_past_end, digest_of, Di
 use Rattle.bar_terms.specs.Terms.{offer_ok, answer_ok, trade_count}
 use Rattle.bar_window.specs.Terms.{Terms}
 use Rattle.bar_window.specs.Terms as forms
-use Rattle.bar_window.specs.Updates.{has_update, same_update, is_inside, is_of_rounds}
+use Rattle.bar_window.specs.Updates.{has_update, is_inside, is_of_rounds}
 use Rattle.bar_window.specs.declared.exchange.Exchange.{Exchange}
 use Rattle.bar_window.specs.declared.exchange.Role.{Role}
 use Rattle.bar_window.specs.declared.exchange.Role.TheVariants.{Initiator, Responder}
@@ -35,6 +35,7 @@ use Rattle.std.specs.List.{list_all, range_with_len}
 use Rattle.std.specs.Bool.{then_some}
 use Rattle.std.specs.Option.{option_map_or}
 use Rattle.std.proofs.lemmas.Bool.{and_parts, and_from, eq-eqb, le-leb, leb-true, eqb-true, or_right, or_left}
+use Rattle.bar_window.proofs.Sets.{same_self}
 use Rattle.bar_laws.proofs.Logs.FirstFinds.{IsFind, find-of, allowed-at}
 use Rattle.bar_laws.proofs.Logs.EqualityTests.{some-equal, no-value, same_exchange-is}
 use Rattle.bar_laws.proofs.Logs.LaterLogs.{IsLater, later-entry, then-later}
@@ -88,16 +89,13 @@ updates_from-rounds s first last = rounds-from s first last first ((last + 1) - 
 has-more : (u v : UpdateId) (us : List UpdateId) → has_update us u ≡ true → has_update (v ∷ us) u ≡ true
 has-more u v us e = or_right _ _ e
 
-same_update_refl : (u : UpdateId) → same_update u u ≡ true
-same_update_refl u = and_from _ _ (eqb_refl u.round) (eqb_refl u.index)
-
 inside-more : (xs us : List UpdateId) (v : UpdateId) → is_inside xs us ≡ true → is_inside xs (v ∷ us) ≡ true
 inside-more [] us v e = refl
 inside-more (x ∷ xs) us v e = let p = and_parts _ _ e in and_from _ _ (has-more x v us p.0) (inside-more xs us v p.1)
 
 pub inside_refl : (us : List UpdateId) → is_inside us us ≡ true
 inside_refl [] = refl
-inside_refl (u ∷ us) = and_from _ _ (or_left _ _ (same_update_refl u)) (inside-more us us u (inside_refl us))
+inside_refl (u ∷ us) = and_from _ _ (or_left _ _ (same_self u)) (inside-more us us u (inside_refl us))
 
 -- ---- what was said or heard of a kind
 
@@ -201,7 +199,7 @@ offer-ok me log round young aged g =
     and_from _ _ (and_from _ _ (and_from _ _ g.young_rounds g.aged_rounds) (and_from _ _ g.young_len g.aged_len))
     (and_from _ _ (within-none_past (table log) young g.young_within) (within-none_past (table log) aged g.aged_within))
 
-all-implies : {X : Type 0} (p q : X → Bool) (xs : List X) → ((x : X) → p x ≡ true → q x ≡ true) → list_all p xs ≡ true → list_all q xs ≡ true
+pub all-implies : {X : Type 0} (p q : X → Bool) (xs : List X) → ((x : X) → p x ≡ true → q x ≡ true) → list_all p xs ≡ true → list_all q xs ≡ true
 all-implies p q [] f e = refl
 all-implies p q (x ∷ xs) f e = let r = and_parts _ _ e in and_from _ _ (f x r.0) (all-implies p q xs f r.1)
 

@@ -14,7 +14,8 @@ use Rattle.bar_wire.specs.Grammar.{IsWindowSet, words_of}
 use Rattle.std.proofs.Common.{◌≡◌, ℕ, zero, suc, ◌+◌, ◌-◌, ◌/◌, ◌≤◌, Bool, true, not, ◌&&◌, List, [], take, refl, subst, arith}
 use Rattle.std.specs.Prelude.{filter, max}
 use Rattle.std.proofs.lemmas.Bool.{and_parts, and_from}
-use Rattle.bar_laws.proofs.Logs.Rising.{rising-take, rising-filter, run_of, run-rises, run-inside}
+use Rattle.bar_window.proofs.Sets.{rising_filter}
+use Rattle.bar_laws.proofs.Logs.Rising.{rising-take, run_of, run-rises, run-inside}
 use Rattle.bar_laws.proofs.Logs.Valid.{all-take, all-filtered}
 use Rattle.bar_laws.proofs.Logs.Facts.{set_test, set_passes}
 
@@ -23,7 +24,7 @@ use Rattle.bar_laws.proofs.Logs.Facts.{set_test, set_passes}
 pub set-filter : (s : Shape) (round : ℕ) (p : UpdateId → Bool) (us : List UpdateId) → IsWindowSet s round us → IsWindowSet s round (filter p us)
 set-filter s round p us set =
     let q = and_parts _ _ (set_passes (words_of s) s.life round us set) in
-    set_test (words_of s) s.life round (filter p us) (and_from _ _ (all-filtered (has_update (updates.window_of (words_of s) s.life round)) p us q.0) (rising-filter p us q.1))
+    set_test (words_of s) s.life round (filter p us) (and_from _ _ (all-filtered (has_update (updates.window_of (words_of s) s.life round)) p us q.0) (rising_filter p us q.1))
 
 pub set-take : (s : Shape) (round k : ℕ) (us : List UpdateId) → IsWindowSet s round us → IsWindowSet s round (take k us)
 set-take s round k us set =

@@ -21,8 +21,8 @@ use Rattle.std.specs.Option.{option_or}
 use Rattle.std.specs.Bool.{then_some}
 use Rattle.std.specs.List.{AllByRecursion}
 use Rattle.std.proofs.lemmas.Bool.{and_parts, leb-true}
-use Rattle.bar_laws.proofs.Logs.{filter-same, is_of-is, part-round}
-use Rattle.bar_laws.proofs.Memory.InLife.{InLife, of-round, window-in-life, by-round}
+use Rattle.bar_laws.proofs.Logs.{filter-same, is_of-is, part-round, round-by}
+use Rattle.bar_laws.proofs.Memory.InLife.{InLife, of-round, window-in-life}
 use Rattle.bar_laws.proofs.Memory.Learning.{grown, by-kind, known-ticked, known-heard, known-said, known-kept}
 
 or-same : {A : Type 0} (o p q r : Option A) → o ≡ p → q ≡ r → option_or o q ≡ option_or p r
@@ -133,7 +133,7 @@ module _ (me : Member) (one two : Knowledge) (same : AgreesWith me one two) wher
       → block_by me.session (this_round one) (table_of one) (case_heard_of one) u m b ≡ block_by me.session (this_round two) (table_of two) (case_heard_of two) u m b
   block-added u m (Key g) h =
       let x : Exchange = exchange_by g.round g.kind g.role m.from m.to in
-      let r : IsRecent me one x.round = subst (λ z. this_round one ≤ z + me.session.shape.life) (sym (by-round g.round g.kind g.role m.from m.to)) h in
+      let r : IsRecent me one x.round = subst (λ z. this_round one ≤ z + me.session.shape.life) (sym (round-by g.round g.kind g.role m.from m.to)) h in
       (λ i. cond (is_alive me.session u.round (now i)) (block_opened me.session (same.table i) x u g.key (case-same x g.role r i)) None)
   block-added u m _ h = refl
 

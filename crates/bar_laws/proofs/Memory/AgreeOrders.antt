@@ -35,8 +35,8 @@ use Rattle.std.specs.Bool.{then_some}
 use Rattle.std.specs.List.{AllByRecursion}
 use Rattle.bar_laws.proofs.Memory.AgreeLogs.{now, held-on, blocks-on, history-same, said-agree}
 use Rattle.bar_laws.proofs.Memory.AgreeRows.{all-with, body-same, terms-same, wanted-same}
-use Rattle.bar_laws.proofs.Memory.InLife.{InLife, BodyInLife, LogInLife, from-in-life, history-in-life, young-in-life, aged-in-life, wanted-in-life, given-in-life, promised-in-life, offered-in-life, terms-in-life, by-round}
-use Rattle.bar_laws.proofs.Logs.{filter-same, some-equal, other-kind, parts-of}
+use Rattle.bar_laws.proofs.Memory.InLife.{InLife, BodyInLife, LogInLife, from-in-life, history-in-life, young-in-life, aged-in-life, wanted-in-life, given-in-life, promised-in-life, offered-in-life, terms-in-life}
+use Rattle.bar_laws.proofs.Logs.{filter-same, some-equal, other-kind, parts-of, round-by}
 
 -- ---- orders in time
 
@@ -126,7 +126,7 @@ module _ (me : Member) (one two : Knowledge) (same : AgreesWith me one two) wher
       go None e = refl
       go (Some p) e =
           let x : Exchange = exchange_by p.0 p.1 p.2 m.from m.to in
-          ap (λ o. unwrap_or o 0) (same.seats x (subst (λ z. this_round one ≤ z + me.session.shape.life) (sym (by-round p.0 p.1 p.2 m.from m.to)) (r p e)))
+          ap (λ o. unwrap_or o 0) (same.seats x (subst (λ z. this_round one ≤ z + me.session.shape.life) (sym (round-by p.0 p.1 p.2 m.from m.to)) (r p e)))
 
 module _ (me : Member) (one : Log) (two : Knowledge) (same : AgreesWith me (known me one) two) where
   answer-same : (x : Exchange) (k : XKind) → LogInLife me.session.shape.life one → IsRecent me (known me one) x.round → this_round (known me one) ≤ x.round + answer_deadline → answer_body me (known me one) x k ≡ answer_body me two x k

@@ -33,8 +33,8 @@ use Rattle.std.proofs.lemmas.Bool.{and_parts, leb-true, lt-leb, leb-false}
 use Rattle.bar_laws.proofs.Memory.AgreeLogs.{now, IsInTime, kept-agree, heard-agree}
 use Rattle.bar_laws.proofs.Memory.AgreeRows.{terms-same, admitted-same, row-in-time, and_last}
 use Rattle.bar_laws.proofs.Memory.AgreeOrders.{IsTimely, IsAlike, perform-alike, perform_all-alike}
-use Rattle.bar_laws.proofs.Logs.{no-value, is_of-is, first_heard-was, parts-of, part-round, admitted-row}
-use Rattle.bar_laws.proofs.Memory.InLife.{BodyInLife, LogInLife, of-round, by-round}
+use Rattle.bar_laws.proofs.Logs.{no-value, is_of-is, first_heard-was, parts-of, part-round, admitted-row, round-by}
+use Rattle.bar_laws.proofs.Memory.InLife.{BodyInLife, LogInLife, of-round}
 
 -- ---- the orders for a datagram
 
@@ -52,7 +52,7 @@ in-bound round at bound true e f h = f refl
 in-bound round at bound false e f h = subst (λ n. n ≤ bound) e (leb-true round bound h)
 
 at-round : (life at r : ℕ) (k : XKind) (role : Role) (from to more : ℕ) → at ≤ r + more → at ≤ (exchange_by r k role from to).round + more
-at-round life at r k role from to more h = subst (λ z. at ≤ z + more) (sym (by-round r k role from to)) h
+at-round life at r k role from to more h = subst (λ z. at ≤ z + more) (sym (round-by r k role from to)) h
 
 orders-timely : (me : Member) (k : Knowledge) (at : ℕ) (is_new : Bool) (from to : ℕ) (b : Body) → 2 ≤ me.session.shape.life → this_round k ≡ at → IsNewInTime me.session.shape.life at is_new b
     → AllByRecursion (IsTimely me.session.shape.life at) (orders_for me k is_new from to b)
@@ -133,7 +133,7 @@ module _ (me : Member) (one two : Knowledge) (same : AgreesWith me one two) (lif
       go None e = refl
       go (Some p) e =
           let x : Exchange = exchange_by p.0 p.1 p.2 d.message.from d.message.to in
-          let round : round_of d.message.body ≡ x.round = part-round d.message.body p.0 p.1 p.2 e ∙ sym (by-round p.0 p.1 p.2 d.message.from d.message.to) in
+          let round : round_of d.message.body ≡ x.round = part-round d.message.body p.0 p.1 p.2 e ∙ sym (round-by p.0 p.1 p.2 d.message.from d.message.to) in
           let r : IsRecent me one x.round = subst (λ z. this_round one ≤ z + me.session.shape.life) round h in
           (λ i.
           option_or (pair_with me.session (same.table i) d (same.heard (opening_kind x.kind p.2) x p.2 r i))
@@ -216,7 +216,7 @@ stale-answer {S} w me s d p life own e h = go (repeated me k d) refl
     none c is =
         let w = is_of-is (kind_of d.message.body) x p.2 c.message is in
         let q : ℕ × XKind × Role = (w.round, w.sort, p.2) in
-        let round : q.0 ≡ p.0 = of-round (kind_of d.message.body) x p.2 c.message q is w.part ∙ by-round p.0 p.1 p.2 d.message.from d.message.to in
+        let round : q.0 ≡ p.0 = of-round (kind_of d.message.body) x p.2 c.message q is w.part ∙ round-by p.0 p.1 p.2 d.message.from d.message.to in
         stale-orders me k c.message.from c.message.to c.message.body q life w.part (subst (λ z. z + me.session.shape.life < this_round k) (sym round) h)
 
     go : (o : Option Datagram) → repeated me k d ≡ o → machine.answer_repeat w me s o ≡ begun s
@@ -248,7 +248,7 @@ module _ (me : Member) (one : Log) (two : Knowledge) (same : AgreesWith me (know
       recent : (p : ℕ × XKind × Role) (b : Bool) → nat_le (round_now one) (p.0 + me.session.shape.life) ≡ b → part_of d.message.body ≡ Some p → IsAlike me (round_now one) (machine.answer_repeat (logs me) me one (repeated me (known me one) d)) (machine.answer_repeat (minds me) me two (repeated me two d))
       recent p true b e =
           let x : Exchange = exchange_by p.0 p.1 p.2 d.message.from d.message.to in
-          let r : IsRecent me (known me one) x.round = subst (λ z. round_now one ≤ z + me.session.shape.life) (sym (by-round p.0 p.1 p.2 d.message.from d.message.to)) (leb-true (round_now one) (p.0 + me.session.shape.life) b) in
+          let r : IsRecent me (known me one) x.round = subst (λ z. round_now one ≤ z + me.session.shape.life) (sym (round-by p.0 p.1 p.2 d.message.from d.message.to)) (leb-true (round_now one) (p.0 + me.session.shape.life) b) in
           alike (like (Some p) e (same.heard (kind_of d.message.body) x p.2 r))
       recent p false b e =
           let late : p.0 + me.session.shape.life < round_now one = leb-false (round_now one) (p.0 + me.session.shape.life) b in

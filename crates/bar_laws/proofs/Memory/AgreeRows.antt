@@ -30,8 +30,8 @@ use Rattle.std.specs.Str.{bytes_eq}
 use Rattle.std.specs.List.{AllByRecursion}
 use Rattle.std.proofs.lemmas.Bool.{and_parts, leb-true, ltb-true}
 use Rattle.bar_laws.proofs.Memory.AgreeLogs.{now, IsInTime, held-on}
-use Rattle.bar_laws.proofs.Memory.InLife.{InLife, rounds-in-life, by-round}
-use Rattle.bar_laws.proofs.Logs.{filter-same, no-value, parts-of}
+use Rattle.bar_laws.proofs.Memory.InLife.{InLife, rounds-in-life}
+use Rattle.bar_laws.proofs.Logs.{filter-same, no-value, parts-of, round-by}
 
 -- ---- tests
 
@@ -130,7 +130,7 @@ module _ (me : Member) (one two : Knowledge) (same : AgreesWith me one two) wher
     soon-recent round h = omega arith
 
     recent-by : (r : ℕ) (k : XKind) (role : Role) (f t : ℕ) → this_round one ≤ r + me.session.shape.life → IsRecent me one (exchange_by r k role f t).round
-    recent-by r k role f t h = subst (λ z. this_round one ≤ z + me.session.shape.life) (sym (by-round r k role f t)) h
+    recent-by r k role f t h = subst (λ z. this_round one ≤ z + me.session.shape.life) (sym (round-by r k role f t)) h
 
     -- a request comes a round early at most, and in time
     is_near : XKind → ℕ → ℕ → Bool

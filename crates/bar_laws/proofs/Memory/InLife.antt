@@ -31,7 +31,7 @@ use Rattle.std.specs.Prelude.{Option, Some, None, max, filter, ◌/◌, Contains
 use Rattle.std.specs.Bool.{then_some}
 use Rattle.std.specs.List.{list_all, AllByRecursion}
 use Rattle.std.proofs.lemmas.Bool.{and_parts, and_from, leb-true, le-leb}
-use Rattle.bar_laws.proofs.Logs.{no-value, IsEntry, IsFind, find-of, is_of-is, heard-fits, WasSpoken, spoken_in, first_on-was, all-take, all-filtered, updates_from-rounds}
+use Rattle.bar_laws.proofs.Logs.{no-value, IsEntry, IsFind, find-of, is_of-is, heard-fits, WasSpoken, spoken_in, first_on-was, all-take, all-filtered, updates_from-rounds, round-by, all-implies}
 
 -- an update is alive in a round, or of a later one
 abbrev pub is_since : ℕ → ℕ → UpdateId → Bool
@@ -41,10 +41,6 @@ abbrev pub InLife : ℕ → ℕ → List UpdateId → Type 0
 InLife life round us = list_all (is_since life round) us ≡ true
 
 -- ---- lists
-
-all-if : {X : Type 0} (p q : X → Bool) (xs : List X) → ((x : X) → p x ≡ true → q x ≡ true) → list_all p xs ≡ true → list_all q xs ≡ true
-all-if p q [] f e = refl
-all-if p q (x ∷ xs) f e = let w = and_parts _ _ e in and_from _ _ (f x w.0) (all-if p q xs f w.1)
 
 all-at : {X : Type 0} (p : X → Bool) (xs : List X) (x : X) → list_all p xs ≡ true → Contains xs x → p x ≡ true
 all-at p [] x e c = absurd (omega (arith, c.1))
@@ -64,7 +60,7 @@ all-contained p (x ∷ xs) f =
 
 pub rounds-in-life : (life round first last : ℕ) (us : List UpdateId) → round + 1 ≤ first + life → is_of_rounds first last us ≡ true → InLife life round us
 rounds-in-life life round first last us h e =
-    all-if (λ (u : UpdateId). nat_le first u.round && nat_le u.round last) (is_since life round) us
+    all-implies (λ (u : UpdateId). nat_le first u.round && nat_le u.round last) (is_since life round) us
     (λ u z. le-leb (round + 1) (u.round + life) (let low : first ≤ u.round = leb-true first u.round (and_parts _ _ z).0 in omega (arith, low, h))) e
 
 pub from-in-life : (s : Session) (life round first last : ℕ) → round + 1 ≤ first + life → InLife life round (updates_from s first last)
@@ -155,17 +151,13 @@ spoken-in-life life log d w h = go w.entry w.found (place-in-life life log w.bef
 
 -- ---- what is read of an exchange
 
-pub by-round : (r : ℕ) (k : XKind) (role : Role) (f t : ℕ) → (exchange_by r k role f t).round ≡ r
-by-round r k Initiator f t = refl
-by-round r k Responder f t = refl
-
 -- a body of an exchange is of its round
 pub of-round : (kind : Kind) (x : Exchange) (role : Role) (m : Message) (p : ℕ × XKind × Role) → is_of kind x role m ≡ true → part_of m.body ≡ Some p → p.0 ≡ x.round
 of-round kind x role m p e part =
     let w = is_of-is kind x role m e in
     let one : Some p ≡ Some (w.round, w.sort, role) = sym part ∙ w.part in
     let same : p ≡ (w.round, w.sort, role) = cc in
-    ap (λ (z : ℕ × XKind × Role). z.0) same ∙ sym (by-round w.round w.sort role m.from m.to) ∙ ap (λ (z : Exchange). z.round) w.exchange
+    ap (λ (z : ℕ × XKind × Role). z.0) same ∙ sym (round-by w.round w.sort role m.from m.to) ∙ ap (λ (z : Exchange). z.round) w.exchange
 
 -- the body that stands on a side of an exchange
 record IsBodyOf (life round : ℕ) (b : Body) : Type 0 where

@@ -6,7 +6,6 @@ use Rattle.bar_window.specs.Exchange.{party_on, other_role}
 use Rattle.bar_window.specs.Terms.{Terms}
 use Rattle.bar_window.specs.declared.exchange.Exchange.{Exchange}
 use Rattle.bar_window.specs.declared.exchange.Role.{Role}
-use Rattle.bar_window.specs.declared.exchange.Role.TheVariants.{Initiator, Responder}
 use Rattle.bar_terms.specs.Terms.{can_promise, promised_updates}
 use Rattle.bar_rules.specs.Member.{Member}
 use Rattle.bar_rules.specs.Values.{counts_ok}
@@ -22,7 +21,7 @@ use Rattle.std.specs.Prelude.{Option, Some, None, is_some}
 use Rattle.std.proofs.lemmas.Bool.{and_parts, both_ways, eqb-true, leb-true}
 use Rattle.std.proofs.lemmas.List.Sums.{AllPass-from_list_all}
 use Rattle.bar_laws.specs.Soundness.{CanGive, IsTheirs, LogIsSound}
-use Rattle.bar_laws.proofs.Logs.{allowed-at, later-entry, round-later, first_heard-was, first_said-was, said-rule, some-is, some-same, said-case, terms_promise, was-heard-fits, admitted-row, admitted-signed, sender-on, is_of-part, was-heard-own}
+use Rattle.bar_laws.proofs.Logs.{allowed-at, later-entry, round-later, first_heard-was, first_said-was, said-rule, some-is, some-same, said-case, terms_promise, was-heard-fits, admitted-row, admitted-signed, sender-on, is_of-part, was-heard-own, other-other}
 use Rattle.bar_laws.proofs.Judging.{promise-held}
 use Rattle.bar_laws.proofs.Runs.{seat-heard, seat-few, heard-case, HeardCase}
 
@@ -66,10 +65,6 @@ can-give me log x t h e f =
 
 -- ---- what a CASE of the other side has
 
-other-twice : (role : Role) → other_role (other_role role) ≡ role
-other-twice Initiator = refl
-other-twice Responder = refl
-
 -- where a briefcase was found, a CASE was heard
 found-heard : (o : Option Datagram) (c : Briefcase) → case_in o ≡ Some c → is_some o ≡ true
 found-heard (Some d) c e = refl
@@ -82,7 +77,7 @@ is-theirs me log x c h e =
     let same : w.case ≡ c = some-same (case_heard_from log x role) w.case c w.found e in
     record {
       side = ap (λ z. z.role) (sym same) ∙ w.side;
-      said = subst (λ r. has_said (is_of kinds.Case x r) log ≡ true) (other-twice (role_of me x)) w.said;
+      said = subst (λ r. has_said (is_of kinds.Case x r) log ≡ true) (other-other (role_of me x)) w.said;
       terms = w.terms ∙ ap (λ z. Some z.terms) same;
       counts = subst (λ z. counts_ok me.session z ≡ true) same w.counts;
     }

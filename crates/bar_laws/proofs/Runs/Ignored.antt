@@ -21,14 +21,11 @@ use Rattle.bar_rules.specs.Peer.Run.{Out, answer_repeat, answered_to, report_new
 use Rattle.bar_rules.specs.Runs.{begun}
 use Rattle.bar_rules.specs.Values.{datagram_of}
 use Rattle.bar_laws.specs.Ignoring.{CastersIgnore, PeersIgnore, evicts, is_ignored, is_ignored_by_caster, is_news, tells_nothing}
+use Rattle.bar_laws.proofs.Runs.Runs.{not_some}
 
 refused : (b : Bool) → not b ≡ true → b ≡ false
 refused true e = absurd (cc)
 refused false e = refl
-
-none_there : {A : Type 0} (o : Option A) → not (is_some o) ≡ true → o ≡ None
-none_there None e = refl
-none_there (Some a) e = absurd (cc)
 
 -- ---- by a peer
 
@@ -46,8 +43,8 @@ module _ (me : Member) (log : Log) where
         let parts = and_parts _ _ e in
         let before = and_parts _ _ parts.0 in
         let first : is_admitted me (known me log) d ≡ false = refused _ before.0 in
-        let second : repeated me (known me log) d ≡ None = none_there _ before.1 in
-        let third : new_evidence me (known me log) d ≡ None = none_there _ parts.1 in
+        let second : repeated me (known me log) d ≡ None = not_some _ before.1 in
+        let third : new_evidence me (known me log) d ≡ None = not_some _ parts.1 in
         ap by-evidence third ∙ ap by-admission first ∙ ap (answer_repeat me log) second
 
   ignored-taken : (o : Option Datagram) → option_map_or (tells_nothing me (known me log)) o true ≡ true → take_datagram me log o ≡ begun log

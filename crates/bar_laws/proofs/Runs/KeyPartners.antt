@@ -13,14 +13,13 @@ use Rattle.bar_wire.specs.Inputs.{Input}
 use Rattle.std.proofs.Common.{◌≡◌, ℕ, true, List, [], ap, ◌∙◌}
 use Rattle.std.specs.List.{AllByRecursion}
 use Rattle.bar_laws.specs.Balance.{GoesToPartner}
-use Rattle.bar_laws.proofs.Runs.StepAdds.{is_of-to}
-use Rattle.bar_laws.proofs.Logs.{all-map, saying, was-said}
+use Rattle.bar_laws.proofs.Logs.{all-map, saying, was-said, receiver-on}
 use Rattle.bar_laws.proofs.Runs.RunSends.{IsSentAs, key-signed, run-sent}
 
 goes-to-partner : (me : Member) (log : Log) (sent : ℕ × ℕ × Datagram) → IsObedient me log → IsSentAs log sent → GoesToPartner me sent
 goes-to-partner me log sent h s = record {
   own = own;
-  to = λ x role e. s.to ∙ is_of-to kinds.Key x role sent.2.message e ∙ ap (λ r. party_on x (other_role r)) (own x role e);
+  to = λ x role e. s.to ∙ receiver-on kinds.Key x role sent.2.message e ∙ ap (λ r. party_on x (other_role r)) (own x role e);
 }
   where
     own : (x : Exchange) (role : Role) → is_of kinds.Key x role sent.2.message ≡ true → role ≡ role_of me x

@@ -39,8 +39,8 @@ use Rattle.std.specs.Prelude.{Option, Some, None, ◌⊎◌, is_some, option_map
 use Rattle.std.specs.List.{AllByRecursion}
 use Rattle.std.specs.Bool.{then_some}
 use Rattle.std.specs.Option.{option_map_or}
-use Rattle.std.proofs.lemmas.Bool.{and_parts, and_from, eqb-true, eq-eqb, both_ways, ltb-true, ne_eqb}
-use Rattle.bar_laws.proofs.Logs.{terms-valid, IsValid, allowed-at, IsOwn, heard-own, heard-round, part-round, eqb_refl, same_role_refl, same_exchange_refl, once-whole, is_whole, said-found, IsLater, later-entry, some-is, WasHeard, first_heard-was, first_said-was, said-rule, find-later, terms_of-later, said-later, IsCaseOf, is_of-case, said-case, some-same, same_terms-is, admitted-row, role-initiator, round-by}
+use Rattle.std.proofs.lemmas.Bool.{and_parts, and_from, eqb-true, both_ways, ltb-true}
+use Rattle.bar_laws.proofs.Logs.{terms-valid, IsValid, allowed-at, IsOwn, heard-own, heard-round, part-round, eqb_refl, same_role_refl, same_exchange_refl, once-whole, is_whole, said-found, IsLater, later-entry, some-is, WasHeard, first_heard-was, first_said-was, said-rule, find-later, terms_of-later, said-later, IsCaseOf, is_of-case, said-case, some-same, same_terms-is, admitted-row, role-initiator, round-by, or-none, other-other, receiver-role}
 
 -- this member is on the side that its role says
 pub record IsParty (me : Member) (x : Exchange) : Type 0 where
@@ -148,7 +148,7 @@ pub record HeardCase (me : Member) (log : Log) (x : Exchange) (role : Role) : Ty
   pub side : case.role ≡ role
   pub said : has_said (is_of kinds.Case x (other_role role)) log ≡ true
 
-terms-same : (t : Terms) (o : Option Terms) → are_terms t o ≡ true → o ≡ Some t
+pub terms-same : (t : Terms) (o : Option Terms) → are_terms t o ≡ true → o ≡ Some t
 terms-same t (Some u) e = ap Some (same_terms-is u t e)
 terms-same t None e = cc
 
@@ -160,8 +160,8 @@ case-row me before from to c row =
     let q = and_parts _ _ p.0 in
     (terms-same c.terms _ q.1, p.1, q.0)
 
-has-said-later : (p : Message → Bool) (log before : Log) → IsLater log before → has_said p before ≡ true → has_said p log ≡ true
-has-said-later p log before later e = let f = some-is (first_said p before) e in ap is_some (said-later p log before f.0 later f.1)
+pub said-more : (p : Message → Bool) (log before : Log) → IsLater log before → has_said p before ≡ true → has_said p log ≡ true
+said-more p log before later e = let f = some-is _ e in ap is_some (said-later p log before f.0 later f.1)
 
 pub heard-case : (me : Member) (log : Log) (x : Exchange) (role : Role) → IsObedient me log → has_heard (is_of kinds.Case x role) log ≡ true → HeardCase me log x role
 heard-case me log x role h e = go (some-is (first_heard (is_of kinds.Case x role) log) e)
@@ -178,7 +178,7 @@ heard-case me log x role h e = go (some-is (first_heard (is_of kinds.Case x role
           counts = r.1;
           side = k.side;
           said =
-              has-said-later _ log w.before (later-entry log w.before (Heard d) w.place)
+              said-more _ log w.before (later-entry log w.before (Heard d) w.place)
               (subst (λ role. has_said (is_of kinds.Case x (other_role role)) w.before ≡ true) k.side
               (subst (λ y. has_said (is_of kinds.Case y (other_role k.case.role)) w.before ≡ true) k.exchange r.2));
         }
@@ -406,16 +406,12 @@ perform-grows me out (Reveal x) = inl (send_if-log me out _ _)
 perform-grows me out (AskKey x) = inl refl
 perform-grows me out (Report q) = inl (send_if-log me out _ _)
 
-some-more : {A : Type 0} (o p : Option A) → is_some o ≡ true → is_some (option_or o p) ≡ true
+pub some-more : {A : Type 0} (o p : Option A) → is_some o ≡ true → is_some (option_or o p) ≡ true
 some-more (Some a) p e = refl
 some-more None p e = cc
 
-nothing-more : {A : Type 0} (o : Option A) → option_or o None ≡ o
-nothing-more (Some a) = refl
-nothing-more None = refl
-
 held-said : (s : Session) (log : Log) (d : Datagram) → is_held s (Said d ∷ log) ≡ is_held s log
-held-said s log d = λ i u. is_some (nothing-more (block_of s log u) i)
+held-said s log d = λ i u. is_some (or-none (block_of s log u) i)
 
 request-said : (me : Member) (log : Log) (d : Datagram) (x : Exchange) → IsRequest me log x → IsRequest me (Said d ∷ log) x
 request-said me log d x q =
@@ -464,12 +460,8 @@ perform_all-obedient me (o ∷ os) out h s =
 
 -- ---- the orders of a datagram
 
-partner-role : (me : Member) (r : ℕ) (k : XKind) (role : Role) (f t : ℕ) → t ≡ me.party → (f ≡ me.party → ⊥) → role_of me (exchange_by r k role f t) ≡ other_role role
-partner-role me r k Initiator f t e n = rw (ne_eqb f me.party n) refl
-partner-role me r k Responder f t e n = rw (eq-eqb t me.party e) refl
-
 partner-party : (me : Member) (r : ℕ) (k : XKind) (role : Role) (f t : ℕ) → t ≡ me.party → (f ≡ me.party → ⊥) → (1 ≤ r) × (r ≤ me.session.shape.rounds) → IsParty me (exchange_by r k role f t)
-partner-party me r k role f t e n b = record { on = go role (partner-role me r k role f t e n); low = rw (round-by r k role f t) b.0; high = rw (round-by r k role f t) b.1 }
+partner-party me r k role f t e n b = record { on = go role (receiver-role me r k role f t e n); low = rw (round-by r k role f t) b.0; high = rw (round-by r k role f t) b.1 }
   where
     go : (role : Role) → role_of me (exchange_by r k role f t) ≡ other_role role → party_on (exchange_by r k role f t) (role_of me (exchange_by r k role f t)) ≡ me.party
     go Initiator q = rw q e
@@ -494,19 +486,12 @@ heard-found p log d w e = subst (λ l. has_heard p l ≡ true) (sym w.place.spli
 pub names-itself : (m : Message) (kind : Kind) (r : ℕ) (k : XKind) (role : Role) → kind_number m.body ≡ code_of kind → part_of m.body ≡ Some (r, k, role) → is_of kind (exchange_by r k role m.from m.to) role m ≡ true
 names-itself m kind r k role a b = rw (a, b) (and_from _ _ (eqb_refl (code_of kind)) (and_from _ _ (same_exchange_refl (exchange_by r k role m.from m.to)) (same_role_refl role)))
 
-pub said-more : (p : Message → Bool) (log before : Log) → IsLater log before → has_said p before ≡ true → has_said p log ≡ true
-said-more p log before later e = let f = some-is _ e in ap is_some (said-later p log before f.0 later f.1)
-
 pub heard-more : (p : Message → Bool) (log before : Log) → IsLater log before → has_heard p before ≡ true → has_heard p log ≡ true
 heard-more p log before later e = let f = some-is _ e in ap is_some (find-later (λ before e. if_passes p (heard_in e)) log before f.0 later f.1)
 
 key_request-row : (me : Member) (before : Log) (from to r : ℕ) (k : XKind) (role : Role) → is_row_met me (known me before) from to (KeyReq r k role) ≡ true
     → (has_said (is_of kinds.Case (exchange_by r k role from to) (other_role role)) before ≡ true) × (has_heard (is_of kinds.Case (exchange_by r k role from to) role) before ≡ true)
 key_request-row me before from to r k role row = let p = and_parts _ _ (and_parts _ _ (and_parts _ _ row).0).0 in p
-
-other_other : (r : Role) → other_role (other_role r) ≡ r
-other_other Initiator = refl
-other_other Responder = refl
 
 pub orders-stand : (me : Member) (log : Log) (is_new : Bool) (d : Datagram) → IsObedient me log → WasHeard log d → AllByRecursion (Stands me log) (reply_orders me (known me log) is_new d)
 orders-stand me log is_new d h w = go d.message.body refl
@@ -532,7 +517,7 @@ orders-stand me log is_new d h w = go d.message.body refl
         when-stands me log _ (Answer (exchange_by r Balanced Initiator d.message.from d.message.to) ∷ []) (λ z. (
           (
             partner-party me r Balanced Initiator d.message.from d.message.to o.to o.other (bounds (Request r seed c) (r, Balanced, Initiator) e refl),
-            partner-role me r Balanced Initiator d.message.from d.message.to o.to o.other,
+            receiver-role me r Balanced Initiator d.message.from d.message.to o.to o.other,
             heard-found (is_of kinds.Request (exchange_by r Balanced Initiator d.message.from d.message.to) Initiator) log d w (names-itself d.message kinds.Request r Balanced Initiator (rw e refl) (rw e refl)),
           ),
           tt,
@@ -548,7 +533,7 @@ orders-stand me log is_new d h w = go d.message.body refl
         when-stands me log _ (Answer (exchange_by r Push Initiator d.message.from d.message.to) ∷ GiveCase (exchange_by r Push Initiator d.message.from d.message.to) ∷ []) (λ z. (
           (
             partner-party me r Push Initiator d.message.from d.message.to o.to o.other (bounds (Query r seed young aged) (r, Push, Initiator) e refl),
-            partner-role me r Push Initiator d.message.from d.message.to o.to o.other,
+            receiver-role me r Push Initiator d.message.from d.message.to o.to o.other,
             heard-found (is_of kinds.Query (exchange_by r Push Initiator d.message.from d.message.to) Initiator) log d w (names-itself d.message kinds.Query r Push Initiator (rw e refl) (rw e refl)),
           ),
           ((partner-party me r Push Initiator d.message.from d.message.to o.to o.other (bounds (Query r seed young aged) (r, Push, Initiator) e refl), inl refl), tt),
@@ -560,12 +545,12 @@ orders-stand me log is_new d h w = go d.message.body refl
     go (KeyReq r k role) e =
         let o : IsOwn me d = own (KeyReq r k role) (r, k, role) e refl in
         let row = key_request-row me w.before d.message.from d.message.to r k role (subst (λ b. is_row_met me (known me w.before) d.message.from d.message.to b ≡ true) e (admitted-row me w.before d admitted)) in
-        let side : role_of me (exchange_by r k role d.message.from d.message.to) ≡ other_role role = partner-role me r k role d.message.from d.message.to o.to o.other in
+        let side : role_of me (exchange_by r k role d.message.from d.message.to) ≡ other_role role = receiver-role me r k role d.message.from d.message.to o.to o.other in
         when-stands me log _ (GiveKey (exchange_by r k role d.message.from d.message.to) ∷ []) (λ z. (
           (
             partner-party me r k role d.message.from d.message.to o.to o.other (bounds (KeyReq r k role) (r, k, role) e refl),
             rw side (said-more _ log w.before later row.0),
-            rw (side, other_other) (heard-more _ log w.before later row.1),
+            rw (side, other-other) (heard-more _ log w.before later row.1),
           ),
           tt,
         ))

@@ -30,8 +30,9 @@ use Rattle.std.proofs.Common.{◌≡◌, ℕ, suc, ◌+◌, Bool, true, false, L
 use Rattle.std.specs.Prelude.{Option, Some, None, ◌⊎◌, map, cond, nat_le, Contains}
 use Rattle.std.specs.List.{AllByRecursion, list_any}
 use Rattle.std.proofs.lemmas.Bool.{or_cases, both_ways}
-use Rattle.bar_laws.proofs.Logs.{IsLater, later-same, first_said-was, SaidIn, was-said, said-found, IsKeyOf, is_of-key, IsBalanced, balance, all-both, all-map, all-snoc}
-use Rattle.bar_laws.proofs.Runs.StepAdds.{SentBy, IsPlain, step-adds, is_of-to}
+use Rattle.bar_wire.proofs.Lists.{AllByRecursion-push}
+use Rattle.bar_laws.proofs.Logs.{IsLater, later-same, first_said-was, SaidIn, was-said, said-found, IsKeyOf, is_of-key, IsBalanced, balance, all-both, all-map, receiver-on}
+use Rattle.bar_laws.proofs.Runs.StepAdds.{SentBy, IsPlain, step-adds}
 
 -- ---- logs grow
 
@@ -83,13 +84,13 @@ say-addressed : (me : Member) (out : Out) (kind : Kind) (x : Exchange) (o : Opti
 say-addressed me out kind x o a = go (first_said (is_of kind x (role_of me x)) out.state) refl o
   where
     go : (q : Option Datagram) → first_said (is_of kind x (role_of me x)) out.state ≡ q → (o : Option Body) → AllByRecursion IsAddressed (say_or_repeat me out x q o).sends
-    go (Some d) e o = all-snoc IsAddressed out.sends (partner_in me x, d) a (sym (is_of-to kind x (role_of me x) d.message (first_said-was (is_of kind x (role_of me x)) out.state d e).1))
+    go (Some d) e o = AllByRecursion-push IsAddressed out.sends (partner_in me x, d) a (sym (receiver-on kind x (role_of me x) d.message (first_said-was (is_of kind x (role_of me x)) out.state d e).1))
     go None e None = a
-    go None e (Some b) = all-snoc IsAddressed out.sends (partner_in me x, signed me (known me out.state) (message_to me x b)) a refl
+    go None e (Some b) = AllByRecursion-push IsAddressed out.sends (partner_in me x, signed me (known me out.state) (message_to me x b)) a refl
 
 if-addressed : (me : Member) (out : Out) (to : ℕ) (o : Option Body) → AllByRecursion IsAddressed out.sends → AllByRecursion IsAddressed (send_if me out to o).sends
 if-addressed me out to None a = a
-if-addressed me out to (Some b) a = all-snoc IsAddressed out.sends (to, unsigned (record { from = me.party; to = to; body = b })) a refl
+if-addressed me out to (Some b) a = AllByRecursion-push IsAddressed out.sends (to, unsigned (record { from = me.party; to = to; body = b })) a refl
 
 perform-addressed : (me : Member) (out : Out) (o : Order) → AllByRecursion IsAddressed out.sends → AllByRecursion IsAddressed (perform me out o).sends
 perform-addressed me out (Ask x) a = say-addressed me out _ x _ a

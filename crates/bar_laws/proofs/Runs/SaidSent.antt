@@ -24,11 +24,12 @@ use Rattle.bar_wire.specs.Inputs.{Input}
 use Rattle.bar_wire.specs.Inputs as event
 use Rattle.std.specs.Option.{option_or}
 use Rattle.std.specs.Bool.{then_some}
-use Rattle.std.proofs.Common.{◌≡◌, ℕ, ◌+◌, Bool, true, false, List, [], ◌∷◌, ◌++◌, refl, sym, ap, ◌∙◌, inl, inr}
+use Rattle.std.proofs.Common.{◌≡◌, ℕ, ◌+◌, Bool, true, false, List, [], ◌∷◌, ◌++◌, refl, ap, ◌∙◌, inl, inr}
 use Rattle.std.specs.Prelude.{Option, Some, None, ◌⊎◌, ◌||◌, map, cond, is_some, nat_le}
 use Rattle.std.specs.List.{list_any}
 use Rattle.std.proofs.Math.Bool.{or_comm}
 use Rattle.std.proofs.lemmas.List.Folds.{list_any-append}
+use Rattle.bar_window.proofs.Sets.{same_tests}
 use Rattle.bar_laws.proofs.Runs.RunSends.{any-said, run-sent}
 
 or-left : (a b : Bool) → a ≡ true → (a || b) ≡ true
@@ -177,15 +178,10 @@ module _ (p : Message → Bool) where
       later (inl h) = now (step-sent me log i h)
       later (inr h) = inr (any-back (λ s. p s.2.message) here behind h)
 
-both-ways : (a b : Bool) → (a ≡ true → b ≡ true) → (b ≡ true → a ≡ true) → a ≡ b
-both-ways true b f g = sym (f refl)
-both-ways false true f g = g refl
-both-ways false false f g = refl
-
 -- a key was sent exactly where one was said
 pub said-keys : (me : Member) (inputs : List Input) (x : Exchange) → key_was_sent me x (sends_of me inputs) ≡ has_said_of (known me (log_after me [] inputs)) kinds.Key x (role_of me x)
 said-keys me inputs x =
-    both-ways _ _
+    same_tests _ _
     (any-said (log_after me [] inputs) x (role_of me x) (sends_of me inputs) (run-sent me [] 1 inputs))
     (λ h. found (run-said (is_of kinds.Key x (role_of me x)) me [] 1 inputs h))
   where

@@ -15,13 +15,12 @@ use Rattle.bar_window.specs.declared.exchange.Exchange.{Exchange}
 use Rattle.bar_window.specs.declared.update.UpdateId.{UpdateId}
 use Rattle.bar_wire.specs.Datagram.{Datagram, Key, Briefcase, KeyGiven, is_signed, is_of, exchange_by}
 use Rattle.bar_laws.specs.Parties.{OpensWell}
-use Rattle.std.specs.Option.{option_or}
 use Rattle.std.proofs.Common.{◌≡◌, ◌∙◌, ℕ, Bool, true, false, [], ◌∷◌, ◌++◌, inr, refl, sym, ap, subst, eqb, ◌+◌, ◌&&◌}
-use Rattle.std.specs.Prelude.{Option, Some, None, is_some, option_and_then, slice_get, nat_le, Contains}
+use Rattle.std.specs.Prelude.{Some, option_and_then, slice_get, nat_le, Contains}
 use Rattle.std.proofs.lemmas.Bool.{and_from, eq-eqb}
 use Rattle.bar_laws.proofs.Logs.{IsEntry, allowed-at, IsLater, later-entry, WasHeard, first_heard-was, some-is, same_exchange_refl, same_role_refl, table-later, SaidIn, sender-on, receiver-on, party-on, party-over}
 use Rattle.bar_laws.proofs.Runs.{HeardIn, heard-in}
-use Rattle.bar_laws.proofs.Judging.{HeardBriefcase, heard-briefcase, key-row, heard-signed, signed-said, never-opens_bad, good-opening, has-block}
+use Rattle.bar_laws.proofs.Judging.{HeardBriefcase, heard-briefcase, key-row, heard-signed, signed-said, never-opens_bad, good-opening, has-block, or-second}
 use Rattle.bar_laws.proofs.Worlds.SoundWorlds.{IsSound}
 use Rattle.bar_laws.proofs.Worlds.Evictions.{list-is, agrees-with-stream}
 
@@ -36,17 +35,13 @@ said-by setup trusted w p q mine theirs d sound trust atp atq heard al signed fr
   refl,
 )
 
-some-or : {A : Type 0} (o p : Option A) → is_some p ≡ true → is_some (option_or o p) ≡ true
-some-or (Some a) p e = refl
-some-or None p e = e
-
 -- a key whose opening is good adds each promised update that is alive
 held-by-key : (me : Member) (before : Log) (d : Datagram) (k : KeyGiven) (c : Briefcase) (u : UpdateId) → d.message.body ≡ Key k
     → case_heard_from before (exchange_by k.round k.kind k.role d.message.from d.message.to) k.role ≡ Some c
     → is_good (opening_of me.session (table before) (exchange_by k.round k.kind k.role d.message.from d.message.to) c k.key) ≡ true
     → Contains (promised_updates me.session.cap c.terms c.role) u → is_alive me.session u.round (round_now before) ≡ true → is_held me.session (Heard d ∷ before) u ≡ true
 held-by-key me before d k c u body found good has alive =
-    some-or (block_of me.session before u) (block_in me.session before u (Heard d))
+    or-second (block_of me.session before u) (block_in me.session before u (Heard d))
     (rw (body, alive, found, good) (has-block me.session c k.key u has))
 
 pub key-opens-well : (setup : Setup) (trusted : ℕ → Bool) (w : World) (p q : ℕ) (mine theirs log0 before : Log) (d : Datagram) (k : KeyGiven) → IsSound setup trusted w → trusted 0 ≡ true → trusted q ≡ true → eqb p 0 ≡ false → eqb q 0 ≡ false

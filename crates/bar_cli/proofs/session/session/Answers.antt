@@ -1,6 +1,4 @@
 use Rattle.std.proofs.Common.{◌≡◌, ◌⊎◌, ◌∙◌, ◌==◌, Err, Some, [], IsTrue, refl, sym, ap, subst, inl, inr, rules, true≢false}
-use Rattle.bar_roster.specs.declared.fault.SessionFault.{SessionFault}
-use Rattle.bar_roster.specs.declared.fault.SessionFault.TheVariants.{NoMemory}
 use Rattle.std.proofs.lemmas.Result.{err_from_is_err_and}
 use Rattle.bar_outside.specs.Faults.{code_of_fault, fault_of_file}
 use Rattle.bar_outside.specs.Plan.{with_out}
@@ -16,6 +14,7 @@ use Rattle.bar_cli.specs.Printing.{session_may_print}
 use Rattle.bar_cli.specs.Refusals.{session_refused}
 use Rattle.bar_cli.specs.Session.{line_of_end}
 use Rattle.bar_cli.proofs.SessionLemmas.{outcome-late, outcome-prints, outcome-status}
+use Rattle.bar_cli.proofs.Alternatives.{second-stands}
 use Rattle.bar_cli.proofs.session.session.Goals as goal
 
 -- ---- its children ran
@@ -94,15 +93,10 @@ returns-in-Err-NoMemory-clause-ends g c = λ w. record {
 
 -- ---- the session is refused
 
--- a fault that isn't want of memory
-is-other : (fault : SessionFault) (P : Type 0) → (fault ≡ NoMemory) ⊎ P → (fault ≡ NoMemory → ⊥) → P
-is-other fault P (inl e) other = absurd (other e)
-is-other fault P (inr p) other = p
-
 pub returns : goal.returns
 returns g c =
     let refused : session_of c.in_ok-text.text.items ≡ Err c.in-Err.fault =
-    rw c.deref.ensures.value at (is-other c.in-Err.fault _ c.in-Err.ensures.err (search rules))
+    rw c.deref.ensures.value at (second-stands c.in-Err.ensures.err (search rules))
     in
     record {
       ends = λ w. record {

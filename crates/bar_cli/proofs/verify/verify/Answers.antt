@@ -1,11 +1,10 @@
-use Rattle.std.proofs.Common.{◌≡◌, ◌⊎◌, Err, refl, inl, inr, rules}
-use Rattle.bar_roster.specs.declared.fault.SessionFault.{SessionFault}
-use Rattle.bar_roster.specs.declared.fault.SessionFault.TheVariants.{NoMemory}
+use Rattle.std.proofs.Common.{◌≡◌, Err, refl, rules}
 use Rattle.std.proofs.lemmas.Result.{err_from_is_err_and}
 use Rattle.bar_outside.specs.Plan.{with_out}
 use Rattle.bar_outside.proofs.Ending.{EndsWith-reading, EndsWith-accepted, EndsWith-refused, EndsWith-ending, EndsWith-memory, EndsWith-unread}
 use Rattle.bar_cli.specs.Refusals.{session_refused}
 use Rattle.bar_session_files.specs.Accepting.{session_of}
+use Rattle.bar_cli.proofs.Alternatives.{second-stands}
 use Rattle.bar_cli.proofs.verify.verify.Goals as goal
 
 pub returns-in-Ok-clause-ends : goal.returns-in-Ok-clause-ends
@@ -27,15 +26,10 @@ returns-in-Err-NoMemory-clause-ends g c = λ w.
     (with_out w (g.K.Sink.stream c.args.out.now))
     _ c.in_ok-text.text _ _ c.in_ok-text.ensures (EndsWith-memory _ _)
 
--- a fault that isn't want of memory
-is-other : (fault : SessionFault) (P : Type 0) → (fault ≡ NoMemory) ⊎ P → (fault ≡ NoMemory → ⊥) → P
-is-other fault P (inl e) other = absurd (other e)
-is-other fault P (inr p) other = p
-
 pub returns : goal.returns
 returns g c =
     let told : session_of c.in_ok-text.text.items ≡ Err c.in-Err.fault =
-    rw c.deref.ensures.value at (is-other c.in-Err.fault _ c.in-Err.ensures.err (search rules))
+    rw c.deref.ensures.value at (second-stands c.in-Err.ensures.err (search rules))
     in
     record {
       ends = λ w.

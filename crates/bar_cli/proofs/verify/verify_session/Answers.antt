@@ -1,13 +1,12 @@
-use Rattle.std.proofs.Common.{◌≡◌, ◌⊎◌, Err, refl, inl, inr, rules}
+use Rattle.std.proofs.Common.{◌≡◌, Err, refl, rules}
 use Rattle.std.proofs.lemmas.Result.{err_from_is_err_and}
 use Rattle.bar_outside.specs.Plan.{with_files, with_out}
 use Rattle.bar_outside.proofs.Ending.{EndsWith-reading, EndsWith-accepted, EndsWith-refused, EndsWith-ending, EndsWith-memory, EndsWith-unread}
 use Rattle.bar_judge.specs.Verdicts.{plain_verdict}
-use Rattle.bar_proof.specs.declared.proof_fault.ProofFault.{ProofFault}
-use Rattle.bar_proof.specs.declared.proof_fault.ProofFault.TheVariants.{NoMemory}
 use Rattle.bar_cli.specs.Judge.Judging.{verdict_of_proof}
 use Rattle.bar_cli.specs.Refusals.{proof_refused}
 use Rattle.bar_cli.proofs.StatusLemmas.{proof-end}
+use Rattle.bar_cli.proofs.Alternatives.{second-stands}
 use Rattle.bar_cli.proofs.verify.verify_session.Goals as goal
 
 pub returns-in-Ok-clause-ends : goal.returns-in-Ok-clause-ends
@@ -33,15 +32,10 @@ returns-in-Err-NoMemory-clause-ends g c = λ w.
     (with_out w (g.K.Sink.stream c.args.out.now))
     _ c.in_ok-bytes.bytes _ _ c.in_ok-bytes.ensures (EndsWith-memory _ _)
 
--- a fault that isn't want of memory
-is-other : (fault : ProofFault) (P : Type 0) → (fault ≡ NoMemory) ⊎ P → (fault ≡ NoMemory → ⊥) → P
-is-other fault P (inl e) other = absurd (other e)
-is-other fault P (inr p) other = p
-
 pub returns-clause-ends : goal.returns-clause-ends
 returns-clause-ends g c = λ w.
     let told : verdict_of_proof c.args.session.now c.in_ok-bytes.bytes.items ≡ Err c.in-Err.fault =
-    rw c.deref.ensures.value at (is-other c.in-Err.fault _ c.in-Err.ensures.err (search rules))
+    rw c.deref.ensures.value at (second-stands c.in-Err.ensures.err (search rules))
     in
     EndsWith-reading _ _ (g.F.Files.disk c.args.files.now) (g.F.Files.disk c.read_file.new.files)
     (with_out w (g.K.Sink.stream c.args.out.now))

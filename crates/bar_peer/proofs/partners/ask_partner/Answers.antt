@@ -10,10 +10,11 @@ use Rattle.bar_rules.specs.Peer.Rules.{IsObedient}
 use Rattle.bar_rules.specs.Peer.Run.{Out, perform, perform_all}
 use Rattle.bar_rules.specs.Peer.Ticks.{asking_partner}
 use Rattle.bar_rules.specs.Secrets.{partner_of, seed_of}
+use Rattle.bar_laws.proofs.Logs.{role-initiator}
 use Rattle.bar_peer.specs.declared.order.Order.TheVariants as queued
 use Rattle.bar_peer.specs.Memory.{member_of}
 use Rattle.bar_peer.specs.Sending.{IsTimely, IsCarriedOut, Stands}
-use Rattle.bar_peer.proofs.Asked.{partner_is, none_asked, one_asked, asks_first, asks_timely, carried_stands}
+use Rattle.bar_peer.proofs.Asked.{partner_is, none_asked, one_asked, asks_timely, carried_stands}
 use Rattle.bar_peer.proofs.Growing.{grows}
 use Rattle.bar_peer.proofs.partners.ask_partner.Goals as goal
 
@@ -72,7 +73,7 @@ returns-then-ask-clause-stands c = λ out before same obedient h room.
     subst (λ (os : List Order). IsObedient me (perform_all me out os).state) (sym is) obedient
     in
     let done : IsCarriedOut me (record { kind = request_kind x.kind; x = x }) out after c.ask.result c.ask.new.self =
-    c.ask.ensures.carried_out out allowed h.tells now (asks_first me x first)
+    c.ask.ensures.carried_out out allowed h.tells now (role-initiator me x first)
     in
     subst (λ (os : List Order). Stands (perform_all me out os) c.ask.new.self c.push.new.self) is
     (carried_stands m c.ask.new.self c.args.orders.now c.push.new.self out after
@@ -126,7 +127,7 @@ returns-else-ask-clause-stands c = λ out before same obedient h room.
     subst (λ (os : List Order). IsObedient me (perform_all me out os).state) (sym is) obedient
     in
     let done : IsCarriedOut me (record { kind = request_kind x.kind; x = x }) out after c.ask.result c.ask.new.self =
-    c.ask.ensures.carried_out out allowed h.tells now (asks_first me x first)
+    c.ask.ensures.carried_out out allowed h.tells now (role-initiator me x first)
     in
     subst (λ (os : List Order). Stands (perform_all me out os) c.ask.new.self c.args.orders.now) is
     (carried_stands m c.ask.new.self c.args.orders.now c.args.orders.now out after

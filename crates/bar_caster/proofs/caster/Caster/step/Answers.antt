@@ -1,22 +1,18 @@
 -- An input before the last tick is taken; after it nothing changes, and nothing is sent.
-use Rattle.std.proofs.Common.{◌≡◌, ◌∙◌, ◌++◌, ◌∷◌, [], refl, sym, ap, subst, drop}
+use Rattle.std.proofs.Common.{◌∙◌, ◌++◌, ◌∷◌, [], refl, sym, ap, subst}
 use Rattle.std.proofs.lemmas.Bool.{false≢true}
-use Rattle.bar_core.specs.Orders.{left_in}
 use Rattle.bar_wire.specs.Inputs as event
 use Rattle.bar_wire.specs.Inputs.{plain_input}
 use Rattle.bar_wire.specs.declared.input.Input.{Input as RawInput}
 use Rattle.bar_rules.specs.Broadcaster.Sending.{caster_step}
 use Rattle.bar_laws.specs.Ignoring.{is_ignored_by_caster, is_unread}
+use Rattle.bar_core.proofs.Left.{all-left, nothing-left}
 use Rattle.bar_caster.specs.declared.memory.Memory.{Memory}
 use Rattle.bar_caster.specs.Ignoring.{IsAsBefore}
 use Rattle.bar_caster.specs.Memory.{member_of, stream_of}
-use Rattle.bar_caster.specs.Orders.{Orders}
 use Rattle.bar_caster.specs.StandsFor.{StandsFor, AreLeft, log_of}
 use Rattle.bar_caster.proofs.Stepped.{then_stands, then_sends, then_silent, over_stands, over_silent}
 use Rattle.bar_caster.proofs.caster.Caster.step.Goals as goal
-
-all_left : (o : Orders) → o.given ≡ 0 → left_in o ≡ o.list.items
-all_left o none = ap (λ n. drop n o.list.items) none
 
 pub returns-then-is_over-clause-stands : goal.returns-then-is_over-clause-stands
 returns-then-is_over-clause-stands g c inputs stood =
@@ -44,7 +40,7 @@ returns-in-Tick-clause-sends g c inputs stood =
     subst (λ (x : RawInput). AreLeft n o (inputs ++ plain_input x ∷ []) (caster_step (member_of m) (stream_of m) (log_of m inputs) (plain_input x)).sends)
     (sym c.in-Tick.is)
     (then_sends m n inputs event.Tick c.take_tick.ensures.same go stood o (c.take_tick.ensures.stands inputs stood)
-    (all_left o (c.take_tick.ensures.given ∙ c.clear.ensures.1)))
+    (all-left o (c.take_tick.ensures.given ∙ c.clear.ensures.1)))
 
 pub returns-in-Datagram-clause-stands : goal.returns-in-Datagram-clause-stands
 returns-in-Datagram-clause-stands g c inputs stood =
@@ -64,7 +60,7 @@ returns-in-Datagram-clause-sends g c inputs stood =
     subst (λ (x : RawInput). AreLeft n o (inputs ++ plain_input x ∷ []) (caster_step (member_of m) (stream_of m) (log_of m inputs) (plain_input x)).sends)
     (sym c.in-Datagram.is)
     (then_silent m n inputs (event.Datagram c.in-Datagram.bytes.now) c.take_datagram.ensures.same go stood o
-    (λ i. drop (c.clear.ensures.1 i) (c.clear.ensures.0 i)) refl)
+    (nothing-left o c.clear.ensures.0 c.clear.ensures.1) refl)
 
 as-before : (m : Memory) → IsAsBefore m m
 as-before m = record {
@@ -77,9 +73,6 @@ as-before m = record {
   notice = refl;
   evictions = refl;
 }
-
-cleared : (o : Orders) → o.list.items ≡ [] → o.given ≡ 0 → left_in o ≡ []
-cleared o none first = λ i. drop (first i) (none i)
 
 pub returns-then-is_over-clause-unread : goal.returns-then-is_over-clause-unread
 returns-then-is_over-clause-unread g c unread = record { memory = as-before c.args.self.now.memory; sends = c.requires.sends }
@@ -101,7 +94,7 @@ returns-in-Datagram-clause-unread g c unread =
     record {
       memory = c.take_datagram.ensures.unread
           (ap (λ (x : RawInput). is_unread c.args.self.now.memory.session (plain_input x)) (sym c.in-Datagram.is) ∙ unread);
-      sends = cleared c.clear.new.self c.clear.ensures.0 c.clear.ensures.1;
+      sends = nothing-left c.clear.new.self c.clear.ensures.0 c.clear.ensures.1;
     }
 
 pub returns-in-Datagram-clause-ignored : goal.returns-in-Datagram-clause-ignored
@@ -110,5 +103,5 @@ returns-in-Datagram-clause-ignored g c inputs stood ignored =
     record {
       memory = c.take_datagram.ensures.ignored (log_of m inputs) stood
           (ap (λ (x : RawInput). is_ignored_by_caster (member_of m) (stream_of m) (log_of m inputs) (plain_input x)) (sym c.in-Datagram.is) ∙ ignored);
-      sends = cleared c.clear.new.self c.clear.ensures.0 c.clear.ensures.1;
+      sends = nothing-left c.clear.new.self c.clear.ensures.0 c.clear.ensures.1;
     }

@@ -1,4 +1,4 @@
-use Rattle.std.proofs.Common.{◌≡◌, ◌≤◌, ◌∙◌, ℕ, [], map, Some, true, false, refl, sym, ap, subst, arith, drop}
+use Rattle.std.proofs.Common.{◌≡◌, ◌≤◌, ◌∙◌, ℕ, [], map, Some, true, false, refl, sym, ap, subst, arith}
 use Rattle.std.proofs.lemmas.Bool.{false≢true}
 use Rattle.bar_wire.specs.Datagram.{Datagram}
 use Rattle.bar_wire.specs.Inputs.{Input}
@@ -12,9 +12,9 @@ use Rattle.bar_wire.specs.Inputs.{plain_input}
 use Rattle.bar_rules.specs.Member.{Member}
 use Rattle.bar_rules.specs.Peer.Log.{Log}
 use Rattle.bar_rules.specs.Peer.Run.{Out, log_after, step}
-use Rattle.bar_peer.specs.Orders.{Orders}
 use Rattle.bar_peer.specs.Memory.{member_of, Tells}
 use Rattle.bar_core.specs.Orders.{left_in}
+use Rattle.bar_core.proofs.Left.{all-left, nothing-left}
 use Rattle.bar_peer.specs.StandsFor.{contents_left}
 use Rattle.bar_peer.proofs.Stepped.{log-more, over-stands, none-left, obeys-now, then-stands, then-sends, PlaysNow, tick-step, datagram-step}
 use Rattle.bar_peer.proofs.peer.Peer.step.Goals as goal
@@ -22,9 +22,6 @@ use Rattle.bar_peer.proofs.peer.Peer.step.Goals.{then-is_tick, else-is_tick}
 
 room : {most old new : ℕ} → most ≤ old → new ≡ old → most ≤ new
 room most e = omega (arith, most, e)
-
-all-left : (o : Orders) → o.given ≡ 0 → left_in o ≡ o.list.items
-all-left o e = ap (λ (n : ℕ). drop n o.list.items) e
 
 pub returns-then-is_over-clause-stands : goal.returns-then-is_over-clause-stands
 returns-then-is_over-clause-stands g c inputs stood =
@@ -87,9 +84,6 @@ pub returns-then-is_over-clause-ignored : goal.returns-then-is_over-clause-ignor
 returns-then-is_over-clause-ignored g c inputs stood ignored =
     record { memory = refl; sends = c.requires.sends; contents = c.requires.contents }
 
-cleared : (o : Orders) → o.list.items ≡ [] → o.given ≡ 0 → left_in o ≡ []
-cleared o none first = λ i. drop (first i) (none i)
-
 no-tick : (s : SessionData) (input : Input) → is_tick input ≡ true → false ≡ is_unread s input
 no-tick s event.Tick e = refl
 no-tick s (event.Datagram bytes) e = absurd (cc)
@@ -100,7 +94,7 @@ returns-clause-unread g c unread =
     let same = c.take_input.ensures.unread unread in (
       record {
         memory = same.0;
-        sends = ap left_in same.1 ∙ cleared c.clear.new.self c.clear.ensures.0 c.clear.ensures.1;
+        sends = ap left_in same.1 ∙ nothing-left c.clear.new.self c.clear.ensures.0 c.clear.ensures.1;
         contents = elim c.if-is_tick.branch [
           | then-is_tick w ↦ absurd (false≢true (no-tick s (plain_input c.args.input) (sym c.is_tick-is_tick.ensures ∙ w.if-is_tick.true) ∙ unread))
           | else-is_tick w ↦ ap (contents_left c.take_input.new.memory.store) w.self-is ∙ w.none-self.ensures c.take_input.new.memory.store
