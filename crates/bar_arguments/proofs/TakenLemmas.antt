@@ -1,10 +1,10 @@
 -- Words that are taken give each option its value.
-use Rattle.std.proofs.Common.{option_and_then, option_map, inl, inr, ◌≡◌, ◌∙◌, ◌&&◌, ◌||◌, ap, refl, sym, subst, arith, ℕ, zero, suc, Bool, true, false, cond, not, List, [], ◌∷◌, ◌++◌, map, length, Option, Some, None, is_some, true≢false}
+use Rattle.std.proofs.Common.{option_and_then, option_map, inl, inr, ◌≡◌, ◌∙◌, ◌&&◌, ap, refl, sym, subst, arith, ℕ, zero, suc, Bool, true, false, cond, not, List, [], ◌∷◌, ◌++◌, map, length, Option, Some, None, is_some, true≢false}
 use Rattle.std.specs.Prelude.{find, slice_get, fold, drop, encode_utf8}
 use Rattle.std.specs.List.{list_all, list_any}
 use Rattle.std.specs.Option.{option_map_or}
 use Rattle.std.specs.Str.{bytes_eq, chars}
-use Rattle.std.proofs.lemmas.Bool.{and_parts, cases_Bool}
+use Rattle.std.proofs.lemmas.Bool.{and_parts, cases_Bool, and_from, or_parts, not-false}
 use Rattle.std.proofs.lemmas.Bool.Decides.{nat_tests}
 use Rattle.clap.specs.Lexer.{long_of, short_of}
 use Rattle.clap.specs.Walk.{Held, Outcome, Row, Rule, Step, Text, Waiting, Walk, after_flag, after_step, arg_by_id, arg_by_index, arg_by_long, arg_by_short, at_row, bundle_met, done, finished, first_of, is_empty, more_values, nothing_held, option_word, plain, plain_word, reading_by, settled, settled_rows, takes_values, used, waits, walk, walk_from, walked, with_default, without, word_met, has_row, idle, option, positional, next, value, trailing, subcommand}
@@ -37,9 +37,6 @@ has_value r = not (is_empty r.values)
 abbrev Valued : List Row → Type 0
 Valued rows = list_all has_value rows ≡ true
 
-both : (a b : Bool) → a ≡ true → b ≡ true → (a && b) ≡ true
-both a b e f = rw (e, f) refl
-
 longer : (xs : List Text) (v : Text) (vs : List Text) → not (is_empty (xs ++ v ∷ vs)) ≡ true
 longer [] v vs = grind (arith, nat_tests)
 longer (x ∷ xs) v vs = grind (arith, nat_tests)
@@ -52,11 +49,11 @@ row-changed id change missing (r ∷ rows) changed absent h =
   where
     joined : (xs ys : List Row) → Valued xs → Valued ys → Valued (xs ++ ys)
     joined [] ys a b = b
-    joined (x ∷ xs) ys a b = let p = and_parts (has_value x) (list_all has_value xs) a in both (has_value x) _ p.0 (joined xs ys p.1 b)
+    joined (x ∷ xs) ys a b = let p = and_parts (has_value x) (list_all has_value xs) a in and_from (has_value x) _ p.0 (joined xs ys p.1 b)
 
     go : (b : Bool) → Valued (at_row id change missing rows) → Valued (cond b (change r ++ rows) (r ∷ at_row id change missing rows))
     go true rest = joined (change r) rows (changed r) (and_parts (has_value r) (list_all has_value rows) h).1
-    go false rest = both (has_value r) _ (and_parts (has_value r) (list_all has_value rows) h).0 rest
+    go false rest = and_from (has_value r) _ (and_parts (has_value r) (list_all has_value rows) h).0 rest
 
 -- ---- rules
 
@@ -77,7 +74,7 @@ used-valued : (name : Text) (again : Bool) (values : List Text) (rows : List Row
     → Valued (used (built_rule name) values rows)
 used-valued name again [] rows fault h = absurd cc
 used-valued name again (v ∷ vs) rows fault h =
-    row-changed name (more_values CommandLine (v ∷ vs)) (record { id = name; values = v ∷ vs; count = None; source = Some CommandLine; reading = reading_by (built_rule name) } ∷ []) (without name rows) (λ r. both (not (is_empty (r.values ++ v ∷ vs))) true (longer r.values v vs) refl) (both (not (is_empty (v ∷ vs))) true (longer [] v vs) refl)
+    row-changed name (more_values CommandLine (v ∷ vs)) (record { id = name; values = v ∷ vs; count = None; source = Some CommandLine; reading = reading_by (built_rule name) } ∷ []) (without name rows) (λ r. and_from (not (is_empty (r.values ++ v ∷ vs))) true (longer r.values v vs) refl) (and_from (not (is_empty (v ∷ vs))) true (longer [] v vs) refl)
     (row-changed name (λ _. []) [] rows (λ r. refl) refl h)
 
 module _ (names : List Text) (again : Bool) where
@@ -243,20 +240,12 @@ given-value name (r ∷ rows) valued given =
     go true t given parts rest = rw t (some-first r.values parts.0)
     go false t given parts rest = let given_is = rw t at given in rw t (rest given_is)
 
-or-parts : (a b : Bool) → (a || b) ≡ false → (a ≡ false) × (b ≡ false)
-or-parts true b h = absurd (true≢false h)
-or-parts false b h = (refl, h)
-
-not-false : (a : Bool) → not a ≡ false → a ≡ true
-not-false true h = refl
-not-false false h = absurd (true≢false h)
-
 all-given : (rows : List Row) (names : List Text) → Valued rows → list_any (λ (a : Rule). a.required && not (is_given a.id rows)) (map built_rule names) ≡ false
     → list_all (λ name. is_some (first_of name rows)) names ≡ true
 all-given rows [] valued none = refl
 all-given rows (name ∷ names) valued none =
-    let parts = or-parts (not (is_given name rows)) (list_any (λ (a : Rule). a.required && not (is_given a.id rows)) (map built_rule names)) none in
-    both (is_some (first_of name rows)) _ (given-value name rows valued (not-false (is_given name rows) parts.0)) (all-given rows names valued parts.1)
+    let parts = or_parts (not (is_given name rows)) (list_any (λ (a : Rule). a.required && not (is_given a.id rows)) (map built_rule names)) none in
+    and_from (is_some (first_of name rows)) _ (given-value name rows valued (not-false (is_given name rows) parts.0)) (all-given rows names valued parts.1)
 
 no-kinds : (a b d : Bool) → check_kinds a b d ≡ [] → d ≡ false
 no-kinds true b d h = absurd cc

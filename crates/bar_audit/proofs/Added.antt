@@ -12,20 +12,21 @@ use Rattle.bar_window.specs.declared.exchange.Exchange.{Exchange}
 use Rattle.bar_window.specs.declared.exchange.Role.{Role}
 use Rattle.bar_window.specs.declared.exchange.Role.TheVariants.{Initiator, Responder}
 use Rattle.bar_window.specs.Exchange.{same_exchange, other_role, party_on}
+use Rattle.bar_window.proofs.Exchanges.{same_exchange-is, same_exchange_refl}
 use Rattle.bar_wire.specs.Datagram.{Briefcase}
 use Rattle.bar_wire.specs.Inputs.{Input}
 use Rattle.bar_rules.specs.Member.{Session}
+use Rattle.bar_rules.specs.Peer.Exchanges.{IsRising}
 use Rattle.bar_audit.specs.declared.audit.Audit.{Audit}
 use Rattle.bar_audit.specs.declared.fault.AuditFault.{AuditFault}
 use Rattle.bar_audit.specs.declared.fault.AuditFault.TheVariants.{Twice}
 use Rattle.bar_audit.specs.Audits.{Audits}
-use Rattle.bar_audit.specs.Exchanges.{IsRising, AreRecorded, is_found, is_recorded}
+use Rattle.bar_audit.specs.Exchanges.{AreRecorded, is_found, is_recorded}
 use Rattle.bar_audit.specs.Findings.{case_at, has_side, has_exchange, has_number, are_given, is_kept, AreKeptWindows, KeepsExchanges}
 use Rattle.bar_audit.specs.Found.{Promised, promised_by, case_in, has_key_in, case_from, has_key_from}
 use Rattle.bar_audit.specs.Given.{GivesCases, GivesKeys}
 use Rattle.bar_audit.specs.Recordings.{Recording, inputs_of, is_given}
 use Rattle.bar_audit.specs.Sides.{side_at}
-use Rattle.bar_laws.proofs.Logs.{same_exchange-is, same_exchange_refl}
 use Rattle.bar_audit.proofs.Lists.{contains-filter, filter-contains, contains-any}
 
 -- ---- whose recordings are given

@@ -14,33 +14,18 @@ use Rattle.bar_wire.specs.Inputs.{Input}
 use Rattle.bar_wire.specs.declared.kind.Kind.{Kind}
 use Rattle.bar_wire.specs.declared.kind.Kind.TheVariants as kinds
 use Rattle.bar_rules.specs.Member.{Session}
-use Rattle.bar_rules.specs.Peer.Exchanges.{inserted, precedes}
-use Rattle.bar_ledger.proofs.Inserted.{precedes-chain, precedes-not_same, precedes-total}
-use Rattle.bar_audit.specs.Exchanges.{AreRecorded, IsRising, is_found, is_recorded}
+use Rattle.bar_rules.specs.Peer.Exchanges.{inserted, precedes, IsRising}
+use Rattle.bar_rules.proofs.Inserted.{precedes-not_same, precedes-chain}
+use Rattle.bar_rules.proofs.Rising.{inserted-rising}
+use Rattle.bar_audit.specs.Exchanges.{AreRecorded, is_found, is_recorded}
 use Rattle.bar_audit.specs.Found.{is_case, is_key, case_in, has_key_in, case_from, has_key_from}
 use Rattle.bar_audit.specs.Listed.{exchanges_in, exchanges_named, in_order, recorded}
 use Rattle.bar_audit.specs.Recordings.{Recording, datagrams_in, inputs_of}
-use Rattle.bar_laws.proofs.Logs.{same_exchange-is, same_exchange_refl}
 use Rattle.bar_window.proofs.Ranges.{Contains-later}
-use Rattle.bar_laws.proofs.Memory.{all-inserted}
+use Rattle.bar_window.proofs.Exchanges.{same_exchange-is, same_exchange_refl}
 use Rattle.bar_audit.proofs.Lists.{IsFound, any-found, contains-cases, contains-filter, contains-here, filter-contains, find-found, mapped}
 
 -- ---- one more is put into a rising list
-
-all-further : (x y : Exchange) (ys : List Exchange) → precedes x y ≡ true → AllByRecursion (λ z. precedes y z ≡ true) ys
-    → AllByRecursion (λ z. precedes x z ≡ true) ys
-all-further x y [] p h = tt
-all-further x y (z ∷ ys) p h = (precedes-chain x y z p h.0, all-further x y ys p h.1)
-
-inserted-rising : (x : Exchange) (xs : List Exchange) → IsRising xs → IsRising (inserted x xs)
-inserted-rising x [] h = (tt, tt)
-inserted-rising x (y ∷ ys) h = go (same_exchange x y) (precedes x y) refl refl (inserted-rising x ys h.1)
-  where
-    go : (a b : Bool) → same_exchange x y ≡ a → precedes x y ≡ b → IsRising (inserted x ys)
-        → IsRising (cond a (y ∷ ys) (cond b (x ∷ y ∷ ys) (y ∷ inserted x ys)))
-    go true b e f w = h
-    go false true e f w = ((f, all-further x y ys f h.0), h)
-    go false false e f w = (all-inserted (λ z. precedes y z ≡ true) x ys (precedes-total x y e f) h.0, w)
 
 in_order-rising : (xs : List Exchange) → IsRising (in_order xs)
 in_order-rising [] = tt

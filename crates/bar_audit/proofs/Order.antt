@@ -7,8 +7,7 @@ use Rattle.std.specs.declared.cmp.Ordering.{Ordering}
 use Rattle.std.specs.declared.cmp.Ordering.TheVariants.{Less}
 use Rattle.std.proofs.lemmas.Map.Keys.{sorted_head, sorted_tail}
 use Rattle.bar_window.specs.declared.exchange.Exchange.{Exchange}
-use Rattle.bar_rules.specs.Peer.Exchanges.{precedes}
-use Rattle.bar_audit.specs.Exchanges.{IsRising}
+use Rattle.bar_rules.specs.Peer.Exchanges.{precedes, IsRising}
 
 pub rising-from : (cmp : Exchange → Exchange → Ordering) → ((x y : Exchange) → is_lt (cmp x y) ≡ precedes x y) → (xs : List Exchange)
     → IsStrictlySortedBy cmp xs → IsRising xs

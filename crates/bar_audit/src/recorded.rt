@@ -1,6 +1,6 @@
 //! Which exchanges are recorded.
 ghost use Rattle.std.specs.Prelude.{◌≡◌, ◌<◌, ◌^◌, filter, OnOk, vec_len};
-ghost use Rattle.bar_audit.specs.Exchanges.{IsRising};
+ghost use Rattle.bar_rules.specs.Peer.Exchanges.{IsRising};
 ghost use Rattle.bar_audit.specs.Findings.{are_given, has_number};
 
 use crate::findings::NoMemory;

@@ -24,8 +24,9 @@ use Rattle.bar_exchange.specs.Parts.{with_heard_part}
 use Rattle.bar_exchange.proofs.Hearing.{HearsFirst, hears_first}
 use Rattle.bar_exchange.proofs.One.{RecallsOne}
 use Rattle.bar_exchange.proofs.PartKept.{part_said}
-use Rattle.bar_exchange.proofs.Places.{no_more, first_one, not_of_kind, is_of_itself}
+use Rattle.bar_exchange.proofs.Places.{first_one, not_of_kind, is_of_itself}
 use Rattle.bar_exchange.proofs.Same.{body_same}
+use Rattle.bar_bytes.proofs.Options.{or-untold}
 
 -- what is kept by the responder of a balanced exchange, which didn't hear the DIVULGE
 abbrev pub of_responder : List ℕ → Window → Window → Kept → Kept
@@ -72,4 +73,4 @@ divulge_one me k d x bytes nonce old_nonce ha old_ha hb r kept kind first h = re
         → body_on me (learned me d k (Divulge r nonce (members ha))) other x role ≡ body_on me k other x role
     stays other role apart =
         body_same me k (learned me d k (Divulge r nonce (members ha))) other x role refl
-        (no_more (k.heard other x role) (is_of other x role d.message) d (not_of_kind d.message other (ap (λ kind. same_datagram kind other) first.kind_is ∙ apart) x role))
+        (or-untold (k.heard other x role) (is_of other x role d.message) d (not_of_kind d.message other (ap (λ kind. same_datagram kind other) first.kind_is ∙ apart) x role))

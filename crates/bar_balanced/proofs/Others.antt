@@ -1,10 +1,8 @@
 -- Of the other kinds nothing is written in a balanced exchange.
-use Rattle.std.proofs.Common.{◌≡◌, ◌∙◌, None, refl, ap, arith}
+use Rattle.std.proofs.Common.{◌≡◌, ◌∙◌, None, refl, ap}
 use Rattle.std.specs.Prelude.{option_map}
 use Rattle.bar_window.specs.declared.exchange.Exchange.{Exchange}
 use Rattle.bar_window.specs.declared.exchange.XKind.TheVariants.{Balanced}
-use Rattle.bar_window.specs.Exchange.{kind_code}
-use Rattle.bar_window.specs.Terms.{Terms}
 use Rattle.bar_window.specs.Terms as forms
 use Rattle.bar_wire.specs.Datagram.{Query, Reply}
 use Rattle.bar_wire.specs.declared.kind.Kind.{Kind}
@@ -16,16 +14,9 @@ use Rattle.bar_rules.specs.Peer.Knowledge.{Knowledge}
 use Rattle.bar_rules.specs.Peer.Writing.{body_now}
 use Rattle.bar_ledger.specs.declared.ledger.Ledger.{Ledger}
 use Rattle.bar_ledger.specs.Lookups.{knows_offer, knows_answer, offer_of, reply_of}
-use Rattle.bar_ledger.specs.Recalls.{Recalls, kind_of_terms}
+use Rattle.bar_ledger.specs.Recalls.{Recalls}
 use Rattle.bar_exchange.proofs.Knowing.{no_part}
-
-no_offer : (t : Terms) → kind_of_terms t ≡ Balanced → offer_of t ≡ None
-no_offer (forms.Balanced nonce ha hb) e = refl
-no_offer (forms.Push young aged want give junk) e = absurd (omega (arith, ap kind_code e))
-
-no_reply : (t : Terms) → kind_of_terms t ≡ Balanced → reply_of t ≡ None
-no_reply (forms.Balanced nonce ha hb) e = refl
-no_reply (forms.Push young aged want give junk) e = absurd (omega (arith, ap kind_code e))
+use Rattle.bar_exchange.proofs.Begun.{no_offer, no_reply}
 
 pub no_body : (me : Member) (k : Knowledge) (l : Ledger) (x : Exchange) (kind : Kind) → Recalls me k l → IsRecent me k x.round → x.kind ≡ Balanced
     → (kind ≡ kinds.Request → ⊥) → (kind ≡ kinds.Response → ⊥) → (kind ≡ kinds.Divulge → ⊥) → (kind ≡ kinds.Case → ⊥)

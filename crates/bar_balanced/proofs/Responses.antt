@@ -24,8 +24,9 @@ use Rattle.bar_exchange.proofs.Hearing.{HearsFirst, hears_first}
 use Rattle.bar_exchange.proofs.Learned.{AddsHeard}
 use Rattle.bar_exchange.proofs.One.{RecallsOne}
 use Rattle.bar_exchange.proofs.PartKept.{part_said, none_either}
-use Rattle.bar_exchange.proofs.Places.{no_more, first_one, not_of_kind, is_of_itself}
+use Rattle.bar_exchange.proofs.Places.{first_one, not_of_kind, is_of_itself}
 use Rattle.bar_exchange.proofs.Same.{body_same, other_body}
+use Rattle.bar_bytes.proofs.Options.{or-untold}
 
 -- what is kept by the initiator of a balanced exchange, whose REQUEST is said
 abbrev pub of_initiator : List ℕ → Window → Window → Kept → Kept
@@ -65,4 +66,4 @@ response_one me k new d x bytes nonce ha before hb r kept a body mine kind first
     stays : (other : Kind) (role : Role) → same_datagram kinds.Response other ≡ false → body_on me new other x role ≡ body_on me k other x role
     stays other role apart =
         body_same me k new other x role (a.said other x role)
-        (a.heard other x role ∙ no_more (k.heard other x role) (is_of other x role d.message) d (not_of_kind d.message other (ap (λ kind. same_datagram kind other) first.kind_is ∙ apart) x role))
+        (a.heard other x role ∙ or-untold (k.heard other x role) (is_of other x role d.message) d (not_of_kind d.message other (ap (λ kind. same_datagram kind other) first.kind_is ∙ apart) x role))

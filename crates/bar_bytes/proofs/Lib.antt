@@ -1,2 +1,4 @@
 pub mod Lengths
 pub mod EmptyRooms
+pub mod Tests
+pub mod Options

@@ -1,9 +1,8 @@
 -- What was sealed opens with its own key to what it was, and so shows nothing broken.
-use Rattle.std.proofs.Common.{◌≡◌, ℕ, ◌+◌, ◌*◌, true, false, List, [], ◌∷◌, ◌++◌, length, take, drop, map, refl, sym, ap, ◌∙◌, subst, inl, inr, arith, length-append, length-drop}
-use Rattle.std.specs.Prelude.{Option, Some, None, ◌⊎◌, bytes_eq, unwrap_or, position}
+use Rattle.std.proofs.Common.{◌≡◌, ℕ, ◌+◌, ◌*◌, false, List, [], ◌∷◌, ◌++◌, length, take, drop, map, refl, sym, ap, ◌∙◌, subst, inl, inr, arith, length-append, length-drop}
+use Rattle.std.specs.Prelude.{Option, Some, None, ◌⊎◌, unwrap_or, position}
 use Rattle.std.specs.List.{AllByRecursion, range_with_len, position_or_len}
 use Rattle.std.proofs.Math.Seq.{take-append_seam, drop-append_seam}
-use Rattle.std.proofs.lemmas.Slice.Eq.{bytes_eq-Decides}
 use Rattle.sha2.specs.Sha256.{sha256}
 use Rattle.bar_window.specs.declared.update.UpdateId.{UpdateId}
 use Rattle.bar_window.specs.declared.exchange.Exchange.{Exchange}
@@ -22,14 +21,12 @@ use Rattle.bar_case.proofs.Stream.{length_keystream}
 use Rattle.bar_case.proofs.Xor.{xor_twice, length_xor}
 use Rattle.bar_case.proofs.Laid.{promise_len}
 use Rattle.bar_case.proofs.Opens.{found_none}
+use Rattle.bar_bytes.proofs.Tests.{bytes_eq-refl}
 
 -- an item is held and told, where it is an update
 abbrev IsToldItem : Table → (UpdateId → Option (List ℕ)) → Item → Type 0
 IsToldItem table blocks (Update u) = IsTold table blocks u
 IsToldItem table blocks (Junk t) = Unit {0}
-
-same_bytes : (xs : List ℕ) → bytes_eq xs xs ≡ true
-same_bytes xs = (bytes_eq-Decides xs xs).1 refl
 
 told_len : (table : Table) (blocks : UpdateId → Option (List ℕ)) (junk : List ℕ) (item : Item) → IsToldItem table blocks item → length (item_bytes junk blocks item) ≡ item_len item
 told_len table blocks junk (Update u) h = ap (λ (b : Option (List ℕ)). length (unwrap_or b [])) h.held ∙ h.whole
@@ -37,7 +34,7 @@ told_len table blocks junk (Junk t) h = length-drop (1280 * t) (keystream junk (
 
 told_finding : (table : Table) (blocks : UpdateId → Option (List ℕ)) (junk : List ℕ) (item : Item) → IsToldItem table blocks item
     → is_broken (item_finding table junk item (item_bytes junk blocks item)) ≡ false
-told_finding table blocks junk (Junk t) h = ap (λ b. is_broken (sound_if b)) (same_bytes (junk_item junk t))
+told_finding table blocks junk (Junk t) h = ap (λ b. is_broken (sound_if b)) (bytes_eq-refl (junk_item junk t))
 told_finding table blocks junk (Update u) h = go h.told
   where
     bytes : unwrap_or (blocks u) [] ≡ h.block
@@ -45,7 +42,7 @@ told_finding table blocks junk (Update u) h = go h.told
 
     go : (digest_of table u ≡ NoManifest) ⊎ (digest_of table u ≡ Known (sha256 h.block)) → is_broken (digest_finding (digest_of table u) (unwrap_or (blocks u) [])) ≡ false
     go (inl e) = ap (λ d. is_broken (digest_finding d (unwrap_or (blocks u) []))) e
-    go (inr e) = ap (λ d. is_broken (digest_finding d (unwrap_or (blocks u) []))) e ∙ rw bytes (ap (λ b. is_broken (sound_if b)) (same_bytes (sha256 h.block)))
+    go (inr e) = ap (λ d. is_broken (digest_finding d (unwrap_or (blocks u) []))) e ∙ rw bytes (ap (λ b. is_broken (sound_if b)) (bytes_eq-refl (sha256 h.block)))
 
 -- no finding is broken
 told_findings : (table : Table) (blocks : UpdateId → Option (List ℕ)) (junk : List ℕ) (items : List Item) → AllByRecursion (IsToldItem table blocks) items

@@ -19,10 +19,10 @@ use Rattle.bar_rules.specs.Member.{Member, Session}
 use Rattle.bar_rules.specs.Peer.Log.{Log, Entry, Ticked, Heard, Said, Kept, first_said, has_kind_and_round, if_passes, kept, kept_in}
 use Rattle.bar_rules.specs.Peer.Log.{round_now, said_in, ticks}
 use Rattle.bar_laws.specs.Broadcasting.{SignsOnce}
-use Rattle.bar_laws.proofs.Logs.{or-none}
 use Rattle.bar_caster.specs.declared.evictions.Evictions.{Evictions}
 use Rattle.bar_caster.specs.Evictions.{AreOfLog}
 use Rattle.bar_caster.specs.Ticking.{begins_round, begun_round}
+use Rattle.bar_bytes.proofs.Options.{or-none}
 
 -- ---- what was said
 

@@ -8,6 +8,7 @@ use Rattle.std.specs.Bool.{then_some}
 use Rattle.std.proofs.lemmas.List.{append-nil, drop_at, nil_from_length}
 use Rattle.bar_bytes.specs.declared.rooms.Rooms.{Rooms}
 use Rattle.bar_bytes.specs.Rooms.{kept_in}
+use Rattle.bar_bytes.proofs.Options.{or-none}
 use Rattle.bar_terms.specs.declared.table.Table.{Table}
 use Rattle.bar_terms.specs.Table.{digests_of}
 use Rattle.bar_terms.specs.Table as tables
@@ -36,7 +37,6 @@ use Rattle.bar_judge.specs.declared.verdicts.Verdict.TheVariants as verdicts
 use Rattle.bar_judge.specs.Verdicts.{plain_verdict}
 use Rattle.bar_laws.specs.Broadcasting.{ShownIsShort}
 use Rattle.bar_laws.specs.Ignoring.{evicts, is_news}
-use Rattle.bar_laws.proofs.Logs.{or-none}
 use Rattle.bar_caster.specs.declared.evictions.Evictions.{Evictions}
 use Rattle.bar_caster.specs.declared.memory.Memory.{Memory}
 use Rattle.bar_caster.specs.Evictions.{AreOfLog}

@@ -1,23 +1,22 @@
 -- The evicted peers of rooms and of a log.
-use Rattle.std.proofs.Common.{◌≡◌, ◌∙◌, ℕ, zero, suc, ◌+◌, ◌==◌, ◌++◌, Bool, true, false, List, [], ◌∷◌, Option, Some, None}
+use Rattle.std.proofs.Common.{◌≡◌, ◌∙◌, ℕ, zero, suc, ◌+◌, ◌==◌, ◌++◌, Bool, true, false, List, [], ◌∷◌, Some, None}
 use Rattle.std.proofs.Common.{is_some, refl, sym, ap, subst, arith, inl, inr}
-use Rattle.std.specs.Prelude.{filter, option_copied, option_map, if◌then◌else◌}
+use Rattle.std.specs.Prelude.{filter, option_map, if◌then◌else◌}
 use Rattle.std.specs.Option.{option_or}
 use Rattle.std.specs.Bool.{then_some}
-use Rattle.std.specs.Borrow.{Bor}
 use Rattle.std.specs.List.{range_with_len}
 use Rattle.std.proofs.lemmas.Bool.{eq-eqb, ne_eqb, cases_eq}
 use Rattle.std.proofs.lemmas.List.{map-id, append-nil}
 use Rattle.std.proofs.lemmas.List.FromFn.{filter_of_map_range_with_len_more}
 use Rattle.bar_bytes.specs.declared.rooms.Rooms.{Rooms}
 use Rattle.bar_bytes.specs.Rooms.{kept_in}
+use Rattle.bar_bytes.proofs.Options.{or-none, some-mapped}
 use Rattle.bar_window.proofs.Ranges.{filter_agree_from}
 use Rattle.bar_wire.specs.Evidence.{evidence_bytes}
 use Rattle.bar_wire.specs.Grammar.{IsPeer}
 use Rattle.bar_rules.specs.Member.{Session}
 use Rattle.bar_rules.specs.Peer.Log.{Log, Kept, kept}
 use Rattle.bar_rules.specs.Broadcaster.Sending.{evicted}
-use Rattle.bar_laws.proofs.Logs.{or-none}
 use Rattle.bar_caster.specs.declared.evictions.Evictions.{Evictions}
 use Rattle.bar_caster.specs.Evictions.{AreOfLog}
 use Rattle.bar_caster.specs.Listed.{peers_with_evidence}
@@ -40,14 +39,6 @@ pub listed-skip : (rooms : Rooms) (n : ℕ) → is_some (kept_in rooms (n + 1)) 
 listed-skip rooms n is = sym (append-nil (peers_with_evidence rooms n)) ∙ sym (one_more (λ q. is_some (kept_in rooms q)) n false is)
 
 -- ---- what a log keeps
-
-some_mapped : {X Y : Type 0} (f : X → Y) (o : Option X) → is_some (option_map f o) ≡ is_some o
-some_mapped f None = refl
-some_mapped f (Some v) = refl
-
-pub some-copied : {X : Type 0} (o : Option (Bor X)) → is_some (option_copied o) ≡ is_some o
-some-copied None = refl
-some-copied (Some v) = refl
 
 pub kept_here : (log : Log) (q : ℕ) (ev : List (List ℕ)) → kept log q ≡ None → kept (Kept q ev ∷ log) q ≡ Some ev
 kept_here log q ev none = λ i. option_or (none i) (then_some (eq-eqb q q refl i) ev)
@@ -93,7 +84,7 @@ listed_so : (s : Session) (rooms : Rooms) (log : Log)
     → peers_with_evidence rooms s.shape.peers ≡ evicted s log
 listed_so s rooms log is =
     filter_agree_from (λ q. is_some (kept_in rooms q)) (λ q. is_some (kept log q)) 1 s.shape.peers
-    (λ p low high. ap is_some (is p (omega (arith, low), omega (arith, high))) ∙ some_mapped evidence_bytes (kept log p))
+    (λ p low high. ap is_some (is p (omega (arith, low), omega (arith, high))) ∙ some-mapped evidence_bytes (kept log p))
 
 pub evicts : (s : Session) (e f : Evictions) (log : Log) (q : ℕ) (ev : List (List ℕ)) → AreOfLog s e log → IsPeer s.shape q
     → kept log q ≡ None → IsKept e.evidence f.evidence q ev → f.peers ≡ e.peers → f.list.items ≡ peers_with_evidence f.evidence f.peers
@@ -124,7 +115,7 @@ stays s e log q ev h other =
 -- of a peer whose room is empty the log keeps nothing
 pub room-tells : (s : Session) (e : Evictions) (log : Log) (q : ℕ) → AreOfLog s e log → IsPeer s.shape q
     → is_some (kept_in e.evidence q) ≡ is_some (kept log q)
-room-tells s e log q h peer = ap is_some (h.evidence q peer) ∙ some_mapped evidence_bytes (kept log q)
+room-tells s e log q h peer = ap is_some (h.evidence q peer) ∙ some-mapped evidence_bytes (kept log q)
 
 none_passes : (a n : ℕ) → filter (λ q. false) (range_with_len a n) ≡ []
 none_passes a zero = refl

@@ -9,6 +9,7 @@ use Rattle.bar_outside.specs.Children.{Children}
 use Rattle.bar_outside.specs.Stream.{Stream}
 use Rattle.bar_child_processes.specs.Family.{Child, ReportData, Shown, Whole, Refused, Wanting, Untried, broken_line, broken_lines, has_status, is_broken, is_in_order, is_refused, is_refused_wait, is_tried, is_whole, line_of, prints_after, wait_of, whole_line, whole_lines, with_child, with_children}
 use Rattle.bar_child_processes.specs.Sessions.{Reports, ShowsLines, WaitsForEach, key_of}
+use Rattle.bar_child_processes.proofs.OneChild.{none-refused}
 
 -- ---- counts of faults
 
@@ -48,10 +49,6 @@ in_order-append prints (x ∷ xs) ys h k =
 
 -- ---- lines
 
-none-and : (a : Bool) → (a && false) ≡ false
-none-and true = refl
-none-and false = refl
-
 prints_after-none : (xs : List Child) → prints_after false xs ≡ false
 prints_after-none [] = refl
 prints_after-none (x ∷ xs) = prints_after-none xs
@@ -64,7 +61,7 @@ none-broken prints (x ∷ xs) h = by-shown (is_broken x.shown) refl (none-broken
     by-shown : (broken : Bool) → is_broken x.shown ≡ broken → broken_lines xs ≡ [] → broken_lines (x ∷ xs) ≡ []
     by-shown false e rest = ap (λ (b : Bool). (if b then line_of x else []) ++ broken_lines xs) e ∙ rest
     by-shown true e rest =
-        let stops : (prints && not (is_broken x.shown)) ≡ false = ap (λ b. prints && not b) e ∙ none-and prints in
+        let stops : (prints && not (is_broken x.shown)) ≡ false = ap (λ b. prints && not b) e ∙ none-refused prints in
         absurd (true≢false (sym h ∙ (ap (λ b. prints_after b xs) stops ∙ prints_after-none xs)))
 
 untried : (shown : Shown) → IsTrue (not (is_tried shown)) → (is_whole shown ≡ false) × (is_broken shown ≡ false)

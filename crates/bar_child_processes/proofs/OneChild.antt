@@ -80,7 +80,7 @@ prints-same : (prints : Bool) → (prints && true) ≡ prints
 prints-same true = refl
 prints-same false = refl
 
-none-refused : (prints : Bool) → (prints && false) ≡ false
+pub none-refused : (prints : Bool) → (prints && false) ≡ false
 none-refused true = refl
 none-refused false = refl
 

@@ -5,7 +5,7 @@ use Rattle.bar_outside.specs.Disk.{Content}
 use Rattle.bar_outside.specs.Plan.{Outside, Plan, is_stop, line_at, no_memory}
 use Rattle.bar_outside.specs.Stream.{Stream}
 use Rattle.bar_outside.specs.Ends.{EndsWith, Prints, SaysBy}
-use Rattle.bar_outside.proofs.Ending.{EndsWith-memory}
+use Rattle.bar_outside.proofs.Ending.{EndsWith-memory, or-stop}
 use Rattle.bar_child_processes.specs.Names.{SessionNames}
 use Rattle.bar_child_processes.specs.Outcomes.{code_of}
 use Rattle.bar_child_processes.specs.declared.outcome.Outcome.{Outcome}
@@ -54,10 +54,6 @@ either-of false b h = inr h
 
 or-told : (told b : Bool) → told ≡ true → IsTrue (told || b)
 or-told told b e = rw e refl
-
-or-stop : (told b : Bool) → b ≡ true → IsTrue (told || b)
-or-stop true b e = refl
-or-stop false b e = e
 
 line-late : (names : SessionNames) (content : Content) (status : ℕ) → (status == 4) ≡ false → session_line names content status ≡ line_of_end status
 line-late names content status late = rw late refl

@@ -1,7 +1,7 @@
 -- A datagram of an exchange that is admitted now.
-use Rattle.std.proofs.Common.{◌≡◌, ◌≢◌, ◌∙◌, ℕ, true, false, not, ◌&&◌, List, Option, Some, None, is_some, refl, sym, ap, subst}
+use Rattle.std.proofs.Common.{◌≡◌, ◌≢◌, ◌∙◌, ℕ, true, false, not, ◌&&◌, List, Option, Some, None, refl, sym, ap, subst}
 use Rattle.std.specs.Prelude.{option_map, ◌==◌, if◌then◌else◌}
-use Rattle.std.proofs.lemmas.Bool.{and_parts, not-true, eqb-true, ne_eqb, eq-eqb, false≢true}
+use Rattle.std.proofs.lemmas.Bool.{and_parts, not-true, eqb-true, ne_eqb, eq-eqb}
 use Rattle.std.proofs.lemmas.Option.{none-some, same_Some}
 use Rattle.bar_window.specs.declared.exchange.Exchange.{Exchange}
 use Rattle.bar_window.specs.declared.exchange.Role.{Role}
@@ -18,6 +18,7 @@ use Rattle.bar_rules.specs.Peer.Exchanges.{role_of}
 use Rattle.bar_rules.specs.Peer.Knowledge.{Knowledge, has_heard_of}
 use Rattle.bar_exchange.specs.Keeping.{IsAdmittedNow}
 use Rattle.bar_exchange.proofs.Places.{IsAt}
+use Rattle.bar_bytes.proofs.Options.{none-of}
 
 -- It is of a side of the exchange; this member has the other side, and nothing of its kind was heard of that one.
 pub record IsAdmittedOf (me : Member) (k : Knowledge) (d : Datagram) (x : Exchange) (side : Role) : Type 0 where
@@ -66,10 +67,6 @@ side_by : (me : Member) (r : ℕ) (kind : XKind) (side : Role) (from to : ℕ) �
 side_by me r kind Initiator from to here apart = ap (λ t. if t then Initiator else Responder) (ne_eqb from me.party (λ e. apart (e ∙ sym here)))
 side_by me r kind Responder from to here apart = ap (λ t. if t then Initiator else Responder) (eq-eqb to me.party here)
 
-none_of : {A : Type 0} (o : Option A) → is_some o ≡ false → o ≡ None
-none_of None e = refl
-none_of (Some a) e = absurd (false≢true (sym e))
-
 -- An admitted datagram of an exchange is of one of its sides.
 pub record IsOfSide (me : Member) (k : Knowledge) (d : Datagram) (x : Exchange) : Type 0 where
   pub side : Role
@@ -99,7 +96,7 @@ admitted_of me k d bytes x h of = go (part_of d.message.body) refl
           is = record {
             at = ap (option_map (place_by m.from m.to)) part ∙ (λ i. Some (record { exchange = one i; role = p.2 }));
             mine = ap (role_of me) (sym one) ∙ side_by me p.0 p.1 p.2 m.from m.to t.here t.apart;
-            new = none_of _ (ap (λ x. has_heard_of k (kind_of m.body) x p.2) (sym one) ∙ t.unheard);
+            new = none-of _ (ap (λ x. has_heard_of k (kind_of m.body) x p.2) (sym one) ∙ t.unheard);
             row = row;
           };
         }

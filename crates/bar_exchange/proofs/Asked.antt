@@ -10,6 +10,7 @@ use Rattle.bar_window.specs.declared.exchange.Role.TheVariants.{Initiator, Respo
 use Rattle.bar_window.specs.declared.exchange.XKind.{XKind}
 use Rattle.bar_window.specs.declared.terms.Terms.{Terms}
 use Rattle.bar_window.specs.Exchange.{same_exchange}
+use Rattle.bar_window.proofs.Exchanges.{same_exchange_refl}
 use Rattle.bar_wire.specs.Datagram.{Datagram, place_of, kind_of}
 use Rattle.bar_wire.specs.Limits.{exchanges_a_round}
 use Rattle.bar_wire.specs.declared.kind.Kind.{Kind}
@@ -26,7 +27,6 @@ use Rattle.bar_ledger.specs.Kept.{Kept, newly, with_bytes, heard_of}
 use Rattle.bar_ledger.specs.Lookups.{seat_by}
 use Rattle.bar_ledger.specs.Memory.{HasSame, MayHear, find_in, kept_in, asked_in, opens_in, next_seat, added, can_hear}
 use Rattle.bar_ledger.specs.Recalls.{Recalls, IsKeptBy}
-use Rattle.bar_ledger.proofs.Same.{same_self}
 use Rattle.bar_exchange.specs.Keeping.{IsAdmittedNow, HasRoomLeft, IsBegunWith}
 use Rattle.bar_exchange.specs.Parts.{ChangesKept, asked_entry}
 use Rattle.bar_exchange.proofs.Admitted.{IsAdmittedOf, admitted_at}
@@ -103,7 +103,7 @@ is_added me k l x seat terms h recent =
 is_found : (me : Member) (k : Knowledge) (l new : Ledger) (x : Exchange) (seat : ℕ) (terms : Terms) → Recalls me k l → IsRecent me k x.round → AddsEntry l new (asked_entry x seat terms)
     → find_in new x ≡ Some (newly (asked_entry x seat terms))
 is_found me k l new x seat terms h recent adds =
-    adds.found x ∙ ap (λ b. if b then added l (asked_entry x seat terms) else find_in l x) (same_self x) ∙ is_added me k l x seat terms h recent
+    adds.found x ∙ ap (λ b. if b then added l (asked_entry x seat terms) else find_in l x) (same_exchange_refl x) ∙ is_added me k l x seat terms h recent
 
 -- and its request may be heard
 pub may_hear_request : (me : Member) (k : Knowledge) (l new : Ledger) (d : Datagram) (bytes : List ℕ) (x : Exchange) (seat : ℕ) (terms : Terms) → IsAsked me k l d bytes x terms
@@ -136,7 +136,7 @@ request_learned me k l mid new d bytes x seat terms a none seat_at adds changes 
     }
     in
     let found : find_in new x ≡ Some (with_bytes (request_kind x.kind) bytes (newly (asked_entry x seat terms))) =
-    changes.found x ∙ ap (λ b. if b then option_map (with_bytes (request_kind x.kind) bytes) (find_in mid x) else find_in mid x) (same_self x)
+    changes.found x ∙ ap (λ b. if b then option_map (with_bytes (request_kind x.kind) bytes) (find_in mid x) else find_in mid x) (same_exchange_refl x)
     ∙ ap (option_map (with_bytes (request_kind x.kind) bytes)) (is_found me k l mid x seat terms a.recalled r adds)
     in
     recalls_change me k (with_heard me d k) l new x a.recalled (record {

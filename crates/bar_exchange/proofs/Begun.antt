@@ -15,6 +15,7 @@ use Rattle.bar_window.specs.declared.terms.Terms.{Terms as WindowTerms}
 use Rattle.bar_window.specs.Exchange.{same_role}
 use Rattle.bar_window.specs.Terms.{Terms, plain_terms}
 use Rattle.bar_window.specs.Terms as forms
+use Rattle.bar_window.proofs.Exchanges.{same_exchange_refl}
 use Rattle.bar_wire.specs.Bodies.{history_in, offer_in, reply_in}
 use Rattle.bar_wire.specs.Datagram.{Datagram, is_of}
 use Rattle.bar_wire.specs.Kinds.{code_of}
@@ -31,7 +32,6 @@ use Rattle.bar_ledger.specs.Kept.{Kept, newly, with_new, heard_of}
 use Rattle.bar_ledger.specs.Lookups.{is_said, knows_commit, knows_answer, knows_offer, if_known, commit_of, history_of, offer_of, reply_of}
 use Rattle.bar_ledger.specs.Memory.{bytes_in}
 use Rattle.bar_ledger.specs.Recalls.{Recalls, IsKeptBy, kind_of_terms}
-use Rattle.bar_ledger.proofs.Same.{same_self}
 use Rattle.bar_exchange.specs.Answering.{telling_kind, IsAnsweredWith}
 use Rattle.bar_exchange.specs.Keeping.{IsSaidNow, IsBegunWith, IsCommittedTo}
 use Rattle.bar_exchange.proofs.One.{RecallsOne}
@@ -70,23 +70,23 @@ answer_mark kind Push first case key = refl
 
 -- ---- terms of one form
 
-no_commit : (t : Terms) → kind_of_terms t ≡ Push → commit_of t ≡ None
+pub no_commit : (t : Terms) → kind_of_terms t ≡ Push → commit_of t ≡ None
 no_commit (forms.Balanced nonce ha hb) e = absurd (cc)
 no_commit (forms.Push young aged want give junk) e = refl
 
-no_history : (t : Terms) → kind_of_terms t ≡ Push → history_of t ≡ None
+pub no_history : (t : Terms) → kind_of_terms t ≡ Push → history_of t ≡ None
 no_history (forms.Balanced nonce ha hb) e = absurd (cc)
 no_history (forms.Push young aged want give junk) e = refl
 
-no_offer : (t : Terms) → kind_of_terms t ≡ Balanced → offer_of t ≡ None
+pub no_offer : (t : Terms) → kind_of_terms t ≡ Balanced → offer_of t ≡ None
 no_offer (forms.Balanced nonce ha hb) e = refl
 no_offer (forms.Push young aged want give junk) e = absurd (cc)
 
-no_reply : (t : Terms) → kind_of_terms t ≡ Balanced → reply_of t ≡ None
+pub no_reply : (t : Terms) → kind_of_terms t ≡ Balanced → reply_of t ≡ None
 no_reply (forms.Balanced nonce ha hb) e = refl
 no_reply (forms.Push young aged want give junk) e = absurd (cc)
 
-if_none : {X : Type 0} (b : Bool) (o : Option X) → o ≡ None → (if b then o else None) ≡ None
+pub if_none : {X : Type 0} (b : Bool) (o : Option X) → o ≡ None → (if b then o else None) ≡ None
 if_none true o e = e
 if_none false o e = refl
 
@@ -94,7 +94,7 @@ no_trade : (a : Option (List ℕ × List UpdateId)) → trade_terms a None ≡ N
 no_trade (Some v) = refl
 no_trade None = refl
 
-no_push : (a : Option (List UpdateId × List UpdateId)) → offer_terms a None ≡ None
+pub no_push : (a : Option (List UpdateId × List UpdateId)) → offer_terms a None ≡ None
 no_push (Some v) = refl
 no_push None = refl
 
@@ -149,7 +149,7 @@ one_asked me k d x terms s own b commit h = record {
     is_request : (xkind : XKind) → x.kind ≡ xkind → is_of kinds.Request x Initiator d.message ≡ (code_of (request_kind xkind) == code_of kinds.Request) && true
     is_request xkind e =
         said_is_of me k d (request_kind x.kind) x s kinds.Request x Initiator
-        ∙ (λ i. (code_of (request_kind (e i)) == code_of kinds.Request) && (same_self x i && same_role (own i) Initiator))
+        ∙ (λ i. (code_of (request_kind (e i)) == code_of kinds.Request) && (same_exchange_refl x i && same_role (own i) Initiator))
 
     revealed : (xkind : XKind) → x.kind ≡ xkind → (with_said me d k).revealed x ≡ commit_of (plain_terms terms)
     revealed Balanced e = (λ i. option_or (h.revealed i) (then_some (is_request Balanced e i) (committed me k.block x))) ∙ sym (commit e)

@@ -9,6 +9,7 @@ use Rattle.bar_window.specs.declared.exchange.Exchange.{Exchange}
 use Rattle.bar_window.specs.declared.exchange.Role.TheVariants.{Initiator}
 use Rattle.bar_window.specs.declared.exchange.XKind.{XKind}
 use Rattle.bar_window.specs.Exchange.{same_exchange}
+use Rattle.bar_window.proofs.Exchanges.{same_exchange-is, same_exchange_refl}
 use Rattle.bar_wire.specs.Datagram.{Datagram, Place}
 use Rattle.bar_wire.specs.declared.kind.Kind.{Kind}
 use Rattle.bar_rules.specs.Member.{Member, Session}
@@ -23,7 +24,6 @@ use Rattle.bar_ledger.specs.Memory.{entries_in, find_in, asked_in, opens_in, add
 use Rattle.bar_ledger.specs.Recalls.{Recalls, IsKeptBy}
 use Rattle.bar_ledger.proofs.Giving.{entries-later, found-passing}
 use Rattle.bar_ledger.proofs.Recent.{keeps-recent}
-use Rattle.bar_ledger.proofs.Same.{one_exchange, same_self}
 use Rattle.bar_exchange.specs.Keeping.{IsSaidNow}
 use Rattle.bar_exchange.proofs.One.{RecallsOne, RecallsRest, one_of, all_of}
 use Rattle.bar_exchange.proofs.Said.{other_same}
@@ -64,13 +64,13 @@ changed_recalls me k d kind x o old new h s c one own =
   where
     kept : (y : Exchange) → IfSome (find_in new y) (IsKeptBy me y)
     kept y = elim (cases_Bool (same_exchange x y)) [
-      | inl t ↦ subst (λ (y : Exchange). IfSome (find_in new y) (IsKeptBy me y)) (one_exchange x y t) (subst (λ (o : Option Kept). IfSome o (IsKeptBy me x)) (sym c.here) own)
+      | inl t ↦ subst (λ (y : Exchange). IfSome (find_in new y) (IsKeptBy me y)) (same_exchange-is x y t) (subst (λ (o : Option Kept). IfSome o (IsKeptBy me x)) (sym c.here) own)
       | inr f ↦ subst (λ (o : Option Kept). IfSome o (IsKeptBy me y)) (sym (c.other y f)) (h.kept y)
     ]
 
     each : (y : Exchange) → IsRecent me k y.round → RecallsOne me (with_said me d k) y (find_in new y)
     each y recent = elim (cases_Bool (same_exchange x y)) [
-      | inl t ↦ subst (λ (y : Exchange). RecallsOne me (with_said me d k) y (find_in new y)) (one_exchange x y t) (subst (RecallsOne me (with_said me d k) x) (sym c.here) one)
+      | inl t ↦ subst (λ (y : Exchange). RecallsOne me (with_said me d k) y (find_in new y)) (same_exchange-is x y t) (subst (RecallsOne me (with_said me d k) x) (sym c.here) one)
       | inr f ↦
           subst (RecallsOne me (with_said me d k) y) (sym (c.other y f))
           (same_one me k (with_said me d k) y (find_in old y) (other_same me k d kind x y s f) (one_of me k old h y recent))
@@ -95,7 +95,7 @@ pub set_changes : (old new : Ledger) (x : Exchange) (e : Entry) (kept : Kept) �
     → e.first_said ≡ true → IsChangedAt x (Some (with_new e kept)) old new
 set_changes old new x e kept s is named was role first = record {
   here = s.found x ∙ (λ i. if same_exchange (named i) x then option_map (with_new e) (is i) else find_in old x)
-      ∙ ap (λ b. if b then Some (with_new e kept) else find_in old x) (same_self x);
+      ∙ ap (λ b. if b then Some (with_new e kept) else find_in old x) (same_exchange_refl x);
   other = λ y f. s.found y ∙ (λ i. if same_exchange (named i) y then option_map (with_new e) (find_in old y) else find_in old y)
       ∙ ap (λ b. if b then option_map (with_new e) (find_in old y) else find_in old y) f;
   asked = λ kind round.
@@ -121,7 +121,7 @@ pub add_changes : (old new : Ledger) (e : Entry) → IsAdded old new e → old.r
 add_changes old new e s recent role first =
     let there : added old e ≡ Some (newly e) = ap (λ b. then_some b (newly e)) (le-leb old.round (e.x.round + old.shape.life) recent) in
     record {
-      here = s.found e.x ∙ ap (λ b. if b then added old e else find_in old e.x) (same_self e.x) ∙ there;
+      here = s.found e.x ∙ ap (λ b. if b then added old e else find_in old e.x) (same_exchange_refl e.x) ∙ there;
       other = λ y f. s.found y ∙ ap (λ b. if b then added old e else find_in old y) f;
       asked = λ kind round.
           let none : asked_as kind round (added old e) ≡ 0 =

@@ -5,6 +5,7 @@ use Rattle.std.proofs.lemmas.Bool.{cases_Bool}
 use Rattle.bar_window.specs.declared.exchange.Exchange.{Exchange}
 use Rattle.bar_window.specs.declared.exchange.XKind.{XKind}
 use Rattle.bar_window.specs.Exchange.{same_exchange}
+use Rattle.bar_window.proofs.Exchanges.{same_exchange-is}
 use Rattle.bar_roster.specs.Time.{round_after}
 use Rattle.bar_rules.specs.Member.{Member}
 use Rattle.bar_rules.specs.Peer.Agreement.{IsRecent}
@@ -12,7 +13,6 @@ use Rattle.bar_rules.specs.Peer.Knowledge.{Knowledge}
 use Rattle.bar_ledger.specs.declared.ledger.Ledger.{Ledger}
 use Rattle.bar_ledger.specs.Memory.{HasSame, find_in, asked_in, opens_in}
 use Rattle.bar_ledger.specs.Recalls.{Recalls, IsKeptBy}
-use Rattle.bar_ledger.proofs.Same.{one_exchange}
 use Rattle.bar_exchange.proofs.One.{RecallsOne, RecallsRest, one_of, all_of}
 use Rattle.bar_exchange.proofs.Same.{SameOne, same_one}
 
@@ -41,7 +41,7 @@ recalls_change me k new old l y h c = all_of me new l rest each
       round = c.same.round ∙ h.round ∙ ap round_after (sym c.ticks);
       asked = λ kind round recent. c.asked kind round (before round recent);
       kept = λ x. elim (cases_Bool (same_exchange y x)) [
-        | inl e ↦ subst (λ x. IfSome (find_in l x) (IsKeptBy me x)) (one_exchange y x e) c.kept
+        | inl e ↦ subst (λ x. IfSome (find_in l x) (IsKeptBy me x)) (same_exchange-is y x e) c.kept
         | inr e ↦ subst (λ o. IfSome o (IsKeptBy me x)) (sym (c.stays x e)) (h.kept x)
       ];
       opens = c.opens;
@@ -49,6 +49,6 @@ recalls_change me k new old l y h c = all_of me new l rest each
 
     each : (x : Exchange) → IsRecent me new x.round → RecallsOne me new x (find_in l x)
     each x recent = elim (cases_Bool (same_exchange y x)) [
-      | inl e ↦ subst (λ x. IsRecent me k x.round → RecallsOne me new x (find_in l x)) (one_exchange y x e) c.one (before x.round recent)
+      | inl e ↦ subst (λ x. IsRecent me k x.round → RecallsOne me new x (find_in l x)) (same_exchange-is y x e) c.one (before x.round recent)
       | inr e ↦ subst (λ o. RecallsOne me new x o) (sym (c.stays x e)) (same_one me k new x (find_in old x) (c.others x e) (one_of me k old h x (before x.round recent)))
     ]

@@ -5,6 +5,7 @@ use Rattle.std.proofs.lemmas.Bool.{cases_Bool}
 use Rattle.bar_window.specs.declared.exchange.Exchange.{Exchange}
 use Rattle.bar_window.specs.declared.exchange.Role.{Role}
 use Rattle.bar_window.specs.Exchange.{same_role, other_role}
+use Rattle.bar_window.proofs.Exchanges.{same_exchange_refl, same_role-is, other-other}
 use Rattle.bar_wire.specs.Datagram.{Datagram, kind_of, is_of}
 use Rattle.bar_wire.specs.declared.kind.Kind.{Kind}
 use Rattle.bar_rules.specs.Member.{Member, Session}
@@ -17,13 +18,13 @@ use Rattle.bar_ledger.specs.Kept.{Kept, heard_of, with_bytes}
 use Rattle.bar_ledger.specs.Lookups.{heard_by}
 use Rattle.bar_ledger.specs.Memory.{MayHear, find_in, can_hear}
 use Rattle.bar_ledger.proofs.Changes.{bytes-entry}
-use Rattle.bar_ledger.proofs.Same.{same_self}
 use Rattle.bar_exchange.specs.Keeping.{IsAdmittedNow}
 use Rattle.bar_exchange.proofs.Admitted.{IsAdmittedOf}
 use Rattle.bar_exchange.proofs.KindCases.{one_kind}
 use Rattle.bar_exchange.proofs.KeptChanges.{IsThere}
-use Rattle.bar_exchange.proofs.Places.{IsAt, other_of_other, is_of_at, no_more, first_one, one_role, same_flip}
+use Rattle.bar_exchange.proofs.Places.{IsAt, is_of_at, first_one, same_flip}
 use Rattle.bar_exchange.proofs.Rooms.{KeepsBytes, bytes_heard}
+use Rattle.bar_bytes.proofs.Options.{or-untold}
 
 -- The first datagram of a kind and side of an exchange is heard, and kept.
 pub record HearsFirst (s : Session) (firsts : Kind → Exchange → Role → Option Datagram) (d : Datagram) (x : Exchange) (side : Role) (kind : Kind) (bytes : List ℕ)
@@ -42,7 +43,7 @@ pub hears_first : (s : Session) (firsts : Kind → Exchange → Role → Option 
 hears_first s firsts d x side kind bytes old new h other role = elim (cases_Bool (same_datagram kind other)) [
   | inl e ↦ elim (cases_Bool (same_role side role)) [
     | inl f ↦
-        let none : firsts other x role ≡ None = (λ i. firsts (sym (one_kind kind other e) i) x (sym (one_role side role f) i)) ∙ h.none in
+        let none : firsts other x role ≡ None = (λ i. firsts (sym (one_kind kind other e) i) x (sym (same_role-is side role f) i)) ∙ h.none in
         ap (option_map (datagram_bytes s)) (first_one (firsts other x role) (is_of other x role d.message) d none (is_of_this ∙ (λ i. e i && f i)))
         ∙ ap (λ b. Some b) (sym h.bytes_are)
         ∙ sym (ap (λ t. if t then heard_of other new else None) (new_side ∙ f) ∙ h.keeps.heard other ∙ ap (λ t. if t then Some bytes else heard_of other old) e)
@@ -58,7 +59,7 @@ hears_first s firsts d x side kind bytes old new h other role = elim (cases_Bool
 ]
   where
     is_of_this : is_of other x role d.message ≡ (same_datagram kind other && same_role side role)
-    is_of_this = is_of_at d.message x side h.at other x role ∙ (λ i. same_datagram (h.kind_is i) other && (same_self x i && same_role side role))
+    is_of_this = is_of_at d.message x side h.at other x role ∙ (λ i. same_datagram (h.kind_is i) other && (same_exchange_refl x i && same_role side role))
 
     old_side : same_role role (other_role old.entry.role) ≡ same_role side role
     old_side = ap (same_role role) (sym h.side_is) ∙ same_flip role side
@@ -67,7 +68,7 @@ hears_first s firsts d x side kind bytes old new h other role = elim (cases_Bool
     new_side = ap (λ r. same_role role (other_role r)) h.keeps.role ∙ old_side
 
     stays : is_of other x role d.message ≡ false → option_map (datagram_bytes s) (first_with d firsts other x role) ≡ heard_by other role old
-    stays e = ap (option_map (datagram_bytes s)) (no_more (firsts other x role) (is_of other x role d.message) d e) ∙ h.before other role
+    stays e = ap (option_map (datagram_bytes s)) (or-untold (firsts other x role) (is_of other x role d.message) d e) ∙ h.before other role
 
 -- an admitted datagram of an exchange that is kept is the first
 pub first_of : (me : Member) (k : Knowledge) (l : Ledger) (d : Datagram) (bytes : List ℕ) (x : Exchange) (side : Role) (kind : Kind) (kept new : Kept) → IsAdmittedNow me k d bytes
@@ -75,7 +76,7 @@ pub first_of : (me : Member) (k : Knowledge) (l : Ledger) (d : Datagram) (bytes 
 first_of me k l d bytes x side kind kept new now of is at keeps = record {
   at = of.at;
   kind_is = sym is;
-  side_is = sym (ap other_role (at.by.side ∙ of.mine) ∙ other_of_other side);
+  side_is = sym (ap other_role (at.by.side ∙ of.mine) ∙ other-other side);
   none = ap (λ kind. k.heard kind x side) is ∙ of.new;
   bytes_are = now.bytes_are;
   before = at.one.heard;

@@ -8,6 +8,7 @@ use Rattle.bar_window.specs.declared.exchange.Exchange.{Exchange}
 use Rattle.bar_window.specs.declared.exchange.Role.{Role}
 use Rattle.bar_window.specs.declared.exchange.XKind.{XKind}
 use Rattle.bar_window.specs.Exchange.{same_exchange, same_role, other_role}
+use Rattle.bar_window.proofs.Exchanges.{same_exchange_refl, same_role_refl, other-other}
 use Rattle.bar_wire.specs.Datagram.{Datagram, kind_of}
 use Rattle.bar_wire.specs.declared.kind.Kind.{Kind}
 use Rattle.bar_wire.specs.declared.shape.Shape.{Shape}
@@ -24,13 +25,11 @@ use Rattle.bar_ledger.specs.Lookups.{heard_by, said_by}
 use Rattle.bar_ledger.specs.Memory.{MayHear, find_in, bytes_in, can_hear}
 use Rattle.bar_ledger.specs.Recalls.{Recalls, IsKeptBy}
 use Rattle.bar_ledger.proofs.Changes.{found-own}
-use Rattle.bar_ledger.proofs.Same.{same_self}
 use Rattle.bar_exchange.specs.Keeping.{IsAdmittedNow}
 use Rattle.bar_exchange.specs.Parts.{ChangesKept}
 use Rattle.bar_exchange.proofs.Admitted.{IsAdmittedOf}
 use Rattle.bar_exchange.proofs.Changes.{recalls_change}
 use Rattle.bar_exchange.proofs.One.{RecallsOne, one_of}
-use Rattle.bar_exchange.proofs.Places.{other_of_other, same_side}
 use Rattle.bar_exchange.proofs.Same.{SameOne}
 
 -- ---- what is known of the other exchanges
@@ -72,7 +71,7 @@ pub recalls_kept : (me : Member) (k new : Knowledge) (old l : Ledger) (y : Excha
     → ChangesKept old l y change → KnowsOthers k new y → IsThere me k old y kept → KeepsOne me new y (change kept) → Recalls me new l
 recalls_kept me k new old l y change kept h c others at keeps =
     let found : find_in l y ≡ Some (change kept) =
-    c.found y ∙ (λ i. if same_self y i then option_map change (at.found i) else find_in old y)
+    c.found y ∙ (λ i. if same_exchange_refl y i then option_map change (at.found i) else find_in old y)
     in
     recalls_change me k new old l y h (record {
       same = c.same;
@@ -130,7 +129,7 @@ none_kept me k l x kind side h recent mine none =
     go None by e = refl
     go (Some kept) by e =
         let same : same_role side (other_role kept.entry.role) ≡ true =
-        ap (λ r. same_role side (other_role r)) (by.side ∙ mine) ∙ ap (same_role side) (other_of_other side) ∙ same_side side
+        ap (λ r. same_role side (other_role r)) (by.side ∙ mine) ∙ ap (same_role side) (other-other side) ∙ same_role_refl side
         in
         sym (ap (λ t. if t then heard_of kind kept else None) same) ∙ e
 

@@ -1,10 +1,11 @@
 -- Kinds of datagrams, by their codes.
-use Rattle.std.proofs.Common.{◌≡◌, ◌∙◌, true, Some, refl, sym, ap}
+use Rattle.std.proofs.Common.{◌≡◌, ◌∙◌, true, refl, sym, ap}
 use Rattle.std.proofs.lemmas.Bool.{eqb-true, eq-eqb}
 use Rattle.std.proofs.lemmas.Option.{same_Some}
 use Rattle.bar_wire.specs.Kinds.{code_of, kind_at}
 use Rattle.bar_wire.specs.declared.kind.Kind.{Kind}
 use Rattle.bar_wire.specs.declared.kind.Kind.TheVariants as kinds
+use Rattle.bar_wire.proofs.Head.{kind_again}
 use Rattle.bar_ledger.specs.Hearing.{same_datagram}
 
 -- what holds of each of the twelve
@@ -23,11 +24,8 @@ each_kind P a b c d e f g h i j k l kinds.Key = j
 each_kind P a b c d e f g h i j k l kinds.Evidence = k
 each_kind P a b c d e f g h i j k l kinds.Evict = l
 
-coded : (kind : Kind) → kind_at (code_of kind) ≡ Some kind
-coded = each_kind (λ kind. kind_at (code_of kind) ≡ Some kind) refl refl refl refl refl refl refl refl refl refl refl refl
-
 pub one_kind : (a b : Kind) → same_datagram a b ≡ true → a ≡ b
-one_kind a b e = same_Some a b (sym (coded a) ∙ ap kind_at (eqb-true (code_of a) (code_of b) e) ∙ coded b)
+one_kind a b e = same_Some a b (sym (kind_again a) ∙ ap kind_at (eqb-true (code_of a) (code_of b) e) ∙ kind_again b)
 
 pub same_itself : (a : Kind) → same_datagram a a ≡ true
 same_itself a = eq-eqb (code_of a) (code_of a) refl

@@ -36,8 +36,9 @@ use Rattle.bar_exchange.proofs.KindCases.{each_kind}
 use Rattle.bar_exchange.proofs.KeptChanges.{KnowsOthers, there, recalls_kept, recalls_stale, said_kept, may_hear_of}
 use Rattle.bar_exchange.proofs.Learned.{AddsHeard, adds_heard, only_heard, learned_other, stays_ticks, stays_open}
 use Rattle.bar_exchange.proofs.One.{RecallsOne}
-use Rattle.bar_exchange.proofs.Places.{IsAt, no_more, not_of_kind}
+use Rattle.bar_exchange.proofs.Places.{IsAt, not_of_kind}
 use Rattle.bar_exchange.proofs.Same.{SameParts, body_same, terms_same}
+use Rattle.bar_bytes.proofs.Options.{or-untold}
 
 -- ---- what its row tells
 
@@ -147,7 +148,7 @@ later_one me k new d y side kind bytes kept e a first h = record {
     stays : (other : Kind) (role : Role) → same_datagram kind other ≡ false → body_on me new other y role ≡ body_on me k other y role
     stays other role apart =
         body_same me k new other y role (a.said other y role)
-        (a.heard other y role ∙ no_more (k.heard other y role) (is_of other y role d.message) d (not_of_kind d.message other (ap (λ kind. same_datagram kind other) first.kind_is ∙ apart) y role))
+        (a.heard other y role ∙ or-untold (k.heard other y role) (is_of other y role d.message) d (not_of_kind d.message other (ap (λ kind. same_datagram kind other) first.kind_is ∙ apart) y role))
 
     parts : SameParts me k new y
     parts = record {

@@ -12,8 +12,9 @@ use Rattle.bar_wire.specs.declared.kind.Kind.TheVariants as kinds
 use Rattle.bar_rules.specs.Member.{Member}
 use Rattle.bar_rules.specs.Peer.Exchanges.{request_kind}
 use Rattle.bar_rules.specs.Peer.Knowledge.{Knowledge, learned, with_heard, first_with}
-use Rattle.bar_exchange.proofs.Places.{IsAt, no_more, not_of_other}
+use Rattle.bar_exchange.proofs.Places.{IsAt, not_of_other}
 use Rattle.bar_exchange.proofs.Same.{SameOne}
+use Rattle.bar_bytes.proofs.Options.{or-untold}
 
 -- ---- what it leaves
 
@@ -51,15 +52,15 @@ pub learned_other : (me : Member) (k : Knowledge) (d : Datagram) (y : Exchange) 
 learned_other me k d y side at x other = go d.message.body
   where
     heard : (kind : Kind) (role : Role) → first_with d k.heard kind x role ≡ k.heard kind x role
-    heard kind role = no_more (k.heard kind x role) _ d (not_of_other d.message y side at x other kind role)
+    heard kind role = or-untold (k.heard kind x role) _ d (not_of_other d.message y side at x other kind role)
 
     go : (b : Body) → SameOne k (learned me d k b) x
     go (Manifest r ds) = record { heard = λ kind role. refl; said = λ kind role. refl; seats = refl; revealed = refl }
     go (Block u bytes) = record { heard = λ kind role. refl; said = λ kind role. refl; seats = refl; revealed = refl }
-    go (Request r s c) = record { heard = heard; said = λ kind role. refl; seats = no_more (k.seat x) _ _ (not_of_other d.message y side at x other (request_kind x.kind) Initiator); revealed = refl }
+    go (Request r s c) = record { heard = heard; said = λ kind role. refl; seats = or-untold (k.seat x) _ _ (not_of_other d.message y side at x other (request_kind x.kind) Initiator); revealed = refl }
     go (Response r hb) = record { heard = heard; said = λ kind role. refl; seats = refl; revealed = refl }
-    go (Divulge r n ha) = record { heard = heard; said = λ kind role. refl; seats = refl; revealed = no_more (k.revealed x) _ _ (not_of_other d.message y side at x other kinds.Divulge Initiator) }
-    go (Query r s young aged) = record { heard = heard; said = λ kind role. refl; seats = no_more (k.seat x) _ _ (not_of_other d.message y side at x other (request_kind x.kind) Initiator); revealed = refl }
+    go (Divulge r n ha) = record { heard = heard; said = λ kind role. refl; seats = refl; revealed = or-untold (k.revealed x) _ _ (not_of_other d.message y side at x other kinds.Divulge Initiator) }
+    go (Query r s young aged) = record { heard = heard; said = λ kind role. refl; seats = or-untold (k.seat x) _ _ (not_of_other d.message y side at x other (request_kind x.kind) Initiator); revealed = refl }
     go (Reply r w g z) = record { heard = heard; said = λ kind role. refl; seats = refl; revealed = refl }
     go (Case c) = record { heard = heard; said = λ kind role. refl; seats = refl; revealed = refl }
     go (KeyReq r kind role) = record { heard = heard; said = λ kind role. refl; seats = refl; revealed = refl }

@@ -7,12 +7,12 @@ use Rattle.bar_window.specs.declared.exchange.Exchange.{Exchange}
 use Rattle.bar_window.specs.declared.exchange.XKind.{XKind}
 use Rattle.bar_window.specs.declared.terms.Terms.{Terms}
 use Rattle.bar_window.specs.Exchange.{same_exchange}
+use Rattle.bar_window.proofs.Exchanges.{same_exchange-is}
 use Rattle.bar_wire.specs.declared.kind.Kind.{Kind}
 use Rattle.bar_ledger.specs.declared.entry.Entry.{Entry}
 use Rattle.bar_ledger.specs.declared.ledger.Ledger.{Ledger}
 use Rattle.bar_ledger.specs.Kept.{Kept, IsOwn, with_bytes, with_new}
 use Rattle.bar_ledger.specs.Memory.{HasSame, IsAsBefore, find_in, asked_in, opens_in}
-use Rattle.bar_ledger.proofs.Same.{one_exchange}
 use Rattle.bar_exchange.specs.Parts.{ChangesKept, with_heard_part}
 
 -- The entry that is found is set with other terms.
@@ -72,7 +72,7 @@ part_changes old heard new x kind bytes terms full e h s = record {
     found : (y : Exchange) → find_in new y ≡ (if same_exchange x y then option_map (with_heard_part kind bytes terms full) (find_in old y) else find_in old y)
     found y = elim (cases_Bool (same_exchange x y)) [
       | inl t ↦
-          let one : x ≡ y = one_exchange x y t in
+          let one : x ≡ y = same_exchange-is x y t in
           subst (λ y. find_in new y ≡ option_map (with_heard_part kind bytes terms full) (find_in old y)) one (this (subst (λ z. same_exchange x z ≡ true) (sym one) t))
           ∙ sym (ap (λ b. if b then option_map (with_heard_part kind bytes terms full) (find_in old y) else find_in old y) t)
       | inr f ↦

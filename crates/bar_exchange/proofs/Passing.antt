@@ -3,7 +3,7 @@ use Rattle.std.proofs.Common.{◌≡◌, ◌∙◌, ◌||◌, ◌&&◌, ◌==◌
 use Rattle.std.specs.Prelude.{option_and_then}
 use Rattle.std.specs.Option.{option_or, option_map_or}
 use Rattle.std.specs.List.{AllByRecursion, find, list_any}
-use Rattle.std.proofs.lemmas.Bool.{eq-eqb, false≢true}
+use Rattle.std.proofs.lemmas.Bool.{eq-eqb, false≢true, or_parts}
 use Rattle.std.proofs.lemmas.Option.{same_Some}
 use Rattle.bar_window.specs.declared.exchange.Exchange.{Exchange}
 use Rattle.bar_window.specs.declared.exchange.Role.{Role}
@@ -11,6 +11,7 @@ use Rattle.bar_window.specs.declared.exchange.Role.TheVariants.{Initiator, Respo
 use Rattle.bar_window.specs.declared.exchange.XKind.{XKind}
 use Rattle.bar_window.specs.declared.exchange.XKind.TheVariants.{Balanced, Push}
 use Rattle.bar_window.specs.Exchange.{same_exchange, same_role, other_role}
+use Rattle.bar_window.proofs.Exchanges.{same_exchange-is}
 use Rattle.bar_wire.specs.declared.kind.Kind.{Kind}
 use Rattle.bar_wire.specs.declared.kind.Kind.TheVariants as kinds
 use Rattle.bar_rules.specs.Peer.Evidence.{between, shared_from}
@@ -22,7 +23,6 @@ use Rattle.bar_ledger.specs.Kept.{Kept, heard_of, is_for}
 use Rattle.bar_ledger.specs.Lookups.{heard_by}
 use Rattle.bar_ledger.specs.Memory.{entries_in, find_in}
 use Rattle.bar_ledger.specs.Naming.{names, any_names, is_beside, shares_leaf}
-use Rattle.bar_ledger.proofs.Same.{one_exchange}
 use Rattle.bar_exchange.specs.Naming.{if_passing, passing_as, passing_in, passing_beside, passing_among, side_beside}
 
 -- ---- lists of exchanges
@@ -48,10 +48,6 @@ passing_round test l x p q round count =
 
 -- ---- where nothing passes
 
-neither : (a b : Bool) → (a || b) ≡ false → (a ≡ false) × (b ≡ false)
-neither false b e = (refl, e)
-neither true b e = absurd (false≢true (sym e))
-
 -- The three do not pass.
 abbrev AllFail : Bool → Bool → Bool → Type 0
 AllFail a b c = (a ≡ false) × ((b ≡ false) × (c ≡ false))
@@ -65,7 +61,7 @@ none_of true b c e = absurd (false≢true (sym e))
 found_apart : (p test : Kept → Bool) (ks : List Kept) (k : Kept) → find p ks ≡ Some k → list_any test ks ≡ false → (p k ≡ true) × (test k ≡ false)
 found_apart p test [] k e none = absurd (cc)
 found_apart p test (j ∷ ks) k e none =
-    let parts = neither (test j) (list_any test ks) none in
+    let parts = or_parts (test j) (list_any test ks) none in
     go (p j) refl parts.0 (λ f. found_apart p test ks k f parts.1) e
   where
     go : (b : Bool) → p j ≡ b → test j ≡ false → (find p ks ≡ Some k → (p k ≡ true) × (test k ≡ false))
@@ -114,7 +110,7 @@ module _ (named : List ℕ → ℕ) (len leaf : ℕ) (l : Ledger) (x : Exchange)
   unnamed_kept : (y : Exchange) (k : Kept) → AreParties l.me party y → same_exchange x y ≡ false → find_in l y ≡ Some k → any_names named len leaf k ≡ false
   unnamed_kept y k parties other e =
       let both = found_apart (is_for y) (shares_leaf named len leaf x party) (entries_in l) k e none in
-      let here : k.entry.x ≡ y = one_exchange k.entry.x y both.0 in
+      let here : k.entry.x ≡ y = same_exchange-is k.entry.x y both.0 in
       let beside : is_beside x party k.entry.x ≡ true =
       subst (λ z. is_beside x party z ≡ true) (sym here) (rw other (one_of l.me party y parties))
       in

@@ -4,7 +4,6 @@ use Rattle.std.specs.Prelude.{◌==◌, nat_lt, nat_le, option_map, option_and_t
 use Rattle.std.specs.Bool.{then_some}
 use Rattle.std.proofs.lemmas.Bool.{and_parts, and_right, false≢true}
 use Rattle.std.proofs.lemmas.Option.{none-some, same_Some}
-use Rattle.bar_window.specs.declared.update.UpdateId.{UpdateId}
 use Rattle.bar_window.specs.declared.exchange.Exchange.{Exchange}
 use Rattle.bar_window.specs.declared.exchange.Role.{Role}
 use Rattle.bar_window.specs.declared.exchange.Role.TheVariants.{Initiator, Responder}
@@ -12,7 +11,7 @@ use Rattle.bar_window.specs.declared.exchange.XKind.{XKind}
 use Rattle.bar_window.specs.declared.exchange.XKind.TheVariants.{Balanced, Push}
 use Rattle.bar_window.specs.declared.terms.Terms.{Terms as WindowTerms}
 use Rattle.bar_window.specs.Exchange.{same_role, same_kind, other_role}
-use Rattle.bar_window.specs.Terms.{Terms, plain_terms}
+use Rattle.bar_window.specs.Terms.{plain_terms}
 use Rattle.bar_window.specs.Terms as forms
 use Rattle.bar_wire.specs.Bodies.{history_in, offer_in, reply_in}
 use Rattle.bar_wire.specs.Datagram.{Datagram, Body, Manifest, Block, Request, Response, Divulge, Query, Reply, Case, KeyReq, Key, Evidence, Evict, Place, place_by, part_of, kind_of, round_of, is_of}
@@ -32,16 +31,18 @@ use Rattle.bar_ledger.specs.Hearing.{same_datagram, hears}
 use Rattle.bar_ledger.specs.Kept.{Kept, heard_of, with_bytes, newly}
 use Rattle.bar_ledger.specs.Lookups.{is_said, heard_by, offer_of}
 use Rattle.bar_ledger.specs.Memory.{next_seat}
-use Rattle.bar_ledger.specs.Recalls.{IsKeptBy, kind_of_terms}
+use Rattle.bar_ledger.specs.Recalls.{IsKeptBy}
 use Rattle.bar_exchange.specs.Keeping.{IsBegunWith}
 use Rattle.bar_exchange.specs.Parts.{asked_entry}
 use Rattle.bar_exchange.proofs.Admitted.{IsAdmittedOf}
 use Rattle.bar_exchange.proofs.Hearing.{HearsFirst, hears_first}
 use Rattle.bar_exchange.proofs.KindCases.{each_kind, same_itself}
 use Rattle.bar_exchange.proofs.One.{RecallsOne}
-use Rattle.bar_exchange.proofs.Places.{no_more, first_one, not_of_kind, is_of_itself}
+use Rattle.bar_exchange.proofs.Places.{first_one, not_of_kind, is_of_itself}
 use Rattle.bar_exchange.proofs.Rooms.{bytes_heard, none_heard}
 use Rattle.bar_exchange.proofs.Same.{own_body, other_body}
+use Rattle.bar_exchange.proofs.Begun.{no_offer, no_push}
+use Rattle.bar_bytes.proofs.Options.{or-untold}
 
 -- ---- what its row tells
 
@@ -140,14 +141,6 @@ none_by e kind role = ap (λ o. if same_role role (other_role e.role) then o els
     both true = refl
     both false = refl
 
-no_offer : (t : Terms) → kind_of_terms t ≡ Balanced → offer_of t ≡ None
-no_offer (forms.Balanced n a b) e = refl
-no_offer (forms.Push y o w g z) e = absurd (cc)
-
-no_terms : (a : Option (List UpdateId × List UpdateId)) → offer_terms a None ≡ None
-no_terms None = refl
-no_terms (Some a) = refl
-
 -- what is known and kept before and after a request that begins an exchange
 pub record Begins (me : Member) (k : Knowledge) (d : Datagram) (x : Exchange) (seat : ℕ) (terms : WindowTerms) (bytes : List ℕ) : Type 0 where
   pub of : IsAdmittedOf me k d x Initiator
@@ -205,7 +198,7 @@ request_one me k d x seat terms bytes b = subst (λ kept. RecallsOne me (with_re
     offered Balanced is =
         let request : kind_of d.message.body ≡ kinds.Request = b.begun.kind_is ∙ ap request_kind is in
         ap (λ o. option_and_then offer_in (option_map (λ (d : Datagram). d.message.body) o))
-        (no_more (k.heard kinds.Query x Initiator) (is_of kinds.Query x Initiator d.message) d (not_of_kind d.message kinds.Query (ap (λ kind. same_datagram kind kinds.Query) request) x Initiator))
+        (or-untold (k.heard kinds.Query x Initiator) (is_of kinds.Query x Initiator d.message) d (not_of_kind d.message kinds.Query (ap (λ kind. same_datagram kind kinds.Query) request) x Initiator))
         ∙ ap (option_and_then offer_in) (sym (other_body me k kinds.Query x Initiator b.of.mine))
         ∙ b.before.offers ∙ sym (no_offer (plain_terms terms) (b.begun.form ∙ is))
 
@@ -213,7 +206,7 @@ request_one me k d x seat terms bytes b = subst (λ kept. RecallsOne me (with_re
     none_yet Balanced = ap (λ o. trade_terms o (option_and_then history_in (body_on me (with_request d k) kinds.Response x Responder))) b.before.revealed
     none_yet Push =
         ap (offer_terms (option_and_then offer_in (body_on me (with_request d k) kinds.Query x Initiator))) (ap (option_and_then reply_in) (own kinds.Reply) ∙ b.before.replies)
-        ∙ no_terms (option_and_then offer_in (body_on me (with_request d k) kinds.Query x Initiator))
+        ∙ no_push (option_and_then offer_in (body_on me (with_request d k) kinds.Query x Initiator))
 
 pub request_by : (me : Member) (k : Knowledge) (d : Datagram) (x : Exchange) (seat : ℕ) (terms : WindowTerms) (bytes : List ℕ) → Begins me k d x seat terms bytes
     → IsKeptBy me x (with_bytes (request_kind x.kind) bytes (newly (asked_entry x seat terms)))

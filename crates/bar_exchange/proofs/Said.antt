@@ -1,5 +1,5 @@
 -- What a message that is said adds to what is known of one exchange.
-use Rattle.std.proofs.Common.{◌≡◌, Bool, true, false, ◌&&◌, ◌||◌, ◌==◌, Option, Some, None, is_some, refl, sym, ap, ◌∙◌, ℕ}
+use Rattle.std.proofs.Common.{◌≡◌, Bool, true, false, ◌&&◌, ◌||◌, ◌==◌, Some, None, refl, sym, ap, ◌∙◌, ℕ}
 use Rattle.std.specs.Prelude.{option_map, if◌then◌else◌}
 use Rattle.std.specs.Bool.{then_some}
 use Rattle.std.specs.Option.{option_or, option_map_or}
@@ -10,6 +10,7 @@ use Rattle.bar_window.specs.declared.exchange.Role.{Role}
 use Rattle.bar_window.specs.declared.exchange.Role.TheVariants.{Initiator, Responder}
 use Rattle.bar_window.specs.declared.exchange.XKind.{XKind}
 use Rattle.bar_window.specs.Exchange.{same_exchange, same_role}
+use Rattle.bar_window.proofs.Exchanges.{same_exchange_refl, same_role_refl}
 use Rattle.bar_wire.specs.Datagram.{Message, Datagram, Place, part_of, place_by, place_of, is_of, is_place}
 use Rattle.bar_wire.specs.Kinds.{code_of}
 use Rattle.bar_wire.specs.declared.kind.Kind.{Kind}
@@ -18,10 +19,10 @@ use Rattle.bar_rules.specs.Member.{Member}
 use Rattle.bar_rules.specs.Peer.Exchanges.{role_of, committed}
 use Rattle.bar_rules.specs.Peer.Knowledge.{Knowledge, with_said, has_said_of}
 use Rattle.bar_rules.specs.Peer.Terms.{body_on}
-use Rattle.bar_ledger.proofs.Same.{same_self}
 use Rattle.bar_exchange.specs.Keeping.{IsSaidNow}
 use Rattle.bar_exchange.proofs.FourTests.{kind_by}
 use Rattle.bar_exchange.proofs.Same.{SameOne}
+use Rattle.bar_bytes.proofs.Options.{or-untold, some-or}
 
 -- ---- of which exchange a message is
 
@@ -38,37 +39,24 @@ not_of_kind : (me : Member) (k : Knowledge) (d : Datagram) (kind : Kind) (x : Ex
     → (code_of kind == code_of other) ≡ false → is_of other y role d.message ≡ false
 not_of_kind me k d kind x h other y role f = said_is_of me k d kind x h other y role ∙ and_left _ _ f
 
-pub or_none : {X : Type 0} (o : Option X) → option_or o None ≡ o
-or_none None = refl
-or_none (Some v) = refl
-
--- nothing more
-pub adds_none : {X : Type 0} (o : Option X) (b : Bool) (v : X) → b ≡ false → option_or o (then_some b v) ≡ o
-adds_none o b v f = ap (λ b. option_or o (then_some b v)) f ∙ or_none o
-
-adds_test : {X : Type 0} (o : Option X) (b : Bool) (v : X) → is_some (option_or o (then_some b v)) ≡ (is_some o || b)
-adds_test None true v = refl
-adds_test None false v = refl
-adds_test (Some w) b v = refl
-
 -- of another exchange nothing is known anew
 pub other_same : (me : Member) (k : Knowledge) (d : Datagram) (kind : Kind) (x y : Exchange) → IsSaidNow me k d kind x → same_exchange x y ≡ false
     → SameOne k (with_said me d k) y
 other_same me k d kind x y h f = record {
   heard = λ other role. refl;
-  said = λ other role. adds_none (k.said other y role) _ d (not_of_other me k d kind x h other y role f);
+  said = λ other role. or-untold (k.said other y role) _ d (not_of_other me k d kind x h other y role f);
   seats = refl;
-  revealed = adds_none (k.revealed y) _ (committed me k.block y) (not_of_other me k d kind x h kinds.Request y Initiator f);
+  revealed = or-untold (k.revealed y) _ (committed me k.block y) (not_of_other me k d kind x h kinds.Request y Initiator f);
 }
 
 -- nor of another kind
 pub kind_same : (me : Member) (k : Knowledge) (d : Datagram) (kind : Kind) (x : Exchange) → IsSaidNow me k d kind x → (other : Kind) (role : Role)
     → (code_of kind == code_of other) ≡ false → (with_said me d k).said other x role ≡ k.said other x role
-kind_same me k d kind x h other role f = adds_none (k.said other x role) _ d (not_of_kind me k d kind x h other x role f)
+kind_same me k d kind x h other role f = or-untold (k.said other x role) _ d (not_of_kind me k d kind x h other x role f)
 
 pub revealed_same : (me : Member) (k : Knowledge) (d : Datagram) (kind : Kind) (x : Exchange) → IsSaidNow me k d kind x
     → (code_of kind == code_of kinds.Request) ≡ false → (with_said me d k).revealed x ≡ k.revealed x
-revealed_same me k d kind x h f = adds_none (k.revealed x) _ (committed me k.block x) (not_of_kind me k d kind x h kinds.Request x Initiator f)
+revealed_same me k d kind x h f = or-untold (k.revealed x) _ (committed me k.block x) (not_of_kind me k d kind x h kinds.Request x Initiator f)
 
 -- ---- what is said of the exchange itself
 
@@ -88,15 +76,11 @@ pub marks_more : (me : Member) (k : Knowledge) (d : Datagram) (kind : Kind) (x :
     → ((other : Kind) → new other ≡ (old other || (code_of kind == code_of other)))
     → (other : Kind) (role : Role) → has_said_of (with_said me d k) other x role ≡ (same_role role (role_of me x) && new other)
 marks_more me k d kind x h old new was is other role =
-    adds_test (k.said other x role) _ d
+    some-or (k.said other x role) _ d
     ∙ (λ i. was other role i || said_is_of me k d kind x h other x role i)
-    ∙ ap (λ t. (same_role role (role_of me x) && old other) || ((code_of kind == code_of other) && (t && same_role (role_of me x) role))) (same_self x)
+    ∙ ap (λ t. (same_role role (role_of me x) && old other) || ((code_of kind == code_of other) && (t && same_role (role_of me x) role))) (same_exchange_refl x)
     ∙ mark_law role (role_of me x) (old other) (code_of kind == code_of other)
     ∙ ap (λ b. same_role role (role_of me x) && b) (sym (is other))
-
-role_self : (role : Role) → same_role role role ≡ true
-role_self Initiator = refl
-role_self Responder = refl
 
 -- it is what was said of its kind
 pub said_first : (me : Member) (k : Knowledge) (d : Datagram) (kind : Kind) (x : Exchange) → IsSaidNow me k d kind x → (role : Role) → role_of me x ≡ role
@@ -104,7 +88,7 @@ pub said_first : (me : Member) (k : Knowledge) (d : Datagram) (kind : Kind) (x :
 said_first me k d kind x h role own t =
     let none : k.said kind x role ≡ None = ap (k.said kind x) (sym own) ∙ h.new in
     let is : is_of kind x role d.message ≡ true =
-    said_is_of me k d kind x h kind x role ∙ (λ i. t i && (same_self x i && same_role (own i) role)) ∙ role_self role in
+    said_is_of me k d kind x h kind x role ∙ (λ i. t i && (same_exchange_refl x i && same_role (own i) role)) ∙ same_role_refl role in
     λ i. option_or (none i) (then_some (is i) d)
 
 -- ---- bodies
@@ -120,7 +104,7 @@ pub body_first : (me : Member) (k : Knowledge) (d : Datagram) (kind : Kind) (x :
     → (code_of kind == code_of kind) ≡ true → body_on me (with_said me d k) kind x role ≡ Some d.message.body
 body_first me k d kind x s role own t =
     (λ i. option_map (λ (d : Datagram). d.message.body) (if same_role (own i) role then (with_said me d k).said kind x role else k.heard kind x role))
-    ∙ (λ i. option_map (λ (d : Datagram). d.message.body) (if role_self role i then said_first me k d kind x s role own t i else k.heard kind x role))
+    ∙ (λ i. option_map (λ (d : Datagram). d.message.body) (if same_role_refl role i then said_first me k d kind x s role own t i else k.heard kind x role))
 
 -- ---- where it stands
 

@@ -7,6 +7,7 @@ use Rattle.bar_window.specs.declared.exchange.Role.TheVariants.{Initiator, Respo
 use Rattle.bar_window.specs.declared.exchange.XKind.{XKind}
 use Rattle.bar_window.specs.declared.exchange.XKind.TheVariants.{Balanced, Push}
 use Rattle.bar_window.specs.Exchange.{same_role, other_role}
+use Rattle.bar_window.proofs.Exchanges.{same_role_refl}
 use Rattle.bar_wire.specs.Bodies.{history_in, offer_in, reply_in}
 use Rattle.bar_wire.specs.Datagram.{Datagram}
 use Rattle.bar_wire.specs.declared.kind.Kind.{Kind}
@@ -18,7 +19,6 @@ use Rattle.bar_rules.specs.Peer.Knowledge.{Knowledge}
 use Rattle.bar_rules.specs.Peer.Terms.{body_on, terms_by, trade_terms, offer_terms}
 use Rattle.bar_ledger.specs.Kept.{Kept}
 use Rattle.bar_exchange.proofs.One.{RecallsOne}
-use Rattle.bar_exchange.proofs.Places.{same_side}
 
 -- what both sides said and heard of a kind is the same
 pub body_same : (me : Member) (k new : Knowledge) (kind : Kind) (x : Exchange) (role : Role) → new.said kind x role ≡ k.said kind x role → new.heard kind x role ≡ k.heard kind x role
@@ -29,7 +29,7 @@ body_same me k new kind x role said heard =
 -- the own side said it, and the other side's was heard
 pub own_body : (me : Member) (k : Knowledge) (kind : Kind) (x : Exchange) (role : Role) → role_of me x ≡ role → body_on me k kind x role ≡ option_map (λ (d : Datagram). d.message.body) (k.said kind x role)
 own_body me k kind x role mine =
-    λ i. option_map (λ (d : Datagram). d.message.body) (if (ap (λ r. same_role r role) mine ∙ same_side role) i then k.said kind x role else k.heard kind x role)
+    λ i. option_map (λ (d : Datagram). d.message.body) (if (ap (λ r. same_role r role) mine ∙ same_role_refl role) i then k.said kind x role else k.heard kind x role)
 
 pub other_body : (me : Member) (k : Knowledge) (kind : Kind) (x : Exchange) (role : Role) → role_of me x ≡ other_role role → body_on me k kind x role ≡ option_map (λ (d : Datagram). d.message.body) (k.heard kind x role)
 other_body me k kind x role mine =

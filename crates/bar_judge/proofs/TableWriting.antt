@@ -33,7 +33,7 @@ first_written manifest rest fits =
     ∙ (first_sized (u16_bytes (length manifest)) (manifest ++ rest) (length_u16 (length manifest))
     ∙ (ap (λ n. sized_first n (manifest ++ rest)) (raw_back (length manifest) (manifest ++ rest) fits) ∙ sized_whole manifest rest))
 
-no_byte : first_of [] ≡ NoByte
+pub no_byte : first_of [] ≡ NoByte
 unfolding first_of
 no_byte = refl
 

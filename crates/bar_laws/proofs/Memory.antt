@@ -14,7 +14,6 @@ mod Rewritten
 mod Remembered
 mod Sound
 -- the lemmas that other groups may cite
-pub use Rattle.bar_laws.proofs.Memory.OpenList.{all-inserted}
 pub use Rattle.bar_laws.proofs.Memory.MachineImage.{runs-as-known, learned}
 pub use Rattle.bar_laws.proofs.Memory.AgreeLogs.{agree-trans}
 pub use Rattle.bar_laws.proofs.Memory.AgreeTicks.{answers-alike}

@@ -13,11 +13,11 @@ use Rattle.std.proofs.lemmas.Bool.{cases_Bool, false≢true, leb-true}
 use Rattle.std.proofs.lemmas.Option.{same_Some, none-some}
 use Rattle.bar_window.specs.declared.exchange.Exchange.{Exchange}
 use Rattle.bar_window.specs.Exchange.{same_exchange}
+use Rattle.bar_window.proofs.Exchanges.{same_exchange-is}
 use Rattle.bar_ledger.specs.declared.entry.Entry.{Entry}
 use Rattle.bar_ledger.specs.declared.slot.Slot.{Slot}
 use Rattle.bar_ledger.specs.Kept.{Kept, IsOwn, kept_of, newly, with_bytes, is_for, is_recent, if_recent, live_of}
 use Rattle.bar_ledger.specs.Slots.{HasRooms, entries_of, exchanges_of}
-use Rattle.bar_ledger.proofs.Same.{one_exchange}
 use Rattle.bar_ledger.proofs.Slots.{with_part, entries-at, entries-set}
 use Rattle.bar_ledger.proofs.Finds.{IsNamed, found-this, found-changed, none-parts}
 use Rattle.bar_ledger.proofs.Distinct.{apart-parts, exchanges-part, length-part, distinct-part}
@@ -38,7 +38,7 @@ live-kept life now s k e = recent-one life now (kept_of s) k e
 
 has-one : (x : Exchange) (o : Option Kept) → option_map_or (is_for x) o false ≡ true → (k : Kept) × (o ≡ Some k) × (k.entry.x ≡ x)
 has-one x None e = absurd (false≢true e)
-has-one x (Some k) e = (k, refl, one_exchange k.entry.x x e)
+has-one x (Some k) e = (k, refl, same_exchange-is k.entry.x x e)
 
 -- The slot at a place, which keeps the exchange.
 pub record IsAt (x : Exchange) (life now : ℕ) (slots : List Slot) (place : ℕ) (s : Slot) : Type 0 where
@@ -113,7 +113,7 @@ change-found x life now slots place s changed f c y =
     ap (find (is_for y)) (change-after x life now slots place s changed f c)
     ∙ found-changed x before (Some k.kept) (Some (f k.kept)) after (only-named x k.kept k.named) (only-named x (f k.kept) (c.named k.kept k.named)) k.before k.after y
     ∙ elim (cases_Bool (same_exchange x y)) [
-      | inl t ↦ rw t (sym (ap (option_map f) (sym (ap (λ z. find (is_for z) (entries_of life now slots)) (one_exchange x y t)) ∙ k.found)))
+      | inl t ↦ rw t (sym (ap (option_map f) (sym (ap (λ z. find (is_for z) (entries_of life now slots)) (same_exchange-is x y t)) ∙ k.found)))
       | inr e ↦ rw e (sym (ap (find (is_for y)) k.parts))
     ]
 
@@ -201,7 +201,7 @@ given-distinct life now slots place s given e g d =
 
 own-one : (x : Exchange) (life now : ℕ) (k : Kept) → is_recent life now k.entry.x ≡ true → is_for x k ≡ true → IsOwn x life now k
 own-one x life now k t same =
-    let named : k.entry.x ≡ x = one_exchange k.entry.x x same in
+    let named : k.entry.x ≡ x = same_exchange-is k.entry.x x same in
     record { named = named; recent = leb-true now (x.round + life) (subst (λ z. is_recent life now z ≡ true) named t) }
 
 own-slot : (x : Exchange) (life now : ℕ) (o : Option Kept) (rest : List Kept) → IfSome (find (is_for x) rest) (IsOwn x life now)

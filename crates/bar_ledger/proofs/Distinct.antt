@@ -8,9 +8,9 @@ use Rattle.std.proofs.lemmas.List.{length-map, map-append}
 use Rattle.std.proofs.lemmas.Option.{none-some}
 use Rattle.bar_window.specs.declared.exchange.Exchange.{Exchange}
 use Rattle.bar_window.specs.Exchange.{same_exchange}
+use Rattle.bar_window.proofs.Exchanges.{same_exchange_refl, same_flips}
 use Rattle.bar_ledger.specs.Kept.{Kept, is_for}
 use Rattle.bar_ledger.specs.Slots.{exchanges_of}
-use Rattle.bar_ledger.proofs.Same.{same_flips, same_self}
 use Rattle.bar_ledger.proofs.Slots.{with_part}
 
 -- the exchange differs from each of them
@@ -60,7 +60,7 @@ found-more : (x : Exchange) (k : Kept) (ks : List Kept) → is_some (find (is_fo
 found-more x k ks e = elim (cases_Bool (is_for x k)) [ inl is ↦ rw is refl | inr other ↦ rw other e ]
 
 found-itself : (k : Kept) (ks : List Kept) → is_some (find (is_for k.entry.x) (k ∷ ks)) ≡ true
-found-itself k ks = let same : is_for k.entry.x k ≡ true = same_self k.entry.x in rw same refl
+found-itself k ks = let same : is_for k.entry.x k ≡ true = same_exchange_refl k.entry.x in rw same refl
 
 -- what holds of each exchange that is found holds of them all
 pub each-found : (test : Exchange → Bool) (ks : List Kept) → ((x : Exchange) → is_some (find (is_for x) ks) ≡ true → test x ≡ true) → list_all test (exchanges_of ks) ≡ true

@@ -8,9 +8,10 @@ use Rattle.std.proofs.lemmas.List.Folds.{find-append}
 use Rattle.std.proofs.lemmas.Option.{none-some}
 use Rattle.bar_window.specs.declared.exchange.Exchange.{Exchange}
 use Rattle.bar_window.specs.Exchange.{same_exchange}
+use Rattle.bar_window.proofs.Exchanges.{same_exchange-is, same_exchange_refl}
 use Rattle.bar_ledger.specs.Kept.{Kept, is_for}
-use Rattle.bar_ledger.proofs.Same.{one_exchange, same_self}
 use Rattle.bar_ledger.proofs.Slots.{with_part}
+use Rattle.bar_bytes.proofs.Options.{or-none}
 
 -- what there is has this exchange
 abbrev pub IsNamed : Exchange → Option Kept → Type 0
@@ -24,7 +25,7 @@ found-part y before o after =
 pub found-one : (x : Exchange) (o : Option Kept) → IsNamed x o → find (is_for x) (option_to_list o) ≡ o
 found-one x None named = refl
 found-one x (Some k) named =
-    let same : is_for x k ≡ true = subst (λ z. same_exchange z x ≡ true) (sym (named k refl)) (same_self x) in
+    let same : is_for x k ≡ true = subst (λ z. same_exchange z x ≡ true) (sym (named k refl)) (same_exchange_refl x) in
     rw same refl
 
 found-other : (x y : Exchange) (o : Option Kept) → IsNamed x o → same_exchange x y ≡ false → find (is_for y) (option_to_list o) ≡ None
@@ -32,10 +33,6 @@ found-other x y None named e = refl
 found-other x y (Some k) named e =
     let other : is_for y k ≡ false = subst (λ z. same_exchange z y ≡ false) (sym (named k refl)) e in
     rw other refl
-
-or-none : {X : Type 0} (o : Option X) → option_or o None ≡ o
-or-none None = refl
-or-none (Some k) = refl
 
 -- what is found of the exchange itself
 pub found-this : (x : Exchange) (before : List Kept) (o : Option Kept) (after : List Kept) → IsNamed x o → find (is_for x) before ≡ None → find (is_for x) after ≡ None
@@ -48,7 +45,7 @@ pub found-changed : (x : Exchange) (before : List Kept) (old new : Option Kept) 
     → (y : Exchange) → find (is_for y) (with_part before new after) ≡ (if same_exchange x y then new else find (is_for y) (with_part before old after))
 found-changed x before old new after was is none rest y = elim (cases_Bool (same_exchange x y)) [
   | inl t ↦
-      let it : x ≡ y = one_exchange x y t in
+      let it : x ≡ y = same_exchange-is x y t in
       subst (λ y. find (is_for y) (with_part before new after) ≡ new) it (found-this x before new after is none rest)
       ∙ sym (ap (λ b. if b then new else find (is_for y) (with_part before old after)) t)
   | inr f ↦

@@ -9,10 +9,10 @@ use Rattle.std.proofs.lemmas.List.Elements.{filter-append}
 use Rattle.std.proofs.lemmas.List.Sums.{sum_by-cons}
 use Rattle.bar_window.specs.declared.exchange.Exchange.{Exchange}
 use Rattle.bar_window.specs.Exchange.{same_exchange}
+use Rattle.bar_window.proofs.Exchanges.{same_exchange-is}
 use Rattle.bar_ledger.specs.declared.slot.Slot.{Slot}
 use Rattle.bar_ledger.specs.Kept.{Kept, kept_of, is_for, is_recent, if_recent, live_of}
 use Rattle.bar_ledger.specs.Slots.{entries_of, exchanges_of}
-use Rattle.bar_ledger.proofs.Same.{one_exchange}
 use Rattle.bar_ledger.proofs.Distinct.{distinct-filter}
 
 -- those whose exchange passes
@@ -44,7 +44,7 @@ found-skips : (x : Exchange) (test : Exchange → Bool) (k : Kept) (ks : List Ke
     → find (is_for x) (passing test ks) ≡ cond (test x) (find (is_for x) (k ∷ ks)) None
 found-skips x test k ks fail rest = elim (cases_Bool (is_for x k)) [
   | inl same ↦
-      let out : test x ≡ false = subst (λ z. test z ≡ false) (one_exchange k.entry.x x same) fail in
+      let out : test x ≡ false = subst (λ z. test z ≡ false) (same_exchange-is k.entry.x x same) fail in
       rest ∙ ap (λ b. cond b (find (is_for x) ks) None) out ∙ sym (ap (λ b. cond b (find (is_for x) (k ∷ ks)) None) out)
   | inr other ↦ rw other rest
 ]
@@ -53,7 +53,7 @@ found-keeps : (x : Exchange) (test : Exchange → Bool) (k : Kept) (ks : List Ke
     → find (is_for x) (k ∷ passing test ks) ≡ cond (test x) (find (is_for x) (k ∷ ks)) None
 found-keeps x test k ks pass rest = elim (cases_Bool (is_for x k)) [
   | inl same ↦
-      let out : test x ≡ true = subst (λ z. test z ≡ true) (one_exchange k.entry.x x same) pass in
+      let out : test x ≡ true = subst (λ z. test z ≡ true) (same_exchange-is k.entry.x x same) pass in
       rw (same, out) refl
   | inr other ↦ rw other rest
 ]

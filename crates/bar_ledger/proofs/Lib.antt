@@ -1,11 +1,9 @@
-pub mod Same
 pub mod Slots
 pub mod Finds
 pub mod Distinct
 pub mod Loops
 pub mod Making
 pub mod Changes
-pub mod Inserted
 pub mod Giving
 pub mod Opens
 pub mod Counts

@@ -13,7 +13,7 @@ use Rattle.bar_ledger.specs.Lookups.{KeepsRecent, said_by}
 use Rattle.bar_ledger.specs.Memory.{find_in, entries_in}
 use Rattle.bar_ledger.proofs.Giving.{passing, count-passing}
 use Rattle.bar_ledger.proofs.Opens.{IsUpward, opens-passing}
-use Rattle.bar_ledger.proofs.Inserted.{precedes-round}
+use Rattle.bar_rules.proofs.Inserted.{precedes-round}
 
 asked-recent : (life now : ℕ) (kind : XKind) (round : ℕ) → now ≤ round + life → (k : Kept) → is_asked kind round k ≡ true → is_recent life now k.entry.x ≡ true
 asked-recent life now kind round le k e =

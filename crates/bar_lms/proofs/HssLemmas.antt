@@ -121,7 +121,7 @@ lower_leaf_is s leaf message =
     signature_leaf (lower_of s (leaf / leaves_of s.low)) (leaf % leaves_of s.low) (randomizer_of (upper_secret s) leaf) message (omega arith)
     (length-sha256 (codes "RND1" ++ s.id ++ (to_be_bytes w32 leaf ++ s.secret)))
 
-signature_some : (p : Params) → 4 ≤ signature_len p
+pub signature_some : (p : Params) → 4 ≤ signature_len p
 signature_some p = omega arith
 
 -- the upper leaf of a leaf

@@ -14,9 +14,6 @@ use Rattle.bar_node.specs.Stops.{IsFront}
 use Rattle.bar_node.proofs.Yields.{cons-nil, front-behind, front-longer, front-none}
 use Rattle.bar_node.proofs.Receiving.{no-link-part}
 
-pub same-name : (path : List ℕ) → bytes_eq path path ≡ true
-same-name path = (bytes_eq-Decides path path).1 refl
-
 pub other-name : (path name : List ℕ) → path ≢ name → bytes_eq path name ≡ false
 other-name path name h = false_from_ne_true (bytes_eq path name) (λ e. h ((bytes_eq-Decides path name).0 e))
 

@@ -100,7 +100,7 @@ most-left inputs whole last left few is (inl one) =
 
 -- ---- what was received
 
-no-part-link : (part : Action) (call : LinkCall) → IsPartOf part (link call) → ⊥
+pub no-part-link : (part : Action) (call : LinkCall) → IsPartOf part (link call) → ⊥
 no-part-link (read path) call h = h
 no-part-link (create path) call h = h
 no-part-link (append path bytes) call h = h

@@ -24,7 +24,8 @@ use Rattle.bar_node.proofs.Cutting.{StopAt, given-part, given-whole}
 use Rattle.bar_node.proofs.Behind.{GivesNone, behind-gives, behind-none}
 use Rattle.bar_node.proofs.Stopping.{stopped-at}
 use Rattle.bar_node.proofs.SentOver.{sent-until, sent-whole}
-use Rattle.bar_node.proofs.AddedTo.{added-front, content-added, made-front, made_by, other-name, same-name}
+use Rattle.bar_node.proofs.AddedTo.{added-front, content-added, made-front, made_by, other-name}
+use Rattle.bar_bytes.proofs.Tests.{bytes_eq-refl}
 
 -- ---- what each turn adds to a file
 
@@ -58,7 +59,7 @@ module _ (recording played : List ℕ) where
   plays-same : (contents : List (List ℕ)) → added_in played (flat_map (kept (Some played)) contents) ≡ concat contents
   plays-same [] = refl
   plays-same (x ∷ xs) =
-      ap (λ b. cond b x [] ++ added_in played (flat_map (kept (Some played)) xs)) (same-name played) ∙ ap (λ ys. x ++ ys) (plays-same xs)
+      ap (λ b. cond b x [] ++ added_in played (flat_map (kept (Some played)) xs)) (bytes_eq-refl played) ∙ ap (λ ys. x ++ ys) (plays-same xs)
 
   plays-other : played ≢ recording → (contents : List (List ℕ)) → added_in recording (flat_map (kept (Some played)) contents) ≡ []
   plays-other differ contents =
@@ -93,7 +94,7 @@ module _ (recording played : List ℕ) where
     turn_is = λ before input.
         turn-adds recording r before input
         ∙ ap (λ b. cond b (entry_bytes input) [] ++ added_in recording (flat_map (kept (Some played)) (r.contents before input)))
-        (same-name recording)
+        (bytes_eq-refl recording)
         ∙ ap (λ ys. entry_bytes input ++ ys) (plays-other differ (r.contents before input))
         ∙ append-nil (entry_bytes input);
     none = λ came. refl;
@@ -176,7 +177,7 @@ module _ (recording played found : List ℕ) (r : Rules) where
   recorded-behind : (given : List Arrival) → IsApart recording found → added_in recording (the_tail given) ≡ end_of r given
   recorded-behind given apart =
       behind-gives (added_by recording) (Some recording) found r given (0 ∷ []) refl (none-added recording found apart r (taken_of r given))
-      (ap (λ b. cond b (0 ∷ []) [] ++ []) (same-name recording))
+      (ap (λ b. cond b (0 ∷ []) [] ++ []) (bytes_eq-refl recording))
 
   made-behind : (path : List ℕ) (given : List Arrival) → IsApart path found → flat_map (made_by path) (the_tail given) ≡ []
   made-behind path given apart =

@@ -298,7 +298,7 @@ told-or false stop h = inr h
 or-told : (told stop : Bool) → IsTrue told → IsTrue (told || stop)
 or-told told stop h = rw h refl
 
-or-stop : (told stop : Bool) → stop ≡ true → IsTrue (told || stop)
+pub or-stop : (told stop : Bool) → stop ≡ true → IsTrue (told || stop)
 or-stop true stop h = refl
 or-stop false stop h = h
 

@@ -1,7 +1,7 @@
 -- Children that a spawner in memory has started, and those that aren't waited for.
 use Rattle.std.proofs.Common.{◌≡◌, ◌≤◌, ◌<◌, ◌+◌, ◌∙◌, ◌++◌, ◌∷◌, ◌==◌, ◌||◌, ◌&&◌, [], ℕ, zero, suc, ℤ, Bool, true, false, List, Option, nat_lt, if◌then◌else◌, refl, sym, ap, subst, inl, inr, arith}
 use Rattle.std.proofs.lemmas.List.Folds.{list_any-append}
-use Rattle.std.proofs.lemmas.Bool.{cases_Bool}
+use Rattle.std.proofs.lemmas.Bool.{cases_Bool, and_from, ltb-true}
 use Rattle.std.proofs.lemmas.Bool.Decides.{nat_tests}
 use Rattle.bar_outside.specs.Children.{ChildCall, Started, Waited, child_of, is_named, is_started, is_waited, waits}
 use Rattle.bar_outside.specs.OpenChildren.{are_below, open_below}
@@ -27,15 +27,8 @@ and-right false b h = absurd (false-true h)
     false-true : false ≡ true → ⊥
     false-true e = cc
 
-and-both : (a b : Bool) → a ≡ true → b ≡ true → (a && b) ≡ true
-and-both true b h k = k
-and-both false b h k = h
-
 is-same : (a b : ℕ) → (a == b) ≡ true → a ≡ b
 is-same a b h = grind (arith, nat_tests)
-
-is-below : (a b : ℕ) → nat_lt a b ≡ true → a < b
-is-below a b h = grind (arith, nat_tests)
 
 to-below : (a b : ℕ) → a < b → nat_lt a b ≡ true
 to-below a b h = grind (arith, nat_tests)
@@ -124,17 +117,17 @@ open-waited (suc n) calls child status below unwaited =
 below-more : (n m : ℕ) (calls : List ChildCall) → n ≤ m → are_below n calls ≡ true → are_below m calls ≡ true
 below-more n m [] h below = refl
 below-more n m (call ∷ calls) h below =
-    let first : child_of call < n = is-below (child_of call) n (and-left _ (are_below n calls) below) in
-    and-both (nat_lt (child_of call) m) (are_below m calls) (to-below (child_of call) m (omega (arith, h, first)))
+    let first : child_of call < n = ltb-true (child_of call) n (and-left _ (are_below n calls) below) in
+    and_from (nat_lt (child_of call) m) (are_below m calls) (to-below (child_of call) m (omega (arith, h, first)))
     (below-more n m calls h (and-right (nat_lt (child_of call) n) _ below))
 
 -- a call of a child below
 pub below-call : (n m : ℕ) (calls : List ChildCall) (call : ChildCall) → n ≤ m → child_of call < m → are_below n calls ≡ true →
     are_below m (calls ++ call ∷ []) ≡ true
-below-call n m [] call h last below = and-both (nat_lt (child_of call) m) true (to-below (child_of call) m last) refl
+below-call n m [] call h last below = and_from (nat_lt (child_of call) m) true (to-below (child_of call) m last) refl
 below-call n m (first ∷ calls) call h last below =
-    let small : child_of first < n = is-below (child_of first) n (and-left _ (are_below n calls) below) in
-    and-both (nat_lt (child_of first) m) (are_below m (calls ++ call ∷ [])) (to-below (child_of first) m (omega (arith, h, small)))
+    let small : child_of first < n = ltb-true (child_of first) n (and-left _ (are_below n calls) below) in
+    and_from (nat_lt (child_of first) m) (are_below m (calls ++ call ∷ [])) (to-below (child_of first) m (omega (arith, h, small)))
     (below-call n m calls call h last (and-right (nat_lt (child_of first) n) _ below))
 
 -- the next child is new
@@ -142,7 +135,7 @@ pub next-new : (n : ℕ) (calls : List ChildCall) → are_below n calls ≡ true
 next-new n [] below = refl
 next-new n (call ∷ calls) below =
     or-none (child_of call == n) (is_named n calls)
-    (is-other (child_of call) n (is-below (child_of call) n (and-left _ (are_below n calls) below)))
+    (is-other (child_of call) n (ltb-true (child_of call) n (and-left _ (are_below n calls) below)))
     (next-new n calls (and-right (nat_lt (child_of call) n) _ below))
 
 -- a child that was started is below
@@ -154,7 +147,7 @@ started-below n [] child below started = absurd (false-true started)
 started-below n (Waited other status ∷ calls) child below started =
     started-below n calls child (and-right (nat_lt other n) _ below) started
 started-below n (Started words other ∷ calls) child below started = elim (cases_Bool (other == child)) [
-  | inl same ↦ subst (λ (k : ℕ). k < n) (is-same other child same) (is-below other n (and-left _ (are_below n calls) below))
+  | inl same ↦ subst (λ (k : ℕ). k < n) (is-same other child same) (ltb-true other n (and-left _ (are_below n calls) below))
   | inr differs ↦ started-below n calls child (and-right (nat_lt other n) _ below) (rest (other == child) (is_started child calls) differs started)
 ]
   where

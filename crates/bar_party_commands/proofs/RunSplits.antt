@@ -3,8 +3,8 @@ use Rattle.std.proofs.Common.{◌≡◌, ◌⊎◌, ℕ, List, [], ◌∷◌, �
 use Rattle.std.proofs.lemmas.Grind.{flat_map-append}
 use Rattle.bar_outside.specs.Disk.{Content}
 use Rattle.bar_outside.specs.Wire.{Bound, Traffic, bound_to}
-use Rattle.bar_outside.specs.Plan.{Action, Begun, IsPartOf, LinkCall, Outside, Ran, Touches, content_after, created_after, outside, shown, traffic_after}
-use Rattle.bar_outside.specs.Plan.Action.{append, create, link, read, show}
+use Rattle.bar_outside.specs.Plan.{Action, Begun, Outside, Ran, Touches, content_after, created_after, outside, shown, traffic_after}
+use Rattle.bar_outside.specs.Plan.Action.{link}
 use Rattle.bar_outside.specs.Plan.LinkCall.{bind}
 use Rattle.bar_outside.proofs.ActionLists.{Begun-both, Begun-first, Begun-nothing, Begun-whole, content_after-append, shown-append, traffic_after-append}
 use Rattle.bar_outside.proofs.Untouched.{Touches-split, content-untouched}
@@ -13,6 +13,7 @@ use Rattle.bar_node.specs.Runs.{has_end}
 use Rattle.bar_node.proofs.Doing.{silent_out}
 use Rattle.bar_party_commands.specs.Stands.{IsBegun, IsFrontPrinted}
 use Rattle.bar_node.proofs.ActionKinds.{AreAmong, IsUnbinding, NoCall, NoName, among-begun, among-bound, among-ended, among-silent, among-touches, among-unlinked, among-unreceived, among-unwritten, shown-front}
+use Rattle.bar_node.proofs.Cutting.{no-part-link}
 
 -- some actions before the link is bound, the binding, a run over the link, and what is printed at its end
 abbrev pub binding_plan : List Action → Bound → List Action → List Action → List Action
@@ -27,13 +28,6 @@ pub record IsBehind (first : List Action) (to : Bound) (run last done : List Act
   pub last_begun : Begun last prints
 
 -- ---- what was done of them
-
-no-part-link : (part : Action) (call : LinkCall) → IsPartOf part (link call) → ⊥
-no-part-link (read p) call h = h
-no-part-link (create p) call h = h
-no-part-link (append p bytes) call h = h
-no-part-link (show bytes) call h = h
-no-part-link (link other) call h = h
 
 module _ (first : List Action) (to : Bound) (run last : List Action) where
   -- all

@@ -16,14 +16,7 @@ use Rattle.bar_rules.specs.Peer.Admission.{is_admitted, is_for, is_heard_again, 
 use Rattle.bar_rules.specs.Peer.Evidence.{is_tried}
 use Rattle.bar_rules.specs.Peer.Knowledge.{Knowledge, this_round}
 use Rattle.bar_peer.specs.Trying.{may_admit, may_show}
-
-pub last_false : (a : Bool) → false ≡ (a && false)
-last_false true = refl
-last_false false = refl
-
-pub last_true : (a : Bool) → a ≡ (a && true)
-last_true true = refl
-last_true false = refl
+use Rattle.bar_store.proofs.Learns.{and_true, and_false}
 
 -- ---- what may admit it, but for its signature
 
@@ -41,19 +34,19 @@ refused_elsewhere me k d is = λ i. sym is i && not (is_named k d) && not (is_ag
 
 pub refused_evicted : (me : Member) (k : Knowledge) (d : Datagram) → is_named k d ≡ true → false ≡ may_admit me k d
 refused_evicted me k d is =
-    (λ i. last_false (is_for me d.message) i && not (is_again k d) && is_met me k d)
+    (λ i. and_false (is_for me d.message) i && not (is_again k d) && is_met me k d)
     ∙ (λ i. is_for me d.message && not (sym is i) && not (is_again k d) && is_met me k d)
 
 pub refused_by_row : (me : Member) (k : Knowledge) (d : Datagram) → is_met me k d ≡ false → false ≡ may_admit me k d
 refused_by_row me k d is =
-    last_false (is_for me d.message && not (is_named k d) && not (is_again k d))
+    and_false (is_for me d.message && not (is_named k d) && not (is_again k d))
     ∙ (λ i. is_for me d.message && not (is_named k d) && not (is_again k d) && sym is i)
 
 -- what was admitted under its name decides, where all else is met
 pub admitted_if_new : (me : Member) (k : Knowledge) (d : Datagram) → is_for me d.message ≡ true → is_named k d ≡ false
     → is_met me k d ≡ true → not (is_again k d) ≡ may_admit me k d
 admitted_if_new me k d ours free met =
-    last_true (not (is_again k d)) ∙ (λ i. sym ours i && not (sym free i) && not (is_again k d) && sym met i)
+    and_true (not (is_again k d)) ∙ (λ i. sym ours i && not (sym free i) && not (is_again k d) && sym met i)
 
 -- a datagram of a kind that peers sign is of an exchange, of its round
 pub peer_placed : (m : Message) → is_peer_kind m.body ≡ true → place_of m ≡ None → ⊥
@@ -106,8 +99,8 @@ shown_if_recent me k d peer mine free none =
 -- ---- with its signature
 
 signature_last : (a b v c m : Bool) → (a && b && v && c && m) ≡ (a && b && c && m && v)
-signature_last a b true c m = (λ i. sym (last_true (a && b)) i && c && m) ∙ last_true (a && b && c && m)
-signature_last a b false c m = (λ i. sym (last_false (a && b)) i && c && m) ∙ last_false (a && b && c && m)
+signature_last a b true c m = (λ i. sym (and_true (a && b)) i && c && m) ∙ and_true (a && b && c && m)
+signature_last a b false c m = (λ i. sym (and_false (a && b)) i && c && m) ∙ and_false (a && b && c && m)
 
 pub admitted_by_signature : (me : Member) (k : Knowledge) (d : Datagram)
     → is_admitted me k d ≡ (may_admit me k d && has_valid_signature me.session d)

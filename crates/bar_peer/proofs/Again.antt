@@ -1,6 +1,6 @@
 -- What was admitted under the name of a datagram.
 use Rattle.std.proofs.Common.{◌≡◌, ℕ, ◌∙◌, Bool, true, false, List, Option, Some, None, sym, ap, refl, subst, Bor}
-use Rattle.std.specs.Prelude.{option_copied, option_map, is_some, IfSome, if◌then◌else◌}
+use Rattle.std.specs.Prelude.{option_map, is_some, IfSome, if◌then◌else◌}
 use Rattle.std.proofs.lemmas.Slice.Eq.{bytes_eq-Decides}
 use Rattle.std.specs.Bool.{then_some}
 use Rattle.std.specs.Str.{bytes_eq}
@@ -20,8 +20,8 @@ use Rattle.bar_rules.specs.Peer.Agreement.{IsRecent}
 use Rattle.bar_rules.specs.Peer.Knowledge.{Knowledge}
 use Rattle.bar_rules.specs.Peer.Replies.{heard_like, if_same, repeated}
 use Rattle.bar_balanced.specs.Balanced.{AreSpelled}
-use Rattle.bar_exchange.proofs.FourTests.{some_of}
 use Rattle.bar_peer.specs.Repeats.{IsInTime}
+use Rattle.bar_bytes.proofs.Options.{some-mapped}
 
 -- a ledger tells what was admitted at a place, while the exchange may be asked about
 pub like_in : (me : Member) (k : Knowledge) (l : Ledger) (m : Message) (p : Place) → Recalls me k l → place_of m ≡ Some p → IsInTime me k m
@@ -36,10 +36,6 @@ pub like_none : (s : Session) (k : Knowledge) (m : Message) → place_of m ≡ N
     → option_map (datagram_bytes s) (heard_like k m.body (place_of m)) ≡ None
 like_none s k m is = λ i. option_map (datagram_bytes s) (heard_like k m.body (is i))
 
-pub is_some_copied : {A : Type 0} (o : Option (Bor A)) → is_some (option_copied o) ≡ is_some o
-is_some_copied (Some a) = refl
-is_some_copied None = refl
-
 -- a name of an exchange is that of what was admitted at its place
 pub named_like : (s : Session) (k : Knowledge) (from to : ℕ) (b : RawBody)
     → ((round count : ℕ) (digests : Bor (List ℕ)) → b ≡ raw.Manifest round count digests → ⊥)
@@ -50,14 +46,14 @@ named_like s k from to (raw.Manifest round count digests) other neither = absurd
 named_like s k from to (raw.Evict round count parties) other neither = absurd (neither round count parties refl)
 named_like s k from to (raw.Block round index block) other neither = refl
 named_like s k from to (raw.Evidence count datagrams) other neither = refl
-named_like s k from to (raw.Request round seed commitment) other neither = some_of (datagram_bytes s) _
-named_like s k from to (raw.Response round hb) other neither = some_of (datagram_bytes s) _
-named_like s k from to (raw.Divulge round nonce ha) other neither = some_of (datagram_bytes s) _
-named_like s k from to (raw.Query round seed young aged) other neither = some_of (datagram_bytes s) _
-named_like s k from to (raw.Reply round want give junk) other neither = some_of (datagram_bytes s) _
-named_like s k from to (raw.Case round xkind role updates junk terms cipher) other neither = some_of (datagram_bytes s) _
-named_like s k from to (raw.KeyReq round xkind role) other neither = some_of (datagram_bytes s) _
-named_like s k from to (raw.Key round xkind role key) other neither = some_of (datagram_bytes s) _
+named_like s k from to (raw.Request round seed commitment) other neither = some-mapped (datagram_bytes s) _
+named_like s k from to (raw.Response round hb) other neither = some-mapped (datagram_bytes s) _
+named_like s k from to (raw.Divulge round nonce ha) other neither = some-mapped (datagram_bytes s) _
+named_like s k from to (raw.Query round seed young aged) other neither = some-mapped (datagram_bytes s) _
+named_like s k from to (raw.Reply round want give junk) other neither = some-mapped (datagram_bytes s) _
+named_like s k from to (raw.Case round xkind role updates junk terms cipher) other neither = some-mapped (datagram_bytes s) _
+named_like s k from to (raw.KeyReq round xkind role) other neither = some-mapped (datagram_bytes s) _
+named_like s k from to (raw.Key round xkind role key) other neither = some-mapped (datagram_bytes s) _
 
 -- ---- repeats
 

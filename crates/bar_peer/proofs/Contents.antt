@@ -1,7 +1,7 @@
 -- The contents of a round that a store gives out.
 use Rattle.bar_wire.specs.Grammar.{words_of}
 use Rattle.std.proofs.Common.{◌≡◌, ◌∙◌, ℕ, zero, suc, ◌+◌, ◌-◌, ◌*◌, ◌<◌, ◌≤◌, ◌≢◌, Bool, true, false, List, [], ◌∷◌, ◌++◌, Option, Some, None, sym, ap, refl, subst, arith, map, nat_le, is_some, option_copied, Bor}
-use Rattle.std.specs.Prelude.{slice_index_or, if◌then◌else◌}
+use Rattle.std.specs.Prelude.{slice_index_or}
 use Rattle.std.specs.Bool.{then_some}
 use Rattle.std.specs.List.{flat_map, range_with_len}
 use Rattle.std.specs.Option.{option_to_list}
@@ -18,6 +18,7 @@ use Rattle.bar_store.specs.Held.{block_in}
 use Rattle.bar_store.specs.Holds.{Holds}
 use Rattle.bar_store.specs.Rooms.{room_of, block_if}
 use Rattle.bar_peer.specs.Playing.{content_in, contents_in, PlaysFirst}
+use Rattle.bar_exchange.proofs.Begun.{if_none}
 
 -- ---- one by one
 
@@ -74,10 +75,6 @@ past_rooms per_round u None few past = refl
 past_rooms per_round u (Some k) few past =
     let inside : k.id.index < per_round = few k refl in
     none_if (same_update u k.id) k.block (other_update u k.id (omega (arith, inside, past)))
-
-if_none : {X : Type 0} (b : Bool) (o : Option X) → o ≡ None → (if b then o else None) ≡ None
-if_none true o none = none
-if_none false o none = refl
 
 -- their blocks aren't held
 none_past : (s : Store) (u : UpdateId) → s.per_round ≤ u.index → block_in s u ≡ None

@@ -25,7 +25,8 @@ use Rattle.bar_exchange.specs.Says.{order_by, Fits}
 use Rattle.bar_exchange.proofs.FourTests.{round_by}
 use Rattle.bar_peer.specs.Repeats.{is_of_exchange}
 use Rattle.bar_peer.specs.Sending.{IsOwn}
-use Rattle.bar_peer.proofs.Rows.{last_of, may_ask_in_time}
+use Rattle.bar_peer.proofs.Rows.{may_ask_in_time}
+use Rattle.bar_bytes.proofs.Tests.{and-second}
 
 -- one of its parties is this member
 abbrev IsOurs : Member → Exchange → Type 0
@@ -104,13 +105,13 @@ in-time false t new e = e
 pub row-deadline : (me : Member) (k : Knowledge) (from to : ℕ) (b : Body) → is_of_exchange b ≡ true → is_row_met me k from to b ≡ true
     → is_in_time me.session k (kind_of b) (round_of b) ≡ true
 row-deadline me k from to (Request r s c) x met = may_ask_in_time me k Balanced from r s met
-row-deadline me k from to (Response r hb) x met = last_of _ _ met
-row-deadline me k from to (Divulge r n ha) x met = last_of _ _ met
-row-deadline me k from to (Query r s y o) x met = may_ask_in_time me k Push from r s (last_of _ _ met)
-row-deadline me k from to (Reply r w g z) x met = last_of _ _ met
-row-deadline me k from to (Case c) x met = last_of _ _ met
-row-deadline me k from to (KeyReq r kind role) x met = last_of _ _ met
-row-deadline me k from to (Key g) x met = last_of _ _ met
+row-deadline me k from to (Response r hb) x met = and-second _ _ met
+row-deadline me k from to (Divulge r n ha) x met = and-second _ _ met
+row-deadline me k from to (Query r s y o) x met = may_ask_in_time me k Push from r s (and-second _ _ met)
+row-deadline me k from to (Reply r w g z) x met = and-second _ _ met
+row-deadline me k from to (Case c) x met = and-second _ _ met
+row-deadline me k from to (KeyReq r kind role) x met = and-second _ _ met
+row-deadline me k from to (Key g) x met = and-second _ _ met
 row-deadline me k from to (Manifest r ds) x met = absurd (false≢true x)
 row-deadline me k from to (Block u b) x met = absurd (false≢true x)
 row-deadline me k from to (Evidence ds) x met = absurd (false≢true x)

@@ -21,7 +21,8 @@ use Rattle.bar_rules.specs.Values.{opening_of, is_good, opened_block}
 use Rattle.bar_rules.specs.Peer.Admission.{has_digest}
 use Rattle.bar_peer.specs.Opening.{is_to_hold, block_in_item, block_in_items, IsNear, AreGiven}
 use Rattle.bar_window.proofs.Sets.{same_is}
-use Rattle.bar_peer.proofs.Opened.{and_false, none_if}
+use Rattle.bar_peer.proofs.Opened.{none_if}
+use Rattle.bar_bytes.proofs.Tests.{and-false}
 
 -- the block of an update among those of updates
 abbrev block_among : List UpdateId → List (List ℕ) → UpdateId → Option (List ℕ)
@@ -59,7 +60,7 @@ among_more table life now v block us blocks u others told near rest = by (same_u
     by : (same : Bool) → same_update u v ≡ same
         → option_or (then_some (is_to_hold table life now v block && same) block) others
         ≡ (if nat_lt now (u.round + life) then option_map (λ p. p.1) (cond same (Some (v, block)) (find (λ p. same_update u p.0) (zip us blocks))) else None)
-    by false e = ap (λ b. option_or (then_some b block) others) (and_false (is_to_hold table life now v block)) ∙ rest
+    by false e = ap (λ b. option_or (then_some b block) others) (and-false (is_to_hold table life now v block)) ∙ rest
     by true e =
         (λ i. option_or (then_some (told_held table life now v block told near i && true) block) others)
         ∙ (λ i. option_or (then_some ((nat_lt now ((sym (same_is u v e) i).round + life) && true) && true) block) others)

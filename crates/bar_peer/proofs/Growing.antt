@@ -20,11 +20,11 @@ use Rattle.bar_rules.specs.Peer.Orders.{Order, Ask, Answer, Reveal, GiveCase, As
 use Rattle.bar_rules.specs.Peer.Rules.{IsObedient}
 use Rattle.bar_rules.specs.Peer.Run.{Out, say_or_repeat, perform}
 use Rattle.bar_exchange.specs.declared.say.Say.{Say}
-use Rattle.bar_exchange.proofs.Said.{or_none}
 use Rattle.bar_laws.proofs.Logs.{option_or-some}
 use Rattle.bar_peer.specs.declared.order.Order.{Order as Queued}
 use Rattle.bar_peer.specs.declared.order.Order.TheVariants as queued
 use Rattle.bar_peer.specs.Sending.{send_now, order_now, report_of, IsTimely, IsOrderTimely, Answers, IsOwn}
+use Rattle.bar_bytes.proofs.Options.{or-none}
 
 -- ---- the log after an order
 
@@ -84,7 +84,7 @@ grows me out o =
       revealed = λ x a is.
           option_or-some ((known me out.state).revealed x)
           (then_some (is_of kinds.Request x Initiator d.message) (committed me (known me out.state).block x)) a is;
-      evidence = λ party. or_none (earliest (λ before e. kept_in party e) out.state);
+      evidence = λ party. or-none (earliest (λ before e. kept_in party e) out.state);
     })
 
 -- ---- what is sent for an order

@@ -7,6 +7,7 @@ use Rattle.bar_window.specs.declared.exchange.Role.{Role}
 use Rattle.bar_window.specs.declared.exchange.Role.TheVariants.{Initiator}
 use Rattle.bar_window.specs.declared.exchange.XKind.{XKind}
 use Rattle.bar_window.specs.declared.exchange.XKind.TheVariants.{Balanced, Push}
+use Rattle.bar_window.proofs.Exchanges.{same_exchange-is, same_role-is}
 use Rattle.bar_wire.specs.Datagram.{Message, Datagram, Place, kind_of, place_by, place_of, is_of, is_place, is_signed}
 use Rattle.bar_wire.specs.Kinds.{is_signed_kind}
 use Rattle.bar_wire.specs.declared.kind.Kind.{Kind}
@@ -15,10 +16,8 @@ use Rattle.bar_rules.specs.Peer.Admission.{is_admitted, is_named_again}
 use Rattle.bar_rules.specs.Peer.Exchanges.{request_kind}
 use Rattle.bar_rules.specs.Peer.Knowledge.{Knowledge, has_heard_of}
 use Rattle.bar_laws.specs.Soundness.{IsSound}
-use Rattle.bar_ledger.proofs.Same.{one_exchange}
 use Rattle.bar_exchange.proofs.KindCases.{one_kind}
-use Rattle.bar_exchange.proofs.Places.{one_role}
-use Rattle.bar_peer.proofs.Sends.{none_of}
+use Rattle.bar_bytes.proofs.Options.{none-of}
 
 -- ---- a place
 
@@ -33,7 +32,7 @@ placed : (o : Option Place) (x : Exchange) (role : Role) → option_map_or (is_p
 placed None x role e = absurd (false≢true e)
 placed (Some p) x role e =
     let parts = and_parts _ _ e in
-    λ i. Some (record { exchange = one_exchange p.exchange x parts.0 i; role = one_role p.role role parts.1 i })
+    λ i. Some (record { exchange = same_exchange-is p.exchange x parts.0 i; role = same_role-is p.role role parts.1 i })
 
 -- The message is of this kind, and stands on this side of the exchange.
 pub record IsHere (m : Message) (kind : Kind) (x : Exchange) (role : Role) : Type 0 where
@@ -69,7 +68,7 @@ request_unheard me k d x e here =
 -- so it has no seat yet
 pub unseated : (me : Member) (k : Knowledge) (d : Datagram) → IsSound me k → is_admitted me k d ≡ true
     → (x : Exchange) → is_of (request_kind x.kind) x Initiator d.message ≡ true → k.seat x ≡ None
-unseated me k d sound e x is = none_of (k.seat x) (by (is_some (k.seat x)) refl)
+unseated me k d sound e x is = none-of (k.seat x) (by (is_some (k.seat x)) refl)
   where
     by : (b : Bool) → is_some (k.seat x) ≡ b → is_some (k.seat x) ≡ false
     by false f = f

@@ -1,7 +1,7 @@
 -- What a datagram that tells nothing isn't, and what is left to be given out where nothing is sent.
-use Rattle.std.proofs.Common.{◌≡◌, ◌&&◌, Bool, true, false, not, List, [], ◌∷◌, map, Option, Some, None, refl}
+use Rattle.std.proofs.Common.{◌≡◌, ◌&&◌, true, false, not, List, [], ◌∷◌, map, None, refl}
 use Rattle.std.specs.Prelude.{is_some}
-use Rattle.std.proofs.lemmas.Bool.{and_parts}
+use Rattle.std.proofs.lemmas.Bool.{and_parts, not-true}
 use Rattle.bar_wire.specs.Datagram.{Datagram}
 use Rattle.bar_rules.specs.Member.{Member}
 use Rattle.bar_rules.specs.Peer.Admission.{is_admitted}
@@ -9,16 +9,9 @@ use Rattle.bar_rules.specs.Peer.Evidence.{new_evidence}
 use Rattle.bar_rules.specs.Peer.Knowledge.{Knowledge}
 use Rattle.bar_rules.specs.Peer.Replies.{repeated}
 use Rattle.bar_laws.specs.Ignoring.{tells_nothing}
+use Rattle.bar_bytes.proofs.Options.{none-of}
 
-no : (b : Bool) → not b ≡ true → b ≡ false
-no true e = absurd (cc)
-no false e = refl
-
-none_there : {A : Type 0} (o : Option A) → is_some o ≡ false → o ≡ None
-none_there None e = refl
-none_there (Some a) e = absurd (cc)
-
--- it isn't admitted, repeats nothing, and completes no evidence
+-- it isn't admitted, repeats nothing, and completes not-true evidence
 pub record TellsNothing (me : Member) (k : Knowledge) (d : Datagram) : Type 0 where
   pub refused : is_admitted me k d ≡ false
   pub unlike : repeated me k d ≡ None
@@ -29,9 +22,9 @@ nothing-told me k d e =
     let parts = and_parts (not (is_admitted me k d) && not (is_some (repeated me k d))) (not (is_some (new_evidence me k d))) e in
     let before = and_parts (not (is_admitted me k d)) (not (is_some (repeated me k d))) parts.0 in
     record {
-      refused = no _ before.0;
-      unlike = none_there _ (no _ before.1);
-      unshown = none_there _ (no _ parts.1);
+      refused = not-true _ before.0;
+      unlike = none-of _ (not-true _ before.1);
+      unshown = none-of _ (not-true _ parts.1);
     }
 
 -- a list that is mapped to none has none

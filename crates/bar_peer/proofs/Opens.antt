@@ -1,19 +1,13 @@
 -- The open exchanges, one after the other.
-use Rattle.std.proofs.Common.{◌≡◌, ◌+◌, ◌∙◌, Bool, true, nat_le, List, [], ◌∷◌, ◌++◌, filter, None, refl, sym, ap, subst, append_assoc}
+use Rattle.std.proofs.Common.{◌≡◌, ◌+◌, ◌∙◌, Bool, true, nat_le, List, [], ◌∷◌, ◌++◌, filter, sym, subst, append_assoc}
 use Rattle.std.specs.List.{AllByRecursion}
 use Rattle.std.proofs.lemmas.Bool.{cond_both, leb-true}
 use Rattle.bar_window.specs.declared.exchange.Exchange.{Exchange}
-use Rattle.bar_ledger.specs.Order.{above}
 use Rattle.bar_rules.specs.Member.{Member}
 use Rattle.bar_rules.specs.Peer.Agreement.{IsRecent}
 use Rattle.bar_rules.specs.Peer.Exchanges.{exchanges_said}
 use Rattle.bar_rules.specs.Peer.Knowledge.{known}
 use Rattle.bar_rules.specs.Peer.Log.{Log, round_now}
-
--- all stand above nothing
-pub above_none : (xs : List Exchange) → above None xs ≡ xs
-above_none [] = refl
-above_none (x ∷ xs) = ap (λ ys. x ∷ ys) (above_none xs)
 
 -- one more is done
 pub one_done : (xs done rest after : List Exchange) (x : Exchange) → done ++ rest ≡ xs → rest ≡ x ∷ after → (done ++ x ∷ []) ++ after ≡ xs

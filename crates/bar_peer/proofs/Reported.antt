@@ -18,8 +18,8 @@ use Rattle.bar_peer.specs.Memory.{member_of}
 use Rattle.bar_peer.specs.Sending.{report_now, Stands}
 use Rattle.bar_peer.specs.Ticking.{is_reported}
 use Rattle.bar_peer.proofs.Later.{evidence_after, announced_after}
-use Rattle.bar_exchange.proofs.FourTests.{some_of}
 use Rattle.bar_peer.proofs.Sent.{all_append, sent_report, stands_with, pushed}
+use Rattle.bar_bytes.proofs.Options.{some-mapped}
 
 -- the reports against the first peers
 abbrev pub reports_to : Knowledge → ℕ → List Order
@@ -80,7 +80,7 @@ one_reported m o p out before done party true at same due h e =
     let s : Option (ℕ × Datagram) = report_now me (known me between.state) party in
     let now : (known me between.state).evidence party ≡ before.evidence party = evidence_after me out (reports_to before done) party ∙ sym same in
     let some : is_some s ≡ true =
-    some_of _ ((known me between.state).evidence party) ∙ ap (λ o. is_some o) now
+    some-mapped _ ((known me between.state).evidence party) ∙ ap (λ o. is_some o) now
     ∙ (and_parts (is_some (before.evidence party)) (not (before.is_announced party)) due).0
     in
     subst (λ (after : Out). Stands after m p)

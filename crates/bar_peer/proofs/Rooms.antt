@@ -1,8 +1,6 @@
 -- Where an entry of a log makes an exchange kept, a room was left for it.
 use Rattle.std.proofs.Common.{◌≡◌, ◌∙◌, ℕ, zero, suc, ◌<◌, Bool, true, false, is_some, List, [], ◌∷◌, Option, Some, None, refl, sym, ap, arith}
-use Rattle.std.specs.Borrow.{Bor}
-use Rattle.std.specs.Prelude.{option_and_then, option_copied}
-use Rattle.std.specs.Bool.{then_some}
+use Rattle.std.specs.Prelude.{option_and_then}
 use Rattle.std.specs.List.{list_all}
 use Rattle.std.proofs.lemmas.Bool.{and_parts, and_from, false≢true}
 use Rattle.bar_window.specs.declared.exchange.Exchange.{Exchange}
@@ -16,22 +14,14 @@ use Rattle.bar_rules.specs.Peer.Log.{Log, Entry}
 use Rattle.bar_rules.specs.Peer.Rules.{IsObedient}
 use Rattle.bar_laws.specs.Rooms.{Own, asking_at, asking_of, is_kept, is_recent, LogLeavesRoom}
 use Rattle.bar_laws.specs.Soundness.{IsSound, LogIsSound}
-use Rattle.bar_exchange.proofs.FourTests.{some_of}
 use Rattle.bar_exchange.specs.Keeping.{HasRoomLeft, is_asked_by, is_remembered}
+use Rattle.bar_bytes.proofs.Options.{some-then, some-mapped}
 
 each_more : {X : Type 0} (p q : X → Bool) → ((x : X) → p x ≡ true → q x ≡ true) → (xs : List X) → list_all p xs ≡ true
     → list_all q xs ≡ true
 each_more p q h [] all = refl
 each_more p q h (x ∷ xs) all =
     and_from _ _ (h x (and_parts (p x) (list_all p xs) all).0) (each_more p q h xs (and_parts (p x) (list_all p xs) all).1)
-
-pub some_copied : {X : Type 0} (o : Option (Bor X)) → is_some (option_copied o) ≡ is_some o
-some_copied None = refl
-some_copied (Some v) = refl
-
-pub some_test : {X : Type 0} (b : Bool) (v : X) → is_some (then_some b v) ≡ b
-some_test true v = refl
-some_test false v = refl
 
 has_asking : (n : ℕ) → n < 2 → is_some (asking_at n) ≡ true
 has_asking zero low = refl
@@ -44,13 +34,13 @@ seat_asking (Some n) low some = has_asking n (low n refl)
 
 pub asking_by : (me : Member) (k : Knowledge) → IsSound me k → (x : Exchange) (role : Role) → is_asked_by role k x ≡ true
     → is_some (asking_of k x role) ≡ true
-asking_by me k s x Initiator asked = some_test (has_said_of k (request_kind x.kind) x Initiator) Own ∙ asked
+asking_by me k s x Initiator asked = some-then (has_said_of k (request_kind x.kind) x Initiator) Own ∙ asked
 asking_by me k s x Responder asked = seat_asking (k.seat x) (s.seats x) asked
 
 recent_by : (me : Member) (k : Knowledge) → IsSound me k → (x : Exchange) → is_remembered me k x ≡ true → is_recent me k x ≡ true
 recent_by me k s x h =
     let parts = and_parts _ (is_asked_by (role_of me x) k x) h in
-    and_from _ _ parts.0 (some_of _ (asking_of k x (role_of me x)) ∙ asking_by me k s x (role_of me x) parts.1)
+    and_from _ _ parts.0 (some-mapped _ (asking_of k x (role_of me x)) ∙ asking_by me k s x (role_of me x) parts.1)
 
 -- of an entry that is allowed and by which an exchange comes to be kept
 pub room-left : LogLeavesRoom → LogIsSound → (me : Member) (log : Log) (e : Entry) → IsObedient me (e ∷ log) → (x : Exchange)
@@ -64,7 +54,7 @@ room-left leaves sound me log e obeys x before after xs distinct all =
 pub kept_asked : (me : Member) (k : Knowledge) (x : Exchange) → role_of me x ≡ Initiator
     → is_kept me k x ≡ has_said_of k (request_kind x.kind) x (role_of me x)
 kept_asked me k x own =
-    some_of _ (asking_of k x (role_of me x))
+    some-mapped _ (asking_of k x (role_of me x))
     ∙ ap (λ (role : Role). is_some (asking_of k x role)) own
-    ∙ some_test (has_said_of k (request_kind x.kind) x Initiator) Own
+    ∙ some-then (has_said_of k (request_kind x.kind) x Initiator) Own
     ∙ ap (λ (role : Role). has_said_of k (request_kind x.kind) x role) (sym own)

@@ -1,7 +1,6 @@
 -- The rows of datagrams of exchanges, and what a met row tells.
-use Rattle.std.proofs.Common.{◌≡◌, ◌≤◌, ℕ, ◌∙◌, Bool, true, ◌&&◌, is_some, List, Option, sym, ap, refl, arith}
+use Rattle.std.proofs.Common.{◌≡◌, ◌≤◌, ℕ, ◌∙◌, true, ◌&&◌, is_some, List, Option, sym, ap, refl, arith}
 use Rattle.std.specs.Borrow.{Bor}
-use Rattle.std.proofs.lemmas.Bool.{and_parts}
 use Rattle.std.proofs.lemmas.Bool.Decides.{nat_tests}
 use Rattle.bar_window.specs.declared.exchange.Role.{Role}
 use Rattle.bar_window.specs.declared.exchange.Role.TheVariants.{Initiator, Responder}
@@ -22,12 +21,13 @@ use Rattle.bar_rules.specs.Peer.Agreement.{IsRecent}
 use Rattle.bar_rules.specs.Peer.Exchanges.{request_kind}
 use Rattle.bar_rules.specs.Peer.Knowledge.{Knowledge, is_in_time, deadline}
 use Rattle.bar_exchange.specs.Placing.{StandsAt}
-use Rattle.bar_exchange.proofs.FourTests.{some_of}
 use Rattle.bar_peer.specs.Repeats.{IsInTime, is_of_exchange}
+use Rattle.bar_bytes.proofs.Options.{some-mapped}
+use Rattle.bar_bytes.proofs.Tests.{and-second}
 
 -- a body is of an exchange exactly where it has a place
 pub of_exchange : (v : View) (place : Option Place) → StandsAt v place → is_of_exchange (plain v.body) ≡ is_some place
-of_exchange v place at = sym (some_of (place_by v.from v.to) (part_of (plain v.body))) ∙ ap is_some (sym at) ∙ some_of place_in place
+of_exchange v place at = sym (some-mapped (place_by v.from v.to) (part_of (plain v.body))) ∙ ap is_some (sym at) ∙ some-mapped place_in place
 
 -- what is neither told to all nor a block is of an exchange, or no row admits it
 pub of_others : (me : Member) (k : Knowledge) (from to : ℕ) (b : RawBody)
@@ -59,12 +59,9 @@ by_deadline : (me : Member) (k : Knowledge) (kind : Kind) (round : ℕ) → dead
     → is_in_time me.session k kind round ≡ true → IsRecent me k round
 by_deadline me k kind round few h = grind (arith, nat_tests)
 
-pub last_of : (a t : Bool) → (a && t) ≡ true → t ≡ true
-last_of a t h = (and_parts a t h).1
-
 pub may_ask_in_time : (me : Member) (k : Knowledge) (kind : XKind) (from round : ℕ) (seed : List ℕ)
     → may_ask me k kind from round seed ≡ true → is_in_time me.session k (request_kind kind) round ≡ true
-may_ask_in_time me k kind from round seed h = last_of _ _ (last_of _ _ h)
+may_ask_in_time me k kind from round seed h = and-second _ _ (and-second _ _ h)
 
 -- each row of an exchange bounds the round
 pub in_time : (me : Member) (k : Knowledge) (from to : ℕ) (b : Body) → 2 ≤ me.session.shape.life → is_row_met me k from to b ≡ true
@@ -72,16 +69,16 @@ pub in_time : (me : Member) (k : Knowledge) (from to : ℕ) (b : Body) → 2 ≤
 in_time me k from to (Manifest r ds) life h = tt
 in_time me k from to (Block u b) life h = tt
 in_time me k from to (Request r s c) life h = by_deadline me k kinds.Request r (omega arith) (may_ask_in_time me k Balanced from r s h)
-in_time me k from to (Response r hb) life h = by_deadline me k kinds.Response r life (last_of _ _ h)
-in_time me k from to (Divulge r n ha) life h = by_deadline me k kinds.Divulge r life (last_of _ _ h)
+in_time me k from to (Response r hb) life h = by_deadline me k kinds.Response r life (and-second _ _ h)
+in_time me k from to (Divulge r n ha) life h = by_deadline me k kinds.Divulge r life (and-second _ _ h)
 in_time me k from to (Query r s y o) life h =
-    by_deadline me k kinds.Query r (omega arith) (may_ask_in_time me k Push from r s (last_of _ _ h))
-in_time me k from to (Reply r w g z) life h = by_deadline me k kinds.Reply r life (last_of _ _ h)
+    by_deadline me k kinds.Query r (omega arith) (may_ask_in_time me k Push from r s (and-second _ _ h))
+in_time me k from to (Reply r w g z) life h = by_deadline me k kinds.Reply r life (and-second _ _ h)
 in_time me k from to (Case c) life h =
-    in_round me k c.round c.kind c.role from to (by_deadline me k kinds.Case c.round life (last_of _ _ h))
+    in_round me k c.round c.kind c.role from to (by_deadline me k kinds.Case c.round life (and-second _ _ h))
 in_time me k from to (KeyReq r kind role) life h =
-    in_round me k r kind role from to (by_deadline me k kinds.KeyReq r (omega arith) (last_of _ _ h))
+    in_round me k r kind role from to (by_deadline me k kinds.KeyReq r (omega arith) (and-second _ _ h))
 in_time me k from to (Key g) life h =
-    in_round me k g.round g.kind g.role from to (by_deadline me k kinds.Key g.round (omega arith) (last_of _ _ h))
+    in_round me k g.round g.kind g.role from to (by_deadline me k kinds.Key g.round (omega arith) (and-second _ _ h))
 in_time me k from to (Evidence ds) life h = tt
 in_time me k from to (Evict r ps) life h = tt

@@ -1,7 +1,6 @@
 -- What is told of an exchange.
 use Rattle.std.proofs.Common.{◌≡◌, ◌∙◌, ℕ, ◌+◌, Bool, true, false, ◌&&◌, Option, Some, None, sym, ap, refl, subst, arith, length}
 use Rattle.std.specs.Prelude.{nat_le, is_some, option_map, option_and_then, IfSome, if◌then◌else◌}
-use Rattle.std.specs.Bool.{then_some}
 use Rattle.std.specs.Option.{option_map_or}
 use Rattle.std.proofs.lemmas.Bool.{and_parts, false≢true}
 use Rattle.std.proofs.lemmas.Bool.Decides.{nat_tests}
@@ -10,6 +9,7 @@ use Rattle.bar_window.specs.declared.exchange.Exchange.{Exchange}
 use Rattle.bar_window.specs.declared.exchange.Role.{Role}
 use Rattle.bar_window.specs.Exchange.{other_role, same_role}
 use Rattle.bar_window.specs.Terms.{Terms, plain_terms}
+use Rattle.bar_window.proofs.Exchanges.{same_role_refl}
 use Rattle.bar_terms.specs.Terms.{promise, can_promise}
 use Rattle.bar_rules.proofs.TermWindows.{aligned_of}
 use Rattle.bar_wire.specs.Bodies.{briefcase_in}
@@ -36,18 +36,12 @@ use Rattle.bar_ledger.specs.Memory.{find_in}
 use Rattle.bar_ledger.specs.Recalls.{Recalls, IsKeptBy, complete_terms}
 use Rattle.bar_ledger.specs.Totals.{AreSound, totals_by}
 use Rattle.bar_ledger.specs.declared.totals.Totals.{Totals as Told}
-use Rattle.bar_exchange.proofs.FourTests.{some_of}
-use Rattle.bar_exchange.proofs.Places.{same_side}
 use Rattle.bar_laws.proofs.Logs.{some-is}
 use Rattle.bar_peer.specs.Telling.{IsTold, AreTotals, no_totals}
 use Rattle.bar_peer.proofs.Keys.{is_case}
-use Rattle.bar_peer.proofs.Sends.{none_of}
+use Rattle.bar_bytes.proofs.Options.{some-mapped, none-of, then-value}
 
 -- ---- options
-
-of_then : {X : Type 0} (b : Bool) (x y : X) → then_some b x ≡ Some y → x ≡ y
-of_then true x y h = same_Some x y h
-of_then false x y h = absurd (cc)
 
 -- ---- what was said
 
@@ -100,7 +94,7 @@ nothing_told : (me : Member) (k : Knowledge) (x : Exchange) (told : Told) → Is
     → IsTold (totals me k x) told
 nothing_told me k x told sound none zeros =
     let mine : promise_size me.session (case_said me k x) ≡ 0 =
-    ap (λ o. promise_size me.session (case_in o)) (none_of (k.said kinds.Case x (role_of me x)) none)
+    ap (λ o. promise_size me.session (case_in o)) (none-of (k.said kinds.Case x (role_of me x)) none)
     in
     let theirs : promise_size me.session (case_heard me k x) ≡ 0 =
     ap (promise_size me.session) (no_case me k x (case_heard me k x) sound none refl)
@@ -167,22 +161,22 @@ said_kept me k l x e kind recalls f =
     recalls.said kind x (role_of me x) f.recent
     ∙ ap (λ o. option_map_or (said_by kind (role_of me x)) o false) f.found
     ∙ ap (λ (r : Role). same_role (role_of me x) r && is_said kind f.kept.entry) f.own.side
-    ∙ ap (λ (b : Bool). b && is_said kind f.kept.entry) (same_side (role_of me x))
+    ∙ ap (λ (b : Bool). b && is_said kind f.kept.entry) (same_role_refl (role_of me x))
 
 heard_kept : (me : Member) (k : Knowledge) (l : Ledger) (x : Exchange) (e : Entry) → Recalls me k l → (f : IsFound me k l x e)
     → is_some (k.heard kinds.Case x (other_role (role_of me x))) ≡ is_some f.kept.case
 heard_kept me k l x e recalls f =
     let other : Role = other_role (role_of me x) in
-    sym (some_of (datagram_bytes me.session) (k.heard kinds.Case x other))
+    sym (some-mapped (datagram_bytes me.session) (k.heard kinds.Case x other))
     ∙ ap (λ o. is_some o) (recalls.heard kinds.Case x other f.recent)
     ∙ ap (λ o. is_some (option_and_then (heard_by kinds.Case other) o)) f.found
     ∙ ap (λ (r : Role). is_some (if same_role other (other_role r) then f.kept.case else None)) f.own.side
-    ∙ ap (λ (b : Bool). is_some (if b then f.kept.case else None)) (same_side other)
+    ∙ ap (λ (b : Bool). is_some (if b then f.kept.case else None)) (same_role_refl other)
 
 terms_kept : (me : Member) (k : Knowledge) (l : Ledger) (x : Exchange) (e : Entry) (t : Terms) → Recalls me k l → (f : IsFound me k l x e)
     → terms_of me k x ≡ Some t → plain_terms f.kept.entry.terms ≡ t
 terms_kept me k l x e t recalls f terms =
-    of_then f.kept.entry.complete (plain_terms f.kept.entry.terms) t
+    then-value f.kept.entry.complete (plain_terms f.kept.entry.terms) t
     (sym (recalls.terms x f.recent ∙ ap (option_and_then complete_terms) f.found) ∙ terms)
 
 -- ---- what is told of it

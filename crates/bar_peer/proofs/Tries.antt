@@ -33,8 +33,9 @@ use Rattle.bar_laws.specs.Soundness.{IsSound}
 use Rattle.bar_ledger.specs.declared.ledger.Ledger.{Ledger}
 use Rattle.bar_ledger.specs.Lookups.{heard_in}
 use Rattle.bar_ledger.specs.Recalls.{Recalls}
-use Rattle.bar_exchange.proofs.FourTests.{round_by, some_of}
+use Rattle.bar_exchange.proofs.FourTests.{round_by}
 use Rattle.bar_peer.proofs.Heard.{is_here}
+use Rattle.bar_bytes.proofs.Options.{some-mapped}
 
 -- the verdict on what is read, of one peer and accepted is what is found
 abbrev pub VerdictsAreFound : Type 0
@@ -244,7 +245,7 @@ pub tried_is : (me : Member) (k : Knowledge) (d : Datagram) (bytes : List ℕ) (
     → new_evidence me k d ≡ option_or (then_some shows (bytes ∷ [])) (pairs_of me k d o)
 unfolding new_evidence
 tried_is me k d bytes t found shows o law good spelled tried table exact is at =
-    let same : is_some (fault_of me.session t (d ∷ [])) ≡ shows = ap is_some (sym exact) ∙ some_of plain_fault found ∙ sym is in
+    let same : is_some (fault_of me.session t (d ∷ [])) ≡ shows = ap is_some (sym exact) ∙ some-mapped plain_fault found ∙ sym is in
     (λ i. if tried i
     then option_or (if_accuses me.session (table i) d.message.from (datagram_bytes me.session d ∷ []))
     (pairs_of me k d (sym at i)) else None)

@@ -16,11 +16,11 @@ use Rattle.bar_terms.specs.Terms.{promise}
 use Rattle.bar_wire.specs.Bodies.{briefcase_in, choice_in, key_in}
 use Rattle.bar_wire.specs.Datagram.{Message, Datagram, Body, Case, Key, Briefcase, KeyGiven, exchange_by}
 use Rattle.bar_case.specs.declared.findings.Finding.{Finding}
-use Rattle.bar_case.specs.declared.findings.Finding.TheVariants.{Sound, Broken, Untold}
 use Rattle.bar_case.specs.declared.findings.Opening.TheVariants.{Bad}
 use Rattle.bar_case.specs.Items.{item_len, junk_key}
 use Rattle.bar_case.specs.Opened.{digest_finding, item_finding, findings, is_broken, is_untold, opening_by, opened, is_bad}
 use Rattle.bar_case.specs.Opened as opening
+use Rattle.bar_case.proofs.Longer.{some_any, bad_some}
 use Rattle.bar_rules.specs.Member.{Session}
 use Rattle.bar_rules.specs.Values.{terms_ok, counts_ok, opening_of, is_signed_by}
 use Rattle.bar_rules.specs.Judge.Verdict.{Fault, LeafTwice, BadOpening, BadTerms, WrongPartner, Verdict, Shown, NotShown, Malformed, NotSigned, bad_terms, wrong_partner, key_fits, pair_opening, bad_opening, fault_by_words, fault_in_order, fault_of_one, is_leaf_twice, fault_of_messages, fault_of_two, fault_of, judged, verdict_on, verdict, all_read, are_of_one_peer}
@@ -142,29 +142,11 @@ terms-enough s table m c good bad =
 
 -- ---- openings
 
-next_lt : (a n : ℕ) → nat_lt (1 + a) (suc n) ≡ nat_lt a n
-next_lt a n = go (nat_lt a n) refl
-  where
-    go : (b : Bool) → nat_lt a n ≡ b → nat_lt (1 + a) (suc n) ≡ b
-    go true e = let h : a < n = ltb-true a n e in lt-ltb (1 + a) (suc n) (omega arith)
-    go false e = false_from_ne_true (nat_lt (1 + a) (suc n)) (λ t. let h = ltb-true (1 + a) (suc n) t in let k = lt-ltb a n (omega arith) in cc)
-
-some_any : (fs : List Finding) → nat_lt (position_or_len is_broken fs) (length fs) ≡ list_any is_broken fs
-some_any [] = refl
-some_any (Broken ∷ fs) = lt-ltb 0 (suc (length fs)) (omega arith)
-some_any (Sound ∷ fs) = next_lt (position_or_len is_broken fs) (length fs) ∙ some_any fs
-some_any (Untold ∷ fs) = next_lt (position_or_len is_broken fs) (length fs) ∙ some_any fs
-
 by-any : (fs : List Finding) → opening.opening_of fs ≡ opening_by (cond (list_any is_broken fs) (Some (position_or_len is_broken fs)) None) (position is_untold fs) (length fs)
 by-any fs = ap (λ b. opening_by (cond b (Some (position_or_len is_broken fs)) None) (position is_untold fs) (length fs)) (some_any fs)
 
-bad-by : (b : Bool) (i : ℕ) (untold : Option ℕ) (n : ℕ) → is_bad (opening_by (cond b (Some i) None) untold n) ≡ b
-bad-by true i untold n = refl
-bad-by false i None n = refl
-bad-by false i (Some j) n = refl
-
 bad-any : (fs : List Finding) → is_bad (opening.opening_of fs) ≡ list_any is_broken fs
-bad-any fs = ap is_bad (by-any fs) ∙ bad-by (list_any is_broken fs) (position_or_len is_broken fs) (position is_untold fs) (length fs)
+bad-any fs = ap is_bad (by-any fs) ∙ bad_some (list_any is_broken fs) (position_or_len is_broken fs) (position is_untold fs) (length fs)
 
 bad-at : (fs : List Finding) → list_any is_broken fs ≡ true → opening.opening_of fs ≡ Bad (position_or_len is_broken fs)
 bad-at fs e = by-any fs ∙ ap (λ b. opening_by (cond b (Some (position_or_len is_broken fs)) None) (position is_untold fs) (length fs)) e

@@ -6,7 +6,7 @@ use Rattle.bar_judge.specs.declared.entries.First.{First as RawFirst}
 use Rattle.bar_judge.specs.declared.entries.First.TheVariants as raw
 use Rattle.bar_judge.specs.TableFile.{NoByte, Entry, NoEntry, first_of, table_bytes}
 use Rattle.bar_judge.specs.TableViews.{plain_first}
-use Rattle.bar_judge.proofs.TableWriting.{first_written, entries_many}
+use Rattle.bar_judge.proofs.TableWriting.{first_written, entries_many, no_byte}
 use Rattle.bar_proof.specs.ProofFile.{AreShort}
 
 -- Some manifests are left, and the first that passes is the first of all.
@@ -30,10 +30,6 @@ all-remain p table manifests short is = record {
   few = omega (arith, entries_many manifests, ap length is);
 }
 
-no-entry : first_of [] ≡ NoByte
-unfolding first_of
-no-entry = refl
-
 -- the first of those that are left is the entry that stands there
 pub record IsFirst (left : List (List ℕ)) (manifest others : List ℕ) : Type 0 where
   pub behind : List (List ℕ)
@@ -43,7 +39,7 @@ pub record IsFirst (left : List (List ℕ)) (manifest others : List ℕ) : Type 
 first-left : (left : List (List ℕ)) (rest manifest others : List ℕ) → AreShort left → rest ≡ table_bytes left → first_of rest ≡ Entry manifest others
     → IsFirst left manifest others
 first-left [] rest manifest others short is first =
-    let e : NoByte ≡ Entry manifest others = sym no-entry ∙ (sym (ap first_of is) ∙ first) in absurd cc
+    let e : NoByte ≡ Entry manifest others = sym no_byte ∙ (sym (ap first_of is) ∙ first) in absurd cc
 first-left (m ∷ left) rest manifest others short is first =
     let e : Entry m (table_bytes left) ≡ Entry manifest others = sym (first_written m (table_bytes left) short.0) ∙ (sym (ap first_of is) ∙ first) in
     let one : m ≡ manifest = cc in

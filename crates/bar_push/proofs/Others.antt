@@ -1,10 +1,8 @@
 -- Of the other kinds nothing is written in a push.
-use Rattle.std.proofs.Common.{◌≡◌, ◌∙◌, None, refl, ap, arith}
+use Rattle.std.proofs.Common.{◌≡◌, ◌∙◌, None, refl, ap}
 use Rattle.std.specs.Prelude.{option_map}
 use Rattle.bar_window.specs.declared.exchange.Exchange.{Exchange}
 use Rattle.bar_window.specs.declared.exchange.XKind.TheVariants.{Push}
-use Rattle.bar_window.specs.Exchange.{kind_code}
-use Rattle.bar_window.specs.Terms.{Terms}
 use Rattle.bar_window.specs.Terms as forms
 use Rattle.bar_wire.specs.Datagram.{Request, Response, Divulge}
 use Rattle.bar_wire.specs.declared.kind.Kind.{Kind}
@@ -16,16 +14,9 @@ use Rattle.bar_rules.specs.Peer.Knowledge.{Knowledge}
 use Rattle.bar_rules.specs.Peer.Writing.{body_now}
 use Rattle.bar_ledger.specs.declared.ledger.Ledger.{Ledger}
 use Rattle.bar_ledger.specs.Lookups.{knows_commit, knows_answer, commit_of, history_of}
-use Rattle.bar_ledger.specs.Recalls.{Recalls, kind_of_terms}
+use Rattle.bar_ledger.specs.Recalls.{Recalls}
 use Rattle.bar_exchange.proofs.Knowing.{no_part}
-
-no_commit : (t : Terms) → kind_of_terms t ≡ Push → commit_of t ≡ None
-no_commit (forms.Push young aged want give junk) e = refl
-no_commit (forms.Balanced nonce ha hb) e = absurd (omega (arith, ap kind_code e))
-
-no_history : (t : Terms) → kind_of_terms t ≡ Push → history_of t ≡ None
-no_history (forms.Push young aged want give junk) e = refl
-no_history (forms.Balanced nonce ha hb) e = absurd (omega (arith, ap kind_code e))
+use Rattle.bar_exchange.proofs.Begun.{no_commit, no_history}
 
 pub no_body : (me : Member) (k : Knowledge) (l : Ledger) (x : Exchange) (kind : Kind) → Recalls me k l → IsRecent me k x.round → x.kind ≡ Push
     → (kind ≡ kinds.Query → ⊥) → (kind ≡ kinds.Reply → ⊥) → (kind ≡ kinds.Case → ⊥) → (kind ≡ kinds.KeyReq → ⊥) → (kind ≡ kinds.Key → ⊥)

@@ -39,8 +39,9 @@ use Rattle.bar_exchange.proofs.Later.{later_others}
 use Rattle.bar_exchange.proofs.Learned.{AddsHeard, adds_heard, only_heard}
 use Rattle.bar_exchange.proofs.One.{RecallsOne}
 use Rattle.bar_exchange.proofs.PartKept.{keeps_part, part_by, part_said, entry_is, is_near, none_either}
-use Rattle.bar_exchange.proofs.Places.{IsAt, no_more, first_one, not_of_kind, is_of_itself}
+use Rattle.bar_exchange.proofs.Places.{IsAt, first_one, not_of_kind, is_of_itself}
 use Rattle.bar_exchange.proofs.Same.{body_same, other_body}
+use Rattle.bar_bytes.proofs.Options.{or-untold}
 
 -- what is kept by the initiator of a push, whose QUERY is said
 abbrev pub of_initiator : Window → Window → Window → Window → ℕ → Kept → Kept
@@ -83,7 +84,7 @@ reply_one me k new d x bytes young aged old_want old_give want give old_junk jun
     stays : (other : Kind) (role : Role) → same_datagram kinds.Reply other ≡ false → body_on me new other x role ≡ body_on me k other x role
     stays other role apart =
         body_same me k new other x role (a.said other x role)
-        (a.heard other x role ∙ no_more (k.heard other x role) (is_of other x role d.message) d (not_of_kind d.message other (ap (λ kind. same_datagram kind other) first.kind_is ∙ apart) x role))
+        (a.heard other x role ∙ or-untold (k.heard other x role) (is_of other x role d.message) d (not_of_kind d.message other (ap (λ kind. same_datagram kind other) first.kind_is ∙ apart) x role))
 
 -- The push of an admitted REPLY is kept.
 pub record IsOfKept (me : Member) (k : Knowledge) (l : Ledger) (d : Datagram) (x : Exchange) : Type 0 where

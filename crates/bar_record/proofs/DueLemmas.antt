@@ -1,6 +1,7 @@
 -- What is due where an input comes, and how time, rows and the work that remains go on.
 use Rattle.std.proofs.Common.{◌≡◌, ◌≢◌, ◌≤◌, ◌<◌, ℕ, ◌+◌, ◌-◌, ◌*◌, ◌==◌, nat_le, min, Bool, true, false, List, [], ◌∷◌, ◌++◌, length, refl, sym, arith}
 use Rattle.std.proofs.lemmas.Bool.Decides.{nat_tests}
+use Rattle.std.proofs.lemmas.Bool.{eqb-false}
 use Rattle.bar_wire.specs.Inputs.{Input, Tick, Datagram}
 use Rattle.bar_record.specs.Pacing.{due, is_due, is_datagram, run_after, ticks_of}
 use Rattle.bar_record.proofs.PacingLemmas.{ticks_joined}
@@ -84,9 +85,6 @@ module _ (last ticks run : ℕ) (early : ticks < last) (d : Bool) where
 
 -- ---- rows, and the work that remains
 
-apart : (a b : ℕ) → (a == b) ≡ false → a ≢ b
-apart a b h = grind (arith, nat_tests)
-
 -- no row is too long
 pub row-stays : (run : ℕ) (d : Bool) → run ≤ 65536 → run_after run d ≤ 65536
 row-stays run false few = omega arith
@@ -94,7 +92,7 @@ row-stays run true few = by_test (run == 65536) refl
   where
     by_test : (b : Bool) → (run == 65536) ≡ b → run_after run true ≤ 65536
     by_test true e = rw e (omega arith)
-    by_test false e = let h : run ≢ 65536 = apart run 65536 e in rw e (omega arith)
+    by_test false e = let h : run ≢ 65536 = eqb-false run 65536 e in rw e (omega arith)
 
 module _ (last ticks run : ℕ) (early : ticks < last) (few : run ≤ 65536) where
   due-less : (input : Input) →
@@ -108,7 +106,7 @@ module _ (last ticks run : ℕ) (early : ticks < last) (few : run ≤ 65536) whe
           < (last - ticks) * 65537 + (65536 - run)
       by_tests true true e f = let h = early-test last ticks early in rw (h, e, f) (omega arith)
       by_tests true false e f = let h = early-test last ticks early in rw (h, e, f) (omega arith)
-      by_tests false d e f = let h = early-test last ticks early in let k : run ≢ 65536 = apart run 65536 e in rw (h, e) (omega arith)
+      by_tests false d e f = let h = early-test last ticks early in let k : run ≢ 65536 = eqb-false run 65536 e in rw (h, e) (omega arith)
 
   -- less is left behind each input
   pub less-work : (taken : List Input) (input : Input) (end at row : ℕ) → ticks ≡ min (ticks_of taken) last → end ≡ last →
@@ -130,4 +128,4 @@ module _ (last ticks run : ℕ) (early : ticks < last) (few : run ≤ 65536) whe
           ≤ 65537 * (ticks + ticks_of (due last ticks run (Datagram bytes))) + run_after run true
       by_tests true true e f = let k = early-test last ticks early in rw (k, e, f) (omega arith)
       by_tests true false e f = let k = early-test last ticks early in rw (k, e, f) (omega arith)
-      by_tests false d e f = let k = early-test last ticks early in let u : run ≢ 65536 = apart run 65536 e in rw (k, e) (omega arith)
+      by_tests false d e f = let k = early-test last ticks early in let u : run ≢ 65536 = eqb-false run 65536 e in rw (k, e) (omega arith)

@@ -1,10 +1,11 @@
 -- What is kept of the peers' seeds after a test of one.
-use Rattle.std.proofs.Common.{◌≡◌, ◌≢◌, ℕ, ◌+◌, ◌==◌, true, false, List, Option, None, refl, ap, ◌∙◌, subst, arith}
+use Rattle.std.proofs.Common.{◌≡◌, ℕ, ◌+◌, ◌==◌, true, false, List, Option, None, refl, ap, ◌∙◌, subst, arith}
 use Rattle.std.proofs.lemmas.Bool.Decides.{nat_tests}
 use Rattle.std.specs.Option.{option_map_or}
 use Rattle.bar_seeds.specs.declared.checkpoints.KeptSeed.{KeptSeed}
 use Rattle.bar_seeds.specs.declared.checkpoints.Checkpoints.{Checkpoints}
 use Rattle.std.proofs.lemmas.Slice.Eq.{bytes_eq-Decides}
+use Rattle.std.proofs.lemmas.Bool.{eqb-false}
 use Rattle.bar_seeds.specs.Seeds.{is_seed, chain_start}
 use Rattle.bar_seeds.specs.Checkpoints.{kept_of, kept_round, kept_value, parties_in, MovesOn}
 use Rattle.bar_roster.specs.SessionText.{SessionData}
@@ -16,9 +17,6 @@ IsSeedOf s points peer = is_seed s.shape.id (anchor_in s peer) peer (kept_round 
 same_number : (m n : ℕ) → (m == n) ≡ true → n ≡ m
 same_number m n e = grind (arith, nat_tests, e)
 
-other_number : (m n : ℕ) → (m == n) ≡ false → m ≢ n
-other_number m n e = grind (arith, nat_tests, e)
-
 other_stays : (s : SessionData) (old new : Checkpoints) (peer : ℕ) → kept_of new peer ≡ kept_of old peer → IsSeedOf s old peer → IsSeedOf s new peer
 other_stays s old new peer same was =
     ap (λ (o : Option KeptSeed). is_seed s.shape.id (anchor_in s peer) peer (option_map_or (λ k. k.round) o 0) (option_map_or (λ k. k.seed) o (anchor_in s peer))) same ∙ was
@@ -29,7 +27,7 @@ seeds_stay s old new peer seeds moves own = record {
   seeds = λ p low high.
       (elim (p == peer) as (λ b. (p == peer) ≡ b → IsSeedOf s new p) [
         | true ↦ λ t. subst (IsSeedOf s new) (same_number p peer t) own
-        | false ↦ λ t. other_stays s old new p (moves.others p (other_number p peer t)) (seeds.seeds p low high)
+        | false ↦ λ t. other_stays s old new p (moves.others p (eqb-false p peer t)) (seeds.seeds p low high)
       ]) refl;
 }
 

@@ -5,3 +5,5 @@ pub mod LongerRuns
 pub mod TermWindows
 pub mod Shared
 pub mod Single
+pub mod Inserted
+pub mod Rising

@@ -1,13 +1,11 @@
 -- Acceptance under a key's bytes, by the key that is read from them.
-use Rattle.std.proofs.Common.{◌≡◌, ℕ, ◌≤◌, true, false, if◌then◌else◌, List, refl, sym, ap, ◌∙◌, arith}
+use Rattle.std.proofs.Common.{◌≡◌, ℕ, true, false, List, refl, sym, ap, ◌∙◌}
 use Rattle.std.specs.Prelude.{Result, Ok, Err}
 use Rattle.std.proofs.lemmas.Bool.{false_from_ne_true}
 use Rattle.bar_lms.specs.declared.params.Params.{Params}
 use Rattle.bar_lms.specs.declared.key.KeyFault.{KeyFault}
-use Rattle.bar_lms.specs.Params.{most_steps}
 use Rattle.bar_lms.specs.Signature.{Public}
 use Rattle.bar_lms.specs.Acceptance.{is_accepted, steps_taken, is_key_of, key_at, is_accepted_under, steps_taken_under}
-use Rattle.bar_lms.proofs.StepLemmas.{few_taken}
 
 -- the key of given types that bytes are is the one that was read
 abbrev ReadsOf : List ℕ → Result Public KeyFault → Type 0
@@ -56,9 +54,3 @@ accepted_by_none p bytes message sig none = let e : is_key_of p bytes ≡ false 
 pub steps_by_none : (p : Params) (bytes message sig : List ℕ) → (is_key_of p bytes ≡ true → ⊥) → steps_taken_under p bytes message sig ≡ 0
 unfolding steps_taken_under
 steps_by_none p bytes message sig none = let e : is_key_of p bytes ≡ false = false_from_ne_true (is_key_of p bytes) none in rw e refl
-
-pub few_under : (p : Params) (bytes message sig : List ℕ) → steps_taken_under p bytes message sig ≤ most_steps p
-unfolding steps_taken_under
-few_under p bytes message sig =
-    elim (is_key_of p bytes) as (λ b. (if b then steps_taken (key_at p bytes) message sig else 0) ≤ most_steps p)
-    [ true ↦ few_taken (key_at p bytes) message sig | false ↦ omega arith ]

@@ -4,7 +4,7 @@ use Rattle.std.specs.List.{filter, flat_map, list_all, range_with_len}
 use Rattle.std.proofs.Math.Nat.{suc-mul, mul_comm}
 use Rattle.std.proofs.lemmas.Nat.{div-mul-add, mod-mul-add, mul-add-lt, div-add-mod', mod_below}
 use Rattle.std.proofs.lemmas.Bool.{cases_lt}
-use Rattle.std.proofs.lemmas.List.{append-nil}
+use Rattle.std.proofs.lemmas.List.{append-nil, map-append}
 use Rattle.std.proofs.lemmas.List.FromFn.{map-range_with_len_more}
 use Rattle.std.proofs.lemmas.Grind.{flat_map-append}
 use Rattle.bar_window.specs.Places.{update_at}
@@ -60,10 +60,6 @@ range_join a (suc n) k =
     let e : (a + 1) + n ≡ a + suc n = omega arith in
     let more : suc n + k ≡ suc (n + k) = omega arith in
     ap (range_with_len a) more ∙ ap (λ (xs : List ℕ). a ∷ xs) (range_join (a + 1) n k ∙ rw e refl)
-
-map-append : {X Y : Type 0} (f : X → Y) (xs ys : List X) → map f (xs ++ ys) ≡ map f xs ++ map f ys
-map-append f [] ys = refl
-map-append f (x ∷ xs) ys = ap (λ zs. f x ∷ zs) (map-append f xs ys)
 
 one_round : (base m n k : ℕ) → k ≤ m → map (update_at base m) (range_with_len (n * m) k) ≡ map (λ i. record { round = base + n; index = i }) (range_with_len 0 k)
 one_round base m n zero le = refl

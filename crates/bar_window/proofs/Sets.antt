@@ -3,10 +3,10 @@ use Rattle.std.proofs.Common.{◌≡◌, suc, ◌<◌, Bool, true, false, cond, 
 use Rattle.std.specs.List.{filter, list_all, Contains}
 use Rattle.std.specs.Cmp.{IsEquivalence}
 use Rattle.std.proofs.lemmas.Cmp.{and_equiv, on_equiv, nat_eq_equiv}
-use Rattle.std.proofs.lemmas.Bool.{eq-eqb, ne_eqb, eqb-true, lt-ltb, ltb-true, and_parts, or_cases, or_left, or_right, false≢true}
+use Rattle.std.proofs.lemmas.Bool.{eq-eqb, ne_eqb, eqb-true, lt-ltb, ltb-true, and_from, and_parts, or_cases, or_left, or_right, false≢true, cases_Bool}
 use Rattle.std.proofs.lemmas.Map.Views.{Contains-from_any, list_any-from_Contains}
 use Rattle.bar_window.specs.declared.update.UpdateId.{UpdateId}
-use Rattle.bar_window.specs.Updates.{same_update, has_update, is_before, is_rising, is_inside, minus}
+use Rattle.bar_window.specs.Updates.{same_update, same_updates, has_update, is_before, is_rising, is_inside, minus}
 
 -- ---- one update
 
@@ -18,6 +18,19 @@ same_is u v h = let p = and_parts (eqb u.round v.round) (eqb u.index v.index) h 
 
 pub same_self : (u : UpdateId) → same_update u u ≡ true
 same_self u = rw (eq-eqb u.round u.round refl, eq-eqb u.index u.index refl) refl
+
+pub same_updates-is : (us vs : List UpdateId) → same_updates us vs ≡ true → us ≡ vs
+same_updates-is [] [] e = refl
+same_updates-is (u ∷ us) (v ∷ vs) e =
+    let p = and_parts _ _ e in
+    let head : u ≡ v = same_is u v p.0 in
+    let tail : us ≡ vs = same_updates-is us vs p.1 in cc
+same_updates-is [] (v ∷ vs) e = absurd (cc)
+same_updates-is (u ∷ us) [] e = absurd (cc)
+
+pub same_updates_refl : (us : List UpdateId) → same_updates us us ≡ true
+same_updates_refl [] = refl
+same_updates_refl (u ∷ us) = and_from _ _ (same_self u) (same_updates_refl us)
 
 same_equivalence : IsEquivalence same_update
 same_equivalence = and_equiv (on_equiv (λ (u : UpdateId). u.round) nat_eq_equiv) (on_equiv (λ (u : UpdateId). u.index) nat_eq_equiv)
@@ -65,12 +78,8 @@ same_tests true b h g = sym (h refl)
 same_tests false true h g = g refl
 same_tests false false h g = refl
 
-by_cases : (b : Bool) → (b ≡ true) ⊎ (b ≡ false)
-by_cases true = inl refl
-by_cases false = inr refl
-
 not_before_itself : (u : UpdateId) (us : List UpdateId) → list_all (is_before u) us ≡ true → has_update us u ≡ false
-not_before_itself u us a = elim (by_cases (has_update us u)) [
+not_before_itself u us a = elim (cases_Bool (has_update us u)) [
   | inl h ↦ let b = before_each u u us a h in absurd (not_both_before u u b b)
   | inr h ↦ h
 ]
@@ -85,7 +94,7 @@ same_heads u v us vs a b h g = elim (has_cases u v vs h) [
 ]
 
 tail_has : (u v w : UpdateId) (us vs : List UpdateId) → u ≡ v → has_update us u ≡ false → has_update vs v ≡ false → has_update (u ∷ us) w ≡ has_update (v ∷ vs) w → has_update us w ≡ has_update vs w
-tail_has u v w us vs e off off_v h = elim (by_cases (same_update w u)) [
+tail_has u v w us vs e off off_v h = elim (cases_Bool (same_update w u)) [
   | inl here ↦
       let w_u : w ≡ u = same_is w u here in
       ap (has_update us) w_u ∙ off ∙ sym off_v ∙ ap (has_update vs) (sym (w_u ∙ e))
@@ -109,7 +118,7 @@ same_sets (u ∷ us) (v ∷ vs) a b h =
 -- ---- filters
 
 has_step : (p : UpdateId → Bool) (u v : UpdateId) (us : List UpdateId) (b : Bool) → p v ≡ b → has_update (filter p us) u ≡ (has_update us u && p u) → has_update (cond b (v ∷ filter p us) (filter p us)) u ≡ ((same_update u v || has_update us u) && p u)
-has_step p u v us b e h = elim (by_cases (same_update u v)) [
+has_step p u v us b e h = elim (cases_Bool (same_update u v)) [
   | inl here ↦
       let u_v : u ≡ v = same_is u v here in
       let p_u : p u ≡ b = ap p u_v ∙ e in

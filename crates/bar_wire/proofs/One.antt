@@ -18,7 +18,7 @@ pub record IsOne (d e : Body) (x y : List ℕ) : Type 0 where
   pub body : d ≡ e
   pub rest : x ≡ y
 
-not_both_kinds : exchanges.Balanced ≡ exchanges.Push → ⊥
+pub not_both_kinds : exchanges.Balanced ≡ exchanges.Push → ⊥
 not_both_kinds e = cc
 
 -- the terms

@@ -12,12 +12,8 @@ use Rattle.bar_wire.specs.Windows.{AreWindowsAt, NoWindowsAt}
 use Rattle.bar_wire.specs.Terms.{AreTermsAt, NoTermsAt}
 use Rattle.bar_wire.proofs.Peel.{peel}
 use Rattle.bar_wire.proofs.WindowLaws.{set_told}
-
-not_both : exchanges.Balanced ≡ exchanges.Push → ⊥
-not_both e = cc
-
-three : (a b c rest : List ℕ) → a ++ (b ++ (c ++ rest)) ≡ (a ++ (b ++ (c ++ []))) ++ rest
-three a b c rest = rw append-nil (simp append_assoc)
+use Rattle.bar_wire.proofs.Head.{three_joined}
+use Rattle.bar_wire.proofs.One.{not_both_kinds}
 
 five : (a b c d e rest : List ℕ) → a ++ (b ++ (c ++ (d ++ (e ++ rest)))) ≡ (a ++ (b ++ (c ++ (d ++ (e ++ []))))) ++ rest
 five a b c d e rest = rw append-nil (simp append_assoc)
@@ -26,15 +22,15 @@ pub trade_at : (s : Shape) (r : ℕ) (bytes nonce middle left : List ℕ) (w v :
 trade_at s r bytes nonce middle left w v long is two = record {
   form = (refl, long, two.first_set, two.second_set);
   windows = (two.first, two.second);
-  is = is ∙ ap (λ (x : List ℕ). nonce ++ x) two.is ∙ three nonce (set_bytes s r (members w)) (set_bytes s r (members v)) left;
+  is = is ∙ ap (λ (x : List ℕ). nonce ++ x) two.is ∙ three_joined nonce (set_bytes s r (members w)) (set_bytes s r (members v)) left;
   len = omega (arith, two.len, long, ap length is, length-append nonce middle);
 }
 
 pub no_trade : (s : Shape) (r : ℕ) (bytes nonce middle : List ℕ) → length nonce ≡ 32 → bytes ≡ nonce ++ middle → NoWindowsAt s r middle → NoTermsAt s exchanges.Balanced r bytes
 no_trade s r bytes nonce middle long is none round (forms.Balanced n a b) after form spelled =
-    let told = peel n nonce (set_bytes s r a ++ (set_bytes s r b ++ after)) middle (form.1 ∙ sym long) (three n (set_bytes s r a) (set_bytes s r b) after ∙ sym spelled ∙ is) in
+    let told = peel n nonce (set_bytes s r a ++ (set_bytes s r b ++ after)) middle (form.1 ∙ sym long) (three_joined n (set_bytes s r a) (set_bytes s r b) after ∙ sym spelled ∙ is) in
     none round a b after form.2 form.3 (sym told.rest)
-no_trade s r bytes nonce middle long is none round (forms.Push a b u v z) after form spelled = not_both form.0
+no_trade s r bytes nonce middle long is none round (forms.Push a b u v z) after form spelled = not_both_kinds form.0
 
 pub offer_at : (s : Shape) (r : ℕ) (bytes middle rest left : List ℕ) (a b u v : Window) (z : ℕ) → AreWindowsAt s r bytes a b middle → AreWindowsAt s r middle u v rest → rest ≡ z ∷ left → AreTermsAt s exchanges.Push r bytes (raw.Push a b u v z) left
 offer_at s r bytes middle rest left a b u v z one two is =
@@ -47,12 +43,12 @@ offer_at s r bytes middle rest left a b u v z one two is =
     }
 
 pub no_offer : (s : Shape) (r : ℕ) (bytes : List ℕ) → NoWindowsAt s r bytes → NoTermsAt s exchanges.Push r bytes
-no_offer s r bytes none round (forms.Balanced n a b) after form spelled = not_both (sym form.0)
+no_offer s r bytes none round (forms.Balanced n a b) after form spelled = not_both_kinds (sym form.0)
 no_offer s r bytes none round (forms.Push a b u v z) after form spelled =
     none round a b (set_bytes s r u ++ (set_bytes s r v ++ (z ∷ after))) form.1 form.2 (spelled ∙ sym (five (set_bytes s r a) (set_bytes s r b) (set_bytes s r u) (set_bytes s r v) (z ∷ []) after))
 
 pub no_answer : (s : Shape) (r : ℕ) (bytes middle : List ℕ) (w v : Window) → AreWindowsAt s r bytes w v middle → NoWindowsAt s r middle → NoTermsAt s exchanges.Push r bytes
-no_answer s r bytes middle w v one none round (forms.Balanced n a b) after form spelled = not_both (sym form.0)
+no_answer s r bytes middle w v one none round (forms.Balanced n a b) after form spelled = not_both_kinds (sym form.0)
 no_answer s r bytes middle w v one none round (forms.Push a b x y z) after form spelled =
     let rest = set_bytes s r x ++ (set_bytes s r y ++ (z ∷ after)) in
     let whole : set_bytes s r (members w) ++ (set_bytes s r (members v) ++ middle) ≡ set_bytes s r a ++ (set_bytes s r b ++ rest) = sym one.is ∙ spelled ∙ sym (five (set_bytes s r a) (set_bytes s r b) (set_bytes s r x) (set_bytes s r y) (z ∷ []) after) in

@@ -1,5 +1,5 @@
 -- The datagram that bytes spell.
-use Rattle.std.proofs.Common.{◌≡◌, ℕ, ◌+◌, Bool, true, false, ◌&&◌, List, [], ◌∷◌, ◌++◌, length, take, drop, refl, sym, ap, subst, ◌∙◌, append_assoc, length-append, arith}
+use Rattle.std.proofs.Common.{◌≡◌, ℕ, ◌+◌, true, ◌&&◌, List, [], ◌∷◌, ◌++◌, length, take, drop, refl, sym, ap, subst, ◌∙◌, append_assoc, length-append, arith}
 use Rattle.std.specs.Prelude.{slice_index, slice_range, bytes_eq, Option, Some, None, Result, Ok, Err, MatchResult}
 use Rattle.std.specs.Bool.{then_some}
 use Rattle.std.specs.Option.{option_and_then, option_map}
@@ -11,6 +11,7 @@ use Rattle.std.proofs.lemmas.List.{take_at, drop_at}
 use lib.Pointwise.{bytes_decides}
 use Rattle.bar_bytes.specs.Bytes.{u16_bytes}
 use Rattle.bar_bytes.proofs.Lengths.{length_u16}
+use Rattle.bar_bytes.proofs.Options.{then-is}
 use Rattle.bar_wire.specs.declared.shape.Shape.{Shape}
 use Rattle.bar_wire.specs.declared.kind.Kind.{Kind}
 use Rattle.bar_wire.specs.declared.fault.WireFault.{WireFault}
@@ -69,13 +70,9 @@ stands s d bytes spelled =
 
 -- ---- the datagram of some bytes
 
-then_is : {X : Type 0} (b : Bool) (x y : X) → then_some b x ≡ Some y → (b ≡ true) × (x ≡ y)
-then_is true x y e = (refl, cc)
-then_is false x y e = absurd cc
-
 passes : (s : Shape) (bytes : List ℕ) (e d : Datagram) → then_some (is_datagram s e && bytes_eq (spelling s e) bytes) e ≡ Some d → SpellsDatagram s d bytes
 passes s bytes e d h =
-    let t = then_is (is_datagram s e && bytes_eq (spelling s e) bytes) e d h in
+    let t = then-is (is_datagram s e && bytes_eq (spelling s e) bytes) e d h in
     let both = and_parts (is_datagram s e) (bytes_eq (spelling s e) bytes) t.0 in
     subst (λ (x : Datagram). SpellsDatagram s x bytes) t.1 (record { fits = (datagram_tells s e).0 both.0; is = sym ((bytes_decides (spelling s e) bytes).0 both.1) })
 

@@ -5,7 +5,7 @@ use Rattle.bar_lms.specs.Schemes.{signed_by}
 use Rattle.bar_lms.specs.Secret.{Secret, signed}
 use Rattle.bar_lms.specs.Signature.{number_at}
 use Rattle.bar_lms.specs.declared.params.Height.{Height}
-use Rattle.bar_lms.specs.declared.params.Params.{Params}
+use Rattle.bar_lms.proofs.HssLemmas.{signature_some}
 use Rattle.bar_wire.specs.Datagram.{Datagram}
 use Rattle.bar_wire.specs.Places as places
 use Rattle.bar_wire.specs.Views.{datagram}
@@ -21,9 +21,6 @@ use Rattle.bar_world.specs.Network.{lie_in, delivery_by}
 use Rattle.std.proofs.Common.{◌≡◌, ℕ, ◌^◌, ◌<◌, ◌≤◌, List, length, sym, ap, ◌∙◌, subst, arith}
 use Rattle.std.specs.Prelude.{Option, Some, None}
 
-some-long : (p : Params) → 4 ≤ signature_len p
-some-long p = omega arith
-
 pub accepted-has-leaf : (s : Session) (bytes : List ℕ) (d : Datagram) → s.top ≡ None → IsAcceptedIn s bytes → datagram_of s bytes ≡ Some d
     → HasLeafIfSigned s d
 accepted-has-leaf s bytes d single all reads sign =
@@ -31,7 +28,7 @@ accepted-has-leaf s bytes d single all reads sign =
     let message = message_bytes s d.message in
     let a = (under_test s.params key message d.signature).0 (single_verifies s single key message d.signature ∙ all d reads sign) in
     let long : length d.signature ≡ signature_len a.key.params = a.accepted.length in
-    let some : 4 ≤ signature_len a.key.params = some-long a.key.params in
+    let some : 4 ≤ signature_len a.key.params = signature_some a.key.params in
     record {
       long = omega (arith, long, some);
       leaf = subst (λ p. number_at d.signature 0 < 2 ^ levels p.height) a.params a.accepted.leaf;

@@ -9,6 +9,7 @@ use Rattle.bar_world.specs.Network.{Game, Play, lie_of, other_key, lie_by, lie_i
 use Rattle.bar_world.specs.Network.{decided, lost_one, delivered_once, delivered_twice, drew, served_by, served, drained}
 use Rattle.bar_world.specs.Network.{ticked, tick_played, played_on}
 use Rattle.bar_world.proofs.KeyReads.{key-reads}
+use Rattle.bar_world.proofs.Worlds.{run-append}
 use Rattle.std.proofs.Common.{◌≡◌, ℕ, zero, suc, Bool, true, false, List, [], ◌∷◌, ◌++◌, ◌+◌, ◌%◌, ◌^◌, ◌<◌, eqb, cond}
 use Rattle.std.proofs.Common.{refl, sym, ap, ◌∙◌, subst}
 use Rattle.std.proofs.lemmas.Bool.{eqb-true, both_ways}
@@ -62,10 +63,6 @@ pub record IsRun (game : Game) (play : Play) : Type 0 where
   pub world : play.world ≡ run game.setup (initial game.setup) play.moves
   pub moves : AreLies game.setup.session game.liar play.moves
   pub queue : AreLies game.setup.session game.liar play.queue
-
-run-append : (setup : Setup) (w : World) (xs ys : List Move) → run setup w (xs ++ ys) ≡ run setup (run setup w xs) ys
-run-append setup w [] ys = refl
-run-append setup w (x ∷ xs) ys = run-append setup (happens setup w x) xs ys
 
 module _ (game : Game) (small : game.liar < 2 ^ 16) where
   moved-runs : (play : Play) (m : Move) → IsLie game.setup.session game.liar m → IsRun game play → IsRun game (moved game play m)

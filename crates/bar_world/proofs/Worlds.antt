@@ -12,18 +12,15 @@ use Rattle.bar_laws.specs.OwnRuns.{inputs_from, inputs_of, input_at, IsOwnRun}
 use Rattle.bar_world.specs.Cores.{IsCoreOf}
 use Rattle.bar_world.specs.Given.{Gives}
 use Rattle.bar_world.specs.Texts.{texts}
-use Rattle.std.proofs.Common.{◌≡◌, ◌≤◌, ◌∙◌, ℕ, zero, suc, true, false, List, [], ◌∷◌, ◌++◌, eqb, cond, length, map, refl, sym, ap, subst, append-nil, append_assoc, arith}
+use Rattle.std.proofs.Common.{◌≡◌, ◌≤◌, ◌∙◌, ℕ, zero, suc, false, List, [], ◌∷◌, ◌++◌, eqb, cond, length, map, refl, sym, ap, subst, append-nil, append_assoc, arith}
 use Rattle.std.specs.Prelude.{Vec, Option, Some, None, slice_get, slice_set, unwrap_or, option_map}
 use Rattle.std.specs.List.{concat}
 use Rattle.std.proofs.lemmas.List.{length-map}
 use Rattle.std.proofs.lemmas.Option.{slice_get-map}
+use Rattle.bar_bytes.proofs.Tests.{eqb_refl}
+use Rattle.bar_bytes.proofs.Lengths.{length-slice_set}
 
 -- ---- lists
-
-set-length : {X : Type 0} (xs : List X) (p : ℕ) (y : X) → length (slice_set xs p y) ≡ length xs
-set-length [] p y = refl
-set-length (x ∷ xs) zero y = refl
-set-length (x ∷ xs) (suc p) y = ap (λ n. suc n) (set-length xs p y)
 
 map-set : {X Y : Type 0} (f : X → Y) (xs : List X) (p : ℕ) (x : X) → map f (slice_set xs p x) ≡ slice_set (map f xs) p (f x)
 map-set f [] p x = refl
@@ -37,7 +34,7 @@ past (x ∷ xs) (suc p) h = past xs p (omega (arith, h))
 
 -- ---- one move more
 
-run-append : (setup : Setup) (w : World) (xs ys : List Move) → run setup w (xs ++ ys) ≡ run setup (run setup w xs) ys
+pub run-append : (setup : Setup) (w : World) (xs ys : List Move) → run setup w (xs ++ ys) ≡ run setup (run setup w xs) ys
 run-append setup w [] ys = refl
 run-append setup w (x ∷ xs) ys = run-append setup (happens setup w x) xs ys
 
@@ -65,7 +62,7 @@ takes-count setup w p input = go (slice_get w.logs p)
   where
     go : (o : Option Log) → length (takes_by setup w p input o).logs ≡ length w.logs
     go None = refl
-    go (Some log) = set-length w.logs p (party_step setup p log input).state
+    go (Some log) = length-slice_set w.logs p (party_step setup p log input).state
 
 delivered-count : (setup : Setup) (w : World) (o : Option (ℕ × List ℕ)) → length (delivered setup w o).logs ≡ length w.logs
 delivered-count setup w None = refl
@@ -115,9 +112,6 @@ stepped setup w p out =
       packets = w.packets ++ spelled setup.session out.sends;
     }
 
-eqb-refl : (p : ℕ) → eqb p p ≡ true
-eqb-refl p = grind arith
-
 module _ (setup : Setup) (moves : List Move) (m : Move) (p : ℕ) (input : Input) (gives : Gives setup (after setup moves) m p input)
     (steps : Log → Input → Outcome Log) (same : (log : Log) (i : Input) → party_step setup p log i ≡ steps log i)
     (own : IsOwnRun setup moves p steps) where
@@ -164,7 +158,7 @@ module _ (setup : Setup) (moves : List Move) (m : Move) (p : ℕ) (input : Input
     took =
         subst now
         (sym (inputs-more setup moves m p
-        ∙ ap (λ rest. inputs_of setup moves p ++ rest) (gives.inputs p ∙ ap (λ b. cond b (input ∷ []) []) (eqb-refl p))))
+        ∙ ap (λ rest. inputs_of setup moves p ++ rest) (gives.inputs p ∙ ap (λ b. cond b (input ∷ []) []) (eqb_refl p))))
         (stands (inputs_of setup moves p) core.took);
   }
 

@@ -23,10 +23,11 @@ use Rattle.std.proofs.lemmas.List.Elements.{All-contains, filter_passes}
 use Rattle.bar_window.proofs.Ranges.{image_is_in}
 use Rattle.bar_wire.proofs.Signed.{peer_kind_sends}
 use Rattle.bar_rules.proofs.LongerRuns.{state_after_both}
-use Rattle.bar_laws.proofs.Logs.{eqb_refl, no-value, option_or-cases, option_or-some, read-fits, some-equal, some-is}
+use Rattle.bar_laws.proofs.Logs.{no-value, option_or-cases, option_or-some, read-fits, some-equal, some-is}
 use Rattle.bar_laws.proofs.Worlds.{IsShown, shown-is}
 use Rattle.bar_laws.proofs.Broadcasts.Serving.{tick-serves}
 use Rattle.bar_laws.proofs.Broadcasts.Steps.{judged-keeps}
+use Rattle.bar_bytes.proofs.Tests.{eqb_refl}
 
 -- ---- whom evidence is shown against
 

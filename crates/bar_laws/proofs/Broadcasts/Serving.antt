@@ -14,9 +14,9 @@ use Rattle.std.proofs.Common.{◌≡◌, ℕ, Bool, true, false, List, ◌∷◌
 use Rattle.std.specs.Prelude.{cond, nat_le}
 use Rattle.std.specs.List.{AllByRecursion}
 use Rattle.bar_wire.proofs.Lists.{AllByRecursion-push}
-use Rattle.bar_laws.proofs.Logs.{or-none}
 use Rattle.bar_laws.proofs.Runs.{ticked-low}
 use Rattle.bar_laws.proofs.Broadcasts.Steps.{IsKept, IsServed, tick-keeps}
+use Rattle.bar_bytes.proofs.Options.{or-none}
 
 -- since a log nobody was evicted, and what was sent goes to peers that it serves
 abbrev pub Serves : Member → Log → Out → Type 0

@@ -19,9 +19,10 @@ use Rattle.std.specs.Prelude.{Option, Some, None, is_none, is_some, cond, nat_le
 use Rattle.std.specs.List.{AllByRecursion}
 use Rattle.std.proofs.lemmas.Bool.{leb-true, ltb-true, not-false}
 use Rattle.std.proofs.lemmas.List.Elements.{All-contains, filter_passes}
-use Rattle.bar_laws.proofs.Logs.{all-kept, all-map, all-of, or-none}
+use Rattle.bar_laws.proofs.Logs.{all-kept, all-map, all-of}
 use Rattle.bar_laws.proofs.Runs.{not_some}
 use Rattle.bar_laws.proofs.Fitting.{manifest-fits, evict-fits, served-are-peers}
+use Rattle.bar_bytes.proofs.Options.{or-none}
 
 -- a peer that isn't evicted
 abbrev pub IsServed : Session → Log → ℕ → Type 0

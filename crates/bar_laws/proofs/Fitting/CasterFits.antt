@@ -20,7 +20,7 @@ use Rattle.std.specs.List.{AllByRecursion, range_with_len}
 use Rattle.std.proofs.lemmas.List.{length-map, length-replicate}
 use Rattle.std.proofs.lemmas.List.FromFn.{length-range_with_len}
 use Rattle.std.proofs.lemmas.List.Elements.{All-from_recursion, All-contains}
-use Rattle.bar_laws.proofs.Fitting.MessageLengths.{length-u16}
+use Rattle.bar_bytes.proofs.Lengths.{length_u16}
 
 -- ---- lists
 
@@ -68,7 +68,7 @@ leaf-length me leaf message s low =
 -- ---- blocks
 
 block-whole : (content : List ℕ) → length content ≤ 1022 → length (block_bytes content) ≡ 1024
-block-whole content few = simp (length-append, length-u16, length-replicate) (omega (arith, few))
+block-whole content few = simp (length-append, length_u16, length-replicate) (omega (arith, few))
 
 piece-short : (stream : List ℕ) (b : ℕ) → length (piece_of stream b) ≤ 1022
 piece-short stream b = simp length-take (omega arith)

@@ -16,6 +16,7 @@ use Rattle.bar_rules.specs.Peer.Signing.{MaySay, signed, leaf_for}
 use Rattle.bar_rules.specs.Peer.Ticks.{orders_at_tick, again, lacks_answer, lacks_case, lacks_key, reveals, asking_partner, new_requests, reports}
 use Rattle.bar_rules.specs.Values.{datagram_of, message_bytes, unsigned}
 use Rattle.bar_rules.specs.Peer.Machine as machine
+use Rattle.bar_rules.proofs.Rising.{all-inserted}
 use Rattle.bar_window.specs.Exchange.{party_on, other_role}
 use Rattle.bar_window.specs.declared.exchange.Exchange.{Exchange}
 use Rattle.bar_window.specs.declared.exchange.Role.{Role}
@@ -39,7 +40,6 @@ use Rattle.bar_laws.proofs.Logs.{allowed-at, signed_long, IsFormed, IsBetween, b
 use Rattle.bar_laws.proofs.Fitting.EvidenceFits.{evidence-fits}
 use Rattle.bar_laws.proofs.Runs.{keeps-leaves, send_if-log, step-obedient, repeated-heard, when-all, said-contains}
 use Rattle.bar_laws.proofs.Fitting.SaidFits.{sign-formed, all-formed, round-small}
-use Rattle.bar_laws.proofs.Memory.{all-inserted}
 
 -- ---- what is signed
 

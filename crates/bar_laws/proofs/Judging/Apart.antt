@@ -12,13 +12,14 @@ use Rattle.bar_window.specs.declared.exchange.Role.{Role}
 use Rattle.bar_window.specs.declared.exchange.Role.TheVariants.{Initiator, Responder}
 use Rattle.bar_window.specs.declared.exchange.XKind.{XKind}
 use Rattle.bar_window.specs.declared.exchange.XKind.TheVariants.{Balanced, Push}
+use Rattle.bar_window.proofs.Exchanges.{same_exchange-is, same_exchange_refl}
 use Rattle.bar_wire.specs.Bodies.{briefcase_in, key_in, is_peer_kind}
 use Rattle.bar_wire.specs.Datagram.{Message, Datagram, Body, Request, Response, Query, Reply, Case, Key, Briefcase, KeyGiven, kind_number, part_of, named, identity_of, exchange_by, exchange_of, place_by}
 use Rattle.bar_rules.specs.Values.{leaf_named}
 use Rattle.bar_rules.specs.Member.{Session}
 use Rattle.bar_rules.specs.Judge.Verdict.{LeafTwice, same_place, key_fits, pair_opening, bad_opening, is_twice, fault_by_case, fault_in_order, fault_of_two}
 use Rattle.bar_wire.proofs.Codes.{same_kind_code, same_role_code}
-use Rattle.bar_laws.proofs.Logs.{same_bytes-is, same_exchange-is, same_exchange_refl, briefcase-is}
+use Rattle.bar_laws.proofs.Logs.{same_bytes-is, briefcase-is}
 use Rattle.bar_laws.proofs.Judging.ShownStays.{key_of-is}
 
 -- ---- what identities name

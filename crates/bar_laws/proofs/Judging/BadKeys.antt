@@ -27,13 +27,14 @@ use Rattle.bar_window.specs.declared.exchange.Exchange.{Exchange}
 use Rattle.bar_window.specs.declared.exchange.Role.{Role}
 use Rattle.bar_window.specs.declared.exchange.Role.TheVariants.{Initiator, Responder}
 use Rattle.bar_window.specs.declared.update.UpdateId.{UpdateId}
+use Rattle.bar_window.proofs.Exchanges.{same_role_refl, same_exchange_refl, other-other}
 use Rattle.bar_wire.specs.Datagram.{Datagram, Case, Key, Briefcase, KeyGiven, is_of, is_signed, part_of, round_of, exchange_by, exchange_of, place_by, Place}
 use Rattle.std.proofs.Common.{◌≡◌, ℕ, ◌+◌, Bool, true, false, List, [], ◌∷◌, ◌++◌, refl, sym, ap, ◌∙◌, subst, ◌&&◌, not, inl, inr, map, take, drop, zero, suc, ◌<◌, length, arith}
 use Rattle.std.specs.Prelude.{Some, ◌⊎◌, is_some, option_and_then, option_map, nat_le, Contains, slice_index_or}
 use Rattle.std.specs.List.{AllByRecursion, range_with_len}
 use Rattle.std.proofs.lemmas.Bool.{and_parts, and_from, eq-eqb, both_ways, cases_Bool, not_from_false}
 use Rattle.bar_laws.specs.Evidence.{OpensBadly}
-use Rattle.bar_laws.proofs.Logs.{IsEntry, allowed-at, IsLater, WasHeard, WasSaid, later-entry, find-later, first_heard-was, first_said-was, said-rule, some-is, terms_of-later, same_exchange_refl, same_role_refl, table-later, within-extends, known-digest-extends, admitted-row, all-take, all-filtered, IsOwn, heard-own, inside-all, IsCaseOf, is_of-case, sender-on, receiver-on, party-on, party-over, receiver-role, receiver-partner, other-other}
+use Rattle.bar_laws.proofs.Logs.{IsEntry, allowed-at, IsLater, WasHeard, WasSaid, later-entry, find-later, first_heard-was, first_said-was, said-rule, some-is, terms_of-later, table-later, within-extends, known-digest-extends, admitted-row, all-take, all-filtered, IsOwn, heard-own, inside-all, IsCaseOf, is_of-case, sender-on, receiver-on, party-on, party-over, receiver-role, receiver-partner}
 use Rattle.bar_laws.proofs.Judging.ShownStays.{terms_ok-extends}
 use Rattle.bar_laws.proofs.Judging.Accuses.{IsBadPair, bad-completed}
 use Rattle.bar_laws.proofs.Judging.KeptEvidence.{IsWatchful, watchful-at}

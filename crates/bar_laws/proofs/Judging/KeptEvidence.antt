@@ -27,6 +27,7 @@ use Rattle.std.proofs.lemmas.Bool.{and_parts, eq-eqb, eqb-true, both_ways, false
 use Rattle.bar_laws.proofs.Logs.{IsEntry, IsFind, find-of, allowed-at, later-entry, table-later, extends_trans}
 use Rattle.bar_laws.proofs.Judging.Accuses.{or-second}
 use Rattle.bar_laws.proofs.Judging.ShownStays.{BadStaysBad, verdict-stays}
+use Rattle.bar_bytes.proofs.Options.{then-is}
 
 -- no datagram in the log completes evidence that was not kept before it
 abbrev pub IsWatchful : Member → Log → Type 0
@@ -135,10 +136,6 @@ run-watchful me log (input ∷ inputs) h = run-watchful me (step me log input).s
 pub named-shown : (v : Verdict) (q : ℕ) → accuses q v ≡ true → (fault : Fault) × (v ≡ Shown q fault)
 named-shown (Shown p fault) q e = (fault, ap (λ z. Shown z fault) (eqb-true p q e))
 named-shown (NotShown why) q e = cc
-
-then-is : {A : Type 0} (b : Bool) (a c : A) → then_some b a ≡ Some c → (b ≡ true) × (a ≡ c)
-then-is true a c e = (refl, cc)
-then-is false a c e = cc
 
 -- each evidence kept is shown against its party under every table that extends the log's
 pub kept-shown : BadStaysBad → (me : Member) (log : Log) (q : ℕ) (e : List (List ℕ)) (two : Table) → IsObedient me log → kept log q ≡ Some e → Extends (table log) two

@@ -22,6 +22,7 @@ use Rattle.bar_window.specs.declared.exchange.Role.TheVariants.{Initiator, Respo
 use Rattle.bar_window.specs.declared.exchange.XKind.{XKind}
 use Rattle.bar_window.specs.declared.exchange.XKind.TheVariants.{Balanced, Push}
 use Rattle.bar_window.specs.declared.update.UpdateId.{UpdateId}
+use Rattle.bar_window.proofs.Exchanges.{same_role-is, same_exchange-is}
 use Rattle.bar_wire.specs.declared.kind.Kind.TheVariants as kinds
 use Rattle.bar_wire.specs.Datagram.{Message, Datagram, Body, Request, Response, Query, Reply, Briefcase, Case, is_of, kind_number, part_of, exchange_by, exchange_of, Place, place_by}
 use Rattle.std.proofs.Common.{◌≡◌, ℕ, Bool, true, false, List, refl, sym, ap, ◌∙◌, subst, ◌&&◌, not, cond}
@@ -29,9 +30,10 @@ use Rattle.std.specs.Prelude.{Option, Some, None, option_map, option_and_then}
 use Rattle.std.specs.Bool.{then_some}
 use Rattle.std.specs.Option.{option_map_or}
 use Rattle.std.proofs.lemmas.Bool.{eq-eqb, or_from}
-use Rattle.bar_laws.proofs.Logs.{IsEntry, find-of, same_exchange-is, same_role-is, WasSaid, said-rule, SaidIn, said-in, never_twice, same_bytes_refl, parts-of, receiver-on, own-unheard, is_of-part, briefcase-is}
+use Rattle.bar_laws.proofs.Logs.{IsEntry, find-of, WasSaid, said-rule, SaidIn, said-in, never_twice, parts-of, receiver-on, own-unheard, is_of-part, briefcase-is}
 use Rattle.bar_laws.proofs.Runs.{names-itself}
 use Rattle.bar_laws.proofs.Judging.SaidOnce.{said-same, told-said, SaidBriefcase, said-briefcase}
+use Rattle.bar_bytes.proofs.Tests.{bytes_eq-refl}
 
 -- ---- the parts of the terms that a log tells
 
@@ -79,7 +81,7 @@ offer-of me log x young aged want give junk e = go x.kind e
 -- ---- another history
 
 other_window_refl : (s : Session) (r : ℕ) (us : List UpdateId) → other_window s r us us ≡ false
-other_window_refl s r us = ap not (same_bytes_refl (window_bytes s r us))
+other_window_refl s r us = ap not (bytes_eq-refl (window_bytes s r us))
 
 window-same : (s : Session) (r : ℕ) (us vs : List UpdateId) → us ≡ vs → other_window s r us vs ≡ false
 window-same s r us vs e = rw e (other_window_refl s r vs)
@@ -198,7 +200,7 @@ commit-same : (me : Member) (log : Log) (m : Datagram) (x : Exchange) (r : ℕ) 
 commit-same me log m x r seed c (forms.Push young aged want give junk) h w e t = refl
 commit-same me log m x r seed c (forms.Balanced nonce ha hb) h w e t =
     let same : c ≡ commitment_of me.session x nonce ha = commits-revealed me log m x r seed c (nonce, ha) h w e (trade-of me log x nonce ha hb t).0 in
-    rw same (ap not (same_bytes_refl (commitment_of me.session x nonce ha)))
+    rw same (ap not (bytes_eq-refl (commitment_of me.session x nonce ha)))
 
 never-broken : (me : Member) (log : Log) (m : Datagram) (x : Exchange) (role : Role) (terms : Terms) → IsObedient me log → IsOwnWord me log m x role → terms_of me (known me log) x ≡ Some terms
     → broken_commit me.session x role m.message.body terms ≡ false

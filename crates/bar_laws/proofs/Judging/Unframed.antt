@@ -20,6 +20,7 @@ use Rattle.bar_window.specs.declared.exchange.Exchange.{Exchange}
 use Rattle.bar_window.specs.declared.exchange.XKind.{XKind}
 use Rattle.bar_window.specs.declared.exchange.XKind.TheVariants.{Balanced, Push}
 use Rattle.bar_window.specs.declared.update.UpdateId.{UpdateId}
+use Rattle.bar_window.proofs.Exchanges.{same_role-is, same_exchange-is}
 use Rattle.bar_wire.specs.Datagram.{round_of, Message, Datagram, Body, Request, Query, Case, Key, Briefcase, KeyGiven, exchange_by, identity_of}
 use Rattle.sha2.specs.Sha256.{sha256}
 use Rattle.std.proofs.Common.{◌≤◌, ◌≡◌, ℕ, Bool, true, false, List, [], ◌∷◌, refl, sym, ap, ◌∙◌, subst, inl, inr, ◌&&◌, not, arith}
@@ -29,12 +30,13 @@ use Rattle.std.specs.Str.{bytes_eq}
 use Rattle.std.specs.List.{AllByRecursion, list_all}
 use Rattle.std.specs.Option.{option_or, option_map_or}
 use Rattle.std.proofs.lemmas.Bool.{and_parts, and_from, and_right, both_ways, eq-eqb, eqb-true, not_from_true}
-use Rattle.bar_laws.proofs.Logs.{own_key, own_seed, allowed-at, same_exchange-is, same_role-is, WasSaid, later-entry, said-rule, some-is, held-known, table-later, SaidIn, was-said, never_bad_terms, agrees-before, party-on, role-own, sign-elsewhere, same_bytes_refl, briefcase-is}
+use Rattle.bar_laws.proofs.Logs.{own_key, own_seed, allowed-at, WasSaid, later-entry, said-rule, some-is, held-known, table-later, SaidIn, was-said, never_bad_terms, agrees-before, party-on, role-own, sign-elsewhere, briefcase-is}
 use Rattle.bar_laws.proofs.Runs.{named-once}
 use Rattle.bar_laws.proofs.Judging.ShownStays.{key_of-is}
 use Rattle.bar_laws.proofs.Judging.OwnWordsAgree.{never-by_words, when-false}
 use Rattle.bar_laws.proofs.Judging.PromisesHeld.{AllHeld, promise-held}
 use Rattle.bar_laws.proofs.Judging.WholeBlocks.{blocks-whole}
+use Rattle.bar_bytes.proofs.Tests.{bytes_eq-refl}
 
 -- ---- a briefcase and its key
 
@@ -157,7 +159,7 @@ never-leaf_twice me log m n is h p q = go (bytes_eq (identity_of m.message) (ide
     go false false e f = refl
     go false true e f =
         let one : m ≡ n = named-once me log m n is.session h (was-said log m p) (was-said log n q) (eqb-true (leaf_named me.session m) (leaf_named me.session n) f) in
-        let same : bytes_eq (identity_of m.message) (identity_of n.message) ≡ true = subst (λ (c : Datagram). bytes_eq (identity_of m.message) (identity_of c.message) ≡ true) one (same_bytes_refl (identity_of m.message)) in
+        let same : bytes_eq (identity_of m.message) (identity_of n.message) ≡ true = subst (λ (c : Datagram). bytes_eq (identity_of m.message) (identity_of c.message) ≡ true) one (bytes_eq-refl (identity_of m.message)) in
         absurd (both_ways _ e same)
 
 -- ---- evidence of words

@@ -12,6 +12,7 @@ use Rattle.bar_window.specs.declared.exchange.Role.{Role}
 use Rattle.bar_window.specs.declared.exchange.Role.TheVariants.{Initiator, Responder}
 use Rattle.bar_window.specs.declared.exchange.XKind.{XKind}
 use Rattle.bar_window.specs.declared.exchange.XKind.TheVariants.{Balanced, Push}
+use Rattle.bar_window.proofs.Exchanges.{same_exchange-is, same_exchange_refl}
 use Rattle.bar_wire.specs.Bodies.{is_peer_kind}
 use Rattle.bar_wire.specs.Kinds.{code_of}
 use Rattle.bar_wire.specs.declared.kind.Kind.{Kind}
@@ -30,7 +31,7 @@ use Rattle.bar_rules.specs.Peer.Exchanges.{role_of, opening_kind}
 use Rattle.bar_rules.specs.Peer.Knowledge.{Knowledge, table_of, this_round}
 use Rattle.bar_laws.specs.Soundness.{IsSound}
 use Rattle.bar_laws.specs.Tries.{by_leaf, leaves_in, leaves_among, OthersAreTriedByLeaves}
-use Rattle.bar_laws.proofs.Logs.{fits-back, is_of-is, sender-on, same_exchange-is, same_exchange_refl}
+use Rattle.bar_laws.proofs.Logs.{fits-back, is_of-is, sender-on}
 use Rattle.bar_laws.proofs.Judging.{AreApart, apart-shows}
 
 -- ---- kinds

@@ -9,6 +9,7 @@ use Rattle.bar_window.specs.declared.exchange.Role.{Role}
 use Rattle.bar_window.specs.declared.exchange.Role.TheVariants.{Initiator, Responder}
 use Rattle.bar_window.specs.declared.exchange.XKind.{XKind}
 use Rattle.bar_window.specs.declared.exchange.XKind.TheVariants.{Balanced, Push}
+use Rattle.bar_window.proofs.Exchanges.{same_exchange_refl}
 use Rattle.bar_wire.specs.Datagram.{is_of}
 use Rattle.bar_rules.specs.Member.{Member}
 use Rattle.bar_rules.specs.Peer.Evidence.{between, shared_from}
@@ -17,7 +18,7 @@ use Rattle.bar_rules.specs.Peer.Knowledge.{known}
 use Rattle.bar_rules.specs.Peer.Log.{Log, round_now}
 use Rattle.bar_rules.specs.Peer.Rules.{IsObedient}
 use Rattle.bar_laws.specs.Tries.{TriesMissNone}
-use Rattle.bar_laws.proofs.Logs.{first_heard-was, was-heard-own, is_of-part, sender-on, receiver-on, same_exchange_refl, IsOwn}
+use Rattle.bar_laws.proofs.Logs.{first_heard-was, was-heard-own, is_of-part, sender-on, receiver-on, IsOwn}
 use Rattle.bar_laws.proofs.Keeping.RoomsOf.{has-rooms}
 use Rattle.bar_laws.proofs.Keeping.Few.{kept-near}
 

@@ -13,6 +13,7 @@ use Rattle.bar_window.specs.declared.exchange.Role.TheVariants.{Initiator, Respo
 use Rattle.bar_window.specs.declared.exchange.XKind.{XKind}
 use Rattle.bar_window.specs.declared.exchange.XKind.TheVariants.{Balanced, Push}
 use Rattle.bar_window.specs.declared.update.UpdateId.{UpdateId}
+use Rattle.bar_window.proofs.Exchanges.{same_role-is, same_exchange-is, same_role_refl, same_exchange_refl}
 use Rattle.bar_rules.specs.Peer.Exchanges.{role_of, request_kind, opening_kind, revealed, revealed_in}
 use Rattle.bar_rules.specs.Peer.Holdings.{history, block_of, case_said_by}
 use Rattle.bar_rules.specs.Peer.Knowledge.{known}
@@ -31,9 +32,9 @@ use Rattle.bar_laws.proofs.Logs.FirstFinds.{IsEntry, IsFind, find-of, allowed-at
 use Rattle.bar_laws.proofs.Logs.Facts.{partner_other}
 use Rattle.bar_laws.proofs.Logs.LaterLogs.{WasSaid, WasHeard, some-is, first_said-was, first_heard-was}
 use Rattle.bar_laws.proofs.Logs.Grammar.{was-heard-own}
-use Rattle.bar_laws.proofs.Logs.OneIdentity.{said-found, eqb_refl, same_role_refl, same_exchange_refl}
-use Rattle.bar_laws.proofs.Logs.EqualityTests.{same_exchange-is, same_role-is}
+use Rattle.bar_laws.proofs.Logs.OneIdentity.{said-found}
 use Rattle.bar_laws.proofs.Logs.Spoken.{first_on-own}
+use Rattle.bar_bytes.proofs.Tests.{eqb_refl}
 
 -- ---- the parties of a message
 

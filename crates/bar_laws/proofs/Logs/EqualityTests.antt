@@ -1,15 +1,7 @@
 -- A test of equality that passes gives an equation.
 use Rattle.bar_rules.specs.Peer.Admission.{same_terms}
-use Rattle.bar_window.specs.Exchange.{same_kind, same_role, same_exchange}
 use Rattle.bar_window.specs.Terms.{Terms}
 use Rattle.bar_window.specs.Terms as forms
-use Rattle.bar_window.specs.Updates.{same_updates}
-use Rattle.bar_window.specs.declared.exchange.Exchange.{Exchange}
-use Rattle.bar_window.specs.declared.exchange.Role.{Role}
-use Rattle.bar_window.specs.declared.exchange.Role.TheVariants.{Initiator, Responder}
-use Rattle.bar_window.specs.declared.exchange.XKind.{XKind}
-use Rattle.bar_window.specs.declared.exchange.XKind.TheVariants.{Balanced, Push}
-use Rattle.bar_window.specs.declared.update.UpdateId.{UpdateId}
 use Rattle.std.specs.Str.{bytes_eq}
 use Rattle.bar_wire.specs.Datagram.{Body, kind_number}
 use Rattle.bar_wire.specs.Kinds.{code_of}
@@ -17,7 +9,7 @@ use Rattle.bar_wire.specs.declared.kind.Kind.{Kind}
 use Rattle.std.proofs.Common.{◌≡◌, ℕ, true, false, List, [], ◌∷◌, refl, ap, eqb}
 use Rattle.std.specs.Prelude.{Option, Some, is_some, unwrap_or}
 use Rattle.std.proofs.lemmas.Bool.{and_parts, both_ways, eq-eqb, eqb-true}
-use Rattle.bar_window.proofs.Sets.{same_is}
+use Rattle.bar_window.proofs.Sets.{same_updates-is}
 
 pub same_bytes-is : (xs ys : List ℕ) → bytes_eq xs ys ≡ true → xs ≡ ys
 same_bytes-is [] [] e = refl
@@ -38,38 +30,6 @@ no-value o a none e = both_ways (is_some o) none (ap is_some e)
 -- a body has the number of no other kind
 pub other-kind : (b : Body) (kind : Kind) → eqb (kind_number b) (code_of kind) ≡ false → kind_number b ≡ code_of kind → ⊥
 other-kind b kind other same = both_ways (eqb (kind_number b) (code_of kind)) other (eq-eqb (kind_number b) (code_of kind) same)
-
-pub same_kind-is : (a b : XKind) → same_kind a b ≡ true → a ≡ b
-same_kind-is Balanced Balanced e = refl
-same_kind-is Push Push e = refl
-same_kind-is Balanced Push e = cc
-same_kind-is Push Balanced e = cc
-
-pub same_role-is : (a b : Role) → same_role a b ≡ true → a ≡ b
-same_role-is Initiator Initiator e = refl
-same_role-is Responder Responder e = refl
-same_role-is Initiator Responder e = cc
-same_role-is Responder Initiator e = cc
-
-pub same_exchange-is : (x y : Exchange) → same_exchange x y ≡ true → x ≡ y
-same_exchange-is x y e =
-    let p = and_parts _ _ e in
-    let q = and_parts _ _ p.0 in
-    let r = and_parts _ _ q.0 in
-    let a : x.round ≡ y.round = eqb-true _ _ r.0 in
-    let b : x.kind ≡ y.kind = same_kind-is _ _ r.1 in
-    let c : x.initiator ≡ y.initiator = eqb-true _ _ q.1 in
-    let d : x.responder ≡ y.responder = eqb-true _ _ p.1 in
-    λ i. record { round = a i; kind = b i; initiator = c i; responder = d i }
-
-pub same_updates-is : (xs ys : List UpdateId) → same_updates xs ys ≡ true → xs ≡ ys
-same_updates-is [] [] e = refl
-same_updates-is (x ∷ xs) (y ∷ ys) e =
-    let p = and_parts _ _ e in
-    let head : x ≡ y = same_is _ _ p.0 in
-    let tail : xs ≡ ys = same_updates-is xs ys p.1 in cc
-same_updates-is [] (y ∷ ys) e = cc
-same_updates-is (x ∷ xs) [] e = cc
 
 pub same_terms-is : (x y : Terms) → same_terms x y ≡ true → x ≡ y
 same_terms-is (forms.Balanced nonce ha hb) (forms.Balanced nonce' ha' hb') e =

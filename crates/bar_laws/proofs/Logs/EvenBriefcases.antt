@@ -17,13 +17,14 @@ use Rattle.bar_window.specs.Terms.{Terms}
 use Rattle.bar_window.specs.declared.exchange.Exchange.{Exchange}
 use Rattle.bar_window.specs.declared.exchange.Role.{Role}
 use Rattle.bar_window.specs.declared.exchange.Role.TheVariants.{Initiator, Responder}
+use Rattle.bar_window.proofs.Exchanges.{same_role-is, same_exchange-is}
 use Rattle.bar_wire.specs.Datagram.{is_place, place_by, Message, Datagram, Body, Case, Key, Briefcase, KeyGiven, is_of, kind_number, part_of, exchange_by}
 use Rattle.std.proofs.Common.{◌≡◌, ℕ, Bool, true, false, refl, sym, ap, ◌∙◌, subst, inl, inr, length, ◌&&◌}
 use Rattle.std.specs.Prelude.{Option, Some, None, ◌⊎◌, option_and_then, eqb, option_map}
 use Rattle.std.specs.Option.{option_map_or}
 use Rattle.std.proofs.lemmas.Bool.{eqb-true, and_parts}
 use Rattle.bar_laws.proofs.Logs.FirstFinds.{allowed-at}
-use Rattle.bar_laws.proofs.Logs.EqualityTests.{other-kind, same_exchange-is, same_role-is}
+use Rattle.bar_laws.proofs.Logs.EqualityTests.{other-kind}
 use Rattle.bar_laws.proofs.Logs.Facts.{promises_equal, terms_promise}
 use Rattle.bar_laws.proofs.Logs.LaterLogs.{IsLater, later-entry, first_said-was, first_heard-was, some-is, said-rule, then-later, WasSaid}
 use Rattle.bar_laws.proofs.Logs.LaterTerms.{terms_of-later, case_for-later, said-later}

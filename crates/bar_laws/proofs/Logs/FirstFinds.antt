@@ -7,11 +7,6 @@ use Rattle.std.proofs.Common.{◌≡◌, [], ◌∷◌, ◌++◌, refl, ap, subs
 use Rattle.std.specs.Prelude.{Option, Some, None, ◌⊎◌}
 use Rattle.std.proofs.Common.{inl, inr}
 
--- where the second is none, the first is what is left
-pub or-none : {A : Type 0} (o : Option A) → option_or o None ≡ o
-or-none (Some a) = refl
-or-none None = refl
-
 -- an earlier find stays the first
 pub option_or-some : {A : Type 0} (o p : Option A) (a : A) → o ≡ Some a → option_or o p ≡ Some a
 option_or-some o p a e = rw e

@@ -7,6 +7,7 @@ use Rattle.bar_window.specs.declared.exchange.Exchange.{Exchange}
 use Rattle.bar_window.specs.declared.exchange.Role.{Role}
 use Rattle.bar_window.specs.declared.exchange.Role.TheVariants.{Initiator, Responder}
 use Rattle.bar_window.specs.declared.exchange.XKind.{XKind}
+use Rattle.bar_window.proofs.Exchanges.{other-other}
 use Rattle.bar_wire.specs.Datagram.{Message, is_of, part_of, exchange_by}
 use Rattle.std.proofs.Common.{◌≡◌, ℕ, true, refl, ap, ◌∙◌}
 use Rattle.std.specs.Prelude.{Option, Some}
@@ -24,10 +25,6 @@ is_of-part kind x role m e = let w = is_of-is kind x role m e in w.part ∙ name
 pub receiver-role : (me : Member) (r : ℕ) (k : XKind) (role : Role) (from to : ℕ) → to ≡ me.party → (from ≡ me.party → ⊥) → role_of me (exchange_by r k role from to) ≡ other_role role
 receiver-role me r k Initiator from to e n = rw (ne_eqb from me.party n) refl
 receiver-role me r k Responder from to e n = rw (eq-eqb to me.party e) refl
-
-pub other-other : (r : Role) → other_role (other_role r) ≡ r
-other-other Initiator = refl
-other-other Responder = refl
 
 -- the sender is its partner
 pub receiver-partner : (me : Member) (r : ℕ) (k : XKind) (role : Role) (from to : ℕ) → to ≡ me.party → (from ≡ me.party → ⊥) → partner_in me (exchange_by r k role from to) ≡ from

@@ -3,35 +3,21 @@ use Rattle.bar_wire.specs.declared.kind.Kind.TheVariants as kinds
 use Rattle.bar_wire.specs.declared.kind.Kind.{Kind}
 use Rattle.bar_rules.specs.Peer.Log.{Log, Said, earliest, if_passes, said_in, first_said, has_said}
 use Rattle.bar_rules.specs.Peer.Signing.{has_same_identity}
-use Rattle.bar_window.specs.Exchange.{same_exchange, same_role, same_kind}
 use Rattle.bar_window.specs.declared.exchange.Exchange.{Exchange}
 use Rattle.bar_window.specs.declared.exchange.Role.{Role}
 use Rattle.bar_window.specs.declared.exchange.Role.TheVariants.{Initiator, Responder}
 use Rattle.bar_window.specs.declared.exchange.XKind.{XKind}
 use Rattle.bar_window.specs.declared.exchange.XKind.TheVariants.{Balanced, Push}
+use Rattle.bar_window.proofs.Exchanges.{same_kind-is, same_role-is}
 use Rattle.bar_wire.specs.Datagram.{Request, Divulge, Query, KeyReq, round_of, Message, Datagram, Body, Response, Reply, Case, Key, is_of, kind_number, part_of, named}
 use Rattle.std.specs.Option.{option_or}
 use Rattle.std.specs.Str.{bytes_eq}
-use Rattle.std.proofs.Common.{◌≡◌, ℕ, Bool, true, false, [], ◌∷◌, ◌++◌, refl, sym, ap, subst, eqb}
+use Rattle.std.proofs.Common.{◌≡◌, ℕ, Bool, true, false, [], ◌∷◌, ◌++◌, refl, sym, ap, subst}
 use Rattle.std.specs.Prelude.{Option, Some, None, is_some}
 use Rattle.std.specs.Bool.{then_some}
-use Rattle.std.proofs.lemmas.Bool.{and_parts, and_from, eqb-true, eq-eqb, both_ways}
-use Rattle.bar_laws.proofs.Logs.EqualityTests.{no-value, other-kind, same_kind-is, same_role-is}
+use Rattle.std.proofs.lemmas.Bool.{and_parts, eqb-true, both_ways}
+use Rattle.bar_laws.proofs.Logs.EqualityTests.{no-value, other-kind}
 use Rattle.bar_laws.proofs.Logs.LaterLogs.{WasSaid, first_said-was, some-is}
-
-pub eqb_refl : (n : ℕ) → eqb n n ≡ true
-eqb_refl n = eq-eqb n n refl
-
-pub same_role_refl : (r : Role) → same_role r r ≡ true
-same_role_refl Initiator = refl
-same_role_refl Responder = refl
-
-pub same_kind_refl : (k : XKind) → same_kind k k ≡ true
-same_kind_refl Balanced = refl
-same_kind_refl Push = refl
-
-pub same_exchange_refl : (x : Exchange) → same_exchange x x ≡ true
-same_exchange_refl x = and_from _ _ (and_from _ _ (and_from _ _ (eqb_refl x.round) (same_kind_refl x.kind)) (eqb_refl x.initiator)) (eqb_refl x.responder)
 
 -- a message that was said and passes is found
 found-more : (p : Message → Bool) (d : Datagram) (new before : Log) → p d.message ≡ true → is_some (earliest (λ before e. if_passes p (said_in e)) (new ++ Said d ∷ before)) ≡ true

@@ -7,8 +7,8 @@ use Rattle.std.specs.List.{list_all, range_with_len}
 use Rattle.std.proofs.lemmas.Bool.{and_parts, and_from, or_left, or_right, lt-ltb}
 use Rattle.std.proofs.lemmas.List.{append_assoc}
 use Rattle.std.proofs.lemmas.List.Folds.{list_any-append, list_all-append}
-use Rattle.bar_laws.proofs.Logs.OneIdentity.{eqb_refl}
 use Rattle.bar_laws.proofs.Logs.Valid.{all-take, inside_refl}
+use Rattle.bar_bytes.proofs.Tests.{eqb_refl}
 
 -- ---- rising lists
 

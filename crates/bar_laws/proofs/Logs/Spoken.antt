@@ -7,7 +7,7 @@ use Rattle.bar_rules.specs.Peer.Terms.{first_on, body_on}
 use Rattle.bar_window.specs.Exchange.{same_role}
 use Rattle.bar_window.specs.declared.exchange.Exchange.{Exchange}
 use Rattle.bar_window.specs.declared.exchange.Role.{Role}
-use Rattle.bar_window.specs.declared.exchange.Role.TheVariants.{Initiator, Responder}
+use Rattle.bar_window.proofs.Exchanges.{same_role_refl}
 use Rattle.bar_wire.specs.declared.kind.Kind.{Kind}
 use Rattle.bar_wire.specs.Datagram.{Datagram, Body, is_of}
 use Rattle.std.proofs.Common.{◌≡◌, Bool, true, false, refl}
@@ -42,13 +42,8 @@ first_on-was me log kind x role d e = go (same_role (role_of me x) role) e
     go true e = let w = first_said-was (is_of kind x role) log d e in (said-spoken log d w.0, w.1)
     go false e = let w = first_heard-was (is_of kind x role) log d e in (heard-spoken log d w.0, w.1)
 
--- the side is this member's own: what was spoken there was said
-same-role : (r : Role) → same_role r r ≡ true
-same-role Initiator = refl
-same-role Responder = refl
-
 pub first_on-own : (me : Member) (log : Log) (kind : Kind) (x : Exchange) (role : Role) → role_of me x ≡ role → first_on me (known me log) kind x role ≡ first_said (is_of kind x role) log
-first_on-own me log kind x role own = rw (own, same-role role) refl
+first_on-own me log kind x role own = rw (own, same_role_refl role) refl
 
 pub first_on-later : (me : Member) (log before : Log) (kind : Kind) (x : Exchange) (role : Role) (d : Datagram) → IsLater log before → first_on me (known me before) kind x role ≡ Some d → first_on me (known me log) kind x role ≡ Some d
 first_on-later me log before kind x role d later e = go (same_role (role_of me x) role) refl e

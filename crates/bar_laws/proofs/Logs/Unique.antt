@@ -17,10 +17,11 @@ use Rattle.std.proofs.Common.{◌≡◌, ℕ, Bool, true, false, List, [], ◌�
 use Rattle.std.specs.Prelude.{Option, Some, None, ◌⊎◌}
 use Rattle.std.proofs.lemmas.Bool.{and_parts, and_from, both_ways, not_from_true}
 use Rattle.bar_laws.proofs.Logs.LaterLogs.{WasSaid, said-rule, later-entry}
-use Rattle.bar_laws.proofs.Logs.OneIdentity.{said-found, eqb_refl}
+use Rattle.bar_laws.proofs.Logs.OneIdentity.{said-found}
 use Rattle.bar_laws.proofs.Logs.EqualityTests.{same_bytes-is}
 use Rattle.bar_laws.proofs.Logs.Valid.{known-not_past}
 use Rattle.bar_laws.proofs.Logs.Tables.{table-later}
+use Rattle.bar_bytes.proofs.Tests.{bytes_eq-refl}
 
 -- the datagram is among those said, by cases on the log
 abbrev pub SaidIn : Log → Datagram → Type 0
@@ -39,12 +40,8 @@ said-in-append (x ∷ new) before d = inr (said-in-append new before d)
 pub said-in : (log : Log) (d : Datagram) → WasSaid log d → SaidIn log d
 said-in log d w = subst (λ l. SaidIn l d) (sym w.place.split) (said-in-append w.place.after w.before d)
 
-pub same_bytes_refl : (xs : List ℕ) → bytes_eq xs xs ≡ true
-same_bytes_refl [] = refl
-same_bytes_refl (x ∷ xs) = and_from _ _ (eqb_refl x) (same_bytes_refl xs)
-
 identity-same : (m n : Message) → identity_of m ≡ identity_of n → has_same_identity m n ≡ true
-identity-same m n e = subst (λ z. bytes_eq (identity_of n) z ≡ true) (sym e) (same_bytes_refl (identity_of n))
+identity-same m n e = subst (λ z. bytes_eq (identity_of n) z ≡ true) (sym e) (bytes_eq-refl (identity_of n))
 
 new-is-only : (me : Member) (log : Log) (x : Entry) (d e : Datagram) → Allows me log x → x ≡ Said d → SaidIn log e → identity_of d.message ≡ identity_of e.message → ⊥
 new-is-only me log x d e al p q i =
@@ -69,7 +66,7 @@ never_twice me log d e h p q = go (bytes_eq (identity_of d.message) (identity_of
     go false f = refl
     go true f =
         let same : d ≡ e = unique me log d e h p q (same_bytes-is _ _ f) in
-        rw same (ap not (same_bytes_refl (message_bytes me.session e.message)))
+        rw same (ap not (bytes_eq-refl (message_bytes me.session e.message)))
 
 -- where tables agree, what is within the one is not past the end of the other
 agrees-past : (one two : Table) (u : UpdateId) → Agrees one two → is_known (digest_of one u) ≡ true → not (is_past_end (digest_of two u)) ≡ true

@@ -36,12 +36,13 @@ use Rattle.std.specs.Bool.{then_some}
 use Rattle.std.specs.Option.{option_map_or}
 use Rattle.std.proofs.lemmas.Bool.{and_parts, and_from, eq-eqb, le-leb, leb-true, eqb-true, or_right, or_left}
 use Rattle.bar_window.proofs.Sets.{same_self}
+use Rattle.bar_window.proofs.Exchanges.{same_exchange-is}
 use Rattle.bar_laws.proofs.Logs.FirstFinds.{IsFind, find-of, allowed-at}
-use Rattle.bar_laws.proofs.Logs.EqualityTests.{some-equal, no-value, same_exchange-is}
+use Rattle.bar_laws.proofs.Logs.EqualityTests.{some-equal, no-value}
 use Rattle.bar_laws.proofs.Logs.LaterLogs.{IsLater, later-entry, then-later}
 use Rattle.bar_laws.proofs.Logs.Spoken.{spoken_in, WasSpoken, first_on-was, body_on-later}
 use Rattle.bar_laws.proofs.Logs.Tables.{table-later, within-extends, history-within, held-within, admitted-row, admitted-for, all-filter}
-use Rattle.bar_laws.proofs.Logs.OneIdentity.{eqb_refl}
+use Rattle.bar_bytes.proofs.Tests.{eqb_refl, and-second}
 
 -- ---- lists
 
@@ -203,9 +204,6 @@ pub all-implies : {X : Type 0} (p q : X → Bool) (xs : List X) → ((x : X) →
 all-implies p q [] f e = refl
 all-implies p q (x ∷ xs) f e = let r = and_parts _ _ e in and_from _ _ (f x r.0) (all-implies p q xs f r.1)
 
-second_of : (a b : Bool) → (a && b) ≡ true → b ≡ true
-second_of a b e = (and_parts _ _ e).1
-
 take-short : {X : Type 0} (k : ℕ) (xs : List X) → nat_le (length (take k xs)) k ≡ true
 take-short k xs = le-leb _ _ (simp length-take (omega arith))
 
@@ -220,7 +218,7 @@ own-offer me before r h =
       young_len = take-short me.session.cap _;
       aged_len = take-short me.session.cap _;
       young_within = held-within me before (young_of me (known me before) r) h (all-take _ me.session.cap _ (all-filter (is_held me.session before) _));
-      aged_within = all-take _ me.session.cap _ (all-implies _ _ _ (λ u e. second_of (not (is_held me.session before u)) _ e) (all-filter _ (updates_from me.session (first_round me.session r) (r - me.session.shape.life / 2))));
+      aged_within = all-take _ me.session.cap _ (all-implies _ _ _ (λ u e. and-second (not (is_held me.session before u)) _ e) (all-filter _ (updates_from me.session (first_round me.session r) (r - me.session.shape.life / 2))));
     }
 
 query-said : (me : Member) (before : Log) (to : ℕ) (b : Body) (q : List UpdateId × List UpdateId) → IsObedient me before → MaySay me (known me before) to b → offer_in b ≡ Some q → IsGoodOffer me before (round_of b) q.0 q.1

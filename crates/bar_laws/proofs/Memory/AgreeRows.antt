@@ -32,6 +32,7 @@ use Rattle.std.proofs.lemmas.Bool.{and_parts, leb-true, ltb-true}
 use Rattle.bar_laws.proofs.Memory.AgreeLogs.{now, IsInTime, held-on}
 use Rattle.bar_laws.proofs.Memory.InLife.{InLife, rounds-in-life}
 use Rattle.bar_laws.proofs.Logs.{filter-same, no-value, parts-of, round-by}
+use Rattle.bar_bytes.proofs.Options.{some-mapped}
 
 -- ---- tests
 
@@ -90,13 +91,9 @@ young-rounds cap life table round young aged two h =
     let rounds : offer_rounds life round young aged ≡ true = (and_parts _ _ (and_parts _ _ h).0).0 in
     rounds-in-life life round (max 1 (round - 1)) round young (omega arith) (and_parts _ _ rounds).0
 
-is_some-mapped : {A B : Type 0} (f : A → B) (o : Option A) → is_some (option_map f o) ≡ is_some o
-is_some-mapped f (Some a) = refl
-is_some-mapped f None = refl
-
 module _ (me : Member) (one two : Knowledge) (same : AgreesWith me one two) where
   pub said-same : (kind : Kind) (x : Exchange) (role : Role) → IsRecent me one x.round → has_said_of one kind x role ≡ has_said_of two kind x role
-  said-same kinds.Case x role r = sym (is_some-mapped promised_by (one.said kinds.Case x role)) ∙ ap is_some (same.promises x role r) ∙ is_some-mapped promised_by (two.said kinds.Case x role)
+  said-same kinds.Case x role r = sym (some-mapped promised_by (one.said kinds.Case x role)) ∙ ap is_some (same.promises x role r) ∙ some-mapped promised_by (two.said kinds.Case x role)
   said-same kind x role r = ap is_some (same.said kind x role r)
 
   pub heard-same : (kind : Kind) (x : Exchange) (role : Role) → IsRecent me one x.round → has_heard_of one kind x role ≡ has_heard_of two kind x role

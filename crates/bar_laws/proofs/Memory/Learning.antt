@@ -10,7 +10,7 @@ use Rattle.bar_window.specs.declared.exchange.XKind.TheVariants.{Balanced, Push}
 use Rattle.bar_wire.specs.declared.kind.Kind.{Kind}
 use Rattle.bar_wire.specs.Kinds.{code_of}
 use Rattle.bar_wire.specs.Datagram.{is_place, place_by, Datagram, Body, Manifest, Block, Request, Divulge, Query, Key, Evict, is_of, exchange_of, part_of, kind_number, round_of}
-use Rattle.bar_rules.specs.Peer.Exchanges.{request_kind, inserted, with_exchange, recent_of, seat, revealed, exchanges_said}
+use Rattle.bar_rules.specs.Peer.Exchanges.{request_kind, inserted, with_exchange, recent_of, seat, revealed, exchanges_said, IsRising}
 use Rattle.bar_rules.specs.Peer.Holdings.{block_of, block_by}
 use Rattle.bar_rules.specs.Peer.Knowledge.{Knowledge, table_of, known, this_round, case_heard_of, first_with, with_request, with_tick, with_heard, with_said, with_kept}
 use Rattle.bar_rules.specs.Peer.Log.{Log, Ticked, Heard, Said, Kept, first_heard, first_said, count_heard, has_kind_and_round, names_party, manifest, ticks, round_now, kept}
@@ -22,18 +22,11 @@ use Rattle.std.specs.Option.{option_or, option_map_or}
 use Rattle.std.specs.Bool.{then_some}
 use Rattle.std.specs.List.{list_any}
 use Rattle.std.proofs.lemmas.Bool.{leb-true, le-leb, both_ways}
-use Rattle.bar_laws.proofs.Logs.{or-none}
-use Rattle.bar_laws.proofs.Memory.OpenList.{IsRising, opened-rising, picked-inserted, all-picked}
+use Rattle.bar_laws.proofs.Memory.OpenList.{opened-rising, picked-inserted, all-picked}
+use Rattle.bar_bytes.proofs.Tests.{and-false, or-false}
+use Rattle.bar_bytes.proofs.Options.{some-or, some-then, or-none}
 
 -- ---- options and counts
-
-some-then : {A : Type 0} (b : Bool) (a : A) → is_some (then_some b a) ≡ b
-some-then true a = refl
-some-then false a = refl
-
-some-or : {A : Type 0} (o : Option A) (b : Bool) (a : A) → is_some (option_or o (then_some b a)) ≡ (is_some o || b)
-some-or (Some c) b a = refl
-some-or None b a = some-then b a
 
 map-then : {A B : Type 0} (b : Bool) (a : A) (c : B) → option_map (λ d. c) (then_some b a) ≡ then_some b c
 map-then true a c = refl
@@ -86,14 +79,6 @@ grown me d k = record k {
   seat = λ x. option_or (k.seat x) (then_some (is_of (request_kind x.kind) x Initiator d.message) (k.asked x.kind x.round));
   asked = λ kind round. k.asked kind round + cond (has_kind_and_round (request_kind kind) round d.message) 1 0;
 }
-
-or-false : (b : Bool) → (b || false) ≡ b
-or-false true = refl
-or-false false = refl
-
-and-false : (b : Bool) → (b && false) ≡ false
-and-false true = refl
-and-false false = refl
 
 cond-then : {A : Type 0} (b : Bool) (a : A) → cond b (Some a) None ≡ then_some b a
 cond-then true a = refl

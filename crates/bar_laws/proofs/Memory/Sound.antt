@@ -6,6 +6,7 @@ use Rattle.bar_window.specs.Exchange.{party_on, other_role}
 use Rattle.bar_window.specs.Terms.{Terms}
 use Rattle.bar_window.specs.declared.exchange.Exchange.{Exchange}
 use Rattle.bar_window.specs.declared.exchange.Role.{Role}
+use Rattle.bar_window.proofs.Exchanges.{other-other}
 use Rattle.bar_terms.specs.Terms.{can_promise, promised_updates}
 use Rattle.bar_rules.specs.Member.{Member}
 use Rattle.bar_rules.specs.Values.{counts_ok}
@@ -21,7 +22,7 @@ use Rattle.std.specs.Prelude.{Option, Some, None, is_some}
 use Rattle.std.proofs.lemmas.Bool.{and_parts, both_ways, eqb-true, leb-true}
 use Rattle.std.proofs.lemmas.List.Sums.{AllPass-from_list_all}
 use Rattle.bar_laws.specs.Soundness.{CanGive, IsTheirs, LogIsSound}
-use Rattle.bar_laws.proofs.Logs.{allowed-at, later-entry, round-later, first_heard-was, first_said-was, said-rule, some-is, some-same, said-case, terms_promise, was-heard-fits, admitted-row, admitted-signed, sender-on, is_of-part, was-heard-own, other-other}
+use Rattle.bar_laws.proofs.Logs.{allowed-at, later-entry, round-later, first_heard-was, first_said-was, said-rule, some-is, some-same, said-case, terms_promise, was-heard-fits, admitted-row, admitted-signed, sender-on, is_of-part, was-heard-own}
 use Rattle.bar_laws.proofs.Judging.{promise-held}
 use Rattle.bar_laws.proofs.Runs.{seat-heard, seat-few, heard-case, HeardCase}
 

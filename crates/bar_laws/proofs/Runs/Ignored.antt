@@ -2,7 +2,7 @@
 use Rattle.std.proofs.Common.{◌≡◌, ◌∙◌, ℕ, Bool, true, false, List, ◌∷◌, Option, Some, None, refl, ap}
 use Rattle.std.specs.Prelude.{not, is_none, is_some, if◌then◌else◌}
 use Rattle.std.specs.Option.{option_map_or}
-use Rattle.std.proofs.lemmas.Bool.{and_parts}
+use Rattle.std.proofs.lemmas.Bool.{and_parts, not-true}
 use Rattle.bar_wire.specs.Datagram.{Datagram, Body, Manifest, Block, Request, Response, Divulge, Query, Reply, Case, KeyReq, Key, Evidence, Evict}
 use Rattle.bar_wire.specs.Inputs.{Input}
 use Rattle.bar_wire.specs.Inputs as event
@@ -23,10 +23,6 @@ use Rattle.bar_rules.specs.Values.{datagram_of}
 use Rattle.bar_laws.specs.Ignoring.{CastersIgnore, PeersIgnore, evicts, is_ignored, is_ignored_by_caster, is_news, tells_nothing}
 use Rattle.bar_laws.proofs.Runs.Runs.{not_some}
 
-refused : (b : Bool) → not b ≡ true → b ≡ false
-refused true e = absurd (cc)
-refused false e = refl
-
 -- ---- by a peer
 
 module _ (me : Member) (log : Log) where
@@ -42,7 +38,7 @@ module _ (me : Member) (log : Log) where
     nothing-taken e =
         let parts = and_parts _ _ e in
         let before = and_parts _ _ parts.0 in
-        let first : is_admitted me (known me log) d ≡ false = refused _ before.0 in
+        let first : is_admitted me (known me log) d ≡ false = not-true _ before.0 in
         let second : repeated me (known me log) d ≡ None = not_some _ before.1 in
         let third : new_evidence me (known me log) d ≡ None = not_some _ parts.1 in
         ap by-evidence third ∙ ap by-admission first ∙ ap (answer_repeat me log) second
@@ -90,7 +86,7 @@ module _ (me : Member) (stream : List ℕ) (log : Log) where
   ignored-judged : (o : Option Datagram) → option_map_or (λ d. not (is_news me stream log d.message.body)) o true ≡ true
       → judge_datagram me stream log o ≡ log
   ignored-judged None e = refl
-  ignored-judged (Some d) e = no-news d.message.body (refused _ e)
+  ignored-judged (Some d) e = no-news d.message.body (not-true _ e)
 
   ignored-by-caster : (input : Input) (over : Bool) → is_ignored_by_caster me stream log input ≡ true
       → (if over then begun log else caster_take me stream log input) ≡ begun log

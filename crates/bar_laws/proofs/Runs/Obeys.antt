@@ -27,6 +27,7 @@ use Rattle.bar_window.specs.declared.exchange.Role.TheVariants.{Initiator, Respo
 use Rattle.bar_window.specs.declared.exchange.XKind.{XKind}
 use Rattle.bar_window.specs.declared.exchange.XKind.TheVariants.{Balanced, Push}
 use Rattle.bar_window.specs.declared.update.UpdateId.{UpdateId}
+use Rattle.bar_window.proofs.Exchanges.{same_role_refl, same_exchange_refl, other-other}
 use Rattle.bar_wire.specs.declared.kind.Kind.TheVariants as kinds
 use Rattle.bar_wire.specs.declared.kind.Kind.{Kind}
 use Rattle.bar_wire.specs.Datagram.{is_place, place_by, round_of, Message, Datagram, Body, Request, Response, Divulge, Query, Reply, Case, KeyReq, Briefcase, is_of, kind_number, part_of, exchange_by, identity_of, named}
@@ -40,7 +41,9 @@ use Rattle.std.specs.List.{AllByRecursion}
 use Rattle.std.specs.Bool.{then_some}
 use Rattle.std.specs.Option.{option_map_or}
 use Rattle.std.proofs.lemmas.Bool.{and_parts, and_from, eqb-true, both_ways, ltb-true}
-use Rattle.bar_laws.proofs.Logs.{terms-valid, IsValid, allowed-at, IsOwn, heard-own, heard-round, part-round, eqb_refl, same_role_refl, same_exchange_refl, once-whole, is_whole, said-found, IsLater, later-entry, some-is, WasHeard, first_heard-was, first_said-was, said-rule, find-later, terms_of-later, said-later, IsCaseOf, is_of-case, said-case, some-same, same_terms-is, admitted-row, role-initiator, round-by, or-none, other-other, receiver-role}
+use Rattle.bar_laws.proofs.Logs.{terms-valid, IsValid, allowed-at, IsOwn, heard-own, heard-round, part-round, once-whole, is_whole, said-found, IsLater, later-entry, some-is, WasHeard, first_heard-was, first_said-was, said-rule, find-later, terms_of-later, said-later, IsCaseOf, is_of-case, said-case, some-same, same_terms-is, admitted-row, role-initiator, round-by, receiver-role}
+use Rattle.bar_bytes.proofs.Tests.{eqb_refl}
+use Rattle.bar_bytes.proofs.Options.{or-none}
 
 -- this member is on the side that its role says
 pub record IsParty (me : Member) (x : Exchange) : Type 0 where

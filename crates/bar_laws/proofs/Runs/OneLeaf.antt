@@ -19,13 +19,14 @@ use Rattle.bar_window.specs.declared.exchange.Role.{Role}
 use Rattle.bar_window.specs.declared.exchange.Role.TheVariants.{Initiator, Responder}
 use Rattle.bar_window.specs.declared.exchange.XKind.{XKind}
 use Rattle.bar_window.specs.declared.exchange.XKind.TheVariants.{Balanced, Push}
+use Rattle.bar_window.proofs.Exchanges.{same_exchange-is}
 use Rattle.bar_wire.specs.Datagram.{is_place, place_by, Message, Datagram, Body, Request, Response, Query, Reply, Case, Key, is_of, is_signed, kind_number, part_of, exchange_by, identity_of, named, round_of, Place, place_of}
 use Rattle.std.specs.Option.{option_or}
 use Rattle.std.proofs.Common.{◌≡◌, ℕ, ◌<◌, ◌≤◌, ◌^◌, ◌*◌, Bool, true, false, List, [], ◌∷◌, refl, sym, ap, ◌∙◌, subst, inl, inr, ◌&&◌, ◌||◌, eqb, arith}
 use Rattle.std.specs.Prelude.{Option, Some, None, ◌⊎◌, is_some, option_map, unwrap_or, if◌then◌else◌}
 use Rattle.std.specs.Option.{option_map_or}
 use Rattle.std.proofs.lemmas.Bool.{and_parts, ltb-true}
-use Rattle.bar_laws.proofs.Logs.{other-kind, option_or-cases, allowed-at, admitted-row, party-on, kind-on, is_of-is, is_of-own, terms-said, role-own, sign-elsewhere, CaseMoment, case-moment, leaves_few, peers_named, WasSaid, later-entry, some-is, heard_in-is, first_said-was, said-rule, parts-of, part-round, said-found, same_exchange-is, SaidIn, said-in, unique}
+use Rattle.bar_laws.proofs.Logs.{other-kind, option_or-cases, allowed-at, admitted-row, party-on, kind-on, is_of-is, is_of-own, terms-said, role-own, sign-elsewhere, CaseMoment, case-moment, leaves_few, peers_named, WasSaid, later-entry, some-is, heard_in-is, first_said-was, said-rule, parts-of, part-round, said-found, SaidIn, said-in, unique}
 use Rattle.bar_laws.proofs.Runs.Obeys.{said-more, heard-more}
 use Rattle.bar_laws.proofs.Runs.Seats.{new-seat, seat-unique}
 

@@ -7,12 +7,13 @@ use Rattle.bar_window.specs.declared.exchange.Role.{Role}
 use Rattle.bar_window.specs.declared.exchange.Role.TheVariants.{Initiator}
 use Rattle.bar_window.specs.declared.exchange.XKind.{XKind}
 use Rattle.bar_window.specs.declared.exchange.XKind.TheVariants.{Balanced, Push}
+use Rattle.bar_window.proofs.Exchanges.{same_exchange-is}
 use Rattle.bar_wire.specs.Datagram.{is_place, place_by, Message, Datagram, Body, Request, Query, is_of, kind_number, part_of, exchange_by, round_of}
 use Rattle.std.proofs.Common.{◌≡◌, ℕ, ◌<◌, ◌≤◌, ◌+◌, Bool, true, false, [], ◌∷◌, refl, sym, ap, ◌∙◌, subst, inl, inr, ◌&&◌, eqb, arith}
 use Rattle.std.specs.Prelude.{Option, Some, None, ◌⊎◌, option_map}
 use Rattle.std.specs.Option.{option_map_or}
 use Rattle.std.proofs.lemmas.Bool.{and_parts, eq-eqb}
-use Rattle.bar_laws.proofs.Logs.{same_exchange-is, option_or-cases, if_passes-is}
+use Rattle.bar_laws.proofs.Logs.{option_or-cases, if_passes-is}
 
 -- a request of an exchange is one of its kind and round
 asks-counts : (x : Exchange) (m : Message) → is_of (request_kind x.kind) x Initiator m ≡ true → has_kind_and_round (request_kind x.kind) x.round m ≡ true

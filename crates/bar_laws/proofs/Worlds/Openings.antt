@@ -13,12 +13,13 @@ use Rattle.bar_terms.specs.Terms.{promised_updates}
 use Rattle.bar_window.specs.Exchange.{same_exchange, same_role}
 use Rattle.bar_window.specs.declared.exchange.Exchange.{Exchange}
 use Rattle.bar_window.specs.declared.update.UpdateId.{UpdateId}
+use Rattle.bar_window.proofs.Exchanges.{same_role_refl, same_exchange_refl}
 use Rattle.bar_wire.specs.Datagram.{Datagram, Key, Briefcase, KeyGiven, is_signed, is_of, exchange_by}
 use Rattle.bar_laws.specs.Parties.{OpensWell}
 use Rattle.std.proofs.Common.{◌≡◌, ◌∙◌, ℕ, Bool, true, false, [], ◌∷◌, ◌++◌, inr, refl, sym, ap, subst, eqb, ◌+◌, ◌&&◌}
 use Rattle.std.specs.Prelude.{Some, option_and_then, slice_get, nat_le, Contains}
 use Rattle.std.proofs.lemmas.Bool.{and_from, eq-eqb}
-use Rattle.bar_laws.proofs.Logs.{IsEntry, allowed-at, IsLater, later-entry, WasHeard, first_heard-was, some-is, same_exchange_refl, same_role_refl, table-later, SaidIn, sender-on, receiver-on, party-on, party-over}
+use Rattle.bar_laws.proofs.Logs.{IsEntry, allowed-at, IsLater, later-entry, WasHeard, first_heard-was, some-is, table-later, SaidIn, sender-on, receiver-on, party-on, party-over}
 use Rattle.bar_laws.proofs.Runs.{HeardIn, heard-in}
 use Rattle.bar_laws.proofs.Judging.{HeardBriefcase, heard-briefcase, key-row, heard-signed, signed-said, never-opens_bad, good-opening, has-block, or-second}
 use Rattle.bar_laws.proofs.Worlds.SoundWorlds.{IsSound}

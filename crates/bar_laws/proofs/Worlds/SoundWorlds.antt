@@ -21,6 +21,7 @@ use Rattle.std.specs.Bool.{then_some}
 use Rattle.bar_laws.proofs.Logs.{no-value, option_or-cases, IsLater, said-rule, spells, fits-reads, SaidIn, was-said}
 use Rattle.bar_laws.proofs.Runs.{Adds, AddedBy, SentBy, IsSource, HeardIn, came, step-adds, step-obedient}
 use Rattle.bar_laws.proofs.Fitting.{IsFair, IsOwnBody, IsOwnMessage, AreOwn, AllFit, own-inside, caster-casts, said-accepted, said-fits, step-fits}
+use Rattle.bar_bytes.proofs.Lengths.{length-slice_set}
 
 -- ---- lists
 
@@ -39,11 +40,6 @@ pub set-same : {X : Type 0} (xs : List X) (p : ℕ) (x y : X) → slice_get xs p
 set-same [] p x y e = cc
 set-same (z ∷ xs) zero x y e = refl
 set-same (z ∷ xs) (suc p) x y e = set-same xs p x y e
-
-set-length : {X : Type 0} (xs : List X) (p : ℕ) (y : X) → length (slice_set xs p y) ≡ length xs
-set-length [] p y = refl
-set-length (x ∷ xs) zero y = refl
-set-length (x ∷ xs) (suc p) y = ap (λ n. suc n) (set-length xs p y)
 
 get-below : {X : Type 0} (xs : List X) (p : ℕ) → p < length xs → (x : X) × (slice_get xs p ≡ Some x)
 get-below [] p h = absurd (omega (arith, h))
@@ -254,7 +250,7 @@ module _ (setup : Setup) (trusted : ℕ → Bool) (w : World) (p : ℕ) (log : L
   -- one input of one party keeps the world sound
   pub after-sound : IsSound setup trusted after
   after-sound = record {
-    all = set-length w.logs p out.state ∙ sound.all;
+    all = length-slice_set w.logs p out.state ∙ sound.all;
     peers = λ q l e. pe q l (set-cases w.logs p q out.state l e);
     proper = λ q l e. ob q l (set-cases w.logs p q out.state l e);
     heard = λ q l d e h. genuine-wider setup trusted after w (datagram_bytes setup.session d) wider (he q l d (set-cases w.logs p q out.state l e) h);

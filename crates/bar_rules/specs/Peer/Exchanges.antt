@@ -1,6 +1,7 @@
 -- What a log tells of the exchanges of a peer: the sides, what an initiator commits to, the seats, and which are open.
-use Rattle.std.specs.Prelude.{ℕ, ◌+◌, ◌==◌, ◌&&◌, ◌||◌, Bool, List, [], ◌∷◌, filter, Option, Some, None, option_map, if◌then◌else◌, nat_le, nat_lt}
+use Rattle.std.specs.Prelude.{◌≡◌, ℕ, ◌+◌, ◌==◌, ◌&&◌, ◌||◌, Bool, true, List, [], ◌∷◌, filter, Option, Some, None, option_map, if◌then◌else◌, nat_le, nat_lt}
 use Rattle.std.specs.Bool.{then_some}
+use Rattle.std.specs.List.{AllByRecursion}
 use Rattle.bar_wire.specs.Bodies.{divulge_in}
 use Rattle.bar_window.specs.declared.update.UpdateId.{UpdateId}
 use Rattle.bar_window.specs.declared.exchange.Exchange.{Exchange}
@@ -80,6 +81,11 @@ precedes x y =
 abbrev pub inserted : Exchange → List Exchange → List Exchange
 inserted x [] = x ∷ []
 inserted x (y ∷ ys) = if same_exchange x y then y ∷ ys else if precedes x y then x ∷ y ∷ ys else y ∷ inserted x ys
+
+-- each stands before all that follow it
+abbrev pub IsRising : List Exchange → Type 0
+IsRising [] = Unit {0}
+IsRising (x ∷ xs) = AllByRecursion (λ y. precedes x y ≡ true) xs × IsRising xs
 
 abbrev pub with_exchange : Option Exchange → List Exchange → List Exchange
 with_exchange None xs = xs

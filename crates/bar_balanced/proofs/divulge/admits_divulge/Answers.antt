@@ -12,8 +12,9 @@ use Rattle.bar_rules.specs.Values.{datagram_bytes}
 use Rattle.bar_window.specs.declared.exchange.XKind.TheVariants.{Balanced}
 use Rattle.bar_wire.specs.Datagram.{exchange_by}
 use Rattle.bar_wire.specs.Views.{IsWindowIn}
-use Rattle.bar_exchange.proofs.FourTests.{fails_third, first_of_four, some_of}
+use Rattle.bar_exchange.proofs.FourTests.{fails_third, first_of_four}
 use Rattle.bar_balanced.proofs.divulge.admits_divulge.Goals as goal
+use Rattle.bar_bytes.proofs.Options.{some-mapped}
 
 pub returns-then-not-has_digests : goal.returns-then-not-has_digests
 returns-then-not-has_digests c me k from to r shape holds h spelled life now is windows =
@@ -28,7 +29,7 @@ returns c me k from to r shape holds h spelled life now is windows =
     let by : c.args.round ≤ c.args.x.round + 2 = grind (arith, nat_tests) in
     let recent : IsRecent me k c.args.x.round = omega arith in
     let unheard : not (has_heard_of k kinds.Divulge c.args.x Initiator) ≡ true =
-    ap not (sym (some_of (datagram_bytes me.session) (k.heard kinds.Divulge c.args.x Initiator)) ∙ ap (λ o. is_some o) (h.heard kinds.Divulge c.args.x Initiator recent) ∙ sym c.has_heard.ensures ∙ c.if-has_heard.false)
+    ap not (sym (some-mapped (datagram_bytes me.session) (k.heard kinds.Divulge c.args.x Initiator)) ∙ ap (λ o. is_some o) (h.heard kinds.Divulge c.args.x Initiator recent) ∙ sym c.has_heard.ensures ∙ c.if-has_heard.false)
     in
     let here : IsWindowIn me.session.shape c.args.x.round c.args.ha.now =
     subst (λ (r : ℕ). IsWindowIn me.session.shape r c.args.ha.now) (sym round) windows

@@ -1,6 +1,7 @@
 use Rattle.std.proofs.Common.{◌≡◌, ◌∙◌, ◌+◌, ◌++◌, ◌∷◌, [], is_some, sym, ap, arith}
 use Rattle.bar_bytes.specs.Rooms.{kept_in}
-use Rattle.bar_caster.proofs.Listing.{some-copied, listed-more, listed-skip}
+use Rattle.bar_bytes.proofs.Options.{some-copied}
+use Rattle.bar_caster.proofs.Listing.{listed-more, listed-skip}
 use Rattle.bar_caster.proofs.evictions.list_evicted.Goals as goal
 use Rattle.bar_caster.proofs.evictions.list_evicted.Goals.{then-is_some+in-Ok, else-is_some}
 

@@ -5,6 +5,7 @@ use Rattle.bar_window.specs.declared.exchange.Exchange.{Exchange}
 use Rattle.bar_wire.specs.declared.shape.Shape.{Shape}
 use Rattle.bar_ledger.specs.Memory.{opens_in}
 use Rattle.bar_ledger.specs.Order.{above}
+use Rattle.bar_ledger.proofs.Rising.{above-all}
 use Rattle.bar_rules.specs.Member.{Member}
 use Rattle.bar_rules.specs.Peer.Agreement.{IsRecent}
 use Rattle.bar_rules.specs.Peer.Knowledge.{Knowledge, known}
@@ -15,7 +16,7 @@ use Rattle.bar_rules.specs.Runs.{begun}
 use Rattle.bar_peer.specs.Memory.{member_of}
 use Rattle.bar_peer.specs.Sending.{Stands}
 use Rattle.bar_peer.specs.Ticking.{orders_of_open}
-use Rattle.bar_peer.proofs.Opens.{above_none, one_done, open_is_recent}
+use Rattle.bar_peer.proofs.Opens.{one_done, open_is_recent}
 use Rattle.bar_peer.proofs.Sent.{all_append, none_stand}
 use Rattle.bar_peer.proofs.Unlogged.{opens_state}
 use Rattle.bar_peer.proofs.ticks.repeat_all.Goals as goal
@@ -23,7 +24,7 @@ use Rattle.bar_peer.proofs.ticks.repeat_all.Goals as goal
 pub loop-init : goal.loop-init
 loop-init c = record {
   done = [];
-  split = above_none (opens_in c.args.memory.now.ledger);
+  split = above-all (opens_in c.args.memory.now.ledger);
   count = refl;
   few = omega arith;
   room = refl;

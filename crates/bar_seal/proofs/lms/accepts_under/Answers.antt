@@ -1,6 +1,7 @@
 use Rattle.std.proofs.Common.{◌≡◌, ◌∙◌, sym, arith, true, true≢false}
 use Rattle.bar_lms.specs.Acceptance.{is_key_of}
-use Rattle.bar_seal.proofs.Under.{IsKey, read_key, read_other, read_none, accepted_by, steps_by, accepted_by_none, steps_by_none, few_under}
+use Rattle.bar_lms.proofs.StepLemmas.{few_under}
+use Rattle.bar_seal.proofs.Under.{IsKey, read_key, read_other, read_none, accepted_by, steps_by, accepted_by_none, steps_by_none}
 use Rattle.bar_seal.proofs.lms.accepts_under.Goals as goal
 
 pub returns-then-same_types : goal.returns-then-same_types

@@ -9,10 +9,9 @@ use Rattle.bar_wire.specs.Views.{datagram, plain}
 use Rattle.bar_roster.specs.Time.{round_after}
 use Rattle.bar_rules.specs.Member.{Member}
 use Rattle.bar_bytes.specs.Rooms.{kept_in}
+use Rattle.bar_bytes.proofs.Options.{some-copied, some-mapped}
 use Rattle.bar_peer.specs.Memory.{member_of}
 use Rattle.bar_peer.proofs.Admitted.{shown_if_recent, peer_placed, peer_round}
-use Rattle.bar_exchange.proofs.FourTests.{some_of}
-use Rattle.bar_peer.proofs.Rooms.{some_copied}
 use Rattle.bar_peer.proofs.memory.Memory.may_show.Goals as goal
 
 pub returns-in-Some-clause-exact : goal.returns-in-Some-clause-exact
@@ -31,9 +30,9 @@ returns-in-Some-clause-exact c k h =
     ∙ shown_if_recent me k d peer
     (eq-eqb v.to me.party search)
     (h.announced v.from ∙ sym c.is_named.ensures ∙ c.if-is_named.false)
-    (sym (some_of evidence_bytes (k.evidence v.from))
+    (sym (some-mapped evidence_bytes (k.evidence v.from))
     ∙ ap (λ o. is_some o) (h.evidence v.from ∙ ap (kept_in m.evidence) (sym c.from.ensures) ∙ sym c.get.ensures)
-    ∙ some_copied c.get.result
+    ∙ some-copied c.get.result
     ∙ sym c.is_some.ensures
     ∙ c.if-is_some.false)
 

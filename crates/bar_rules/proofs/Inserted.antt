@@ -6,12 +6,12 @@ use Rattle.std.proofs.lemmas.Bool.Decides.{nat_tests}
 use Rattle.bar_window.specs.declared.exchange.Exchange.{Exchange}
 use Rattle.bar_window.specs.Exchange.{kind_code, same_exchange}
 use Rattle.bar_rules.specs.Peer.Exchanges.{precedes, inserted}
-use Rattle.bar_ledger.proofs.Same.{one_exchange, same_self, same_flips}
+use Rattle.bar_window.proofs.Exchanges.{same_exchange-is, same_exchange_refl, same_flips}
 
 -- ---- the order
 
 pub precedes-not_same : (x y : Exchange) → same_exchange x y ≡ true → precedes x y ≡ false
-precedes-not_same x y e = subst (λ y. precedes x y ≡ false) (one_exchange x y e) (grind (arith, nat_tests))
+precedes-not_same x y e = subst (λ y. precedes x y ≡ false) (same_exchange-is x y e) (grind (arith, nat_tests))
 
 -- by one number, and where it is the same by a test
 abbrev by_number : ℕ → ℕ → Bool → Bool
@@ -79,6 +79,13 @@ pub precedes-total : (x y : Exchange) → same_exchange x y ≡ false → preced
 precedes-total x y other e =
     number-total x.round y.round _ _ e (λ r e. number-total (kind_code x.kind) (kind_code y.kind) _ _ e (λ k e. number-total x.initiator y.initiator _ _ e (λ i e. last-total x y other r k i e)))
 
+-- no exchange precedes itself
+pub precedes-differs : (x y : Exchange) → precedes x y ≡ true → same_exchange x y ≡ false
+precedes-differs x y e = elim (cases_Bool (same_exchange x y)) [
+  | inl t ↦ absurd (both_ways (precedes x y) (precedes-not_same x y t) e)
+  | inr f ↦ f
+]
+
 -- One exchange is below another one.
 record IsBelow (x y : Exchange) : Type 0 where
   other : same_exchange x y ≡ false
@@ -89,13 +96,10 @@ record IsBelow (x y : Exchange) : Type 0 where
 below-from : (x y : Exchange) → precedes x y ≡ true → IsBelow x y
 below-from x y e =
     let not_above : precedes y x ≡ false = elim (cases_Bool (precedes y x)) [
-      | inl t ↦ absurd (both_ways (precedes x x) (precedes-not_same x x (same_self x)) (precedes-chain x y x e t))
+      | inl t ↦ absurd (both_ways (precedes x x) (precedes-not_same x x (same_exchange_refl x)) (precedes-chain x y x e t))
       | inr f ↦ f
     ] in
-    let other : same_exchange x y ≡ false = elim (cases_Bool (same_exchange x y)) [
-      | inl t ↦ absurd (both_ways (precedes x y) (precedes-not_same x y t) e)
-      | inr f ↦ f
-    ] in
+    let other : same_exchange x y ≡ false = precedes-differs x y e in
     record { other = other; differs = same_flips y x ∙ other; below = e; not_above = not_above }
 
 data Ordering (x y : Exchange) : Type 0 where
@@ -105,7 +109,7 @@ data Ordering (x y : Exchange) : Type 0 where
 
 order : (x y : Exchange) → Ordering x y
 order x y = elim (cases_Bool (same_exchange x y)) [
-  | inl same ↦ Same (one_exchange x y same)
+  | inl same ↦ Same (same_exchange-is x y same)
   | inr other ↦ elim (cases_Bool (precedes x y)) [
     | inl t ↦ Below (below-from x y t)
     | inr f ↦ Above (below-from y x (precedes-total x y other f))
@@ -115,7 +119,7 @@ order x y = elim (cases_Bool (same_exchange x y)) [
 -- ---- in a list
 
 at-same : (x a : Exchange) (r : List Exchange) → x ≡ a → inserted x (a ∷ r) ≡ a ∷ r
-at-same x a r e = let same : same_exchange x a ≡ true = subst (λ a. same_exchange x a ≡ true) e (same_self x) in rw same refl
+at-same x a r e = let same : same_exchange x a ≡ true = subst (λ a. same_exchange x a ≡ true) e (same_exchange_refl x) in rw same refl
 
 at-below : (x a : Exchange) (r : List Exchange) → IsBelow x a → inserted x (a ∷ r) ≡ x ∷ a ∷ r
 at-below x a r b = rw (b.other, b.below) refl
