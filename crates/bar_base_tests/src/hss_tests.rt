@@ -72,12 +72,8 @@ fn others_signatures_are_accepted(rt: HostRuntime) -> Result<(), Fail> {
 }
 
 /// A key of two levels.
-fn key_of(alloc: Global, top: Height, secret: &[u8; 32]) -> Result<HssKey, AllocError> {
-    let top = Params {
-        height: top,
-        ots: Ots::W8,
-    };
-    HssKey::make(alloc, top, LOW, &ID, secret)
+fn key_of(alloc: Global, secret: &[u8; 32]) -> Result<HssKey, AllocError> {
+    HssKey::make(alloc, LOW, LOW, &ID, secret)
 }
 
 /// The signature of a message under a leaf.
@@ -110,7 +106,7 @@ fn a_secret_gives_its_key_and_signatures(rt: HostRuntime) -> Result<(), Fail> {
         384735c0a047b3a180233ba1a2f1b6755a420afe9d2764c91fde4c04d44c49e517da3d96e09106ec\
         ae878e35",
     )?;
-    let mut remembers = key_of(alloc, Height::H5, &secret)?;
+    let mut remembers = key_of(alloc, &secret)?;
     remembers.remember(alloc, 32)?;
     let key = remembers.public();
     assert_eq!(rt;
@@ -118,7 +114,7 @@ fn a_secret_gives_its_key_and_signatures(rt: HostRuntime) -> Result<(), Fail> {
         "00000002000000050000000475c0fb3a123115b11702c6b6950cbd3b365c39d6aef5022de242573d\
         cb56569b7adb86ba235912fd74aeec4399bc6b87"
     );
-    let plain = HssScheme::new(key_of(alloc, Height::H5, &secret)?);
+    let plain = HssScheme::new(key_of(alloc, &secret)?);
     let scheme = SessionScheme::Double(HssScheme::new(remembers));
     let sig = signed(&rt, alloc, &plain, 36, &message)?;
     assert_eq!(rt;
@@ -133,18 +129,5 @@ fn a_secret_gives_its_key_and_signatures(rt: HostRuntime) -> Result<(), Fail> {
         assert_eq!(rt; leaf_of(&rt, &scheme, &found), leaf);
         assert!(rt; accepts(&scheme, &key, &message, &found));
     }
-    Ok(())
-}
-
-#[test]
-fn the_parts_of_a_signature_have_their_places(rt: HostRuntime) -> Result<(), Fail> {
-    let alloc = rt.alloc();
-    let scheme = HssScheme::new(key_of(alloc, Height::H10, &[7; 32])?);
-    assert_eq!(rt; scheme.leaves(), 32_768);
-    let sig = signed(&rt, alloc, &scheme, 33, b"a message")?;
-    assert_eq!(rt; sig.len(), 2_804);
-    assert_eq!(rt; sig.get(..8), Some([0, 0, 0, 1, 0, 0, 0, 1].as_slice()));
-    assert_eq!(rt; sig.get(1_512..1_516), Some([0, 0, 0, 1].as_slice()));
-    assert_eq!(rt; leaf_of(&rt, &scheme, &sig), 33);
     Ok(())
 }

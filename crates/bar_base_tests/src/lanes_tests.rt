@@ -1,7 +1,6 @@
-//! Worked values, and each public call once.
+//! Hashes of another program.
 
-use bar_lanes::{Head, and_not, count, sha_eight, xor_into};
-use sha2::{Digest, Sha256};
+use bar_lanes::{Head, sha_eight};
 
 // From Python's hashlib, of the messages below.
 const DIGESTS: [[u8; 32]; 8] = [
@@ -69,20 +68,6 @@ fn eight_hashes_are_those_of_others(rt: HostRuntime) {
     }
 }
 
-#[test]
-fn eight_hashes_are_those_of_one_at_a_time(rt: HostRuntime) {
-    let messages = [
-        [0; 55], [1; 55], [2; 55], [3; 55], [4; 55], [5; 55], [6; 55], [7; 55],
-    ];
-    let mut digests = [[0u8; 32]; 8];
-    sha_eight(&messages, &mut digests);
-    for j in 0..8 {
-        let message = messages[j];
-        let digest = Sha256::digest(message.as_slice());
-        assert_eq!(rt; digests[j].as_slice(), digest.as_slice());
-    }
-}
-
 // From Python's hashlib, of 55 bytes of 7.
 const OF_SEVENS: [u8; 32] = [
     0x94, 0x3c, 0xc6, 0x18, 0x60, 0x77, 0x6c, 0xa8, 0xe7, 0x8a, 0x36, 0x5d, 0x98, 0x80, 0x36, 0xed,
@@ -96,41 +81,5 @@ fn messages_that_begin_alike_have_the_hash_of_others(rt: HostRuntime) {
     Head::new(&[7; 20]).sha_eight(&messages, &mut digests);
     for j in 0..8 {
         assert_eq!(rt; digests[j], OF_SEVENS);
-    }
-}
-
-#[test]
-fn bytes_are_those_of_a_loop(rt: HostRuntime) {
-    for n in [0, 1, 63, 64, 65, 1280] {
-        let mut bytes = [0x5a; 1280];
-        let mut mask = [0u8; 1280];
-        for k in 0..1280 {
-            mask[k] = (k % 251) as u8;
-        }
-        xor_into(&mut bytes[..n], &mask[..n]);
-        for k in 0..1280 {
-            let wanted = if k < n { 0x5a ^ mask[k] } else { 0x5a };
-            assert_eq!(rt; bytes[k], wanted, "{n} {k}");
-        }
-    }
-}
-
-#[test]
-fn words_are_those_of_a_loop(rt: HostRuntime) {
-    let mut kept = [0u64; 32];
-    let mut taken = [0u64; 32];
-    for k in 0..32 {
-        kept[k] = 0x9e37_79b9_7f4a_7c15u64.rotate_left(k as u32);
-        taken[k] = 0xd1b5_4a32_d192_ed03u64.rotate_right(k as u32);
-    }
-    for n in [0, 1, 7, 8, 9, 32] {
-        let mut left = [0u64; 32];
-        and_not(&kept[..n], &taken[..n], &mut left[..n]);
-        let mut bits = 0u32;
-        for k in 0..n {
-            assert_eq!(rt; left[k], kept[k] & !taken[k], "{n} {k}");
-            bits = bits.wrapping_add(left[k].count_ones());
-        }
-        assert_eq!(rt; count(&left[..n]), bits, "{n}");
     }
 }

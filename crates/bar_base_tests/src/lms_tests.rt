@@ -1,13 +1,11 @@
-//! Outside vectors, and each public call once.
+//! Keys and signatures of other programs.
 
 mod vectors;
 
 ghost use Rattle.std.specs.Prelude.{◌≡◌, ◌<◌};
 
 use bar_bytes::Steps;
-use bar_lms::{
-    BadType, Height, KeyFault, Ots, Params, PublicKey, SecretKey, fill_tree, sign_tree, verify,
-};
+use bar_lms::{Height, Ots, Params, PublicKey, SecretKey, fill_tree, sign_tree, verify};
 use sha2::{Digest, Sha256};
 use std::marker::Brand;
 use std::process::Abort;
@@ -123,72 +121,5 @@ fn a_secret_gives_its_key_and_signatures(rt: HostRuntime) -> Result<(), Fail> {
     let read = PublicKey::read(&public)?;
     assert!(rt; accepts(&read, b"a message", &out));
     assert!(rt; !accepts(&read, b"b message", &out));
-    Ok(())
-}
-
-// Two leaves of one place take turns, and two messages of one leaf.
-#[test]
-fn a_key_that_remembers_signs_the_same(rt: HostRuntime) -> Result<(), Fail> {
-    let params = Params {
-        height: Height::H5,
-        ots: Ots::W4,
-    };
-    let plain = SecretKey::make(rt.alloc(), params, &[7; 8], &SECRET)?;
-    let mut remembers = SecretKey::make(rt.alloc(), params, &[7; 8], &SECRET)?;
-    remembers.remember(rt.alloc(), 2)?;
-    for (leaf, message) in [
-        (0, b"one"),
-        (0, b"one"),
-        (0, b"two"),
-        (0, b"two"),
-        (0, b"one"),
-        (2, b"one"),
-        (2, b"one"),
-        (0, b"one"),
-        (1, b"one"),
-    ] {
-        let mut wanted = [0u8; 2348];
-        let mut out = [1u8; 2348];
-        assert!(rt; leaf < 32);
-        assert_eq!(rt; plain.sign(leaf, message, &mut wanted), 2348);
-        assert_eq!(rt; remembers.sign(leaf, message, &mut out), 2348);
-        assert_eq!(rt; out.as_slice(), wanted.as_slice());
-    }
-    Ok(())
-}
-
-// The lengths and the numbers of chains are those of RFC 8554, 4.1 and 5.1.
-#[test]
-fn types_have_their_numbers(rt: HostRuntime) -> Result<(), Fail> {
-    for (lms, ots, height, len, most) in [
-        (5, 1, 5, 8684, 273),
-        (5, 4, 5, 1292, 8678),
-        (6, 2, 10, 4620, 412),
-        (6, 3, 10, 2508, 1018),
-        (7, 1, 15, 9004, 283),
-        (7, 4, 15, 1612, 8688),
-    ] {
-        let params = Params::of_types(lms, ots)?;
-        assert_eq!(rt; params.lms(), lms);
-        assert_eq!(rt; params.ots(), ots);
-        assert_eq!(rt; params.height(), height);
-        assert_eq!(rt; params.sig_len(), len);
-        assert_eq!(rt; params.most(), most);
-    }
-    for (lms, ots) in [(4, 1), (8, 1), (5, 0), (5, 5)] {
-        assert_eq!(rt; Params::of_types(lms, ots), Err(BadType));
-    }
-    Ok(())
-}
-
-#[test]
-fn other_bytes_are_no_key(rt: HostRuntime) -> Result<(), Fail> {
-    let mut bytes = [0u8; 56];
-    hex::decode_to_slice(OF_WIDTH_8.key, &mut bytes)?;
-    assert!(rt; matches!(PublicKey::read(&bytes), Ok(_)));
-    bytes[7] = 5;
-    assert!(rt; matches!(PublicKey::read(&bytes), Err(KeyFault::BadType)));
-    assert!(rt; matches!(PublicKey::read(&[0; 55]), Err(KeyFault::Short)));
-    assert!(rt; matches!(PublicKey::read(&[0; 57]), Err(KeyFault::Long)));
     Ok(())
 }

@@ -81,39 +81,6 @@ fn refused_recordings_have_their_faults(rt: HostRuntime) -> Result<(), Fail> {
 }
 
 #[test]
-fn a_datagram_has_65507_bytes_at_most(rt: HostRuntime) -> Result<(), Fail> {
-    for (high, low, fault) in [
-        (255, 227, None),
-        (255, 228, Some(RecordFault::BadEntry { at: 15 })),
-    ] {
-        let mut bytes = Vec::new(rt.alloc());
-        bytes.extend_from_slice(&HEAD)?;
-        bytes.extend_from_slice(&[2, high, low])?;
-        bytes.resize(18 + 256 * usize::from(high) + usize::from(low), 0)?;
-        bytes.push(0)?;
-        assert_eq!(rt; read(&bytes, &ID, 2, 2).err(), fault);
-    }
-    Ok(())
-}
-
-#[test]
-fn a_put_tick_counts(rt: HostRuntime) -> Result<(), Fail> {
-    let mut bytes = Vec::new(rt.alloc());
-    bytes.extend_from_slice(&HEAD)?;
-    bytes.push(1)?;
-    for _ in 0..65_537 {
-        bytes.extend_from_slice(&[2, 0, 0])?;
-    }
-    bytes.push(0)?;
-    let at = 15 + 1 + 3 * 65_536;
-    let rows = [(2, Some(RecordFault::AfterLast { at })), (3, None)];
-    for (last, fault) in rows {
-        assert_eq!(rt; read(&bytes, &ID, 2, last).err(), fault);
-    }
-    Ok(())
-}
-
-#[test]
 fn faults_are_shown_by_their_names(rt: HostRuntime) -> Result<(), Fail> {
     let rows = [
         (RecordFault::BadHead, "BadHead"),

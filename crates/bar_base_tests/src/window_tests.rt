@@ -1,6 +1,6 @@
 ghost use Rattle.std.specs.Prelude.{◌≡◌};
 
-use bar_window::{Exchange, Role, UpdateId, Window, XKind};
+use bar_window::{Exchange, UpdateId, Window, XKind};
 use std::process::Abort;
 
 fn update(round: u32, index: u8) -> UpdateId
@@ -116,33 +116,4 @@ fn bytes_of_a_wide_window_have_the_second_word_after_the_first(rt: HostRuntime) 
     assert_eq!(rt; &bytes[..8], [0; 8].as_slice());
     assert_eq!(rt; &bytes[8..16], [0x80, 0, 0, 0, 0, 0, 0, 1].as_slice());
     assert_eq!(rt; &bytes[16..64], [0; 48].as_slice());
-}
-
-#[test]
-fn exchanges_have_two_sides_and_an_order(rt: HostRuntime) {
-    let early = Exchange {
-        round: 6,
-        kind: XKind::Balanced,
-        initiator: 3,
-        responder: 1,
-    };
-    let push = Exchange {
-        round: 6,
-        kind: XKind::Push,
-        initiator: 1,
-        responder: 2,
-    };
-    let late = Exchange {
-        round: 7,
-        kind: XKind::Balanced,
-        initiator: 1,
-        responder: 2,
-    };
-    assert!(rt; early < push && push < late);
-    assert!(rt; update(3, 9) < update(4, 0) && update(4, 0) < update(4, 1));
-    for (role, code, party) in [(Role::Initiator, 0, 1), (Role::Responder, 1, 2)] {
-        assert_eq!(rt; (role.code(), push.party(role)), (code, party));
-        assert_ne!(rt; role.other(), role);
-    }
-    assert_eq!(rt; (XKind::Balanced.code(), XKind::Push.code()), (0, 1));
 }

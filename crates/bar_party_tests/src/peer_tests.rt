@@ -11,14 +11,13 @@ use bar_samples::sessions::{session, session_of_five, small_session};
 use bar_seal::LmsScheme;
 use bar_window::{Exchange, XKind};
 use bar_wire::Kind;
-use datagrams::{block_message, block_with, front, manifest, signed, tell_block, tell_blocks};
+use datagrams::{block_with, front, manifest, signed, tell_block, tell_blocks};
 use evidence::{Evidence, check_evidence, check_report, check_reports, evidence_of};
 use pair::{
     Pair, Row, check_totals, check_window, give_in_turn, pair_of, part, pass, tell_round, trade,
 };
 use peers::{
-    Sent, answers, check_count, check_played, peer_of, scheme_of, sent_at_tick, tell, tell_fronts,
-    ticks,
+    Sent, answers, check_count, check_played, peer_of, scheme_of, sent_at_tick, tell, ticks,
 };
 use std::alloc::{AllocError, Global};
 use std::process::Abort;
@@ -700,88 +699,6 @@ fn check_cap(rt: &impl Abort, alloc: Global, pair: &mut Pair) -> Result<(), Allo
     Ok(())
 }
 
-/// Gives both peers a datagram cut at each length below its own.
-fn tell_fronts_to_both(
-    rt: &impl Abort,
-    alloc: Global,
-    pair: &mut Pair,
-    datagram: &[u8],
-) -> Result<(), AllocError> {
-    tell_fronts(rt, alloc, &mut pair.one, datagram)?;
-    tell_fronts(rt, alloc, &mut pair.two, datagram)
-}
-
-/// The datagrams that a trade and a push don't have: a manifest, a block, a notice that names peer 2, and evidence.
-#[derive(Clone, Copy)]
-enum Other {
-    Manifest,
-    Block,
-    Evict,
-    Evidence,
-}
-
-fn datagram_of(
-    rt: &impl Abort,
-    alloc: Global,
-    caster: &LmsScheme,
-    other: Other,
-) -> Result<Vec<u8>, AllocError> {
-    match other {
-        Other::Manifest => manifest(rt, alloc, caster, 6, &[block_with(2, *b"hi")]),
-        Other::Block => block_message(alloc, 2, (5, 0), &block_with(2, *b"5a")),
-        Other::Evict => eviction_of(rt, alloc, caster, 2),
-        Other::Evidence => Ok(
-            evidence_of(alloc, 2, 1, &[b"one".as_slice(), b"two".as_slice()])?.report,
-        ),
-    }
-}
-
-/// Gives both peers each of these, cut.
-fn tell_others_cut(rt: &impl Abort, alloc: Global, pair: &mut Pair) -> Result<(), AllocError> {
-    for other in [Other::Manifest, Other::Block, Other::Evict, Other::Evidence] {
-        let datagram = datagram_of(rt, alloc, &pair.caster, other)?;
-        tell_fronts_to_both(rt, alloc, pair, &datagram)?;
-    }
-    Ok(())
-}
-
-/// What is cut changes nothing: the trade goes on as without it, and each peer holds what it held.
-fn check_cut_trade(rt: &impl Abort, alloc: Global, pair: &mut Pair) -> Result<(), AllocError> {
-    pass(rt, alloc, pair, 40)?;
-    tell_held(rt, alloc, pair, [3, 4, 5])?;
-    tell_others_cut(rt, alloc, pair)?;
-    pair.cuts = true;
-    check_trade(rt, alloc, pair)?;
-    assert_eq!(rt; pair.one.manifest(6), None);
-    assert_eq!(rt; pair.two.manifest(6), None);
-    Ok(())
-}
-
-/// So does a push.
-fn check_cut_push(rt: &impl Abort, alloc: Global, pair: &mut Pair) -> Result<(), AllocError> {
-    pass(rt, alloc, pair, 40)?;
-    pair.cuts = true;
-    check_first_push(rt, alloc, pair)
-}
-
-/// The totals of the trade of round 5 stand to the last tick of round 9, a life later, and are zeros after the next one.
-fn check_totals_last(rt: &impl Abort, alloc: Global, pair: &mut Pair) -> Result<(), AllocError> {
-    pass(rt, alloc, pair, 32)?;
-    tell_held(rt, alloc, pair, [2, 3, 4])?;
-    trade(rt, alloc, pair, 5, SMALL_TRADE)?;
-    let x = Exchange {
-        round: 5,
-        kind: XKind::Balanced,
-        initiator: 2,
-        responder: 1,
-    };
-    for (count, items) in [(0, 1), (39, 1), (1, 0)] {
-        pass(rt, alloc, pair, count)?;
-        check_totals(rt, pair, x, items);
-    }
-    Ok(())
-}
-
 /// What is checked of a pair of peers.
 #[derive(Clone, Copy)]
 enum PairCheck {
@@ -792,9 +709,6 @@ enum PairCheck {
     LeafTwice,
     Eviction,
     Cap,
-    CutTrade,
-    CutPush,
-    TotalsLast,
 }
 
 fn check_pair(
@@ -811,9 +725,6 @@ fn check_pair(
         PairCheck::LeafTwice => check_leaf_twice(rt, alloc, pair)?,
         PairCheck::Eviction => check_eviction(rt, alloc, pair)?,
         PairCheck::Cap => check_cap(rt, alloc, pair)?,
-        PairCheck::CutTrade => check_cut_trade(rt, alloc, pair)?,
-        PairCheck::CutPush => check_cut_push(rt, alloc, pair)?,
-        PairCheck::TotalsLast => check_totals_last(rt, alloc, pair)?,
     }
     Ok(())
 }
@@ -863,19 +774,6 @@ fn nothing_is_sent_to_an_evicted_party(rt: HostRuntime) -> Result<(), Fail> {
 fn no_more_updates_are_traded_than_the_cap(rt: HostRuntime) -> Result<(), Fail> {
     let text = large_session(rt.alloc())?;
     check_new_pair(&rt, rt.alloc(), &text, PairCheck::Cap)
-}
-
-#[test]
-fn datagrams_that_are_cut_change_nothing(rt: HostRuntime) -> Result<(), Fail> {
-    for check in [PairCheck::CutTrade, PairCheck::CutPush] {
-        check_new_pair(&rt, rt.alloc(), session(), check)?;
-    }
-    Ok(())
-}
-
-#[test]
-fn totals_stand_a_life_long(rt: HostRuntime) -> Result<(), Fail> {
-    check_new_pair(&rt, rt.alloc(), session(), PairCheck::TotalsLast)
 }
 
 /// What is checked of peer 5 of five, at its first tick.

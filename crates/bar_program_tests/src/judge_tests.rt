@@ -3,7 +3,7 @@ use crate::outcome::{Left, outside_of, run};
 use bar_lms::SecretKey;
 use bar_outside::MemFiles;
 use bar_roster::Session;
-use bar_samples::sessions::{small_session, three_rounds};
+use bar_samples::sessions::small_session;
 use bar_seal::{LmsScheme, Scheme, Verifier};
 use std::alloc::{AllocError, Global};
 use std::process::Abort;
@@ -45,49 +45,6 @@ pub(crate) fn sign(
     let mut sig = vec![in alloc; 0; scheme.sig_len()]?;
     scheme.sign(leaf, message, &mut sig);
     message.extend_from_slice(&sig)
-}
-
-/// A REQUEST of peer 2 to peer 1 in round 1 with a seed of zeros, which isn't its own, and a commitment of 32 times one byte.
-fn request(
-    rt: &impl Abort,
-    alloc: Global,
-    scheme: &LmsScheme,
-    commitment: u8,
-) -> Result<Vec<u8>, AllocError> {
-    let mut bytes = front(alloc, 3, [0, 2, 0, 1], 1)?;
-    bytes.extend_from_slice(&[0; 32])?;
-    bytes.extend_from_slice(&[commitment; 32])?;
-    sign(rt, alloc, scheme, 0, &mut bytes)?;
-    Ok(bytes)
-}
-
-/// A RESPONSE of peer 2 to peer 1 in round 1 with an empty history of four rounds.
-fn response(rt: &impl Abort, alloc: Global, scheme: &LmsScheme) -> Result<Vec<u8>, AllocError> {
-    let mut bytes = front(alloc, 4, [0, 2, 0, 1], 1)?;
-    bytes.extend_from_slice(&[0; 32])?;
-    sign(rt, alloc, scheme, 0, &mut bytes)?;
-    Ok(bytes)
-}
-
-/// The manifest of a round without blocks.
-fn manifest(
-    rt: &impl Abort,
-    alloc: Global,
-    scheme: &LmsScheme,
-    round: u8,
-) -> Result<Vec<u8>, AllocError> {
-    let mut bytes = front(alloc, 1, [0, 0, 0xff, 0xff], round)?;
-    bytes.push(0)?;
-    sign(rt, alloc, scheme, 0, &mut bytes)?;
-    Ok(bytes)
-}
-
-/// A datagram with its last byte changed.
-fn changed(mut datagram: Vec<u8>) -> Vec<u8> {
-    if let Some(byte) = datagram.last_mut() {
-        *byte ^= 1;
-    }
-    datagram
 }
 
 /// Adds a datagram behind its length.
@@ -134,47 +91,6 @@ pub(crate) fn check_end(rt: &impl Abort, left: &Left, status: u8, out: &str, err
     assert_eq!(rt; left.status, status);
     assert_eq!(rt; left.outside.out.bytes(), out.as_bytes());
     assert_eq!(rt; left.outside.err.bytes(), err.as_bytes());
-}
-
-#[test]
-fn faults_of_one_datagram_and_of_two(rt: HostRuntime) -> Result<(), Fail> {
-    let alloc = rt.alloc();
-    let peer = scheme_of(alloc, small_session(), 9)?;
-    let one = request(&rt, alloc, &peer, 0)?;
-    let other = request(&rt, alloc, &peer, 1)?;
-    let answer = response(&rt, alloc, &peer)?;
-    for (evidence, status, printed) in [
-        (evidence(alloc, &one, None)?, 0, "party 2 fault F3\n"),
-        (
-            evidence(alloc, &one, Some(&other))?,
-            0,
-            "party 2 fault F4\n",
-        ),
-        (evidence(alloc, &answer, None)?, 1, "no fault: Consistent\n"),
-        (
-            evidence(alloc, &changed(one), None)?,
-            1,
-            "no fault: NotSigned\n",
-        ),
-        (evidence(alloc, &[9], None)?, 1, "no fault: Malformed\n"),
-    ] {
-        let left = judge(alloc, small_session(), b"", &evidence, &[], &[])?;
-        check_end(&rt, &left, status, printed, "");
-    }
-    Ok(())
-}
-
-/// An entry of the table has 8,867 bytes: two for its length, 21, and a signature of 8,844.
-#[test]
-fn a_table_whose_second_entry_is_bad(rt: HostRuntime) -> Result<(), Fail> {
-    let alloc = rt.alloc();
-    let caster = scheme_of(alloc, three_rounds(), 7)?;
-    let mut table = Vec::new(alloc);
-    add_entry(&mut table, &manifest(&rt, alloc, &caster, 1)?)?;
-    add_entry(&mut table, &changed(manifest(&rt, alloc, &caster, 2)?))?;
-    let left = judge(alloc, three_rounds(), &table, &[1, 0, 1, 9], &[], &[])?;
-    check_end(&rt, &left, 8, "", "bar: input refused: table at 8867\n");
-    Ok(())
 }
 
 /// Whether the session's text is accepted, the table and the evidence, the failing calls of the files and writes to out, and the status, what

@@ -18,8 +18,6 @@ mod judge_tests;
 #[cfg(test)]
 mod keygen_tests;
 #[cfg(test)]
-mod node_tests;
-#[cfg(test)]
 mod outcome;
 #[cfg(test)]
 mod outside_tests;

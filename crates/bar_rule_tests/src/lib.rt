@@ -4,15 +4,9 @@
 #![tactic(auto)]
 
 #[cfg(test)]
-mod balanced_tests;
-#[cfg(test)]
 mod findings_tests;
 #[cfg(test)]
-mod ledger_tests;
-#[cfg(test)]
 mod proof_tests;
-#[cfg(test)]
-mod push_tests;
 #[cfg(test)]
 mod store_tests;
 #[cfg(test)]

@@ -22,23 +22,13 @@ pub(crate) fn session_of(alloc: Global, text: &str) -> Result<Session, Fail> {
 }
 
 /// What signs with a secret of 32 times one byte.
-pub(crate) fn scheme_of(
-    alloc: Global,
-    session: &Session,
-    secret: u8,
-) -> Result<LmsScheme, AllocError> {
+fn scheme_of(alloc: Global, session: &Session, secret: u8) -> Result<LmsScheme, AllocError> {
     let signer = SecretKey::make(alloc, session.params(), &ID, &[secret; 32])?;
     Ok(LmsScheme::new(signer))
 }
 
 /// What a datagram begins with, up to its round.
-pub(crate) fn front(
-    alloc: Global,
-    kind: u8,
-    from: u8,
-    to: u8,
-    round: u8,
-) -> Result<Vec<u8>, AllocError> {
+fn front(alloc: Global, kind: u8, from: u8, to: u8, round: u8) -> Result<Vec<u8>, AllocError> {
     let mut bytes = [0xba, 0x47, 1, kind].to_vec(alloc)?;
     bytes.extend_from_slice(&ID)?;
     bytes.extend_from_slice(&[0, from, 0, to, 0, 0, 0, round])?;
@@ -46,7 +36,7 @@ pub(crate) fn front(
 }
 
 /// Adds the signature of a message to it.
-pub(crate) fn sign(
+fn sign(
     rt: &impl Abort,
     alloc: Global,
     scheme: &LmsScheme,
@@ -69,7 +59,7 @@ fn add_window(bytes: &mut Vec<u8>, rows: [u8; 4]) -> Result<(), AllocError> {
 }
 
 /// The CASE that peer 1 as responder sends peer 2 in round 6, signed with a leaf. It promises update (4, 7), and its cipher is all zeros.
-pub(crate) fn case_of(
+fn case_of(
     rt: &impl Abort,
     alloc: Global,
     scheme: &LmsScheme,
@@ -86,7 +76,7 @@ pub(crate) fn case_of(
 }
 
 /// A KEY of peer 1 to peer 2 for a side of that exchange, signed with a leaf.
-pub(crate) fn key_of(
+fn key_of(
     rt: &impl Abort,
     alloc: Global,
     scheme: &LmsScheme,
@@ -136,7 +126,7 @@ fn line(
 }
 
 /// A datagram with its last byte changed.
-pub(crate) fn changed(alloc: Global, datagram: &[u8]) -> Result<Vec<u8>, AllocError> {
+fn changed(alloc: Global, datagram: &[u8]) -> Result<Vec<u8>, AllocError> {
     let mut bytes = datagram.to_vec(alloc)?;
     if let Some(byte) = bytes.last_mut() {
         *byte ^= 1;

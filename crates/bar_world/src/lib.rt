@@ -26,6 +26,3 @@ pub use sim_end::SimEnd;
 pub use simulation::simulate;
 pub use small_list::SmallList;
 pub use world::World;
-
-#[cfg(test)]
-mod tests;

@@ -89,7 +89,7 @@ pub fn manifest(
 }
 
 /// A BLOCK of the broadcaster.
-pub fn block_message(
+fn block_message(
     alloc: Global,
     to: u8,
     update: (u8, u8),

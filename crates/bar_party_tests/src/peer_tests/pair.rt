@@ -1,6 +1,6 @@
 //! Two peers, what is said between them, and what both are told.
 use super::datagrams::{blocks_of, front, manifest};
-use super::peers::{Sent, answers, peer_of, scheme_of, sent_at_tick, tell, tell_fronts, ticks};
+use super::peers::{Sent, answers, peer_of, scheme_of, sent_at_tick, tell, ticks};
 use bar_hss::SessionScheme;
 use bar_ledger::Totals;
 use bar_peer::Peer;
@@ -14,8 +14,6 @@ use std::test::Fail;
 /// The peers 1 and 2 of a session, and what signs for its broadcaster.
 #[derive(Drop)]
 pub struct Pair {
-    /// Whether each datagram that is given in turn comes cut at each length before it comes whole.
-    pub cuts: bool,
     pub caster: LmsScheme,
     pub one: Peer<SessionScheme>,
     pub two: Peer<SessionScheme>,
@@ -23,7 +21,6 @@ pub struct Pair {
 
 pub fn pair_of(alloc: Global, session: &str) -> Result<Pair, Fail> {
     Ok(Pair {
-        cuts: false,
         caster: scheme_of(alloc, session, 7)?,
         one: peer_of(alloc, session, 1, 8)?,
         two: peer_of(alloc, session, 2, 9)?,
@@ -73,21 +70,6 @@ fn add_all(all: &mut Vec<Vec<u8>>, sends: Vec<Sent>) -> Result<(), AllocError> {
     Ok(())
 }
 
-/// Gives a peer of the pair a datagram cut at each length below its own.
-fn tell_fronts_of(
-    rt: &impl Abort,
-    alloc: Global,
-    pair: &mut Pair,
-    party: u16,
-    datagram: &[u8],
-) -> Result<(), AllocError> {
-    if party == 1 {
-        tell_fronts(rt, alloc, &mut pair.one, datagram)
-    } else {
-        tell_fronts(rt, alloc, &mut pair.two, datagram)
-    }
-}
-
 /// What a peer of the pair sends for a datagram.
 fn answers_of(
     rt: &impl Abort,
@@ -117,9 +99,6 @@ pub fn give_in_turn(
         let Some(datagram) = all.get(*place) else {
             panic!(rt; "row {row} gives what was not sent");
         };
-        if pair.cuts {
-            tell_fronts_of(rt, alloc, pair, *party, datagram)?;
-        }
         let sends = answers_of(rt, alloc, pair, *party, datagram)?;
         assert!(rt;
             are_sent(&sends, 3u16.saturating_sub(*party), kinds),
