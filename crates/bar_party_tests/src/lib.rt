@@ -1,4 +1,4 @@
-//! Tests of whole peers and of whole broadcasters, by their public calls.
+//! Tests of what peers remember, of whole peers and broadcasters, and of all parties together, by their public calls.
 //!
 //! They stand in a crate of their own, since a crate with tests is proved twice.
 #![tactic(auto)]
@@ -8,4 +8,8 @@ mod caster_tests;
 #[cfg(test)]
 mod hostile_tests;
 #[cfg(test)]
+mod ledger_tests;
+#[cfg(test)]
 mod peer_tests;
+#[cfg(test)]
+mod world_tests;

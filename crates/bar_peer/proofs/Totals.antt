@@ -41,8 +41,6 @@ use Rattle.bar_peer.specs.Telling.{IsTold, AreTotals, no_totals}
 use Rattle.bar_peer.proofs.Keys.{is_case}
 use Rattle.bar_bytes.proofs.Options.{some-mapped, none-of, then-value}
 
--- ---- options
-
 -- ---- what was said
 
 -- The terms of an exchange whose CASE this member said, and the size of its promise.

@@ -26,7 +26,7 @@ fn key_of(
 }
 
 /// The key files of parties, in the order of their secrets. This is what costs most in a simulation.
-pub(crate) fn keys_of(
+pub fn keys_of(
     alloc: Global,
     params: Params,
     rounds: u32,

@@ -20,8 +20,11 @@ mod small_list;
 mod told;
 mod world;
 
+pub use keys::keys_of;
 pub use moves::Move;
 pub use moving::run_world;
+pub use numbers::Numbers;
+pub use sessions::session;
 pub use sim_end::SimEnd;
 pub use simulation::simulate;
 pub use small_list::SmallList;

@@ -33,7 +33,7 @@ fn anchors(alloc: Global, keys: &[KeyFile]) -> Result<Vec<[u8; 32]>, AllocError>
 }
 
 /// The session of these numbers, made from the key files of its parties, the broadcaster's first.
-pub(crate) fn session(
+pub fn session(
     alloc: Global,
     shape: Shape,
     numbers: Numbers,

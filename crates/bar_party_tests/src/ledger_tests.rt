@@ -1,0 +1,81 @@
+//! What a peer remembers of its exchanges, by their numbers in order.
+ghost use Rattle.std.specs.Prelude.{◌≡◌};
+ghost use Rattle.bar_ledger.specs.Memory.{HasSame};
+
+use bar_ledger::{Entry, Ledger};
+use bar_samples::sessions::ID;
+use bar_window::{Exchange, Role, Terms, UpdateId, Window, XKind};
+use bar_wire::Shape;
+use std::process::Abort;
+use std::test::Fail;
+
+const SHAPE: Shape = Shape {
+    version: 1,
+    id: ID,
+    peers: 5,
+    rounds: 10,
+    life: 4,
+    per_round: 8,
+    sig_len: 1292,
+};
+
+/// A balanced exchange that this peer responds to.
+fn exchange(round: u32, initiator: u16) -> Exchange {
+    Exchange {
+        round,
+        kind: XKind::Balanced,
+        initiator,
+        responder: 1,
+    }
+}
+
+/// An entry of the responder, whose terms trade one update for another.
+fn asked(x: Exchange, seat: u8) -> Entry
+    ensures { result.x ≡ x }
+{
+    let mut ha = Window::empty(5, 4, false);
+    let mut hb = ha;
+    ha.put(UpdateId { round: 4, index: 0 });
+    hb.put(UpdateId { round: 5, index: 1 });
+    Entry {
+        x,
+        role: Role::Responder,
+        seat,
+        terms: Terms::Balanced {
+            nonce: [0; 32],
+            ha,
+            hb,
+        },
+        complete: true,
+        first_said: true,
+        case_said: true,
+        key_said: true,
+    }
+}
+
+fn add(rt: &impl Abort, ledger: &mut Ledger, entry: Entry)
+    ensures { HasSame ledger.old ledger.new }
+{
+    let len = ledger.len();
+    assert!(rt; len < 18);
+    match ledger.find(entry.x) {
+        Some(_) => panic!(rt; "kept already"),
+        None => ledger.add(entry),
+    }
+}
+
+#[test]
+fn kept_exchanges_have_places_in_order(rt: HostRuntime) -> Result<(), Fail> {
+    let mut ledger = Ledger::make(rt.alloc(), 1, 4, &SHAPE)?;
+    add(&rt, &mut ledger, asked(exchange(3, 2), 0));
+    add(&rt, &mut ledger, asked(exchange(1, 3), 0));
+    add(&rt, &mut ledger, asked(exchange(1, 2), 1));
+    assert_eq!(rt; ledger.place(0), Some(exchange(1, 2)));
+    assert_eq!(rt; ledger.place(1), Some(exchange(1, 3)));
+    assert_eq!(rt; ledger.place(2), Some(exchange(3, 2)));
+    assert_eq!(rt; ledger.place(3), None);
+    ledger.forget(6);
+    assert_eq!(rt; ledger.place(0), Some(exchange(3, 2)));
+    assert_eq!(rt; ledger.place(1), None);
+    Ok(())
+}

@@ -1,0 +1,262 @@
+//! Worlds: all parties of a session together, over moves.
+ghost use Rattle.bar_world.specs.Kept.{IsReady};
+ghost use Rattle.std.specs.Prelude.{IfOk, OnOk};
+
+use bar_lms::{Height, Ots, Params};
+use bar_samples::sessions::ID;
+use bar_seeds::Secrets;
+use bar_wire::Shape;
+use bar_world::{Move, Numbers, World, keys_of, run_world, session};
+use std::alloc::{AllocError, Global};
+use std::process::Abort;
+use std::test::Fail;
+
+/// LMS type 6 and LM-OTS type 3, whose signatures have 2,508 bytes.
+const PARAMS: Params = Params {
+    height: Height::H10,
+    ots: Ots::W4,
+};
+
+/// The numbers of the sessions beside those of their datagrams.
+const NUMBERS: Numbers = Numbers {
+    cap: 16,
+    fanout: 1,
+    port: 1024,
+    tick_ms: 1,
+    params: PARAMS,
+};
+
+/// What the broadcaster and two peers hold.
+const THREE: [Secrets; 3] = [
+    Secrets {
+        id: ID,
+        party: 0,
+        secret: [1; 32],
+    },
+    Secrets {
+        id: ID,
+        party: 1,
+        secret: [2; 32],
+    },
+    Secrets {
+        id: ID,
+        party: 2,
+        secret: [3; 32],
+    },
+];
+
+/// What the broadcaster and five peers hold.
+const SIX: [Secrets; 6] = [
+    Secrets {
+        id: ID,
+        party: 0,
+        secret: [1; 32],
+    },
+    Secrets {
+        id: ID,
+        party: 1,
+        secret: [2; 32],
+    },
+    Secrets {
+        id: ID,
+        party: 2,
+        secret: [3; 32],
+    },
+    Secrets {
+        id: ID,
+        party: 3,
+        secret: [4; 32],
+    },
+    Secrets {
+        id: ID,
+        party: 4,
+        secret: [5; 32],
+    },
+    Secrets {
+        id: ID,
+        party: 5,
+        secret: [6; 32],
+    },
+];
+
+const STREAM_LEN: usize = 4000;
+
+/// A stream of 70 updates, which a session of version 2 sends in one round.
+const LONG_STREAM_LEN: usize = 71_540;
+
+/// The world of a session of two peers.
+fn two_peers(alloc: Global) -> Result<World, AllocError>
+    ensures { IfOk result (λ world. IsReady world) }
+{
+    let shape = Shape {
+        version: 1,
+        id: ID,
+        peers: 2,
+        rounds: 10,
+        life: 4,
+        per_round: 8,
+        sig_len: 2508,
+    };
+    let keys = keys_of(alloc, PARAMS, shape.rounds, &THREE)?;
+    let session = session(alloc, shape, NUMBERS, &keys)?;
+    let stream = vec![in alloc; 165; STREAM_LEN]?;
+    World::make(alloc, &session, &THREE, stream)
+}
+
+/// The world of a session of version 2 of two peers, with up to 128 updates a round.
+fn two_wide_peers(alloc: Global) -> Result<World, AllocError>
+    ensures { IfOk result (λ world. IsReady world) }
+{
+    let shape = Shape {
+        version: 2,
+        id: ID,
+        peers: 2,
+        rounds: 10,
+        life: 4,
+        per_round: 128,
+        sig_len: 2508,
+    };
+    let keys = keys_of(alloc, PARAMS, shape.rounds, &THREE)?;
+    let session = session(alloc, shape, NUMBERS, &keys)?;
+    let stream = vec![in alloc; 165; LONG_STREAM_LEN]?;
+    World::make(alloc, &session, &THREE, stream)
+}
+
+/// The world of a session of five peers.
+fn five_peers(alloc: Global) -> Result<World, AllocError>
+    ensures { IfOk result (λ world. IsReady world) }
+{
+    let shape = Shape {
+        version: 1,
+        id: ID,
+        peers: 5,
+        rounds: 10,
+        life: 4,
+        per_round: 8,
+        sig_len: 2508,
+    };
+    let keys = keys_of(alloc, PARAMS, shape.rounds, &SIX)?;
+    let session = session(alloc, shape, NUMBERS, &keys)?;
+    let stream = vec![in alloc; 165; STREAM_LEN]?;
+    World::make(alloc, &session, &SIX, stream)
+}
+
+/// The broadcaster and each of so many peers ticks.
+fn tick_all(alloc: Global, world: &mut World, peers: u16) -> Result<(), AllocError>
+    requires { IsReady world.old }
+    ensures { OnOk result (IsReady world.new) }
+{
+    let mut moves = Vec::new(alloc);
+    for party in 0..=peers {
+        moves.push(Move::TickOf(party))?;
+    }
+    run_world(world, &moves)
+}
+
+/// More datagrams than are sent at a tick and for what it sends.
+const MANY: u64 = 1000;
+
+/// Delivers each datagram of the pool from a number on, and answers how many the pool has then.
+fn deliver_all(alloc: Global, world: &mut World, from: u64) -> Result<u64, AllocError>
+    requires { IsReady world.old }
+    ensures { OnOk result (IsReady world.new) }
+{
+    let mut next = from;
+    for _ in 0..MANY {
+        if world.pool(next).is_none() {
+            return Ok(next);
+        }
+        let moves = vec![in alloc; Move::Deliver(next)]?;
+        run_world(world, &moves)?;
+        next = next.saturating_add(1);
+    }
+    Ok(next)
+}
+
+/// So many ticks of a broadcaster and two peers, with each sent datagram delivered. Answers how many were sent.
+fn play(alloc: Global, world: &mut World, ticks: u32) -> Result<u64, AllocError>
+    requires { IsReady world.old }
+    ensures { OnOk result (IsReady world.new) }
+{
+    let mut sent = 0;
+    for _ in 0..ticks {
+        tick_all(alloc, world, 2)?;
+        sent = deliver_all(alloc, world, sent)?;
+    }
+    Ok(sent)
+}
+
+/// So many ticks of a broadcaster and five peers, with nothing delivered.
+fn tick_alone(alloc: Global, world: &mut World, ticks: u32) -> Result<(), AllocError>
+    requires { IsReady world.old }
+    ensures { OnOk result (IsReady world.new) }
+{
+    for _ in 0..ticks {
+        tick_all(alloc, world, 5)?;
+    }
+    Ok(())
+}
+
+/// Moves that change nothing, where the pool has so many datagrams: past the pool, of no party, and of bytes that aren't a datagram.
+fn move_in_vain(alloc: Global, world: &mut World, sent: u64) -> Result<(), AllocError>
+    requires { IsReady world.old }
+    ensures { OnOk result (IsReady world.new) }
+{
+    let bytes = vec![in alloc; 1, 2, 3]?;
+    let moves = vec![in alloc;
+        Move::Deliver(sent),
+        Move::Deliver(u64::MAX),
+        Move::TickOf(3),
+        Move::TickOf(u16::MAX),
+        Move::Hostile { to: 1, bytes },
+    ]?;
+    run_world(world, &moves)
+}
+
+/// How many bytes a party played.
+fn played_len(rt: &impl Abort, world: &World, party: u16) -> usize {
+    let count = world.party_count();
+    assert!(rt; usize::from(party) < count);
+    world.played(party).len()
+}
+
+#[test]
+fn nobody_is_evicted_where_all_is_delivered(rt: HostRuntime) -> Result<(), Fail> {
+    let alloc = rt.alloc();
+    let mut world = two_peers(alloc)?;
+    let sent = play(alloc, &mut world, 120)?;
+    move_in_vain(alloc, &mut world, sent)?;
+    assert!(rt; world.pool(sent).is_none());
+    assert!(rt; world.evicted().is_empty());
+    for party in 1..=2 {
+        assert_eq!(rt; played_len(&rt, &world, party), STREAM_LEN);
+    }
+    Ok(())
+}
+
+// A round of 70 updates. The broadcaster sends each to one peer, so both have more than half by their trades.
+#[test]
+fn more_than_64_updates_a_round_are_traded_in_version_2(rt: HostRuntime) -> Result<(), Fail> {
+    let alloc = rt.alloc();
+    let mut world = two_wide_peers(alloc)?;
+    play(alloc, &mut world, 120)?;
+    assert!(rt; world.evicted().is_empty());
+    for party in 1..=2 {
+        let len = played_len(&rt, &world, party);
+        assert!(rt; len > LONG_STREAM_LEN / 2);
+    }
+    Ok(())
+}
+
+#[test]
+fn nothing_is_played_where_nothing_is_delivered(rt: HostRuntime) -> Result<(), Fail> {
+    let alloc = rt.alloc();
+    let mut world = five_peers(alloc)?;
+    tick_alone(alloc, &mut world, 120)?;
+    assert!(rt; world.pool(0).is_some());
+    assert!(rt; world.evicted().is_empty());
+    for party in 0..=5 {
+        assert_eq!(rt; played_len(&rt, &world, party), 0);
+    }
+    Ok(())
+}
