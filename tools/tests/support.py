@@ -56,9 +56,14 @@ def lines_of(call):
     return answer, out.getvalue().splitlines(), err.getvalue().splitlines()
 
 
+def heed_signals():
+    for number in barscript.SIGNALS:
+        signal.signal(number, signal.SIG_DFL)
+
+
 def start_script(script, *words, **options):
-    """Starts a script as a process, which heeds Ctrl-C also where this process was started to ignore it."""
-    heed = {"preexec_fn": lambda: signal.signal(signal.SIGINT, signal.SIG_DFL)}
+    """Starts a script as a process, which is stopped by signals also where this process was started to ignore them."""
+    heed = {"preexec_fn": heed_signals}
     pipes = {"stdout": subprocess.PIPE, "stderr": subprocess.PIPE, "text": True}
     return subprocess.Popen([sys.executable, TOOLS / script, *map(str, words)], **pipes | heed | options)
 
