@@ -8,13 +8,7 @@ use Rattle.std.proofs.Math.Seq.{take-suc}
 use Rattle.clap.specs.Walk.{Rule, Text, is_early_multiple}
 use Rattle.clap.specs.Simple.{built, filled, filled_from, is_simple, with_rule}
 use Rattle.clap.specs.Faults.{is_simple_and_free}
-use Rattle.std.specs.Prelude.{Option, None, option_and_then, option_map}
-use Rattle.clap.specs.Walk.{first_of, rows_of}
-use Rattle.clap.specs.Simple.{matches_of}
-use Rattle.clap.specs.Matches.{first_value}
-use Rattle.clap.specs.declared.parser.matches.Found.{Found}
-use Rattle.clap.proofs.WalkLemmas.{first_value-rows}
-use Rattle.bar_arguments.specs.Options.{is_taken, option_rule, options_of, value_of, values_by, values_of}
+use Rattle.bar_arguments.specs.Options.{option_rule, options_of}
 
 -- one option more
 pub options-more : (names : List Text) (name : Text) → with_rule (options_of names) (option_rule name) ≡ options_of (names ++ name ∷ [])

@@ -15,7 +15,7 @@ use Rattle.clap.specs.Kinds.{Kinds, check_kinds, or_else}
 use Rattle.clap.proofs.FaultLemmas.{leaf_fault}
 use Rattle.clap.specs.Faults.{other_fault, defaults_fault, fault_of, flag_word_fault, level_fault, long_fault, option_fault, settle_fault, turn_fault, use_fault, walk_fault, word_fault}
 use Rattle.clap.specs.Takes.{is_given}
-use Rattle.bar_arguments.specs.Options.{is_taken, option_rule, options_of, value_of, values_by, values_of}
+use Rattle.bar_arguments.specs.Options.{is_taken, options_of, value_of, values_by, values_of}
 use Rattle.bar_arguments.proofs.OptionLemmas.{built_rule, options-built}
 
 -- ---- faults

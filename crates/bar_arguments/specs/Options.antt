@@ -1,7 +1,6 @@
 -- Which words are the options of a command: those that its simple command of `clap` takes.
 use Rattle.std.specs.Prelude.{Bool, true, List, [], ◌∷◌, Option, Some, None, is_some, option_and_then, option_map, map, codes, if◌then◌else◌}
 use Rattle.std.specs.List.{list_all}
-use Rattle.std.specs.Borrow.{Bor}
 use Rattle.clap.specs.Words.{App, Rule, Text, first_of, matches_of, new_app, new_rule}
 use Rattle.clap.specs.Walk.{is_empty}
 pub use Rattle.clap.specs.Walk.{texts}
