@@ -1,6 +1,9 @@
 //! Worlds: all parties of a session together, over moves.
+ghost use Rattle.bar_wire.specs.Limits.{largest_content};
 ghost use Rattle.bar_world.specs.Kept.{IsReady};
-ghost use Rattle.std.specs.Prelude.{IfOk, OnOk};
+ghost use Rattle.bar_world.specs.Made.{AreNumbers, session_by};
+ghost use Rattle.bar_world.specs.Setups.{AreOfParties};
+ghost use Rattle.std.specs.Prelude.{◌≡◌, ◌+◌, ◌*◌, ◌≤◌, length, IfOk, OnOk};
 
 use bar_lms::{Height, Ots, Params};
 use bar_samples::sessions::ID;
@@ -84,6 +87,26 @@ const STREAM_LEN: usize = 4000;
 /// A stream of 70 updates, which a session of version 2 sends in one round.
 const LONG_STREAM_LEN: usize = 71_540;
 
+/// The world of a session of these numbers, whose parties hold these secrets and whose stream is one byte so many times.
+fn world_of(
+    alloc: Global,
+    shape: Shape,
+    numbers: Numbers,
+    secrets: &[Secrets],
+    stream_len: usize,
+) -> Result<World, AllocError>
+    requires numbers { AreNumbers shape numbers }
+    requires count { length secrets.now ≡ shape.peers + 1 }
+    requires parties { AreOfParties (session_by shape numbers secrets.now) secrets.now }
+    requires room { stream_len ≤ shape.rounds * shape.per_round * largest_content }
+    ensures { IfOk result (λ world. IsReady world) }
+{
+    let keys = keys_of(alloc, numbers.params, shape.rounds, secrets)?;
+    let session = session(alloc, shape, numbers, &keys)?;
+    let stream = vec![in alloc; 165; stream_len]?;
+    World::make(alloc, &session, secrets, stream)
+}
+
 /// The world of a session of two peers.
 fn two_peers(alloc: Global) -> Result<World, AllocError>
     ensures { IfOk result (λ world. IsReady world) }
@@ -97,10 +120,7 @@ fn two_peers(alloc: Global) -> Result<World, AllocError>
         per_round: 8,
         sig_len: 2508,
     };
-    let keys = keys_of(alloc, PARAMS, shape.rounds, &THREE)?;
-    let session = session(alloc, shape, NUMBERS, &keys)?;
-    let stream = vec![in alloc; 165; STREAM_LEN]?;
-    World::make(alloc, &session, &THREE, stream)
+    world_of(alloc, shape, NUMBERS, &THREE, STREAM_LEN)
 }
 
 /// The world of a session of version 2 of two peers, with up to 128 updates a round.
@@ -116,10 +136,7 @@ fn two_wide_peers(alloc: Global) -> Result<World, AllocError>
         per_round: 128,
         sig_len: 2508,
     };
-    let keys = keys_of(alloc, PARAMS, shape.rounds, &THREE)?;
-    let session = session(alloc, shape, NUMBERS, &keys)?;
-    let stream = vec![in alloc; 165; LONG_STREAM_LEN]?;
-    World::make(alloc, &session, &THREE, stream)
+    world_of(alloc, shape, NUMBERS, &THREE, LONG_STREAM_LEN)
 }
 
 /// The world of a session of five peers.
@@ -135,10 +152,7 @@ fn five_peers(alloc: Global) -> Result<World, AllocError>
         per_round: 8,
         sig_len: 2508,
     };
-    let keys = keys_of(alloc, PARAMS, shape.rounds, &SIX)?;
-    let session = session(alloc, shape, NUMBERS, &keys)?;
-    let stream = vec![in alloc; 165; STREAM_LEN]?;
-    World::make(alloc, &session, &SIX, stream)
+    world_of(alloc, shape, NUMBERS, &SIX, STREAM_LEN)
 }
 
 /// The broadcaster and each of so many peers ticks.

@@ -9,7 +9,7 @@ mod Worlds
 mod Takes
 mod Idle
 mod Evicted
-mod KeyFiles
+pub mod KeyFiles
 mod Started
 pub mod KeyLengths
 mod Leaves

@@ -88,8 +88,8 @@ fn empty_texts(alloc: Global, count: usize) -> Result<Vec<Vec<u8>>, AllocError>
 }
 
 impl World {
-    /// The world of a session whose signatures have one level, before the first move: the parties of these secrets, the broadcaster's first, and its stream. All their
-    /// memory is taken here.
+    /// The world of a session whose signatures have one level, before the first move: the parties of these secrets, the broadcaster's
+    /// first, and its stream. All their memory is taken here.
     pub fn make(
         alloc: Global,
         session: &Session,
