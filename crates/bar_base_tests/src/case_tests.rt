@@ -1,16 +1,15 @@
-ghost use Rattle.std.specs.Prelude.{◌≡◌, ◌<◌, ◌≤◌, Some, true, false, length, IfOk};
-ghost use Rattle.bar_window.specs.Window.{IsWindowOf};
+ghost use Rattle.std.specs.Prelude.{◌≡◌, ◌<◌, ◌≤◌, Some, true, length, IfOk};
 ghost use Rattle.bar_window.specs.Terms.{plain_terms};
 ghost use Rattle.bar_terms.specs.Windows.{AreAligned};
 ghost use Rattle.bar_terms.specs.Terms.{can_promise};
 ghost use Rattle.bar_case.specs.Items.{promised_len};
 
+use crate::windows::window_with;
 use bar_case::{Opening, seal, unseal};
 use bar_terms::{Table, terms_ok};
-use bar_window::{Blocks, Exchange, Role, Terms, UpdateId, Window, XKind};
+use bar_window::{Blocks, Exchange, Role, Terms, UpdateId, XKind};
 use sha2::{Digest, Sha256};
 use std::alloc::{AllocError, Global};
-use std::process::Abort;
 use std::test::Fail;
 
 const ID: [u8; 8] = [0x00, 0x11, 0x22, 0x33, 0x44, 0x55, 0x66, 0x77];
@@ -38,22 +37,6 @@ fn hi() -> Same {
     block[2] = b'h';
     block[3] = b'i';
     Same { block }
-}
-
-/// Some updates of the window of round 6, where updates live for four rounds.
-fn window_with(rt: &impl Abort, ids: &[(u32, u8)]) -> Window
-    ensures rounds { IsWindowOf 4 6 result }
-    ensures wide { result.wide ≡ false }
-{
-    let mut window = Window::empty(6, 4, false);
-    for (round, index) in ids {
-        assert!(rt; 3 <= *round && *round <= 6 && *index < 64);
-        window.put(UpdateId {
-            round: *round,
-            index: *index,
-        });
-    }
-    window
 }
 
 const PUSH: Exchange = Exchange {

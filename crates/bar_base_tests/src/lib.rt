@@ -30,4 +30,6 @@ mod terms_tests;
 #[cfg(test)]
 mod window_tests;
 #[cfg(test)]
+mod windows;
+#[cfg(test)]
 mod wire_tests;

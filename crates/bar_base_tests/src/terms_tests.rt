@@ -1,9 +1,8 @@
-ghost use Rattle.std.specs.Prelude.{◌≡◌, false};
-ghost use Rattle.bar_window.specs.Window.{IsWindowOf};
+ghost use Rattle.std.specs.Prelude.{◌≡◌};
 
+use crate::windows::window_with;
 use bar_terms::{Item, Table, balanced_count, promise, push_answer, terms_ok};
-use bar_window::{Exchange, Role, Terms, UpdateId, Window, XKind};
-use std::process::Abort;
+use bar_window::{Exchange, Role, Terms, UpdateId, XKind};
 use std::test::Fail;
 
 fn update(round: u32, index: u8) -> UpdateId
@@ -11,22 +10,6 @@ fn update(round: u32, index: u8) -> UpdateId
     ensures place { result.index ≡ index }
 {
     UpdateId { round, index }
-}
-
-/// Some updates of the window of round 6, where updates live for four rounds.
-fn window_with(rt: &impl Abort, ids: &[(u32, u8)]) -> Window
-    ensures rounds { IsWindowOf 4 6 result }
-    ensures wide { result.wide ≡ false }
-{
-    let mut window = Window::empty(6, 4, false);
-    for (round, index) in ids {
-        assert!(rt; 3 <= *round && *round <= 6 && *index < 64);
-        window.put(UpdateId {
-            round: *round,
-            index: *index,
-        });
-    }
-    window
 }
 
 const X: Exchange = Exchange {

@@ -1,0 +1,23 @@
+//! Windows of updates for the tests of what is promised and of briefcases.
+
+ghost use Rattle.std.specs.Prelude.{◌≡◌, false};
+ghost use Rattle.bar_window.specs.Window.{IsWindowOf};
+
+use bar_window::{UpdateId, Window};
+use std::process::Abort;
+
+/// Some updates of the window of round 6, where updates live for four rounds.
+pub fn window_with(rt: &impl Abort, ids: &[(u32, u8)]) -> Window
+    ensures rounds { IsWindowOf 4 6 result }
+    ensures wide { result.wide ≡ false }
+{
+    let mut window = Window::empty(6, 4, false);
+    for (round, index) in ids {
+        assert!(rt; 3 <= *round && *round <= 6 && *index < 64);
+        window.put(UpdateId {
+            round: *round,
+            index: *index,
+        });
+    }
+    window
+}
