@@ -4,11 +4,11 @@ ghost use Rattle.std.specs.Prelude.{◌≡◌, ◌<◌};
 use bar_audit::{Audit, AuditFault, Line};
 use bar_bytes::Steps;
 use bar_hss::SessionVerifier;
-use bar_lms::SecretKey;
 use bar_record::{Items, head, read};
 use bar_roster::Session;
 use bar_samples::sessions::{ID, session_of_short_chains};
-use bar_seal::{LmsScheme, Scheme, Verifier};
+use bar_samples::signed::{add_words, changed, front, scheme_of, sign};
+use bar_seal::LmsScheme;
 use bar_window::{Exchange, XKind};
 use std::alloc::{AllocError, Global};
 use std::marker::Brand;
@@ -27,82 +27,25 @@ const X: Exchange = Exchange {
     responder: 2,
 };
 
-/// What signs with a secret of 32 times one byte.
-fn scheme_of(alloc: Global, session: &Session, secret: u8) -> Result<LmsScheme, AllocError> {
-    let signer = SecretKey::make(alloc, session.params(), &ID, &[secret; 32])?;
-    Ok(LmsScheme::new(signer))
-}
-
-/// What a datagram begins with, up to its round.
-fn front(alloc: Global, kind: u8, from: u8, to: u8, round: u8) -> Result<Vec<u8>, AllocError> {
-    let mut bytes = [0xba, 0x47, 1, kind].to_vec(alloc)?;
-    bytes.extend_from_slice(&ID)?;
-    bytes.extend_from_slice(&[0, from, 0, to, 0, 0, 0, round])?;
-    Ok(bytes)
-}
-
-/// Adds the signature of a message to it.
-fn sign(
-    rt: &impl Abort,
-    alloc: Global,
-    scheme: &LmsScheme,
-    leaf: u32,
-    message: &mut Vec<u8>,
-) -> Result<(), AllocError> {
-    let leaves = scheme.leaves();
-    assert!(rt; leaf < leaves);
-    let mut sig = vec![in alloc; 0; scheme.sig_len()]?;
-    scheme.sign(leaf, message, &mut sig);
-    message.extend_from_slice(&sig)
-}
-
-/// The bytes of a window of four rounds by the lowest byte of each word.
-fn add_window(bytes: &mut Vec<u8>, rows: [u8; 4]) -> Result<(), AllocError> {
-    for row in rows {
-        bytes.extend_from_slice(&[0, 0, 0, 0, 0, 0, 0, row])?;
-    }
-    Ok(())
-}
-
-/// A datagram with its last byte changed.
-fn changed(alloc: Global, datagram: &[u8]) -> Result<Vec<u8>, AllocError> {
-    let mut bytes = datagram.to_vec(alloc)?;
-    if let Some(byte) = bytes.last_mut() {
-        *byte ^= 1;
-    }
-    Ok(bytes)
-}
-
 /// The CASE of a peer, the initiator for role 0, to the other one. It promises one update, and its cipher is all zeros.
-fn case_of(
-    rt: &impl Abort,
-    alloc: Global,
-    scheme: &LmsScheme,
-    from: u8,
-) -> Result<Vec<u8>, AllocError> {
+fn case_of(alloc: Global, scheme: &LmsScheme, from: u8) -> Result<Vec<u8>, AllocError> {
     let (to, role) = if from == 1 { (2, 0) } else { (1, 1) };
-    let mut bytes = front(alloc, 8, from, to, 6)?;
+    let mut bytes = front(alloc, 8, [0, from, 0, to], 6)?;
     bytes.extend_from_slice(&[0, role, 1, 0])?;
     bytes.extend_from_slice(&[0; 32])?;
-    add_window(&mut bytes, [5, 0, 10, 0])?;
-    add_window(&mut bytes, [4, 0x80, 0, 0])?;
+    add_words(&mut bytes, &[5, 0, 10, 0, 4, 0x80, 0, 0])?;
     bytes.extend_from_slice(&[0; 1024])?;
-    sign(rt, alloc, scheme, 1, &mut bytes)?;
+    sign(alloc, scheme, 1, &mut bytes)?;
     Ok(bytes)
 }
 
 /// The KEY of a peer for its side.
-fn key_of(
-    rt: &impl Abort,
-    alloc: Global,
-    scheme: &LmsScheme,
-    from: u8,
-) -> Result<Vec<u8>, AllocError> {
+fn key_of(alloc: Global, scheme: &LmsScheme, from: u8) -> Result<Vec<u8>, AllocError> {
     let (to, role) = if from == 1 { (2, 0) } else { (1, 1) };
-    let mut bytes = front(alloc, 10, from, to, 6)?;
+    let mut bytes = front(alloc, 10, [0, from, 0, to], 6)?;
     bytes.extend_from_slice(&[0, role])?;
     bytes.extend_from_slice(&[0; 32])?;
-    sign(rt, alloc, scheme, 2, &mut bytes)?;
+    sign(alloc, scheme, 2, &mut bytes)?;
     Ok(bytes)
 }
 
@@ -185,12 +128,12 @@ fn expect(
 fn what_was_received_is_told(rt: HostRuntime) -> Result<(), Fail> {
     let alloc = rt.alloc();
     let session = Session::read(alloc, session_of_short_chains().as_bytes())?;
-    let one = scheme_of(alloc, &session, 8)?;
-    let two = scheme_of(alloc, &session, 9)?;
-    let case = case_of(&rt, alloc, &one, 1)?;
-    let key = key_of(&rt, alloc, &one, 1)?;
-    let answer = case_of(&rt, alloc, &two, 2)?;
-    let back = key_of(&rt, alloc, &two, 2)?;
+    let one = scheme_of(alloc, session_of_short_chains(), 8)?;
+    let two = scheme_of(alloc, session_of_short_chains(), 9)?;
+    let case = case_of(alloc, &one, 1)?;
+    let key = key_of(alloc, &one, 1)?;
+    let answer = case_of(alloc, &two, 2)?;
+    let back = key_of(alloc, &two, 2)?;
     let forged = changed(alloc, &back)?;
     let both = ([&answer, &back], [&case, &key]);
     expect(&rt, alloc, &session, both, ([1, 1], [true, true]), true)?;
@@ -207,8 +150,8 @@ fn what_was_received_is_told(rt: HostRuntime) -> Result<(), Fail> {
 fn an_exchange_of_one_recording_is_not_told(rt: HostRuntime) -> Result<(), Fail> {
     let alloc = rt.alloc();
     let session = Session::read(alloc, session_of_short_chains().as_bytes())?;
-    let one = scheme_of(alloc, &session, 8)?;
-    let case = case_of(&rt, alloc, &one, 1)?;
+    let one = scheme_of(alloc, session_of_short_chains(), 8)?;
+    let case = case_of(alloc, &one, 1)?;
     let bytes = recording_of(alloc, 2, &[&case])?;
     let items = read(&bytes, &ID, 2, LAST)?;
     let audit = audit_of(alloc, &session, &[(2, items)])?;

@@ -5,8 +5,9 @@ pub mod casters;
 use bar_caster::{Caster, CasterFault};
 use bar_hss::SessionScheme;
 use bar_samples::sessions::{ID, long_session, session, session_of_seven};
+use bar_samples::signed::{scheme_of, signed};
 use bar_seal::LmsScheme;
-use casters::{Sent, caster_by, caster_of, count, counts, scheme_of, signed, start, tell, ticks};
+use casters::{Sent, caster_by, caster_of, count, counts, start, tell, ticks};
 use std::alloc::{AllocError, Global};
 use std::process::Abort;
 use std::test::Fail;
@@ -77,17 +78,12 @@ fn manifests_and_blocks_have_their_slots(rt: HostRuntime) -> Result<(), Fail> {
 }
 
 /// A REQUEST of round 6 from peer 1 to peer 2, with a commitment of 32 equal bytes, which signs a seed of zeros.
-fn request(
-    rt: &impl Abort,
-    alloc: Global,
-    scheme: &LmsScheme,
-    commitment: u8,
-) -> Result<Vec<u8>, AllocError> {
+fn request(alloc: Global, scheme: &LmsScheme, commitment: u8) -> Result<Vec<u8>, AllocError> {
     let mut message = front(REQUEST).to_vec(alloc)?;
     message.extend_from_slice(&[0, 1, 0, 2, 0, 0, 0, 6])?;
     message.extend_from_slice(&[0; 32])?;
     message.extend_from_slice(&[commitment; 32])?;
-    signed(rt, alloc, scheme, &message)
+    signed(alloc, scheme, 0, &message)
 }
 
 /// The EVIDENCE of peer 2 that has these datagrams.
@@ -115,10 +111,10 @@ fn check_evicted(
 }
 
 /// Two different REQUESTs that peer 1 signed, in this order and in the other.
-fn evidence_of_two(rt: &impl Abort, alloc: Global) -> Result<[Vec<u8>; 2], Fail> {
+fn evidence_of_two(alloc: Global) -> Result<[Vec<u8>; 2], Fail> {
     let scheme = scheme_of(alloc, session(), 8)?;
-    let one = request(rt, alloc, &scheme, 1)?;
-    let two = request(rt, alloc, &scheme, 2)?;
+    let one = request(alloc, &scheme, 1)?;
+    let two = request(alloc, &scheme, 2)?;
     Ok([
         evidence(alloc, [&one, &two])?,
         evidence(alloc, [&two, &one])?,
@@ -150,7 +146,7 @@ fn check_evidence(
 #[test]
 fn evidence_of_round_6_is_announced_in_round_7(rt: HostRuntime) -> Result<(), Fail> {
     let alloc = rt.alloc();
-    let evidence = evidence_of_two(&rt, alloc)?;
+    let evidence = evidence_of_two(alloc)?;
     let mut caster = caster_of(&rt, alloc, session(), 0)?;
     Ok(check_evidence(&rt, alloc, &mut caster, &evidence)?)
 }

@@ -8,30 +8,28 @@ pub mod peers;
 use bar_hss::SessionScheme;
 use bar_peer::Peer;
 use bar_samples::sessions::{session, session_of_five, small_session};
+use bar_samples::signed::{block_with, scheme_of, signed};
 use bar_seal::LmsScheme;
 use bar_window::{Exchange, XKind};
 use bar_wire::Kind;
-use datagrams::{block_with, front, manifest, signed, tell_block, tell_blocks};
+use datagrams::{front, manifest, tell_block, tell_blocks};
 use evidence::{Evidence, check_evidence, check_report, check_reports, evidence_of};
 use pair::{
     Pair, Row, check_totals, check_window, give_in_turn, pair_of, part, pass, tell_round, trade,
 };
-use peers::{
-    Sent, answers, check_count, check_played, peer_of, scheme_of, sent_at_tick, tell, ticks,
-};
+use peers::{Sent, answers, check_count, check_played, peer_of, sent_at_tick, tell, ticks};
 use std::alloc::{AllocError, Global};
 use std::process::Abort;
 use std::test::Fail;
 
 /// A manifest of round 1 of a block with a content, and of one whose length is above the most.
 fn first_manifest(
-    rt: &impl Abort,
     alloc: Global,
     caster: &LmsScheme,
     content: [u8; 2],
 ) -> Result<Vec<u8>, AllocError> {
     let blocks = [block_with(2, content), block_with(1023, *b"no")];
-    manifest(rt, alloc, caster, 1, &blocks)
+    manifest(alloc, caster, 1, &blocks)
 }
 
 /// Checks which manifest of round 1 is held.
@@ -70,10 +68,10 @@ fn tell_manifest(
 
 /// Of two manifests of a round the first counts.
 fn tell_manifests(rt: &impl Abort, alloc: Global, pair: &mut Pair) -> Result<(), AllocError> {
-    let first = first_manifest(rt, alloc, &pair.caster, *b"hi")?;
+    let first = first_manifest(alloc, &pair.caster, *b"hi")?;
     tell_changed(rt, alloc, &mut pair.two, &first)?;
     tell_manifest(rt, alloc, &mut pair.two, &first, &first)?;
-    let other = first_manifest(rt, alloc, &pair.caster, *b"ho")?;
+    let other = first_manifest(alloc, &pair.caster, *b"ho")?;
     tell_manifest(rt, alloc, &mut pair.two, &other, &first)
 }
 
@@ -441,7 +439,7 @@ fn stray_request(rt: &impl Abort, alloc: Global) -> Result<Vec<u8>, Fail> {
     if let Some(receiver) = message.get_mut(15) {
         *receiver = 5;
     }
-    Ok(signed(rt, alloc, &scheme, 0, &message)?)
+    Ok(signed(alloc, &scheme, 0, &message)?)
 }
 
 /// Gives peer 5 a REQUEST, and counts the RESPONSEs, where nothing else is sent.
@@ -517,10 +515,10 @@ fn bad_key_message(alloc: Global) -> Result<Vec<u8>, AllocError> {
     Ok(message)
 }
 
-fn bad_key(rt: &impl Abort, alloc: Global) -> Result<Vec<u8>, Fail> {
+fn bad_key(alloc: Global) -> Result<Vec<u8>, Fail> {
     let message = bad_key_message(alloc)?;
     let scheme = scheme_of(alloc, session(), 8)?;
-    Ok(signed(rt, alloc, &scheme, 0, &message)?)
+    Ok(signed(alloc, &scheme, 0, &message)?)
 }
 
 /// A balanced exchange that peer 2 begins, up to its KEYREQ.
@@ -536,7 +534,7 @@ fn check_bad_key(rt: &impl Abort, alloc: Global, pair: &mut Pair) -> Result<(), 
     pass(rt, alloc, pair, 40)?;
     tell_held(rt, alloc, pair, [3, 4, 5])?;
     let all = trade(rt, alloc, pair, 6, TRADE_TO_THE_KEY)?;
-    let key = bad_key(rt, alloc)?;
+    let key = bad_key(alloc)?;
     let case = part(&all, 4, 0, 2_596).unwrap_or(b"");
     let evidence = evidence_of(alloc, 2, 1, &[case, &key])?;
     assert_eq!(rt;
@@ -566,7 +564,7 @@ fn request_by_leaf_0(
     let mut message = next_request(rt, alloc, peer, round)?;
     message.truncate(84);
     let scheme = scheme_of(alloc, session(), 9)?;
-    Ok(signed(rt, alloc, &scheme, 0, &message)?)
+    Ok(signed(alloc, &scheme, 0, &message)?)
 }
 
 /// Gives a peer a datagram, for which it reports evidence so often.
@@ -602,19 +600,14 @@ fn check_leaf_twice(rt: &impl Abort, alloc: Global, pair: &mut Pair) -> Result<(
 }
 
 /// The EVICT of round 1 that names a party.
-fn eviction_of(
-    rt: &impl Abort,
-    alloc: Global,
-    caster: &LmsScheme,
-    party: u8,
-) -> Result<Vec<u8>, AllocError> {
+fn eviction_of(alloc: Global, caster: &LmsScheme, party: u8) -> Result<Vec<u8>, AllocError> {
     let mut message = [
         0xba, 0x47, 1, 12, 0x00, 0x11, 0x22, 0x33, 0x44, 0x55, 0x66, 0x77, 0, 0, 0xff, 0xff, 0, 0,
         0, 1, 1, 0,
     ]
     .to_vec(alloc)?;
     message.push(party)?;
-    signed(rt, alloc, caster, 1, &message)
+    signed(alloc, caster, 1, &message)
 }
 
 /// A peer asks its partner at each of eight ticks.
@@ -644,7 +637,7 @@ fn check_silence(
 /// A peer asks its partner at each tick, until the partner is announced evicted.
 fn check_eviction(rt: &impl Abort, alloc: Global, pair: &mut Pair) -> Result<(), AllocError> {
     check_asking(rt, alloc, &mut pair.one)?;
-    let eviction = eviction_of(rt, alloc, &pair.caster, 2)?;
+    let eviction = eviction_of(alloc, &pair.caster, 2)?;
     tell(rt, alloc, &mut pair.one, &eviction)?;
     check_silence(rt, alloc, &mut pair.one)
 }

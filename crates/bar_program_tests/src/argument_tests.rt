@@ -1,15 +1,6 @@
+use crate::outcome::words_of;
 use bar_arguments::{WordsFault, id_of, number_in, option_values};
-use std::alloc::{AllocError, Global};
 use std::test::Fail;
-
-/// The words of a line that is written with blanks between them.
-fn words_of(alloc: Global, line: &str) -> Result<Vec<String>, AllocError> {
-    let mut words = Vec::new(alloc);
-    for word in line.split(' ') {
-        words.push(String::from_str(alloc, word)?)?;
-    }
-    Ok(words)
-}
 
 #[test]
 fn taken_words_have_their_values(rt: HostRuntime) -> Result<(), Fail> {

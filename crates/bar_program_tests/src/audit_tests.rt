@@ -1,23 +1,12 @@
 //! Audits of one exchange, over files and sinks in memory. The public keys and anchors are by a program that shares nothing with this one.
-use crate::outcome::{Left, outside_of, run};
-use bar_lms::SecretKey;
+use crate::outcome::{Left, check_end, outside_of, run};
 use bar_outside::MemFiles;
 use bar_record::head;
-use bar_roster::Session;
-use bar_samples::sessions::session_of_short_chains;
-use bar_seal::{LmsScheme, Scheme, Verifier};
+use bar_samples::sessions::{ID, session_of_short_chains};
+use bar_samples::signed::{add_words, front, scheme_of, sign};
+use bar_seal::LmsScheme;
 use std::alloc::{AllocError, Global};
-use std::process::Abort;
 use std::test::Fail;
-
-const ID: [u8; 8] = [0x00, 0x11, 0x22, 0x33, 0x44, 0x55, 0x66, 0x77];
-
-/// What signs with a secret of 32 times one byte.
-fn scheme_of(alloc: Global, secret: u8) -> Result<LmsScheme, Fail> {
-    let session = Session::read(alloc, session_of_short_chains().as_bytes())?;
-    let signer = SecretKey::make(alloc, session.params(), &ID, &[secret; 32])?;
-    Ok(LmsScheme::new(signer))
-}
 
 /// The parties of a datagram, the exchange's kind and the sender's side, for a sender of the balanced exchange that peer 1 initiates.
 fn places(from: u8) -> ([u8; 4], [u8; 2]) {
@@ -28,63 +17,33 @@ fn places(from: u8) -> ([u8; 4], [u8; 2]) {
     }
 }
 
-/// What a datagram of round 6 begins with.
-fn front(alloc: Global, kind: u8, from: u8) -> Result<Vec<u8>, AllocError> {
+/// What a datagram of round 6 begins with, up to its side.
+fn front_of_6(alloc: Global, kind: u8, from: u8) -> Result<Vec<u8>, AllocError> {
     let (parties, side) = places(from);
-    let mut bytes = [0xba, 0x47, 1, kind].to_vec(alloc)?;
-    bytes.extend_from_slice(&ID)?;
-    bytes.extend_from_slice(&parties)?;
-    bytes.extend_from_slice(&[0, 0, 0, 6])?;
+    let mut bytes = front(alloc, kind, parties, 6)?;
     bytes.extend_from_slice(&side)?;
     Ok(bytes)
-}
-
-/// Adds the signature of a message to it.
-fn sign(
-    rt: &impl Abort,
-    alloc: Global,
-    scheme: &LmsScheme,
-    leaf: u32,
-    message: &mut Vec<u8>,
-) -> Result<(), AllocError> {
-    let leaves = scheme.leaves();
-    assert!(rt; leaf < leaves);
-    let mut sig = vec![in alloc; 0; scheme.sig_len()]?;
-    scheme.sign(leaf, message, &mut sig);
-    message.extend_from_slice(&sig)
 }
 
 /// The words of two windows: each side has two updates, of which the other lacks one.
 const WINDOWS: [u8; 8] = [5, 0, 10, 0, 4, 0x80, 0, 0];
 
 /// The CASE of a peer, which promises one update. Its cipher is all zeros.
-fn case_of(
-    rt: &impl Abort,
-    alloc: Global,
-    scheme: &LmsScheme,
-    from: u8,
-) -> Result<Vec<u8>, AllocError> {
-    let mut bytes = front(alloc, 8, from)?;
+fn case_of(alloc: Global, scheme: &LmsScheme, from: u8) -> Result<Vec<u8>, AllocError> {
+    let mut bytes = front_of_6(alloc, 8, from)?;
     bytes.extend_from_slice(&[1, 0])?;
     bytes.extend_from_slice(&[0; 32])?;
-    for word in WINDOWS {
-        bytes.extend_from_slice(&[0, 0, 0, 0, 0, 0, 0, word])?;
-    }
+    add_words(&mut bytes, &WINDOWS)?;
     bytes.extend_from_slice(&[0; 1024])?;
-    sign(rt, alloc, scheme, 1, &mut bytes)?;
+    sign(alloc, scheme, 1, &mut bytes)?;
     Ok(bytes)
 }
 
 /// The KEY of a peer.
-fn key_of(
-    rt: &impl Abort,
-    alloc: Global,
-    scheme: &LmsScheme,
-    from: u8,
-) -> Result<Vec<u8>, AllocError> {
-    let mut bytes = front(alloc, 10, from)?;
+fn key_of(alloc: Global, scheme: &LmsScheme, from: u8) -> Result<Vec<u8>, AllocError> {
+    let mut bytes = front_of_6(alloc, 10, from)?;
     bytes.extend_from_slice(&[0; 32])?;
-    sign(rt, alloc, scheme, 2, &mut bytes)?;
+    sign(alloc, scheme, 2, &mut bytes)?;
     Ok(bytes)
 }
 
@@ -124,12 +83,12 @@ const NO_PARTIES: &str = "bar: input refused: parties\n";
 #[test]
 fn one_exchange_is_told_and_balanced(rt: HostRuntime) -> Result<(), Fail> {
     let alloc = rt.alloc();
-    let one = scheme_of(alloc, 8)?;
-    let two = scheme_of(alloc, 9)?;
-    let case = case_of(&rt, alloc, &one, 1)?;
-    let key = key_of(&rt, alloc, &one, 1)?;
-    let answer = case_of(&rt, alloc, &two, 2)?;
-    let back = key_of(&rt, alloc, &two, 2)?;
+    let one = scheme_of(alloc, session_of_short_chains(), 8)?;
+    let two = scheme_of(alloc, session_of_short_chains(), 9)?;
+    let case = case_of(alloc, &one, 1)?;
+    let key = key_of(alloc, &one, 1)?;
+    let answer = case_of(alloc, &two, 2)?;
+    let back = key_of(alloc, &two, 2)?;
     let by_two = recording(alloc, 2, &[&case, &key])?;
     let whole = recording(alloc, 1, &[&answer, &back])?;
     let empty = recording(alloc, 1, &[])?;
@@ -148,9 +107,7 @@ fn one_exchange_is_told_and_balanced(rt: HostRuntime) -> Result<(), Fail> {
         (&whole, "--first 1 --last 201", 2, "", "bar: usage\n"),
     ] {
         let left = audit(alloc, by_one, &by_two, parties)?;
-        assert_eq!(rt; left.status, status);
-        assert_eq!(rt; left.outside.out.bytes(), printed.as_bytes());
-        assert_eq!(rt; left.outside.err.bytes(), said.as_bytes());
+        check_end(&rt, &left, status, printed, said);
     }
     Ok(())
 }

@@ -1,7 +1,7 @@
 //! Sessions over a spawner and a sink in memory.
+use crate::outcome::words_of;
 use bar_child_processes::{Outcome, SessionNames, run_children};
 use bar_outside::{MemCall, MemSink, MemSpawner};
-use std::alloc::{AllocError, Global};
 use std::test::Fail;
 
 const NAMES: SessionNames<'static> = SessionNames {
@@ -84,15 +84,6 @@ fn sessions_end_by_their_children(rt: HostRuntime) -> Result<(), Fail> {
         assert_eq!(rt; spawner.calls().len(), taken, "{text}");
     }
     Ok(())
-}
-
-// The words of a line that is written with blanks between them.
-fn words_of(alloc: Global, line: &str) -> Result<Vec<String>, AllocError> {
-    let mut words = Vec::new(alloc);
-    for word in line.split(' ') {
-        words.push(String::from_str(alloc, word)?)?;
-    }
-    Ok(words)
 }
 
 #[test]

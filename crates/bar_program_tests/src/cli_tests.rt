@@ -1,9 +1,10 @@
 //! Replays, and a peer, over files, links and sinks in memory. The keys and the signatures are by a Python program written from RFC 8554.
-use crate::outcome::{Left, outside_of, run};
+use crate::outcome::{Left, check_end, check_file, check_status, outside_of, run};
 use bar_outside::MemFiles;
 use bar_samples::keys::{peer_key, small_caster_key, small_key, small_spent_key};
-use bar_samples::sessions::{session, small_session};
+use bar_samples::sessions::{ID, session, small_session};
 use bar_samples::signatures::{other_signature, signature, small_signature};
+use bar_samples::signed::block_with;
 use sha2::{Digest, Sha256};
 use std::alloc::{AllocError, Global};
 use std::test::Fail;
@@ -11,8 +12,6 @@ use std::test::Fail;
 const LINE: &str = "replay --recording rec --session ses --found f --played p --key k";
 
 const PEER_LINE: &str = "peer --session ses --key k --begin 0 --played p --recording rec --found f";
-
-const ID: [u8; 8] = [0x00, 0x11, 0x22, 0x33, 0x44, 0x55, 0x66, 0x77];
 
 // What a datagram of the broadcaster begins with.
 fn head_of(alloc: Global, kind: u8, to: [u8; 2]) -> Result<Vec<u8>, AllocError> {
@@ -39,14 +38,6 @@ fn block_of(alloc: Global, index: u8, block: &[u8; 1024]) -> Result<Vec<u8>, All
     bytes.extend_from_slice(&[0, 0, 0, 1, index])?;
     bytes.extend_from_slice(block)?;
     Ok(bytes)
-}
-
-// A block whose content has two bytes, where its length is not said to be another.
-fn block_with(len: u16, content: [u8; 2]) -> [u8; 1024] {
-    let mut block = [0u8; 1024];
-    block[..2].copy_from_slice(&len.to_be_bytes());
-    block[2..4].copy_from_slice(&content);
-    block
 }
 
 /// An entry of a recording, or so many ticks.
@@ -250,13 +241,10 @@ fn streams_are_played(rt: HostRuntime) -> Result<(), Fail> {
     for (entries, played) in PLAYED {
         let bytes = recording(alloc, &streams, entries)?;
         let left = replay(alloc, small_session(), small_key(), &bytes, &[], &[], &[])?;
-        assert_eq!(rt; left.status, 0);
-        assert_eq!(rt;
-            left.outside.files.get("p").unwrap_or(b"none".as_slice()),
-            played
-        );
-        assert_eq!(rt; left.outside.files.get("f.table").is_some(), true);
-        assert_eq!(rt; left.outside.files.get("f.1").is_none(), true);
+        check_status(&rt, &left, 0, "");
+        check_file(&rt, &left, "p", played);
+        assert!(rt; left.outside.files.get("f.table").is_some());
+        check_file(&rt, &left, "f.1", b"none");
         // the request of round 1 is sent at each tick of the rounds 1 and 2
         let sent = if entries.is_empty() { 0 } else { 16 };
         assert_eq!(rt;
@@ -264,7 +252,6 @@ fn streams_are_played(rt: HostRuntime) -> Result<(), Fail> {
             sent
         );
         assert_eq!(rt; lines_like(left.outside.out.bytes(), b" "), sent);
-        assert_eq!(rt; left.outside.err.bytes(), b"".as_slice());
     }
     Ok(())
 }
@@ -279,11 +266,8 @@ fn a_session_of_ten_rounds_plays_hi(rt: HostRuntime) -> Result<(), Fail> {
     let entries = [START, Entry::Manifest, Entry::Block, END];
     let bytes = recording(alloc, &streams, &entries)?;
     let left = replay(alloc, session(), peer_key(), &bytes, &[], &[], &[])?;
-    assert_eq!(rt; left.status, 0);
-    assert_eq!(rt;
-        left.outside.files.get("p").unwrap_or(b"none".as_slice()),
-        b"hi".as_slice()
-    );
+    check_status(&rt, &left, 0, "");
+    check_file(&rt, &left, "p", b"hi");
     for (front, sent) in SENT {
         assert_eq!(rt;
             lines_like(left.outside.out.bytes(), front.as_bytes()),
@@ -332,10 +316,8 @@ fn recordings_that_are_refused(rt: HostRuntime) -> Result<(), Fail> {
     let alloc = rt.alloc();
     for (bytes, said) in REFUSED {
         let left = replay(alloc, small_session(), small_key(), bytes, &[], &[], &[])?;
-        assert_eq!(rt; left.status, 8);
-        assert_eq!(rt; left.outside.err.bytes(), said.as_bytes());
-        assert_eq!(rt; left.outside.out.bytes(), b"".as_slice());
-        assert_eq!(rt; left.outside.files.get("p").is_none(), true);
+        check_end(&rt, &left, 8, "", said);
+        check_file(&rt, &left, "p", b"none");
     }
     Ok(())
 }
@@ -552,19 +534,13 @@ fn what_was_found_is_written(rt: HostRuntime) -> Result<(), Fail> {
     let streams = signed_streams(alloc, small_signature())?;
     let bytes = recording(alloc, &streams, &[START, Entry::Manifest, Entry::Other])?;
     let left = replay(alloc, small_session(), small_key(), &bytes, &[], &[], &[])?;
-    assert_eq!(rt; left.status, 0);
+    check_status(&rt, &left, 0, "");
     let len = u16::try_from(streams.manifest.len()).unwrap_or(0);
     let mut table = len.to_be_bytes().to_vec(alloc)?;
     table.extend_from_slice(&streams.manifest)?;
-    assert_eq!(rt;
-        left.outside
-            .files
-            .get("f.table")
-            .unwrap_or(b"none".as_slice()),
-        table.as_slice()
-    );
-    assert_eq!(rt; left.outside.files.get("f.1").is_none(), true);
-    assert_eq!(rt; left.outside.files.get("f.2").is_none(), true);
+    check_file(&rt, &left, "f.table", &table);
+    check_file(&rt, &left, "f.1", b"none");
+    check_file(&rt, &left, "f.2", b"none");
     Ok(())
 }
 
@@ -585,17 +561,10 @@ fn statuses_and_lines(rt: HostRuntime) -> Result<(), Fail> {
             fail_out,
             fail_err,
         )?;
-        assert_eq!(rt; left.status, status);
-        assert_eq!(rt; left.outside.err.bytes(), said.as_bytes());
-        assert_eq!(rt;
-            left.outside.files.get("p").unwrap_or(b"none".as_slice()),
-            played
-        );
+        check_status(&rt, &left, status, said);
+        check_file(&rt, &left, "p", played);
         assert_eq!(rt; lines_like(left.outside.out.bytes(), b" "), lines);
-        assert_eq!(rt;
-            left.outside.files.get("rec").unwrap_or(b"none".as_slice()),
-            bytes
-        );
+        check_file(&rt, &left, "rec", bytes);
     }
     Ok(())
 }
@@ -613,8 +582,7 @@ fn files_that_are_not_there(rt: HostRuntime) -> Result<(), Fail> {
         files.put(name, small_session().as_bytes())?;
         files.put(other, small_key().as_bytes())?;
         let left = run(alloc, LINE, outside_of(alloc, files, &[], &[])?)?;
-        assert_eq!(rt; left.status, 3);
-        assert_eq!(rt; left.outside.err.bytes(), FAILED.as_bytes());
+        check_status(&rt, &left, 3, FAILED);
     }
     Ok(())
 }
@@ -626,26 +594,17 @@ fn a_peer_whose_link_ends_at_once(rt: HostRuntime) -> Result<(), Fail> {
     let alloc = rt.alloc();
     let files = files_of(alloc, small_session(), small_spent_key(), b"", &[])?;
     let spent = run(alloc, PEER_LINE, outside_of(alloc, files, &[], &[])?)?;
-    assert_eq!(rt; spent.status, 5);
-    assert_eq!(rt;
-        spent.outside.err.bytes(),
-        b"bar: key refused: Spent\n".as_slice()
-    );
-    assert_eq!(rt; spent.outside.link.place().is_some(), false);
+    check_end(&rt, &spent, 5, "", "bar: key refused: Spent\n");
+    assert!(rt; spent.outside.link.place().is_none());
     let files = files_of(alloc, session(), peer_key(), b"", &[])?;
     let peer = run(alloc, PEER_LINE, outside_of(alloc, files, &[], &[])?)?;
-    assert_eq!(rt; peer.status, 0);
-    assert_eq!(rt;
-        peer.outside.out.bytes(),
-        b"ticks 0 sent 0 played 0\n".as_slice()
-    );
-    assert_eq!(rt; peer.outside.link.place().is_some(), true);
+    check_end(&rt, &peer, 0, "ticks 0 sent 0 played 0\n", "");
+    assert!(rt; peer.outside.link.place().is_some());
     let left = peer.outside;
     let replayed = run(alloc, LINE, outside_of(alloc, left.files, &[], &[])?)?;
-    assert_eq!(rt; replayed.status, 0);
-    assert_eq!(rt; replayed.outside.out.bytes(), b"".as_slice());
+    check_end(&rt, &replayed, 0, "", "");
     for name in ["p", "f.table"] {
-        assert_eq!(rt; replayed.outside.files.get(name), Some(b"".as_slice()));
+        check_file(&rt, &replayed, name, b"");
     }
     Ok(())
 }

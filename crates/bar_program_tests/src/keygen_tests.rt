@@ -1,5 +1,5 @@
 //! Keys over files and sinks in memory, and words that are no line. The expected texts are by programs that share nothing with this one.
-use crate::outcome::{Left, outside_of, run};
+use crate::outcome::{Left, check_end, check_file, outside_of, run};
 use bar_outside::MemFiles;
 use std::alloc::{AllocError, Global};
 use std::test::Fail;
@@ -86,13 +86,8 @@ fn keys_are_made(rt: HostRuntime) -> Result<(), Fail> {
         (DOUBLE, double_secret, DOUBLE_OUT, DOUBLE_KEY),
     ] {
         let left = run_keygen(alloc, line, &secret, &[], &[])?;
-        assert_eq!(rt; left.status, 0);
-        assert_eq!(rt; left.outside.out.bytes(), out.as_bytes());
-        assert_eq!(rt;
-            left.outside.files.get("k").unwrap_or(b"none".as_slice()),
-            key.as_bytes()
-        );
-        assert_eq!(rt; left.outside.err.bytes(), b"".as_slice());
+        check_end(&rt, &left, 0, out, "");
+        check_file(&rt, &left, "k", key.as_bytes());
     }
     Ok(())
 }
@@ -174,13 +169,8 @@ fn statuses_and_lines_of_keys(rt: HostRuntime) -> Result<(), Fail> {
         )?;
         let secret = vec![in alloc; 7u8; len]?;
         let left = run_keygen(alloc, line.as_str(), &secret, fail_files, fail_out)?;
-        assert_eq!(rt; left.status, status, "{rounds}");
-        assert_eq!(rt; left.outside.err.bytes(), said.as_bytes());
-        assert_eq!(rt; left.outside.out.bytes(), out.as_bytes());
-        assert_eq!(rt;
-            left.outside.files.get("k").unwrap_or(NONE.as_bytes()),
-            key.as_bytes()
-        );
+        check_end(&rt, &left, status, out, said);
+        check_file(&rt, &left, "k", key.as_bytes());
     }
     Ok(())
 }
@@ -191,13 +181,9 @@ fn a_key_of_two_levels_needs_leaves(rt: HostRuntime) -> Result<(), Fail> {
     let line =
         "hsskeygen --party 1 --id 0011223344556677 --rounds 1821 --top 6 --ots 4 --secret s --key k";
     let left = run_keygen(alloc, line, &[7; 32], &[], &[])?;
-    assert_eq!(rt; left.status, 4);
     let said = "bar: session refused: TooFewLeaves need 32778 have 32768\n";
-    assert_eq!(rt; left.outside.err.bytes(), said.as_bytes());
-    assert_eq!(rt;
-        left.outside.files.get("k").unwrap_or(NONE.as_bytes()),
-        NONE.as_bytes()
-    );
+    check_end(&rt, &left, 4, "", said);
+    check_file(&rt, &left, "k", NONE.as_bytes());
     Ok(())
 }
 
@@ -250,7 +236,7 @@ fn words_that_are_no_line(rt: HostRuntime) -> Result<(), Fail> {
     for line in NO_LINES {
         let left = run_keygen(alloc, line, &[7; 32], &[], &[])?;
         assert_eq!(rt; left.status, 2, "{line}");
-        assert_eq!(rt; left.outside.err.bytes(), b"bar: usage\n".as_slice());
+        check_end(&rt, &left, 2, "", "bar: usage\n");
     }
     Ok(())
 }

@@ -2,6 +2,7 @@
 use bar_cli::bar_run;
 use bar_outside::{MemFiles, MemLink, MemSink, MemSpawner};
 use std::alloc::{AllocError, Global};
+use std::process::Abort;
 
 /// The outside of a run.
 #[derive(Drop)]
@@ -36,8 +37,8 @@ pub fn outside_of(
     })
 }
 
-/// The words of a line that is written with blanks.
-fn words(alloc: Global, line: &str) -> Result<Vec<String>, AllocError> {
+/// The words of a line that is written with blanks between them.
+pub fn words_of(alloc: Global, line: &str) -> Result<Vec<String>, AllocError> {
     let mut words = Vec::new(alloc);
     for word in line.split(' ') {
         words.push(String::from_str(alloc, word)?)?;
@@ -47,7 +48,7 @@ fn words(alloc: Global, line: &str) -> Result<Vec<String>, AllocError> {
 
 /// Does what a line says.
 pub fn run(alloc: Global, line: &str, mut outside: Outside) -> Result<Left, AllocError> {
-    let words = words(alloc, line)?;
+    let words = words_of(alloc, line)?;
     let status = bar_run(
         alloc,
         &words,
@@ -58,4 +59,22 @@ pub fn run(alloc: Global, line: &str, mut outside: Outside) -> Result<Left, Allo
         &mut outside.spawn,
     );
     Ok(Left { status, outside })
+}
+
+/// Checks how a run ended: its status, and what standard error has.
+pub fn check_status(rt: &impl Abort, left: &Left, status: u8, err: &str) {
+    assert_eq!(rt; left.status, status);
+    assert_eq!(rt; left.outside.err.bytes(), err.as_bytes());
+}
+
+/// Checks how a run ended: its status, what it printed, and what standard error has.
+pub fn check_end(rt: &impl Abort, left: &Left, status: u8, out: &str, err: &str) {
+    check_status(rt, left, status, err);
+    assert_eq!(rt; left.outside.out.bytes(), out.as_bytes());
+}
+
+/// Checks what a file holds, where one that isn't there holds `none`.
+pub fn check_file(rt: &impl Abort, left: &Left, path: &str, bytes: &[u8]) {
+    let held = left.outside.files.get(path).unwrap_or(b"none");
+    assert_eq!(rt; held, bytes, "{path}");
 }

@@ -11,22 +11,16 @@ fn files_in_memory(rt: HostRuntime) -> Result<(), Fail> {
     let alloc = rt.alloc();
     let mut files = MemFiles::make(alloc, [3, 6].to_vec(alloc)?);
     files.put("old", b"ab")?;
-    assert_eq!(rt; read_file(&mut files, "old").is_ok(), true);
-    assert_eq!(rt; create_file(&mut files, "new").is_ok(), true);
+    assert!(rt; read_file(&mut files, "old").is_ok());
+    assert!(rt; create_file(&mut files, "new").is_ok());
     assert_eq!(rt; create_file(&mut files, "old"), Err(Fault::File));
-    assert_eq!(rt; append_file(&mut files, "new", b"cdef").is_ok(), true);
+    assert!(rt; append_file(&mut files, "new", b"cdef").is_ok());
     assert_eq!(rt; append_file(&mut files, "none", b"x"), Err(Fault::File));
     assert_eq!(rt; files.append("new", b"ghij"), Err(FileFault::Failed));
     assert_eq!(rt; read_file(&mut files, "none").err(), Some(Fault::File));
-    assert_eq!(rt;
-        files.get("old").unwrap_or(b"none".as_slice()),
-        b"ab".as_slice()
-    );
-    assert_eq!(rt;
-        files.get("new").unwrap_or(b"none".as_slice()),
-        b"cdefgh".as_slice()
-    );
-    assert_eq!(rt; files.get("none").is_none(), true);
+    assert_eq!(rt; files.get("old"), Some(b"ab".as_slice()));
+    assert_eq!(rt; files.get("new"), Some(b"cdefgh".as_slice()));
+    assert!(rt; files.get("none").is_none());
     Ok(())
 }
 
@@ -34,9 +28,9 @@ fn files_in_memory(rt: HostRuntime) -> Result<(), Fail> {
 fn a_sink_in_memory(rt: HostRuntime) -> Result<(), Fail> {
     let alloc = rt.alloc();
     let mut sink = MemSink::make(alloc, [2].to_vec(alloc)?);
-    assert_eq!(rt; show_bytes(&mut sink, b"ab").is_ok(), true);
+    assert!(rt; show_bytes(&mut sink, b"ab").is_ok());
     assert_eq!(rt; sink.write(b"cdef"), Err(SinkFault::Failed));
-    assert_eq!(rt; show_bytes(&mut sink, b"g").is_ok(), true);
+    assert!(rt; show_bytes(&mut sink, b"g").is_ok());
     assert_eq!(rt; sink.bytes(), b"abcdg".as_slice());
     Ok(())
 }
@@ -47,7 +41,7 @@ fn a_link_in_memory(rt: HostRuntime) -> Result<(), Fail> {
     let mut list = Vec::new(alloc);
     list.push(MemTaken::Tick)?;
     let mut link = MemLink::make(alloc, list, [4].to_vec(alloc)?);
-    assert_eq!(rt; bind_link(&mut link, 2, 4000, 7, 250).is_ok(), true);
+    assert!(rt; bind_link(&mut link, 2, 4000, 7, 250).is_ok());
     assert_eq!(rt;
         link.place(),
         Some(Place {
@@ -60,7 +54,7 @@ fn a_link_in_memory(rt: HostRuntime) -> Result<(), Fail> {
     let mut buf = Vec::new(alloc);
     buf.resize(65_507, 0)?;
     assert_eq!(rt; receive_next(&mut link, &mut buf), Ok(Taken::Tick));
-    assert_eq!(rt; send_datagram(&mut link, 1, b"ab").is_ok(), true);
+    assert!(rt; send_datagram(&mut link, 1, b"ab").is_ok());
     assert_eq!(rt; link.next(&mut buf), Err(LinkFault::Failed));
     assert_eq!(rt; link.next(&mut buf), Ok(Taken::End));
     assert_eq!(rt; link.sent().len(), 1);

@@ -2,7 +2,7 @@
 ghost use Rattle.std.specs.Prelude.{◌≡◌, true};
 ghost use Rattle.bar_outside.specs.MemTaken.{are_small};
 
-use crate::outcome::{Left, outside_of, run};
+use crate::outcome::{Left, check_end, check_file, outside_of, run};
 use bar_outside::{MemFiles, MemLink, MemTaken, Sent};
 use bar_samples::keys::{caster_key, peer_key, spent_caster_key, spent_peer_key};
 use bar_samples::sessions::session;
@@ -71,18 +71,6 @@ fn run_caster(alloc: Global, len: usize, ticks: u32) -> Result<Left, Fail> {
     let mut files = prepared(alloc, caster_key())?;
     files.put("t", &vec![in alloc; 7; len]?)?;
     Ok(run_over(alloc, CASTER, files, link_of(alloc, ticks, 0, &[])?)?)
-}
-
-/// Checks how a run ended: its status, what it printed, and what standard error has.
-fn check_end(rt: &impl Abort, left: &Left, status: u8, out: &str, err: &str) {
-    assert_eq!(rt; left.status, status);
-    assert_eq!(rt; left.outside.out.bytes(), out.as_bytes());
-    assert_eq!(rt; left.outside.err.bytes(), err.as_bytes());
-}
-
-/// Checks that a file holds these bytes.
-fn check_file(rt: &impl Abort, left: &Left, path: &str, bytes: &[u8]) {
-    assert!(rt; left.outside.files.get(path) == Some(bytes), "at {path}");
 }
 
 /// Checks what the link is bound to: the party, the port, and the first tick and the length of a tick in milliseconds.

@@ -1,56 +1,48 @@
 //! Proof files over files and sinks in memory, in a session of two peers and ten rounds.
-use crate::judge_tests::{add_entry, check_end, evidence, front, scheme_of, sign};
-use crate::outcome::{Left, outside_of, run};
+use crate::outcome::{Left, check_end, check_file, outside_of, run};
 use bar_outside::MemFiles;
 use bar_samples::sessions::session;
+use bar_samples::signed::{add_entry, add_words, evidence, front, scheme_of, sign};
 use bar_seal::LmsScheme;
 use std::alloc::{AllocError, Global};
-use std::process::Abort;
 use std::test::Fail;
 
 /// The CASE that peer 1 as responder sends peer 2 in round 6. It promises update (4, 7), and its cipher is all zeros.
-fn case(rt: &impl Abort, alloc: Global, scheme: &LmsScheme) -> Result<Vec<u8>, AllocError> {
+fn case(alloc: Global, scheme: &LmsScheme) -> Result<Vec<u8>, AllocError> {
     let mut bytes = front(alloc, 8, [0, 1, 0, 2], 6)?;
     bytes.extend_from_slice(&[0, 1, 1, 0])?;
     bytes.extend_from_slice(&[0; 32])?;
-    for row in [5, 0, 10, 0, 4, 0x80, 0, 0] {
-        bytes.extend_from_slice(&[0, 0, 0, 0, 0, 0, 0, row])?;
-    }
+    add_words(&mut bytes, &[5, 0, 10, 0, 4, 0x80, 0, 0])?;
     bytes.extend_from_slice(&[0; 1024])?;
-    sign(rt, alloc, scheme, 103, &mut bytes)?;
+    sign(alloc, scheme, 103, &mut bytes)?;
     Ok(bytes)
 }
 
 /// A KEY of peer 1 to peer 2 for its side of that exchange.
-fn key(rt: &impl Abort, alloc: Global, scheme: &LmsScheme) -> Result<Vec<u8>, AllocError> {
+fn key(alloc: Global, scheme: &LmsScheme) -> Result<Vec<u8>, AllocError> {
     let mut bytes = front(alloc, 10, [0, 1, 0, 2], 6)?;
     bytes.extend_from_slice(&[0, 1])?;
     bytes.extend_from_slice(&[0; 32])?;
-    sign(rt, alloc, scheme, 104, &mut bytes)?;
+    sign(alloc, scheme, 104, &mut bytes)?;
     Ok(bytes)
 }
 
 /// A REQUEST of peer 1 to peer 2 in round 1, which isn't its partner then.
-fn request(rt: &impl Abort, alloc: Global, scheme: &LmsScheme) -> Result<Vec<u8>, AllocError> {
+fn request(alloc: Global, scheme: &LmsScheme) -> Result<Vec<u8>, AllocError> {
     let mut bytes = front(alloc, 3, [0, 1, 0, 2], 1)?;
     bytes.extend_from_slice(&[0; 64])?;
-    sign(rt, alloc, scheme, 0, &mut bytes)?;
+    sign(alloc, scheme, 0, &mut bytes)?;
     Ok(bytes)
 }
 
 /// A table of the manifests of these rounds, each with eight digests of zeros.
-fn table(
-    rt: &impl Abort,
-    alloc: Global,
-    caster: &LmsScheme,
-    rounds: &[u8],
-) -> Result<Vec<u8>, AllocError> {
+fn table(alloc: Global, caster: &LmsScheme, rounds: &[u8]) -> Result<Vec<u8>, AllocError> {
     let mut table = Vec::new(alloc);
     for round in rounds {
         let mut manifest = front(alloc, 1, [0, 0, 0xff, 0xff], *round)?;
         manifest.push(8)?;
         manifest.extend_from_slice(&[0; 256])?;
-        sign(rt, alloc, caster, u32::from(*round), &mut manifest)?;
+        sign(alloc, caster, u32::from(*round), &mut manifest)?;
         add_entry(&mut table, &manifest)?;
     }
     Ok(table)
@@ -86,11 +78,11 @@ fn what_is_packed_is_verified(rt: HostRuntime) -> Result<(), Fail> {
     let alloc = rt.alloc();
     let peer = scheme_of(alloc, session(), 8)?;
     let caster = scheme_of(alloc, session(), 7)?;
-    let table = table(&rt, alloc, &caster, &[3, 4, 5])?;
-    let case = case(&rt, alloc, &peer)?;
-    let key = key(&rt, alloc, &peer)?;
+    let table = table(alloc, &caster, &[3, 4, 5])?;
+    let case = case(alloc, &peer)?;
+    let key = key(alloc, &peer)?;
     let two = evidence(alloc, &case, Some(&key))?;
-    let one = evidence(alloc, &request(&rt, alloc, &peer)?, None)?;
+    let one = evidence(alloc, &request(alloc, &peer)?, None)?;
     for (evidence, packed, said) in [
         (&two, "packed 5844 bytes\n", "party 1 fault F1\n"),
         (&one, "packed 1545 bytes\n", "party 1 fault F3\n"),
@@ -139,7 +131,7 @@ fn what_is_not_packed_and_not_accepted(rt: HostRuntime) -> Result<(), Fail> {
     for (table, evidence, fail_files, status, printed, said) in UNPACKED {
         let left = pack(alloc, table, evidence, fail_files)?;
         check_end(&rt, &left, status, printed, said);
-        assert_eq!(rt; left.outside.files.get("p"), None);
+        check_file(&rt, &left, "p", b"none");
     }
     for (proof, said) in REFUSED {
         check_end(&rt, &verify(alloc, proof)?, 8, "", said);

@@ -4,10 +4,10 @@ ghost use Rattle.std.specs.Prelude.{◌≡◌, ◌<◌};
 use bar_bytes::Steps;
 use bar_hss::SessionVerifier;
 use bar_judge::{TableFault, add_entry, read_table};
-use bar_lms::SecretKey;
 use bar_roster::Session;
-use bar_samples::sessions::{ID, three_rounds};
-use bar_seal::{LmsScheme, Scheme, Verifier};
+use bar_samples::sessions::three_rounds;
+use bar_samples::signed::{front, scheme_of, sign};
+use bar_seal::LmsScheme;
 use bar_terms::{Digest, Table};
 use bar_window::UpdateId;
 use std::alloc::{AllocError, Global};
@@ -35,23 +35,12 @@ fn digest_of(round: u8, index: u8) -> [u8; 32] {
 }
 
 /// The manifest of a round with two digests.
-fn manifest(
-    rt: &impl Abort,
-    alloc: Global,
-    caster: &LmsScheme,
-    round: u8,
-) -> Result<Vec<u8>, AllocError> {
-    let mut bytes = [0xba, 0x47, 1, 1].to_vec(alloc)?;
-    bytes.extend_from_slice(&ID)?;
-    bytes.extend_from_slice(&[0, 0, 0xff, 0xff, 0, 0, 0, round, 2])?;
+fn manifest(alloc: Global, caster: &LmsScheme, round: u8) -> Result<Vec<u8>, AllocError> {
+    let mut bytes = front(alloc, 1, [0, 0, 0xff, 0xff], round)?;
+    bytes.push(2)?;
     bytes.extend_from_slice(&digest_of(round, 0))?;
     bytes.extend_from_slice(&digest_of(round, 1))?;
-    let leaf = u32::from(round);
-    let leaves = caster.leaves();
-    assert!(rt; leaf < leaves);
-    let mut sig = vec![in alloc; 0; caster.sig_len()]?;
-    caster.sign(leaf, &bytes, &mut sig);
-    bytes.extend_from_slice(&sig)?;
+    sign(alloc, caster, u32::from(round), &mut bytes)?;
     Ok(bytes)
 }
 
@@ -62,7 +51,7 @@ fn add_manifest(
     round: u8,
     out: &mut Vec<u8>,
 ) -> Result<(), AllocError> {
-    let manifest = manifest(rt, alloc, caster, round)?;
+    let manifest = manifest(alloc, caster, round)?;
     let len = manifest.len();
     assert!(rt; len < 65_536);
     add_entry(out, &manifest)
@@ -151,8 +140,7 @@ const ROWS: [(&[Part], Option<u64>); 11] = [
 fn a_table_file_is_read_up_to_a_bad_entry(rt: HostRuntime) -> Result<(), Fail> {
     let alloc = rt.alloc();
     let session = Session::read(alloc, three_rounds().as_bytes())?;
-    let signer = SecretKey::make(alloc, session.params(), &ID, &[7; 32])?;
-    let caster = LmsScheme::new(signer);
+    let caster = scheme_of(alloc, three_rounds(), 7)?;
     for (parts, place) in ROWS {
         let bytes = file_of(&rt, alloc, &caster, parts)?;
         let fault = place.map(|at| TableFault::BadEntry { at });

@@ -20,7 +20,7 @@ fn appended_bytes_are_read_back(rt: HostRuntime) -> Result<(), Fail> {
     assert_eq!(rt; bytes.as_slice(), b"".as_slice());
     assert_eq!(rt; files.faults, 0);
     for path in ["appended", "other"] {
-        assert_eq!(rt; fs::remove_file(&rt, path).is_ok(), true);
+        assert!(rt; fs::remove_file(&rt, path).is_ok());
     }
     Ok(())
 }

@@ -5,10 +5,8 @@ ghost use Rattle.bar_core.specs.Orders.{left_in};
 use bar_bytes::Steps;
 use bar_caster::{Caster, CasterFault};
 use bar_hss::{PartyKey, SessionScheme};
-use bar_lms::SecretKey;
 use bar_roster::{Session, key_text};
 use bar_samples::sessions::ID;
-use bar_seal::{LmsScheme, Scheme, Verifier};
 use bar_wire::{Input, LARGEST_DATAGRAM};
 use std::alloc::{AllocError, Global};
 use std::marker::Brand;
@@ -71,28 +69,6 @@ pub fn caster_of(
     len: usize,
 ) -> Result<Caster<SessionScheme>, Fail> {
     caster_by(rt, alloc, session, &[7; 32], len)
-}
-
-/// A message and its signature by a secret of 32 times one byte.
-pub fn signed(
-    rt: &impl Abort,
-    alloc: Global,
-    scheme: &LmsScheme,
-    message: &[u8],
-) -> Result<Vec<u8>, AllocError> {
-    assert!(rt; scheme.leaves() > 0);
-    let mut sig = vec![in alloc; 0; scheme.sig_len()]?;
-    scheme.sign(0, message, &mut sig);
-    let mut bytes = message.to_vec(alloc)?;
-    bytes.extend_from_slice(&sig)?;
-    Ok(bytes)
-}
-
-/// What signs with a secret of 32 times one byte.
-pub fn scheme_of(alloc: Global, session: &str, secret: u8) -> Result<LmsScheme, Fail> {
-    let session = Session::read(alloc, session.as_bytes())?;
-    let signer = SecretKey::make(alloc, session.params(), &ID, &[secret; 32])?;
-    Ok(LmsScheme::new(signer))
 }
 
 fn step_with<L: Ledger>(caster: &mut Caster<SessionScheme>, input: Input<'_>, blank: Blank)

@@ -3,28 +3,12 @@
 use super::peers::tell;
 use bar_hss::SessionScheme;
 use bar_peer::Peer;
-use bar_seal::{LmsScheme, Scheme, Verifier};
+use bar_samples::signed::{block_with, signed};
+use bar_seal::LmsScheme;
 use bar_wire::Kind;
 use sha2::{Digest, Sha256};
 use std::alloc::{AllocError, Global};
 use std::process::Abort;
-
-/// A message and its signature.
-pub fn signed(
-    rt: &impl Abort,
-    alloc: Global,
-    scheme: &LmsScheme,
-    leaf: u32,
-    message: &[u8],
-) -> Result<Vec<u8>, AllocError> {
-    let leaves = scheme.leaves();
-    assert!(rt; leaf < leaves);
-    let mut sig = vec![in alloc; 0; scheme.sig_len()]?;
-    scheme.sign(leaf, message, &mut sig);
-    let mut bytes = message.to_vec(alloc)?;
-    bytes.extend_from_slice(&sig)?;
-    Ok(bytes)
-}
 
 /// What a datagram of a kind and a round begins with.
 pub fn front(kind: Kind, from: u8, to: u8, round: u8) -> [u8; 20] {
@@ -33,14 +17,6 @@ pub fn front(kind: Kind, from: u8, to: u8, round: u8) -> [u8; 20] {
         0xba, 0x47, 1, code, 0x00, 0x11, 0x22, 0x33, 0x44, 0x55, 0x66, 0x77, 0, from, 0, to, 0, 0,
         0, round,
     ]
-}
-
-/// A block whose content has two bytes, where its length is not said to be another.
-pub fn block_with(len: u16, content: [u8; 2]) -> [u8; 1024] {
-    let mut block = [0u8; 1024];
-    block[..2].copy_from_slice(&len.to_be_bytes());
-    block[2..4].copy_from_slice(&content);
-    block
 }
 
 /// The block of an update, with its round and its index as content.
@@ -77,7 +53,6 @@ fn manifest_message(
 
 /// The manifest of a round.
 pub fn manifest(
-    rt: &impl Abort,
     alloc: Global,
     caster: &LmsScheme,
     round: u8,
@@ -85,7 +60,7 @@ pub fn manifest(
 ) -> Result<Vec<u8>, AllocError> {
     let message = manifest_message(alloc, round, blocks)?;
     let leaf = 2 * u32::from(round.saturating_sub(1));
-    signed(rt, alloc, caster, leaf, &message)
+    signed(alloc, caster, leaf, &message)
 }
 
 /// A BLOCK of the broadcaster.

@@ -1,9 +1,10 @@
 //! Two peers, what is said between them, and what both are told.
 use super::datagrams::{blocks_of, front, manifest};
-use super::peers::{Sent, answers, peer_of, scheme_of, sent_at_tick, tell, ticks};
+use super::peers::{Sent, answers, peer_of, sent_at_tick, tell, ticks};
 use bar_hss::SessionScheme;
 use bar_ledger::Totals;
 use bar_peer::Peer;
+use bar_samples::signed::scheme_of;
 use bar_seal::LmsScheme;
 use bar_window::Exchange;
 use bar_wire::Kind;
@@ -43,7 +44,7 @@ pub fn tell_round(
     count: u8,
 ) -> Result<(), AllocError> {
     let blocks = blocks_of(alloc, round, count)?;
-    let bytes = manifest(rt, alloc, &pair.caster, round, &blocks)?;
+    let bytes = manifest(alloc, &pair.caster, round, &blocks)?;
     tell(rt, alloc, &mut pair.one, &bytes)?;
     tell(rt, alloc, &mut pair.two, &bytes)
 }

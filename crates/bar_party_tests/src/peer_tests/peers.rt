@@ -6,11 +6,9 @@ ghost use Rattle.bar_peer.specs.StandsFor.{contents_left};
 
 use bar_bytes::Steps;
 use bar_hss::{PartyKey, SessionScheme, hss_key_text};
-use bar_lms::SecretKey;
 use bar_peer::Peer;
 use bar_roster::{Session, key_text};
 use bar_samples::sessions::ID;
-use bar_seal::LmsScheme;
 use bar_wire::{Input, LARGEST_DATAGRAM};
 use std::alloc::{AllocError, Global};
 use std::marker::Brand;
@@ -73,13 +71,6 @@ pub fn peer_of(
     let session = Session::read(alloc, session.as_bytes())?;
     let key = key_of(alloc, &session, false, u16::from(party), secret)?;
     Ok(Peer::of_key(alloc, session, key)?)
-}
-
-/// What signs with a secret of 32 times one byte.
-pub fn scheme_of(alloc: Global, session: &str, secret: u8) -> Result<LmsScheme, Fail> {
-    let session = Session::read(alloc, session.as_bytes())?;
-    let signer = SecretKey::make(alloc, session.params(), &ID, &[secret; 32])?;
-    Ok(LmsScheme::new(signer))
 }
 
 fn step_with<L: Ledger>(peer: &mut Peer<SessionScheme>, input: Input<'_>, blank: Blank)
