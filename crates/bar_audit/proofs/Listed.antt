@@ -1,5 +1,5 @@
 -- The recorded exchanges as one list: one more is put into a rising list, and rising lists with the same members are one.
-use Rattle.std.proofs.Common.{◌≡◌, ◌⊎◌, ◌↔◌, ℕ, Bool, true, false, List, [], ◌∷◌, ◌++◌, refl, sym, ap, ◌∙◌, subst, cond, ◌||◌, inl, inr, IsTrue, arith}
+use Rattle.std.proofs.Common.{◌≡◌, ◌⊎◌, ◌↔◌, ℕ, Bool, true, false, List, [], ◌∷◌, ◌++◌, refl, sym, ap, ◌∙◌, subst, cond, inl, inr, arith}
 use Rattle.std.specs.Prelude.{◌==◌, Option, Some, None, option_map, option_and_then, is_some, find, filter, Contains}
 use Rattle.std.specs.List.{AllByRecursion}
 use Rattle.std.specs.Option.{option_map_or}
@@ -9,7 +9,7 @@ use Rattle.bar_window.specs.declared.exchange.Role.{Role}
 use Rattle.bar_window.specs.declared.exchange.Role.TheVariants.{Initiator, Responder}
 use Rattle.bar_window.specs.Exchange.{same_exchange, other_role, party_on}
 use Rattle.bar_wire.specs.Bodies.{briefcase_in}
-use Rattle.bar_wire.specs.Datagram.{Datagram, Message, Place, Briefcase, exchange_of, is_of, is_place, place_of}
+use Rattle.bar_wire.specs.Datagram.{Datagram, Message, Place, exchange_of, is_of, is_place, place_of}
 use Rattle.bar_wire.specs.Inputs.{Input}
 use Rattle.bar_wire.specs.declared.kind.Kind.{Kind}
 use Rattle.bar_wire.specs.declared.kind.Kind.TheVariants as kinds
@@ -18,12 +18,12 @@ use Rattle.bar_rules.specs.Peer.Exchanges.{inserted, precedes, IsRising}
 use Rattle.bar_rules.proofs.Inserted.{precedes-not_same, precedes-chain}
 use Rattle.bar_rules.proofs.Rising.{inserted-rising}
 use Rattle.bar_audit.specs.Exchanges.{AreRecorded, is_found, is_recorded}
-use Rattle.bar_audit.specs.Found.{is_case, is_key, case_in, has_key_in, case_from, has_key_from}
+use Rattle.bar_audit.specs.Found.{is_case, is_key, case_in, has_key_in}
 use Rattle.bar_audit.specs.Listed.{exchanges_in, exchanges_named, in_order, recorded}
 use Rattle.bar_audit.specs.Recordings.{Recording, datagrams_in, inputs_of}
 use Rattle.bar_window.proofs.Ranges.{Contains-later}
 use Rattle.bar_window.proofs.Exchanges.{same_exchange-is, same_exchange_refl}
-use Rattle.bar_audit.proofs.Lists.{IsFound, any-found, contains-cases, contains-filter, contains-here, filter-contains, find-found, mapped}
+use Rattle.bar_audit.proofs.Lists.{any-found, contains-cases, contains-filter, contains-here, filter-contains, find-found, mapped}
 
 -- ---- one more is put into a rising list
 

@@ -1,11 +1,10 @@
 //! What a CASE or a KEY of a recording adds.
-ghost use Rattle.std.specs.Prelude.{◌≡◌, ◌+◌, ◌≤◌, true, Some, IfSome, OnOk, option_map};
+ghost use Rattle.std.specs.Prelude.{◌≡◌, ◌+◌, ◌≤◌, Some, IfSome, OnOk, option_map};
 ghost use Rattle.std.specs.Bool.{then_some};
 ghost use Rattle.bar_terms.specs.Windows.{AreWindowsOf};
-ghost use Rattle.bar_wire.specs.Datagram.{is_signed, kind_of, place_of};
+ghost use Rattle.bar_wire.specs.Datagram.{kind_of, place_of};
 ghost use Rattle.bar_wire.specs.Views.{datagram, plain};
 ghost use Rattle.bar_wire.specs.declared.kind.Kind.TheVariants as kinds;
-ghost use Rattle.bar_rules.specs.Values.{is_signed_by};
 ghost use Rattle.bar_rules.specs.Verifiers.{IsVerifierOf};
 ghost use Rattle.bar_judge.specs.Parts.{IsRead, plain_briefcase};
 ghost use Rattle.bar_audit.specs.Findings.{AreKeptWindows, KeepsExchanges, plain_case};

@@ -2,8 +2,7 @@
 
 mod vectors;
 
-ghost use Rattle.std.specs.Prelude.{◌≡◌, ◌<◌, length};
-ghost use Rattle.bar_hss.specs.Pairs.{IsPair};
+ghost use Rattle.std.specs.Prelude.{◌≡◌, ◌<◌};
 
 use bar_bytes::Steps;
 use bar_hss::{HssKey, HssScheme, HssVerifier, SessionScheme, SessionVerifier};

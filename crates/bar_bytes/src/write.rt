@@ -1,6 +1,6 @@
 //! Bytes that are written one after another.
 
-ghost use Rattle.std.specs.Prelude.{◌≡◌, ℕ, ◌+◌, ◌<◌, ◌≤◌, ◌++◌, ◌↔◌, [], List, length, OnOk, OnErr, IsErr, drop};
+ghost use Rattle.std.specs.Prelude.{◌≡◌, ◌+◌, ◌<◌, ◌≤◌, ◌++◌, ◌↔◌, [], length, OnOk, OnErr, IsErr, drop};
 ghost use Rattle.bar_bytes.specs.Bytes.{u8_bytes, u16_bytes, u32_bytes};
 ghost use Rattle.bar_bytes.specs.Putting.{Appends};
 

@@ -1,6 +1,6 @@
 //! The keystream, and bytes under it.
 
-ghost use Rattle.std.specs.Prelude.{◌≡◌, ℕ, ◌+◌, ◌*◌, ◌%◌, ◌^◌, ◌<◌, length, drop};
+ghost use Rattle.std.specs.Prelude.{◌≡◌, ◌+◌, ◌*◌, ◌%◌, length, drop};
 ghost use Rattle.bar_case.specs.Keystream.{keystream, xor_bytes};
 
 use bar_lanes::xor_into;

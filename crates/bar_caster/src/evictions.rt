@@ -37,7 +37,7 @@ fn list_evicted(list: &mut Vec<u16>, evidence: &Rooms, peers: u16)
 }
 
 impl Evictions {
-    ghost use Rattle.std.specs.Prelude.{◌≡◌, ◌<◌, ◌≤◌, [], Some, None, true, is_some, length, IfOk, option_copied, ◌∷◌};
+    ghost use Rattle.std.specs.Prelude.{◌≡◌, ◌<◌, ◌≤◌, [], None, true, is_some, length, IfOk, option_copied, ◌∷◌};
     ghost use Rattle.bar_bytes.specs.Rooms.{kept_in};
     ghost use Rattle.bar_wire.specs.Evidence.{datagrams_of, evidence_bytes};
     ghost use Rattle.bar_wire.specs.Grammar.{AreDatagramsInRange};

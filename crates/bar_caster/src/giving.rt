@@ -1,7 +1,6 @@
 //! What a broadcaster gives out.
 ghost use Rattle.std.specs.Prelude.{◌≡◌, ◌<◌, ◌≤◌, ℕ, List, [], Some, MatchOption, length};
 ghost use Rattle.bar_core.specs.Orders.{left_in};
-ghost use Rattle.bar_window.specs.declared.update.UpdateId.{UpdateId};
 ghost use Rattle.bar_wire.specs.Datagram.{Datagram};
 ghost use Rattle.bar_wire.specs.Limits.{largest_datagram};
 ghost use Rattle.bar_rules.specs.Giving.{IsGiven, GivesNext};

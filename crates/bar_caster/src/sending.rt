@@ -1,9 +1,9 @@
 //! What a broadcaster is to send, as orders.
-ghost use Rattle.std.specs.Prelude.{◌≡◌, ◌+◌, ◌*◌, ◌≤◌, ◌++◌, filter, length, is_none};
+ghost use Rattle.std.specs.Prelude.{◌≡◌, ◌+◌, ◌*◌, ◌≤◌, ◌++◌, filter, length};
 ghost use Rattle.bar_core.specs.Orders.{HasSameRoom};
 ghost use Rattle.bar_rules.specs.Broadcaster.Sending.{served};
 ghost use Rattle.bar_rules.specs.Broadcaster.Stream.{is_in_fanout, round_blocks};
-ghost use Rattle.bar_rules.specs.Peer.Log.{Log, kept, round_now};
+ghost use Rattle.bar_rules.specs.Peer.Log.{Log, round_now};
 ghost use Rattle.bar_caster.specs.Fanout.{AreRanksOf};
 ghost use Rattle.bar_caster.specs.Memory.{Tells, member_of, stream_of};
 ghost use Rattle.bar_caster.specs.Orders.{orders_to};

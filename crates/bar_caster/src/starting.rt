@@ -1,6 +1,6 @@
 //! The start of a broadcaster.
-ghost use Rattle.std.specs.Prelude.{◌≡◌, ◌+◌, ◌*◌, ◌<◌, ◌≤◌, ℕ, List, [], Err, IfErr, IfOk, length};
-ghost use Rattle.bar_wire.specs.Limits.{largest_content, largest_datagram};
+ghost use Rattle.std.specs.Prelude.{◌≡◌, ◌+◌, ◌*◌, ◌<◌, ◌≤◌, [], Err, IfErr, IfOk, length};
+ghost use Rattle.bar_wire.specs.Limits.{largest_content};
 ghost use Rattle.bar_rules.specs.Broadcaster.Party.{IsBroadcaster};
 ghost use Rattle.bar_rules.specs.Members.{member_by};
 ghost use Rattle.bar_rules.specs.Signers.{IsSignerOf};

@@ -1,5 +1,5 @@
 //! What a broadcaster tells of itself.
-ghost use Rattle.std.specs.Prelude.{◌≡◌, ◌+◌, ℕ, None, List, Contains, length, nat_le, option_copied, option_map};
+ghost use Rattle.std.specs.Prelude.{◌≡◌, ◌+◌, ℕ, None, Contains, length, nat_le, option_copied, option_map};
 ghost use Rattle.bar_bytes.specs.Rooms.{kept_in};
 ghost use Rattle.bar_wire.specs.Evidence.{evidence_bytes};
 ghost use Rattle.bar_wire.specs.declared.kind.Kind.TheVariants.{Manifest};

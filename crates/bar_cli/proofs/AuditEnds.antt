@@ -1,21 +1,20 @@
 -- How the plan of an audit ends, by what the files hold.
-use Rattle.std.proofs.Common.{append-nil, append_assoc, ◌≡◌, ◌⊎◌, ℕ, List, [], ◌∷◌, ◌++◌, Option, Some, None, Result, Ok, Err, false, true, IsTrue, refl, sym, ap, ◌∙◌, subst, inl, inr, map}
+use Rattle.std.proofs.Common.{append-nil, append_assoc, ◌≡◌, ◌⊎◌, ℕ, List, [], ◌∷◌, ◌++◌, Option, Some, None, Result, Ok, Err, true, IsTrue, refl, sym, ap, ◌∙◌, subst, inl, inr, map}
 use Rattle.std.specs.List.{AllByRecursion}
 use Rattle.std.specs.Option.{ok_or}
 use Rattle.std.proofs.lemmas.Bool.{cases_Bool}
 use Rattle.bar_outside.specs.Disk.{Content, readable}
 use Rattle.bar_outside.specs.Ends.{Ends, UnlessStopped}
-use Rattle.bar_outside.specs.Plan.{Outside, Plan, accepting, ending, file_failed, is_stop, line_at, read_then, reading}
+use Rattle.bar_outside.specs.Plan.{Outside, Plan, accepting, file_failed, is_stop, line_at, read_then, reading}
 use Rattle.bar_outside.proofs.Unlinked.{IsUnlinked, unlinked-accepting, unlinked-reading}
 use Rattle.bar_window.specs.declared.exchange.Exchange.{Exchange}
-use Rattle.bar_wire.specs.Inputs.{Input}
 use Rattle.bar_record.specs.declared.fault.RecordFault.{RecordFault}
 use Rattle.bar_roster.specs.declared.fault.SessionFault.{SessionFault}
 use Rattle.bar_roster.specs.SessionText.{SessionData}
 use Rattle.bar_audit.specs.Recordings.{Recording}
 use Rattle.bar_session_files.specs.Accepting.{session_of}
 use Rattle.bar_cli.specs.Audit.Audited.{balance_in}
-use Rattle.bar_cli.specs.Audit.Plan.{AuditAccepted, AuditFiles, HasBadParties, HasBadRecording, HasBadSession, HasParties, HasRecording, IsNextParty, audit_plan, balance_of, by_inputs, by_parties, by_session, inputs_listed, parties_of, parties_plan, recording_name, recordings_plan}
+use Rattle.bar_cli.specs.Audit.Plan.{AuditAccepted, AuditFiles, HasBadParties, HasBadRecording, HasBadSession, HasParties, HasRecording, IsNextParty, audit_plan, by_inputs, by_parties, by_session, inputs_listed, parties_of, parties_plan, recording_name, recordings_plan}
 use Rattle.bar_cli.specs.Audit.Text.{status_of_balance}
 use Rattle.bar_cli.specs.Refusals.{parties_refused, recording_refused, session_refused}
 

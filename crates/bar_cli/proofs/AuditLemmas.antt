@@ -1,5 +1,5 @@
 -- Recordings are read one after another, and what is told of them.
-use Rattle.std.proofs.Common.{append-nil, append_assoc, ◌≡◌, ◌<◌, ◌≤◌, ◌+◌, ◌-◌, ℕ, suc, zero, Bool, true, false, List, [], ◌∷◌, ◌++◌, Vec, Option, Some, None, length, Result, Ok, Err, refl, sym, ap, ◌∙◌, subst, take, arith}
+use Rattle.std.proofs.Common.{append-nil, append_assoc, ◌≡◌, ◌<◌, ◌≤◌, ◌+◌, ◌-◌, ℕ, suc, zero, Bool, true, false, List, [], ◌∷◌, ◌++◌, Vec, Option, Some, None, length, Ok, Err, refl, sym, ap, ◌∙◌, subst, take, arith}
 use Rattle.std.specs.Prelude.{option_map, slice_get}
 use Rattle.std.specs.Bool.{then_some}
 use Rattle.std.specs.List.{flat_map, range_with_len}

@@ -1,9 +1,8 @@
 -- The rows of the status table, from how `audit` ended.
-use Rattle.std.proofs.Common.{append-nil, append_assoc, ◌≡◌, ◌⊎◌, ℕ, List, [], ◌∷◌, ◌++◌, Option, Some, None, Result, Ok, Err, false, true, IsTrue, refl, sym, ap, ◌∙◌, subst, map, IsSomeAnd, inl, inr}
+use Rattle.std.proofs.Common.{append-nil, append_assoc, ◌≡◌, ◌⊎◌, ℕ, List, [], ◌∷◌, ◌++◌, Option, Some, None, Result, Ok, Err, false, true, IsTrue, refl, sym, ap, ◌∙◌, subst, IsSomeAnd, inl, inr}
 use Rattle.std.proofs.lemmas.List.{map-append}
-use Rattle.std.specs.Option.{ok_or}
 use Rattle.bar_outside.specs.Disk.{Content, Failure, readable}
-use Rattle.bar_outside.specs.Plan.{Outside, Plan, Names, ending, is_stop}
+use Rattle.bar_outside.specs.Plan.{Outside, Names, ending, is_stop}
 use Rattle.bar_outside.specs.Ends.{SameFiles, NothingPrinted}
 use Rattle.bar_outside.specs.Stages.{Went, IsUnchanged, ReadsFirst, EndsThere, HasShown, ShowsThere, NamesFirst}
 use Rattle.bar_window.specs.declared.exchange.Exchange.{Exchange}

@@ -1,5 +1,5 @@
 -- What a part of `keygen` leaves.
-use Rattle.std.proofs.Common.{◌≡◌, ◌⊎◌, ℕ, Some, IsTrue, refl, inl, inr}
+use Rattle.std.proofs.Common.{◌⊎◌, ℕ, IsTrue, refl, inl, inr}
 use Rattle.bar_outside.specs.Plan.{Outside}
 use Rattle.bar_outside.specs.Ends.{SameFiles, NothingPrinted}
 use Rattle.bar_outside.specs.Stages.{IsUnchanged}

@@ -1,5 +1,5 @@
 -- The rows of the status table, from how `keygen` ended.
-use Rattle.std.proofs.Common.{◌≡◌, ◌≢◌, ◌⊎◌, ◌==◌, ℕ, List, [], ◌∷◌, ◌++◌, Bool, true, false, IsTrue, Option, Some, None, Result, Ok, Err, refl, ap, ◌∙◌, subst, IsSomeAnd, inl, inr, length, append-nil, cond}
+use Rattle.std.proofs.Common.{◌≡◌, ◌≢◌, ◌⊎◌, ◌==◌, ℕ, List, Bool, true, false, IsTrue, Option, Some, None, Result, Ok, Err, refl, ap, subst, IsSomeAnd, inl, inr, length, cond}
 use Rattle.std.proofs.lemmas.Bool.{cases_Bool, eqb-true}
 use Rattle.bar_outside.specs.Disk.{Content, Failure, readable}
 use Rattle.bar_outside.specs.Plan.{Outside, Plan, Names, accepting, ending, is_stop}

@@ -1,9 +1,9 @@
 -- What a part of `pack` leaves.
-use Rattle.std.proofs.Common.{◌≡◌, ◌≢◌, ◌⊎◌, ℕ, List, Some, IsTrue, refl, subst, inl, inr}
+use Rattle.std.proofs.Common.{◌⊎◌, ℕ, List, IsTrue, refl, subst, inl, inr}
 use Rattle.bar_outside.specs.Plan.{Outside}
 use Rattle.bar_outside.specs.Stages.{IsUnchanged}
 use Rattle.bar_proof.specs.Packing.{ShownIsPacked}
-use Rattle.bar_cli.specs.Pack.{PackFiles, HasShownOne, NotPackedFront, ProofWritten, ProofBegun, PackFront, PackStands, packed_line, file_of}
+use Rattle.bar_cli.specs.Pack.{PackFiles, HasShownOne, NotPackedFront, ProofWritten, PackFront, PackStands, packed_line, file_of}
 use Rattle.bar_cli.proofs.MadeFiles.{IsBegun, made-so-far}
 use Rattle.bar_session_files.proofs.Accepted.{AreInRange}
 use Rattle.bar_cli.proofs.PackRows.{IsMaking, IsTold, Outcome, not-packed, other-untouched, packed}

@@ -1,5 +1,5 @@
 -- What is packed, or why nothing is, as the plan of `pack` tells it.
-use Rattle.std.proofs.Common.{◌≡◌, ℕ, List, [], Some, None, Ok, Err, sym, ap, ◌∙◌, subst, refl}
+use Rattle.std.proofs.Common.{◌≡◌, ℕ, List, [], Some, Ok, Err, sym, ap, subst, refl}
 use Rattle.std.specs.Option.{ok_or}
 use Rattle.bar_outside.specs.Plan.{Outside, doing}
 use Rattle.bar_outside.specs.Ends.{EndsWith}

@@ -1,5 +1,5 @@
 -- The rows of the status table, from how `pack` ended.
-use Rattle.std.proofs.Common.{◌≡◌, ◌≢◌, ◌⊎◌, ◌==◌, ℕ, List, [], Option, Some, None, Result, Ok, Err, false, true, IsTrue, refl, sym, ap, ◌∙◌, subst, IsSomeAnd, inl, inr}
+use Rattle.std.proofs.Common.{◌≡◌, ◌⊎◌, ◌==◌, ℕ, List, [], Option, Some, None, Result, Ok, Err, false, true, IsTrue, refl, sym, ap, ◌∙◌, IsSomeAnd, inl, inr}
 use Rattle.std.specs.Option.{ok_or}
 use Rattle.bar_outside.specs.Disk.{Content, Failure, readable}
 use Rattle.bar_outside.specs.Plan.{Outside, Plan, Names, doing, ending, is_stop}

@@ -1,10 +1,10 @@
 -- How a session ends, and what is said of it.
-use Rattle.std.proofs.Common.{◌≡◌, ◌⊎◌, ◌==◌, ◌||◌, ◌++◌, ◌∙◌, ℕ, Bool, true, false, List, [], Some, IsTrue, refl, sym, ap, subst, take, inl, inr, arith}
+use Rattle.std.proofs.Common.{◌≡◌, ◌⊎◌, ◌==◌, ◌||◌, ◌++◌, ◌∙◌, ℕ, Bool, true, false, List, Some, IsTrue, refl, sym, ap, subst, take, inl, inr}
 use Rattle.bar_outside.specs.Children.{Children}
 use Rattle.bar_outside.specs.Disk.{Content}
-use Rattle.bar_outside.specs.Plan.{Outside, Plan, is_stop, line_at, no_memory}
+use Rattle.bar_outside.specs.Plan.{Outside, is_stop, no_memory}
 use Rattle.bar_outside.specs.Stream.{Stream}
-use Rattle.bar_outside.specs.Ends.{EndsWith, Prints, SaysBy}
+use Rattle.bar_outside.specs.Ends.{Prints, SaysBy}
 use Rattle.bar_outside.proofs.Ending.{EndsWith-memory, or-stop}
 use Rattle.bar_child_processes.specs.Names.{SessionNames}
 use Rattle.bar_child_processes.specs.Outcomes.{code_of}
@@ -12,7 +12,7 @@ use Rattle.bar_child_processes.specs.declared.outcome.Outcome.{Outcome}
 use Rattle.bar_child_processes.specs.declared.outcome.Outcome.TheVariants.{Done, ChildFailed, OutputFailed, NoMemory}
 use Rattle.bar_cli.specs.Line.{is_status_of, session_run}
 use Rattle.bar_cli.specs.Printing.{session_may_print}
-use Rattle.bar_cli.specs.Session.{SessionEnds, SessionGoes, SessionStopped, is_plain_end, line_of_end, session_line, session_plan}
+use Rattle.bar_cli.specs.Session.{SessionEnds, SessionStopped, is_plain_end, line_of_end, session_line, session_plan}
 
 -- the statuses of its children
 pub outcome-status : (names : SessionNames) (outcome : Outcome) → IsTrue (is_status_of (Some (session_run names)) (code_of outcome))

@@ -1,14 +1,11 @@
 //! The command `judge`.
-ghost use Rattle.std.specs.Prelude.{◌≡◌, ◌∷◌, [], false, IfOk, IsTrue, string_bytes};
+ghost use Rattle.std.specs.Prelude.{◌≡◌, [], false, IfOk, IsTrue, string_bytes};
 ghost use Rattle.bar_outside.specs.Plan.{Outside, with_files, with_out};
-ghost use Rattle.bar_outside.specs.Plan.Action.{show};
-ghost use Rattle.bar_outside.specs.Follows.{Follows};
 ghost use Rattle.bar_outside.specs.Ends.{EndsWith};
 ghost use Rattle.bar_terms.specs.Table.{Lists, digests_of};
-ghost use Rattle.bar_wire.specs.Evidence.{datagrams_of};
 ghost use Rattle.bar_judge.specs.Verdicts.{plain_verdict};
 ghost use Rattle.bar_cli.specs.Judge.Plan.{evidence_plan, judge_plan, saying_plan, table_plan};
-ghost use Rattle.bar_cli.specs.Judge.Judging.{status_of_verdict, verdict_line, verdict_of};
+ghost use Rattle.bar_cli.specs.Judge.Judging.{status_of_verdict, verdict_line};
 ghost use Rattle.bar_cli.specs.Printing.{judge_may_print};
 ghost use Rattle.bar_cli.specs.Status.{code_of, code_of_run, said_at, said_by_run, is_judge_end};
 ghost use Rattle.bar_cli.specs.Views.{judge_view};
@@ -26,7 +23,6 @@ use bar_proof::read_evidence;
 use bar_roster::{Session, SessionFault};
 use bar_session_files::read_session;
 use bar_terms::Table;
-use bar_wire::EvidenceView;
 use std::alloc::{AllocError, Global};
 
 /// Reads the session and goes on, if it is accepted.

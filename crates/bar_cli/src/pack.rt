@@ -1,13 +1,10 @@
 //! The command `pack`.
-ghost use Rattle.std.specs.Prelude.{◌≡◌, List, ℕ, false, IfOk, IsTrue, string_bytes};
+ghost use Rattle.std.specs.Prelude.{◌≡◌, false, IfOk, IsTrue, string_bytes};
 ghost use Rattle.bar_outside.specs.Plan.{Outside, with_files, with_out};
 ghost use Rattle.bar_outside.specs.Ends.{EndsWith};
-ghost use Rattle.bar_judge.specs.Verdicts.{plain_why};
-ghost use Rattle.bar_proof.specs.Packing.{IsPacked, IsRefused};
 ghost use Rattle.bar_rules.specs.Judge.Verdict.{NotShown};
-ghost use Rattle.bar_cli.specs.Judge.Plan.{saying_plan};
 ghost use Rattle.bar_cli.specs.Judge.Judging.{lists_of};
-ghost use Rattle.bar_cli.specs.Pack.{by_lists, evidence_plan, pack_plan, packed_line, table_plan};
+ghost use Rattle.bar_cli.specs.Pack.{by_lists, pack_plan, packed_line, table_plan};
 ghost use Rattle.bar_cli.specs.Printing.{judge_may_print};
 ghost use Rattle.bar_cli.specs.Status.{code_of, code_of_run, is_proof_end, said_by_run};
 ghost use Rattle.bar_cli.specs.Views.{packing_view};

@@ -1,5 +1,5 @@
 //! Reading a recording.
-ghost use Rattle.std.specs.Prelude.{◌≡◌, ◌≤◌, Ok, Err, IfOk, IfErr};
+ghost use Rattle.std.specs.Prelude.{◌≡◌, Ok, Err, IfOk, IfErr};
 ghost use Rattle.bar_record.specs.Inputs.{inputs_left};
 ghost use Rattle.bar_record.specs.Pacing.{paced};
 ghost use Rattle.bar_roster.specs.Time.{last_tick};

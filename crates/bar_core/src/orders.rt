@@ -13,7 +13,7 @@ pub struct Orders<T> {
 }
 
 impl<T: Copy> Orders<T> {
-    ghost use Rattle.std.specs.Prelude.{◌≡◌, ◌+◌, ◌<◌, ◌≤◌, ◌++◌, ◌∷◌, [], ◌↔◌, IsTrue, Some, None, IfOk, IfSome, IsNone, length, drop};
+    ghost use Rattle.std.specs.Prelude.{◌≡◌, ◌+◌, ◌<◌, ◌≤◌, ◌++◌, ◌∷◌, [], ◌↔◌, IsTrue, IfOk, length};
     ghost use Rattle.bar_core.specs.Orders.{left_in, GivesFirst};
 
     /// No orders, and room for so many.

@@ -12,7 +12,6 @@ use Rattle.bar_window.specs.declared.exchange.XKind.TheVariants.{Balanced, Push}
 use Rattle.bar_window.specs.declared.terms.Terms.{Terms as WindowTerms}
 use Rattle.bar_window.specs.Exchange.{same_role, same_kind, other_role}
 use Rattle.bar_window.specs.Terms.{plain_terms}
-use Rattle.bar_window.specs.Terms as forms
 use Rattle.bar_wire.specs.Bodies.{history_in, offer_in, reply_in}
 use Rattle.bar_wire.specs.Datagram.{Datagram, Body, Manifest, Block, Request, Response, Divulge, Query, Reply, Case, KeyReq, Key, Evidence, Evict, Place, place_by, part_of, kind_of, round_of, is_of}
 use Rattle.bar_wire.specs.Limits.{seats_a_round}

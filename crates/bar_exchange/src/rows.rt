@@ -3,7 +3,7 @@ ghost use Rattle.std.specs.Prelude.{◌≡◌, ℕ, List};
 ghost use Rattle.bar_window.specs.declared.exchange.XKind.{XKind};
 ghost use Rattle.bar_window.specs.Window.{members};
 ghost use Rattle.bar_terms.specs.Table.{is_within};
-ghost use Rattle.bar_wire.specs.Datagram.{KeyGiven, KeyReq, Key, exchange_by};
+ghost use Rattle.bar_wire.specs.Datagram.{KeyReq, Key, exchange_by};
 ghost use Rattle.bar_rules.specs.Member.{Member};
 ghost use Rattle.bar_rules.specs.Peer.Admission.{is_row_met};
 ghost use Rattle.bar_rules.specs.Peer.Knowledge.{Knowledge, this_round, table_of};

@@ -1,6 +1,6 @@
 //! Key files of sessions whose signatures have two levels.
 
-ghost use Rattle.std.specs.Prelude.{◌≡◌, ◌≤◌, ◌⊎◌, Ok, Err, IfOk, IfErr, IsSome, Some, length};
+ghost use Rattle.std.specs.Prelude.{◌≡◌, ◌≤◌, ◌⊎◌, Ok, Err, IfOk, IfErr, IsSome, Some};
 ghost use Rattle.bar_lms.specs.declared.params.Height.{Height};
 ghost use Rattle.bar_lms.specs.Schemes.{upper_types};
 ghost use Rattle.bar_roster.specs.KeyFile.{fits, key_file_of, key_in};

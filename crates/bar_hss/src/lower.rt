@@ -1,8 +1,8 @@
 //! Trees of 32 leaves, whose public keys upper leaves sign.
 
-ghost use Rattle.std.specs.Prelude.{◌≡◌, IsTrue, ◌+◌, ◌*◌, ◌^◌, ◌≤◌, ◌<◌, ◌++◌, length, take, drop};
+ghost use Rattle.std.specs.Prelude.{◌≡◌, IsTrue, ◌+◌, ◌*◌, ◌≤◌, ◌<◌, ◌++◌, length, take, drop};
 ghost use Rattle.bar_lms.specs.declared.params.Height.TheVariants.{H5};
-ghost use Rattle.bar_lms.specs.Params.{levels, signature_len};
+ghost use Rattle.bar_lms.specs.Params.{signature_len};
 ghost use Rattle.bar_lms.specs.Tree.{private_by};
 ghost use Rattle.bar_lms.specs.Signature.{key_bytes, public_of, signature};
 

@@ -1,7 +1,5 @@
 //! Lower trees that are kept.
 
-ghost use Rattle.std.specs.Prelude.{◌≡◌};
-
 use crate::lower::LowerTree;
 use std::alloc::{AllocError, Global};
 use std::cell::RefCell;

@@ -1,5 +1,5 @@
 //! The first entry of a table file.
-ghost use Rattle.std.specs.Prelude.{◌≡◌, length};
+ghost use Rattle.std.specs.Prelude.{◌≡◌};
 ghost use Rattle.bar_judge.specs.TableFile.{first_of, sized_first};
 ghost use Rattle.bar_judge.specs.TableViews.{plain_first};
 

@@ -1,8 +1,6 @@
 //! The list that an entry of a table file gives.
-ghost use Rattle.std.specs.Prelude.{◌≡◌, ◌+◌, ◌%◌, ◌≤◌, IfSome, true, option_map, length};
-ghost use Rattle.bar_wire.specs.Datagram.{is_signed};
-ghost use Rattle.bar_wire.specs.Views.{datagram, plain, AreWhole, IsView};
-ghost use Rattle.bar_rules.specs.Values.{is_signed_by};
+ghost use Rattle.std.specs.Prelude.{◌≡◌, ◌+◌, ◌%◌, ◌≤◌, IfSome, option_map, length};
+ghost use Rattle.bar_wire.specs.Views.{plain, AreWhole};
 ghost use Rattle.bar_rules.specs.Verifiers.{IsVerifierOf};
 ghost use Rattle.bar_judge.specs.TableFile.{list_after, list_in};
 ghost use Rattle.bar_judge.specs.TableViews.{plain_list, HasPlace};
@@ -11,7 +9,7 @@ use crate::pair::is_accepted;
 use bar_bytes::Steps;
 use bar_roster::Session;
 use bar_seal::Verifier;
-use bar_wire::{Body, View, decode};
+use bar_wire::{Body, decode};
 use std::sync::ledger::Ledger;
 
 /// The round and the digests of a MANIFEST.

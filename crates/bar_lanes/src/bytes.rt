@@ -1,6 +1,6 @@
 //! Rows of bytes, a vector of 32 at a time.
 
-ghost use Rattle.std.specs.Prelude.{◌≡◌, ◌*◌, ◌+◌, ◌≤◌, length, take, drop, bit_xor};
+ghost use Rattle.std.specs.Prelude.{◌≡◌, ◌*◌, length, bit_xor};
 ghost use Rattle.std.specs.Simd.Lanes.{zip2};
 
 use std::simd::u8x32;

@@ -1,8 +1,8 @@
 //! SHA-256 of eight messages of 55 bytes side by side; a message of 55 bytes is one block.
 
-ghost use Rattle.std.specs.Prelude.{◌≡◌, ℕ, ◌*◌, ◌+◌, ◌<◌, ◌≤◌, [], length, take, slice_index, slice_index_or};
+ghost use Rattle.std.specs.Prelude.{◌≡◌, ℕ, ◌*◌, ◌+◌, ◌<◌, ◌≤◌, [], length, slice_index, slice_index_or};
 ghost use Rattle.sha2.specs.Sha256.{padded_message, word_at, digest_bytes, compress, initial_hash_256, sha256};
-ghost use Rattle.bar_lanes.specs.Lane.{lane_at, hash_lane};
+ghost use Rattle.bar_lanes.specs.Lane.{hash_lane};
 
 use crate::rounds::compress;
 use std::simd::u32x8;

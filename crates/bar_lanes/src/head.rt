@@ -2,7 +2,7 @@
 
 ghost use Rattle.std.specs.Prelude.{◌≡◌, ℕ, ◌*◌, ◌+◌, ◌<◌, List, [], take, slice_index, slice_index_or};
 ghost use Rattle.sha2.specs.Sha256.{word_at, compress, initial_hash_256, rounds, schedule, sha256};
-ghost use Rattle.bar_lanes.specs.Lane.{lane_at, hash_lane, IsScheduled, IsBegun, late_at};
+ghost use Rattle.bar_lanes.specs.Lane.{hash_lane, IsScheduled, IsBegun, late_at};
 
 use crate::eight::{block, digest_at, initial_hash, lanes_of, words_at};
 use crate::rounds::{Words, fill_words, last_steps, small_sigma0, small_sigma1, step};

@@ -1,5 +1,5 @@
 -- What holds of the broadcaster over every list of inputs: whom it evicts, what it signs, and to whom it sends.
-use Rattle.std.specs.Prelude.{◌≡◌, ◌⊎◌, ℕ, ◌+◌, ◌-◌, ◌*◌, ◌<◌, ◌≤◌, ◌^◌, ◌==◌, ◌&&◌, Bool, false, List, [], ◌∷◌, ◌++◌, map, filter, length, Some, None, Contains}
+use Rattle.std.specs.Prelude.{◌≡◌, ◌⊎◌, ℕ, ◌+◌, ◌-◌, ◌*◌, ◌<◌, ◌≤◌, ◌==◌, ◌&&◌, Bool, false, List, [], ◌∷◌, ◌++◌, map, filter, length, Some, None, Contains}
 use Rattle.std.specs.List.{AllByRecursion}
 use Rattle.bar_lms.specs.Schemes.{leaves_by}
 use Rattle.bar_window.specs.declared.update.UpdateId.{UpdateId}

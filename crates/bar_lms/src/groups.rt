@@ -1,9 +1,9 @@
 //! Chains of LM-OTS side by side, in eight lanes.
 
-ghost use Rattle.std.specs.Prelude.{◌≡◌, ℕ, ◌+◌, ◌*◌, ◌%◌, ◌^◌, ◌==◌, ◌≤◌, ◌<◌, ◌++◌, ◌∷◌, [], List, length, take, drop, slice_index, slice_index_or, if◌then◌else◌, nat_lt};
+ghost use Rattle.std.specs.Prelude.{◌≡◌, ℕ, ◌+◌, ◌*◌, ◌%◌, ◌^◌, ◌==◌, ◌≤◌, ◌<◌, ◌++◌, ◌∷◌, [], List, take, drop, slice_index, slice_index_or, if◌then◌else◌, nat_lt};
 ghost use Rattle.std.specs.Int.{w32, to_be_bytes};
 ghost use Rattle.sha2.specs.Hashers.{Holds256};
-ghost use Rattle.bar_lms.specs.Chains.{place, chain, most_of};
+ghost use Rattle.bar_lms.specs.Chains.{place, most_of};
 ghost use Rattle.bar_lms.specs.Lanes.{leg_of, leg_end, lane_steps};
 
 use crate::bytes::put;

@@ -1,6 +1,6 @@
 //! Public keys.
 
-ghost use Rattle.std.specs.Prelude.{◌≡◌, ℕ, ◌<◌, ◌↔◌, true, List, Ok, Err, IfOk, length, take, drop};
+ghost use Rattle.std.specs.Prelude.{◌≡◌, ◌<◌, ◌↔◌, true, Ok, Err, IfOk, length, take, drop};
 ghost use Rattle.bar_lms.specs.Params.{NameNoTypes};
 
 use crate::acceptance::number_at;

@@ -1,6 +1,6 @@
 //! Signing.
 
-ghost use Rattle.std.specs.Prelude.{◌≡◌, ℕ, ◌+◌, ◌*◌, ◌^◌, ◌≤◌, ◌<◌, ◌++◌, ◌/◌, ◌%◌, [], List, length, take, drop, slice_index, slice_index_or};
+ghost use Rattle.std.specs.Prelude.{◌≡◌, ℕ, ◌+◌, ◌*◌, ◌^◌, ◌≤◌, ◌<◌, ◌++◌, ◌/◌, ◌%◌, [], List, length, take, drop, slice_index_or};
 ghost use Rattle.std.specs.Int.{w32, to_be_bytes};
 ghost use Rattle.bar_lms.specs.Params.{chains, levels, signature_len};
 ghost use Rattle.bar_lms.specs.Chains.{joined};
@@ -19,7 +19,6 @@ use crate::params::Params;
 use crate::place::Place;
 use crate::private::Private;
 use bar_bytes::Steps;
-use std::marker::Brand;
 use std::sync::ledger::{Blank, Ledger};
 
 // Writes the first n hashes of a row from byte 40 on.

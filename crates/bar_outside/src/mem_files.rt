@@ -1,5 +1,5 @@
 //! Files in memory.
-ghost use Rattle.std.specs.Prelude.{◌≡◌, ◌⊎◌, ℕ, [], List, true, false, IfOk, OnOk, OnErr, IsErr, IsNone, IsTrue, None, Some, Ok, Err};
+ghost use Rattle.std.specs.Prelude.{◌≡◌, ◌⊎◌, true, false, IfOk, OnOk, OnErr, IsErr, IsNone, IsTrue, None, Some, Ok, Err};
 ghost use Rattle.std.specs.Option.{option_copied};
 ghost use Rattle.bar_outside.specs.Disk.{created, appended, put_at, readable, with_file};
 ghost use Rattle.bar_outside.specs.Schedule.{failing, next_call, fails_next, fails_never};

@@ -1,5 +1,5 @@
 //! A link in memory.
-ghost use Rattle.std.specs.Prelude.{◌≡◌, ◌≤◌, [], None, map, option_map, take, length, IsTrue, IfOk, Err, true};
+ghost use Rattle.std.specs.Prelude.{◌≡◌, ◌≤◌, None, map, option_map, take, length, IsTrue, IfOk, Err, true};
 ghost use Rattle.bar_outside.specs.Schedule.{failing, next_call, fails_next, fails_never};
 ghost use Rattle.bar_outside.specs.MemTaken.{are_small, bound_in, bytes_sent};
 

@@ -1,5 +1,5 @@
 //! A sink in memory.
-ghost use Rattle.std.specs.Prelude.{◌≡◌, [], IsErr, IsTrue, Err, true};
+ghost use Rattle.std.specs.Prelude.{◌≡◌, [], IsTrue, Err, true};
 ghost use Rattle.bar_outside.specs.Schedule.{failing, next_call, fails_next, fails_never};
 
 use crate::schedule::{Schedule, is_listed, new_schedule};

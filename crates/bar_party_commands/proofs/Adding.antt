@@ -12,7 +12,7 @@ use Rattle.bar_seeds.specs.declared.secrets.Secrets.{Secrets}
 use Rattle.bar_roster.specs.SessionText.{SessionData}
 use Rattle.bar_wire.specs.Inputs.{Input}
 use Rattle.bar_record.specs.Pacing.{ticks_of}
-use Rattle.bar_record.specs.Recording.{entry_bytes, head_bytes}
+use Rattle.bar_record.specs.Recording.{entry_bytes}
 use Rattle.bar_findings.specs.Findings.{findings_actions}
 use Rattle.bar_findings.proofs.Holding.{can-write}
 use Rattle.bar_core.specs.Rules.{Rules}

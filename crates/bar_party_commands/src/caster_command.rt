@@ -1,5 +1,5 @@
 //! The command `broadcaster`.
-ghost use Rattle.std.specs.Prelude.{◌≡◌, [], List, Err, true, false, IfOk};
+ghost use Rattle.std.specs.Prelude.{◌≡◌, [], List, Err, true, false};
 ghost use Rattle.bar_outside.specs.Plan.{Outside, outside, with_out};
 ghost use Rattle.bar_outside.specs.Follows.{Follows};
 ghost use Rattle.bar_outside.specs.MemTaken.{bound_in};

@@ -1,5 +1,5 @@
 //! What a run prints at its end.
-ghost use Rattle.std.specs.Prelude.{◌≡◌, ◌≤◌, ℕ, List, IfOk, string_bytes};
+ghost use Rattle.std.specs.Prelude.{◌≡◌, IfOk, string_bytes};
 ghost use Rattle.bar_bytes.specs.Rooms.{kept_in};
 ghost use Rattle.bar_outside.specs.Plan.{Outside, with_out};
 ghost use Rattle.bar_outside.specs.Follows.{Follows};

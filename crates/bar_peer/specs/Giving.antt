@@ -1,5 +1,5 @@
 -- What is given out for an order.
-use Rattle.std.specs.Prelude.{◌≡◌, ℕ, ◌<◌, ◌^◌, List, [], Some, IfSome}
+use Rattle.std.specs.Prelude.{◌≡◌, ℕ, ◌<◌, List, [], Some, IfSome}
 use Rattle.std.specs.Bool.{MatchBool}
 use Rattle.bar_lms.specs.Schemes.{leaves_by}
 use Rattle.bar_wire.specs.Datagram.{Datagram, kind_of, part_of, place_of}

@@ -18,7 +18,7 @@ ghost use Rattle.bar_laws.specs.Soundness.{IsSound};
 ghost use Rattle.bar_balanced.specs.Balanced.{AreSpelled};
 ghost use Rattle.bar_peer.specs.Arrivals.{IsReadBy, datagram_by, checked_by};
 ghost use Rattle.bar_peer.specs.Memory.{member_of, IsMemoryOf};
-ghost use Rattle.bar_peer.specs.Repeats.{is_of_exchange, IsInTime};
+ghost use Rattle.bar_peer.specs.Repeats.{is_of_exchange};
 ghost use Rattle.bar_peer.specs.Trying.{may_admit, may_show};
 
 use crate::arrival::Arrival;

@@ -1,6 +1,5 @@
 //! What a peer answers to a datagram.
 ghost use Rattle.std.specs.Prelude.{◌≡◌, true};
-ghost use Rattle.bar_wire.specs.Views.{datagram};
 ghost use Rattle.bar_rules.specs.Peer.Knowledge.{Knowledge};
 ghost use Rattle.bar_rules.specs.Peer.Replies.{reply_orders};
 ghost use Rattle.bar_exchange.specs.Says.{orders_of_reply, AreFitting};

@@ -1,8 +1,7 @@
 //! What a KEY shows of the briefcase that it opens.
-ghost use Rattle.std.specs.Prelude.{◌≡◌, ◌≤◌, ℕ, List, length, true, option_map, Some, IfSome};
+ghost use Rattle.std.specs.Prelude.{◌≡◌, ◌≤◌, ℕ, length, true, option_map, Some, IfSome};
 ghost use Rattle.std.specs.Option.{option_or};
 ghost use Rattle.bar_window.specs.declared.update.UpdateId.{UpdateId};
-ghost use Rattle.bar_window.specs.Terms.{plain_terms};
 ghost use Rattle.bar_terms.specs.Table.{digests_of};
 ghost use Rattle.bar_terms.specs.Terms.{can_promise};
 ghost use Rattle.bar_wire.specs.Datagram.{Briefcase, Case, kind_of};

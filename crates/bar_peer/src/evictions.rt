@@ -15,7 +15,7 @@ pub struct Evictions {
 }
 
 impl Evictions {
-    ghost use Rattle.std.specs.Prelude.{◌≡◌, ℕ, ◌+◌, ◌*◌, ◌≤◌, ◌<◌, ◌||◌, ◌==◌, ◌&&◌, false, nat_le, nat_lt, length, IfOk};
+    ghost use Rattle.std.specs.Prelude.{◌≡◌, ℕ, ◌+◌, ◌*◌, ◌<◌, ◌||◌, ◌==◌, ◌&&◌, false, nat_lt, length, IfOk};
     ghost use Rattle.std.specs.List.{list_any};
     ghost use Rattle.bar_wire.specs.Places.{pairs};
     ghost use Rattle.bar_peer.specs.Evictions.{was_heard, is_named};

@@ -8,8 +8,8 @@ ghost use Rattle.bar_peer.specs.Checking.{IsCheckedOnce, AdmitsChecked, AdmitsKe
 ghost use Rattle.bar_wire.specs.Inputs as event;
 ghost use Rattle.bar_wire.specs.Bodies.{is_peer_kind};
 ghost use Rattle.bar_wire.specs.Datagram.{Datagram, is_signed};
-ghost use Rattle.bar_wire.specs.Views.{datagram, plain};
-ghost use Rattle.bar_roster.specs.Time.{last_tick, round_after};
+ghost use Rattle.bar_wire.specs.Views.{plain};
+ghost use Rattle.bar_roster.specs.Time.{last_tick};
 ghost use Rattle.bar_rules.specs.Member.{Member};
 ghost use Rattle.bar_rules.specs.Peer.Admission.{is_admitted as admitted};
 ghost use Rattle.bar_rules.specs.Peer.Evidence.{is_tried, new_evidence};

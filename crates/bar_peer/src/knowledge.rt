@@ -1,7 +1,7 @@
 //! What a peer keeps of a datagram that it admits.
 ghost use Rattle.std.specs.Prelude.{◌≡◌, ◌∷◌};
 ghost use Rattle.bar_wire.specs.Datagram.{kind_of};
-ghost use Rattle.bar_wire.specs.Views.{datagram, plain};
+ghost use Rattle.bar_wire.specs.Views.{plain};
 ghost use Rattle.bar_wire.specs.declared.kind.Kind.TheVariants.{Manifest, Block, Evict};
 ghost use Rattle.bar_rules.specs.Peer.Log.{Log, Heard};
 ghost use Rattle.bar_rules.specs.Peer.Knowledge.{Knowledge, with_heard};

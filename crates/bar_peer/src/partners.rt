@@ -1,5 +1,5 @@
 //! What a peer asks for at the first slot of a round.
-ghost use Rattle.std.specs.Prelude.{◌≡◌, ◌+◌, ◌≤◌, length};
+ghost use Rattle.std.specs.Prelude.{◌+◌, ◌≤◌, length};
 ghost use Rattle.bar_roster.specs.Time.{round_after};
 ghost use Rattle.bar_peer.specs.Ticking.{AsksPartner, AsksPartners};
 ghost use Rattle.bar_core.specs.Orders.{HasSameRoom};

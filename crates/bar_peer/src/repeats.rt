@@ -2,7 +2,7 @@
 ghost use Rattle.std.specs.Prelude.{◌≡◌, option_map, option_copied, ℕ, List};
 ghost use Rattle.std.specs.Bool.{then_some};
 ghost use Rattle.bar_wire.specs.Datagram.{place_of};
-ghost use Rattle.bar_wire.specs.Views.{datagram, plain, IsView};
+ghost use Rattle.bar_wire.specs.Views.{plain, IsView};
 ghost use Rattle.bar_rules.specs.Values.{datagram_bytes};
 ghost use Rattle.bar_rules.specs.Peer.Admission.{is_heard_again};
 ghost use Rattle.bar_rules.specs.Peer.Knowledge.{Knowledge};

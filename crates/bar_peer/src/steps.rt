@@ -18,7 +18,6 @@ ghost use Rattle.bar_peer.specs.Memory.{member_of, Tells};
 ghost use Rattle.bar_core.specs.Orders.{left_in, HasSameRoom};
 ghost use Rattle.bar_peer.specs.StandsFor.{Inputs, StandsFor, AreLeft, contents_left};
 ghost use Rattle.bar_peer.specs.Steps.{TakesInput, is_tick};
-ghost use Rattle.bar_peer.specs.Ticking.{most_orders};
 
 use crate::intake::{take_datagram, take_tick};
 use crate::memory::Memory;

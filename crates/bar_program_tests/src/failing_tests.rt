@@ -1,6 +1,5 @@
 //! Each call of a short run that can fail does so once, one after another: of its files, its link, its output, its children.
-ghost use Rattle.std.specs.Prelude.{◌≡◌, true};
-ghost use Rattle.bar_outside.specs.MemTaken.{are_small};
+ghost use Rattle.std.specs.Prelude.{true};
 
 use crate::outcome::{Left, Outside, outside_of, run};
 use bar_outside::{MemFiles, MemLink, MemSpawner, MemTaken};

@@ -3,7 +3,6 @@ use Rattle.std.proofs.Common.{◌≡◌, ◌∙◌, None, refl, ap}
 use Rattle.std.specs.Prelude.{option_map}
 use Rattle.bar_window.specs.declared.exchange.Exchange.{Exchange}
 use Rattle.bar_window.specs.declared.exchange.XKind.TheVariants.{Push}
-use Rattle.bar_window.specs.Terms as forms
 use Rattle.bar_wire.specs.Datagram.{Request, Response, Divulge}
 use Rattle.bar_wire.specs.declared.kind.Kind.{Kind}
 use Rattle.bar_wire.specs.declared.kind.Kind.TheVariants as kinds

@@ -23,7 +23,7 @@ use bar_exchange::{ANSWER_DEADLINE, is_window_in, is_within};
 use bar_ledger::Ledger;
 use bar_store::Store;
 use bar_terms::{PushAnswer, Table, terms_ok};
-use bar_window::{Exchange, Role, Terms, Window, XKind};
+use bar_window::{Exchange, Role, Terms, XKind};
 use bar_wire::Shape;
 
 /// Whether this peer said the QUERY of a push.

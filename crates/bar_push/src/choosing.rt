@@ -1,5 +1,5 @@
 //! What a responder wants and gives, by what it holds.
-ghost use Rattle.std.specs.Prelude.{◌≡◌, ◌+◌, ◌≤◌, ◌↔◌, ℕ, IsTrue};
+ghost use Rattle.std.specs.Prelude.{◌≡◌, ◌+◌, ◌≤◌, ◌↔◌, IsTrue};
 ghost use Rattle.bar_window.specs.Window.{members, IsWindowOf};
 ghost use Rattle.bar_wire.specs.Views.{IsWindowIn};
 ghost use Rattle.bar_wire.specs.declared.shape.Shape.{Shape};

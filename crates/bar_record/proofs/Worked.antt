@@ -1,6 +1,6 @@
 -- Worked examples of pacing, computed by its definition: a session of ten rounds in which an update lives for four, whose last tick is 120.
-use Rattle.std.proofs.Common.{◌≡◌, List, [], ◌∷◌, refl}
-use Rattle.bar_wire.specs.Inputs.{Input, Tick, Datagram}
+use Rattle.std.proofs.Common.{◌≡◌, [], ◌∷◌, refl}
+use Rattle.bar_wire.specs.Inputs.{Tick, Datagram}
 use Rattle.bar_record.specs.Pacing.{paced_from}
 
 -- a tick comes before the 65,537th datagram in a row

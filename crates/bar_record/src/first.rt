@@ -1,5 +1,5 @@
 //! The first entry of some bytes.
-ghost use Rattle.std.specs.Prelude.{◌≡◌, ◌≤◌, length};
+ghost use Rattle.std.specs.Prelude.{◌≡◌};
 ghost use Rattle.bar_record.specs.Items.{plain_first};
 ghost use Rattle.bar_record.specs.Recording.{datagram_first, first_of, sized_first};
 

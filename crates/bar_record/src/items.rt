@@ -1,5 +1,4 @@
 //! The inputs of a recording that was read.
-ghost use Rattle.std.specs.Prelude.{◌≡◌, ℕ, List};
 ghost use Rattle.std.specs.Iterator.{YieldsFirstBy, item_count};
 ghost use Rattle.bar_wire.specs.Inputs.{plain_input};
 

@@ -1,5 +1,5 @@
 //! Reading a recording.
-ghost use Rattle.std.specs.Prelude.{◌≡◌, ◌≤◌, ◌^◌, Ok, Err, IfOk, IfErr, suc, length, drop};
+ghost use Rattle.std.specs.Prelude.{◌≡◌, ◌≤◌, Ok, Err, IfOk, IfErr, suc, length};
 ghost use Rattle.bar_record.specs.Inputs.{inputs_left};
 ghost use Rattle.bar_record.specs.Pacing.{is_datagram, run_after, ticks_in};
 ghost use Rattle.bar_record.specs.Recording.{head_bytes, inputs_from, recording_of, ticks_put};

@@ -1,7 +1,6 @@
 //! Writing a recording.
 ghost use Rattle.std.specs.Prelude.{◌≡◌, ◌≤◌, length, take};
 ghost use Rattle.bar_wire.specs.Inputs.{plain_input};
-ghost use Rattle.bar_wire.specs.Limits.{largest_datagram};
 ghost use Rattle.bar_record.specs.Recording.{entry_bytes, IsInRange};
 
 use bar_bytes::{put, put_u8, put_u16};

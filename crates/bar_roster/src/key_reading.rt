@@ -1,6 +1,6 @@
 //! Reading a key text for a session.
 
-ghost use Rattle.std.specs.Prelude.{◌≡◌, ◌⊎◌, Some, None, Ok, Err, IfOk, IfErr, is_some, false};
+ghost use Rattle.std.specs.Prelude.{◌≡◌, ◌⊎◌, Some, None, Ok, Err, IfOk, IfErr, is_some};
 ghost use Rattle.toml.specs.View.{table_view};
 ghost use Rattle.bar_roster.specs.Fields.{document};
 ghost use Rattle.bar_roster.specs.KeyFile.{is_of_session, session_key_of};

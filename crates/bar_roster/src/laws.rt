@@ -1,6 +1,6 @@
 //! What holds of all session and key texts. These functions do nothing: what they ensure is a law.
 
-ghost use Rattle.std.specs.Prelude.{◌≡◌, ◌≤◌, ℕ, ◌↔◌, Bool, false, length, List, Ok, Some, IsTrue};
+ghost use Rattle.std.specs.Prelude.{◌≡◌, ◌≤◌, ℕ, ◌↔◌, Bool, false, length, List, Ok, IsTrue};
 ghost use Rattle.bar_roster.specs.SessionText.{SessionData, session_of};
 ghost use Rattle.bar_roster.specs.Sessions.{IsSession};
 ghost use Rattle.bar_seeds.specs.declared.secrets.Secrets.{Secrets};

@@ -1,5 +1,5 @@
 //! The keys and anchors of a session text.
-ghost use Rattle.std.specs.Prelude.{◌≡◌, ◌≤◌, ◌+◌, ◌⊎◌, [], ◌∷◌, codes, length, is_some, option_map, Some, None, IfOk, IfSome, IfErr, Ok, Err, ℕ, List};
+ghost use Rattle.std.specs.Prelude.{◌≡◌, ◌≤◌, ◌+◌, ◌⊎◌, [], ◌∷◌, codes, length, is_some, option_map, Some, None, IfOk, IfSome, IfErr, Ok, Err};
 ghost use Rattle.std.specs.List.{list_all};
 ghost use Rattle.toml.specs.Data.{as_table};
 ghost use Rattle.toml.specs.View.{array_view, items_view, table_view, view};

@@ -1,5 +1,5 @@
 -- Sessions whose signatures have one level: LMS accepts, names leaves and signs as they do.
-use Rattle.std.proofs.Common.{◌≡◌, ◌∙◌, ℕ, ◌^◌, List, Option, None, sym, ap, refl}
+use Rattle.std.proofs.Common.{◌≡◌, ◌∙◌, ◌^◌, Option, None, sym, ap}
 use Rattle.bar_lms.specs.declared.params.Height.{Height}
 use Rattle.bar_lms.specs.Acceptance.{is_accepted_under}
 use Rattle.bar_lms.specs.Params.{levels, signature_len}

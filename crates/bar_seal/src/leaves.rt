@@ -1,6 +1,6 @@
 //! The leaf that signs a message.
 
-ghost use Rattle.std.specs.Prelude.{◌≡◌, ℕ, ◌*◌, ◌≤◌, ◌<◌, ◌^◌, true, Some};
+ghost use Rattle.std.specs.Prelude.{◌≡◌, ◌*◌, ◌≤◌, ◌<◌, ◌^◌, true, Some};
 ghost use Rattle.bar_wire.specs.Datagram.{Body as PlainBody, is_signed, round_of, kind_of, part_of};
 ghost use Rattle.bar_wire.specs.Limits.{leaves_a_round, seats_a_round};
 ghost use Rattle.bar_wire.specs.Views.{plain};

@@ -1,6 +1,6 @@
 //! The choice of a partner by a seed.
 
-ghost use Rattle.std.specs.Prelude.{◌≡◌, ℕ, ◌≤◌, ◌≢◌, ◌++◌, take, codes};
+ghost use Rattle.std.specs.Prelude.{◌≡◌, ◌≤◌, ◌≢◌, ◌++◌, take, codes};
 ghost use Rattle.std.specs.Int.{w64, from_be_bytes};
 ghost use Rattle.bar_bytes.specs.Bytes.{u8_bytes};
 ghost use Rattle.bar_bytes.specs.Tag.{tagged};

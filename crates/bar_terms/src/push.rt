@@ -1,4 +1,4 @@
-ghost use Rattle.std.specs.Prelude.{◌≡◌, ℕ, ◌-◌, length};
+ghost use Rattle.std.specs.Prelude.{◌≡◌, ◌-◌, length};
 ghost use Rattle.bar_window.specs.Window.{members, IsAligned};
 ghost use Rattle.bar_terms.specs.Terms.{wanted, given};
 

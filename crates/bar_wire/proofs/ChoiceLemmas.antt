@@ -1,5 +1,5 @@
 -- The round of the seed that a datagram shows.
-use Rattle.std.proofs.Common.{◌≡◌, ℕ, ◌+◌, Some, sym, ap, ◌∙◌, arith}
+use Rattle.std.proofs.Common.{◌≡◌, Some, ap, arith}
 use Rattle.std.proofs.lemmas.Option.{same_Some}
 use Rattle.bar_wire.specs.Bodies.{Choice, choice_in, choice_round}
 use Rattle.bar_wire.specs.Datagram.{Body, Manifest, Block, Request, Response, Divulge, Query, Reply, Case, KeyReq, Key, Evidence, Evict}

@@ -1,4 +1,4 @@
-ghost use Rattle.std.specs.Prelude.{◌≡◌, ℕ, ◌*◌, ◌<◌, ◌≤◌, ◌↔◌, IsTrue, length};
+ghost use Rattle.std.specs.Prelude.{◌≡◌, ◌*◌, ◌<◌, ◌↔◌, IsTrue, length};
 ghost use Rattle.std.specs.List.{AllByRecursion};
 ghost use Rattle.bar_wire.specs.Grammar.{RisesTo, IsEntryInRange, AreDatagramsInRange, ArePartiesInRange};
 ghost use Rattle.bar_wire.specs.Places.{entries, entries_len, pairs};

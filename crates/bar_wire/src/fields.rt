@@ -1,6 +1,6 @@
-ghost use Rattle.std.specs.Prelude.{◌≡◌, ℕ, ◌+◌, ◌*◌, ◌<◌, ◌≤◌, ◌↔◌, ◌++◌, IsTrue, length, slice_index};
+ghost use Rattle.std.specs.Prelude.{◌≡◌, ◌<◌, length};
 ghost use Rattle.bar_wire.specs.declared.kind.Kind.TheVariants as kinds;
-ghost use Rattle.bar_wire.specs.Places.{fields_len, terms_len};
+ghost use Rattle.bar_wire.specs.Places.{fields_len};
 ghost use Rattle.bar_wire.specs.Views.{plain, AreWhole};
 ghost use Rattle.bar_wire.specs.Reading.{HasBytes, Reads, ReadsForm, IsReadButRanges};
 

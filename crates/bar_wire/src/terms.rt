@@ -1,4 +1,4 @@
-ghost use Rattle.std.specs.Prelude.{◌≡◌, ℕ, ◌<◌, ◌≤◌, length};
+ghost use Rattle.std.specs.Prelude.{◌<◌, ◌≤◌, length};
 ghost use Rattle.bar_window.specs.declared.exchange.XKind.{XKind};
 ghost use Rattle.bar_window.specs.declared.exchange.XKind.TheVariants as kinds;
 ghost use Rattle.bar_window.specs.Exchange.{kind_code};

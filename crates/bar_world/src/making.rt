@@ -1,5 +1,5 @@
 //! The start of a world.
-ghost use Rattle.std.specs.Prelude.{◌≡◌, ◌*◌, ◌≤◌, ℕ, [], true, false, List, length, replicate, slice_get, Some, None, IfOk};
+ghost use Rattle.std.specs.Prelude.{◌≡◌, ◌*◌, ◌≤◌, ℕ, [], true, false, length, replicate, slice_get, Some, None, IfOk};
 ghost use Rattle.bar_wire.specs.Limits.{largest_content};
 ghost use Rattle.bar_roster.specs.declared.key_file.KeyFile.{KeyFile as Key};
 ghost use Rattle.bar_roster.specs.KeyFile.{IsKeyFileOf};

@@ -1,5 +1,5 @@
 //! A network that loses, repeats and delays by drawn numbers.
-ghost use Rattle.std.specs.Prelude.{◌≡◌, ℕ, ◌+◌, ◌*◌, ◌++◌, drop, IfOk, OnOk};
+ghost use Rattle.std.specs.Prelude.{◌≡◌, ℕ, ◌+◌, ◌*◌, ◌++◌, drop, OnOk};
 ghost use Rattle.std.specs.List.{range_with_len};
 ghost use Rattle.bar_rules.specs.World.World.{member};
 ghost use Rattle.bar_world.specs.Kept.{IsReady};

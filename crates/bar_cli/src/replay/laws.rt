@@ -1,5 +1,5 @@
 //! What each exit status of a replay means, and what then stands.
-ghost use Rattle.std.specs.Prelude.{◌≡◌, ◌≢◌, ◌⊎◌, ℕ, List, [], Some, None, IsSomeAnd, true};
+ghost use Rattle.std.specs.Prelude.{◌≡◌, ◌≢◌, ◌⊎◌, ℕ, List, [], None, IsSomeAnd, true};
 ghost use Rattle.bar_outside.specs.Causes.{Rose};
 ghost use Rattle.bar_outside.specs.Disk.{Content, readable};
 ghost use Rattle.bar_outside.specs.Follows.{IsReliable};

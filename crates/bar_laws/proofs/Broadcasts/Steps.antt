@@ -14,7 +14,7 @@ use Rattle.bar_window.specs.declared.update.UpdateId.{UpdateId}
 use Rattle.bar_wire.specs.Datagram.{kind_of, round_of, Datagram, Body, Manifest, Block, Evidence, Evict}
 use Rattle.bar_wire.specs.Grammar.{IsPeer}
 use Rattle.bar_wire.specs.Limits.{leaves_a_round}
-use Rattle.std.proofs.Common.{◌≡◌, ℕ, Bool, true, false, List, [], ◌∷◌, ◌+◌, ◌-◌, ◌*◌, ◌^◌, ◌<◌, ◌≤◌, not, length, arith, refl, ◌∙◌}
+use Rattle.std.proofs.Common.{◌≡◌, ℕ, Bool, true, false, List, [], ◌∷◌, ◌+◌, ◌-◌, ◌*◌, ◌<◌, ◌≤◌, not, length, arith, refl, ◌∙◌}
 use Rattle.std.specs.Prelude.{Option, Some, None, is_none, is_some, cond, nat_le, nat_lt, filter}
 use Rattle.std.specs.List.{AllByRecursion}
 use Rattle.std.proofs.lemmas.Bool.{leb-true, ltb-true, not-false}

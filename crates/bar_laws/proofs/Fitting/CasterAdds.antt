@@ -15,7 +15,7 @@ use Rattle.bar_window.specs.declared.update.UpdateId.{UpdateId}
 use Rattle.bar_wire.specs.Datagram.{kind_of, Datagram, Body, Manifest, Block, Evidence, Evict}
 use Rattle.bar_wire.specs.Inputs.{Input}
 use Rattle.bar_wire.specs.Inputs as event
-use Rattle.std.proofs.Common.{◌≡◌, ℕ, Bool, true, false, List, [], ◌∷◌, ◌+◌, ◌-◌, ◌*◌, ◌^◌, ◌<◌, ◌≤◌, not, length, arith, refl, sym, ap, subst, inl, inr}
+use Rattle.std.proofs.Common.{◌≡◌, ℕ, Bool, true, false, List, [], ◌∷◌, ◌+◌, ◌-◌, ◌*◌, ◌<◌, ◌≤◌, not, length, arith, refl, sym, ap, subst, inl, inr}
 use Rattle.std.specs.Prelude.{Option, Some, None, is_some, cond, nat_le, nat_lt, filter}
 use Rattle.bar_laws.proofs.Logs.{first_said-was, SaidIn, said-in, all-of, all-kept, all-map}
 use Rattle.bar_laws.proofs.Runs.{Adds, SentBy, adds-send, sent-said, came, ticked-low}

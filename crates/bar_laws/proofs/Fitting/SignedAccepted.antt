@@ -10,7 +10,7 @@ use Rattle.bar_rules.specs.Secrets.{signature_of}
 use Rattle.bar_rules.specs.Values.{message_bytes, is_signed_by}
 use Rattle.bar_wire.specs.Datagram.{Message, Datagram}
 use Rattle.bar_laws.specs.Leaves.{KeepsLeaves}
-use Rattle.std.proofs.Common.{◌≡◌, ◌∙◌, ℕ, ◌<◌, ◌^◌, true, List, [], sym, ap, subst}
+use Rattle.std.proofs.Common.{◌≡◌, ◌∙◌, ℕ, ◌<◌, true, List, [], sym, ap, subst}
 use Rattle.std.specs.Prelude.{Option, Some, slice_get, unwrap_or, Contains}
 use Rattle.bar_laws.proofs.Logs.{signed_accepted, said-rule, SaidIn, was-said}
 use Rattle.bar_laws.proofs.Runs.{keeps-leaves, said-contains}

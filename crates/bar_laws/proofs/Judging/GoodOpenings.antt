@@ -1,6 +1,6 @@
 -- An opening that isn't bad, of updates that the table knows, is good; and a good opening has a block for each update.
 use Rattle.bar_case.specs.Items.{junk_key, junk_item}
-use Rattle.bar_case.specs.Opened.{is_bad, is_broken, is_untold, sound_if, digest_finding, item_finding, findings, opening_by, opened, opened_blocks}
+use Rattle.bar_case.specs.Opened.{is_bad, is_broken, is_untold, sound_if, digest_finding, findings, opening_by, opened, opened_blocks}
 use Rattle.bar_case.specs.Opened as opening
 use Rattle.bar_case.specs.declared.findings.Finding.{Finding}
 use Rattle.bar_rules.specs.Member.{Session}

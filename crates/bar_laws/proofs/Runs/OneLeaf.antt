@@ -22,7 +22,7 @@ use Rattle.bar_window.specs.declared.exchange.XKind.TheVariants.{Balanced, Push}
 use Rattle.bar_window.proofs.Exchanges.{same_exchange-is}
 use Rattle.bar_wire.specs.Datagram.{is_place, place_by, Message, Datagram, Body, Request, Response, Query, Reply, Case, Key, is_of, is_signed, kind_number, part_of, exchange_by, identity_of, named, round_of, Place, place_of}
 use Rattle.std.specs.Option.{option_or}
-use Rattle.std.proofs.Common.{◌≡◌, ℕ, ◌<◌, ◌≤◌, ◌^◌, ◌*◌, Bool, true, false, List, [], ◌∷◌, refl, sym, ap, ◌∙◌, subst, inl, inr, ◌&&◌, ◌||◌, eqb, arith}
+use Rattle.std.proofs.Common.{◌≡◌, ℕ, ◌<◌, ◌≤◌, ◌*◌, Bool, true, false, List, [], ◌∷◌, refl, sym, ap, ◌∙◌, subst, inl, inr, ◌&&◌, ◌||◌, eqb, arith}
 use Rattle.std.specs.Prelude.{Option, Some, None, ◌⊎◌, is_some, option_map, unwrap_or, if◌then◌else◌}
 use Rattle.std.specs.Option.{option_map_or}
 use Rattle.std.proofs.lemmas.Bool.{and_parts, ltb-true}

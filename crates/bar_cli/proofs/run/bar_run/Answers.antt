@@ -1,7 +1,5 @@
 use Rattle.std.proofs.Common.{◌∙◌, Option, None, Some, IsTrue, ap, sym, subst, inl, inr, arith}
 use Rattle.bar_outside.specs.Disk.{Disk}
-use Rattle.bar_cli.specs.Headline.{KeepsTheRules}
-use Rattle.bar_cli.specs.Audit.Plan.{audit_plan}
 use Rattle.bar_cli.specs.Judge.Plan.{judge_plan}
 use Rattle.bar_cli.specs.Keygen.Plan.{keygen_plan}
 use Rattle.bar_cli.specs.Line.{Line, peer, broadcaster, replay, keygen, audit, judge, simulate, has_plan, is_status_of, reads_nothing, pack, verify}

@@ -1,4 +1,4 @@
-use Rattle.std.proofs.Common.{◌≡◌, ◌⊎◌, ◌∙◌, ◌==◌, Err, Some, [], IsTrue, refl, sym, ap, subst, inl, inr, rules, true≢false}
+use Rattle.std.proofs.Common.{◌≡◌, ◌⊎◌, ◌∙◌, Err, Some, [], IsTrue, refl, sym, ap, inl, inr, rules, true≢false}
 use Rattle.std.proofs.lemmas.Result.{err_from_is_err_and}
 use Rattle.bar_outside.specs.Faults.{code_of_fault, fault_of_file}
 use Rattle.bar_outside.specs.Plan.{with_out}
@@ -6,7 +6,6 @@ use Rattle.bar_outside.specs.declared.files.FileFault.{FileFault}
 use Rattle.bar_outside.specs.declared.files.FileFault.TheVariants as file
 use Rattle.bar_outside.proofs.Ending.{EndsWith-reading, EndsWith-accepted, EndsWith-refused, EndsWith-ending, EndsWith-memory, EndsWith-unread}
 use Rattle.bar_child_processes.specs.Names.{SessionNames}
-use Rattle.bar_child_processes.specs.Sessions.{SessionRan}
 use Rattle.bar_child_processes.specs.Views.{names_view}
 use Rattle.bar_session_files.specs.Accepting.{session_of}
 use Rattle.bar_cli.specs.Line.{is_status_of, session_run}

@@ -1,4 +1,4 @@
-use Rattle.std.proofs.Common.{◌≡◌, ◌∙◌, true, Option, Some, refl, sym, ap, subst}
+use Rattle.std.proofs.Common.{◌≡◌, ◌∙◌, Option, Some, refl, sym, ap, subst}
 use Rattle.std.specs.Prelude.{option_map, IfSome}
 use Rattle.bar_wire.specs.Datagram.{Place, place_of}
 use Rattle.bar_wire.specs.Sides.{place_in}

@@ -1,4 +1,4 @@
-use Rattle.std.proofs.Common.{sym, subst, true, false}
+use Rattle.std.proofs.Common.{sym, subst, true}
 use Rattle.bar_hss.specs.Files.{IsPartyKeyOf}
 use Rattle.bar_roster.specs.SessionText.{SessionData}
 use Rattle.bar_world.proofs.making.start_caster.Goals as goal

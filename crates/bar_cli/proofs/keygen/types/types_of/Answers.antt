@@ -1,7 +1,6 @@
 use Rattle.std.proofs.Common.{◌≡◌, ◌∙◌, ap, ℕ, List, Option, Some, None, option_map, option_and_then}
 use Rattle.bar_lms.specs.declared.params.Height.{Height}
 use Rattle.bar_lms.specs.declared.params.Params.{Params}
-use Rattle.bar_roster.proofs.Levels.{one_level}
 use Rattle.bar_roster.specs.Shapes.{params_of}
 use Rattle.bar_arguments.specs.Numbers.{number_in}
 use Rattle.bar_cli.specs.Keygen.Types.{types_of}

@@ -1,5 +1,4 @@
-use Rattle.std.proofs.Common.{◌∙◌, sym, subst}
-use Rattle.std.specs.Prelude.{IsSome}
+use Rattle.std.proofs.Common.{◌∙◌, sym}
 use Rattle.bar_lms.specs.Params.{lms_type}
 use Rattle.bar_roster.specs.SessionText.{SessionData}
 use Rattle.bar_hss.proofs.FileLemmas.{is_there, no_top}

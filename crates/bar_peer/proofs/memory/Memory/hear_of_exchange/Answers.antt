@@ -1,4 +1,4 @@
-use Rattle.std.proofs.Common.{◌∙◌, Some, sym, ap}
+use Rattle.std.proofs.Common.{◌∙◌, sym, ap}
 use Rattle.std.specs.Prelude.{option_map}
 use Rattle.bar_wire.specs.Datagram.{Datagram, part_of}
 use Rattle.bar_wire.specs.Views.{datagram, plain}

@@ -1,4 +1,4 @@
-use Rattle.std.proofs.Common.{◌≡◌, ◌&&◌, ◌∙◌, Bool, true, false, is_some, sym, ap, refl}
+use Rattle.std.proofs.Common.{◌≡◌, ◌&&◌, ◌∙◌, true, false, is_some, sym, ap, refl}
 use Rattle.bar_wire.specs.Views.{plain}
 use Rattle.bar_roster.specs.Time.{round_after}
 use Rattle.bar_rules.specs.Peer.Admission.{is_row_met}
