@@ -1,5 +1,5 @@
 //! What the bytes of a datagram in a party's recording add.
-ghost use Rattle.std.specs.Prelude.{◌≡◌, ◌+◌, ◌≤◌, false, Some, OnOk, IfSome, option_map, if◌then◌else◌};
+ghost use Rattle.std.specs.Prelude.{◌+◌, ◌≤◌, false, Some, OnOk, if◌then◌else◌};
 ghost use Rattle.std.specs.Option.{option_map_or};
 ghost use Rattle.bar_wire.specs.Places.{datagram_of};
 ghost use Rattle.bar_wire.specs.Views.{datagram};
@@ -12,21 +12,11 @@ use crate::findings::{Findings, NoMemory};
 use crate::side::Side;
 use crate::taking::{take_case, take_key};
 use bar_bytes::Steps;
+use bar_judge::read_view;
 use bar_roster::Session;
 use bar_seal::Verifier;
-use bar_wire::{Body, Shape, View, decode, place_of};
+use bar_wire::{Body, View, place_of};
 use std::sync::ledger::Ledger;
-
-/// The datagram that some bytes spell.
-fn read<'a>(bytes: &'a [u8], shape: &Shape) -> Option<View<'a>>
-    ensures told { option_map (datagram shape.now) result ≡ datagram_of shape.now bytes.now }
-    ensures read { IfSome result (IsRead shape.now) }
-{
-    match decode(bytes, shape) {
-        Ok(view) => Some(view),
-        Err(_) => None,
-    }
-}
 
 /// Keeps what a datagram shows of the side that sent it to this party.
 fn give_view<V: Verifier, L: Ledger>(
@@ -87,7 +77,7 @@ pub(crate) fn give<V: Verifier, L: Ledger>(
     ensures cost { steps.new ≤ steps.old
         + (if option_map_or (is_told party) (datagram_of session.now.shape bytes.now) false then V.most_steps verifier.now else 0) }
 {
-    match read(bytes, &session.shape()) {
+    match read_view(bytes, &session.shape()) {
         Some(view) => give_view(found, session, verifier, party, &view, steps),
         None => Ok(()),
     }

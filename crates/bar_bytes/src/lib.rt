@@ -5,7 +5,7 @@ pub use read::{Reader, Short, split_array, split_u8, split_u16, split_u32, split
 pub use room::Room;
 pub use rooms::Rooms;
 pub use steps::Steps;
-pub use tagged::Tagged;
+pub use tagged::{Tagged, tagged_hash};
 pub use write::{Full, Writer, put, put_u8, put_u16, put_u32};
 
 mod read;

@@ -1,10 +1,10 @@
 //! The items of a briefcase as bytes.
 
-ghost use Rattle.std.specs.Prelude.{◌≡◌, ℕ};
+ghost use Rattle.std.specs.Prelude.{◌≡◌};
 ghost use Rattle.bar_case.specs.Items.{item_len, junk_key, junk_item};
 
 use crate::cipher::keystream;
-use bar_bytes::Tagged;
+use bar_bytes::tagged_hash;
 use bar_terms::Item;
 use bar_window::Exchange;
 
@@ -26,9 +26,7 @@ pub(crate) fn item_len(item: &Item) -> usize
 pub(crate) fn junk_key(id: &[u8; 8], x: &Exchange) -> [u8; 32]
     ensures { result ≡ junk_key id.now x.now }
 {
-    let mut hash = Tagged::new(b"JNK1", id);
-    hash.add(&x.bytes());
-    hash.finish()
+    tagged_hash(b"JNK1", id, &x.bytes())
 }
 
 /// A piece of junk by its number.

@@ -1,18 +1,18 @@
 //! Secret keys.
 
-ghost use Rattle.std.specs.Prelude.{◌≡◌, ◌+◌, ◌*◌, ◌/◌, ◌%◌, ◌^◌, ◌≤◌, ◌<◌, ◌++◌, IfOk, codes, length, take, drop};
+ghost use Rattle.std.specs.Prelude.{◌≡◌, ◌+◌, ◌*◌, ◌/◌, ◌%◌, ◌^◌, ◌≤◌, ◌<◌, ◌++◌, IfOk, length, take, drop};
 ghost use Rattle.std.specs.Int.{w32, to_be_bytes};
 ghost use Rattle.bar_bytes.specs.Tag.{tagged};
 ghost use Rattle.bar_lms.specs.Params.{levels, signature_len};
 ghost use Rattle.bar_lms.specs.Signature.{key_bytes, public_of};
-ghost use Rattle.bar_lms.specs.Hss.{hss_leaves, hss_public_key, hss_signature_len, hss_signed, leaves_of, lower_key, lower_of, lower_signature, numbered, upper_of, upper_secret, upper_signature};
+ghost use Rattle.bar_lms.specs.Hss.{hss_leaves, hss_public_key, hss_signature_len, hss_signed, leaves_of, lower_key, lower_of, upper_of, upper_signature};
 ghost use Rattle.bar_lms.specs.Tree.{private_by};
 ghost use Rattle.bar_hss.specs.Pairs.{IsPair};
 
 use crate::lower::LowerTree;
 use crate::trees::Trees;
 use crate::writing::{put_key, put_number, put_signature};
-use bar_bytes::Tagged;
+use bar_bytes::{Tagged, tagged_hash};
 use bar_lms::{Params, Place, Remembered, fill_tree, public_key};
 use std::alloc::{AllocError, Global};
 use std::cell::RefCell;
@@ -50,15 +50,6 @@ impl Model for HssKey {
         × (length s.nodes.items ≡ 2 * 2 ^ levels s.top.height) };
 }
 
-// The tagged hash of one field.
-fn tagged_one(tag: &[u8; 4], id: &[u8; 8], field: &[u8; 32]) -> [u8; 32]
-    ensures { result ≡ tagged tag.now id.now field.now }
-{
-    let mut hash = Tagged::new(tag, id);
-    hash.add(field);
-    hash.finish()
-}
-
 // The tagged hash of a number and a secret.
 fn tagged_number(tag: &[u8; 4], id: &[u8; 8], number: u32, secret: &[u8; 32]) -> [u8; 32]
     ensures { result ≡ tagged tag.now id.now (to_be_bytes w32 number ++ secret.now) }
@@ -94,8 +85,8 @@ impl HssKey {
         requires { IsPair top low }
         ensures { IfOk result (λ s. s ≡ record { top = top; low = low; id = id.now; secret = secret.now }) }
     {
-        let seed = tagged_one(b"SED1", id, secret);
-        let ident = name_of(&tagged_one(b"IDN1", id, secret));
+        let seed = tagged_hash(b"SED1", id, secret);
+        let ident = name_of(&tagged_hash(b"IDN1", id, secret));
         let mut nodes = vec![in alloc; [0u8; 32]; 2 * top.height.leaves()]?;
         fill_tree(top, &seed, &ident, &mut nodes);
         let trees = Trees::none(alloc);

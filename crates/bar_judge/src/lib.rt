@@ -27,7 +27,7 @@ pub use fault::Fault;
 pub use finding::found;
 pub use judging::verdict;
 pub use listing::list_after;
-pub use pair::{Pair, is_accepted, read_all};
+pub use pair::{Pair, is_accepted, read_all, read_view};
 pub use reading::read_table;
 pub use table_fault::TableFault;
 pub use verdicts::Verdict;

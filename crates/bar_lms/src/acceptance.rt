@@ -1,13 +1,13 @@
 //! Acceptance of a signature.
 
-ghost use Rattle.std.specs.Prelude.{◌≡◌, ℕ, ◌+◌, ◌-◌, ◌*◌, ◌/◌, ◌%◌, ◌^◌, ◌≤◌, ◌<◌, ◌++◌, ◌↔◌, ◌∷◌, [], List, IsTrue, length, take, drop, slice_index, slice_index_or};
+ghost use Rattle.std.specs.Prelude.{◌≡◌, ℕ, ◌+◌, ◌-◌, ◌*◌, ◌/◌, ◌%◌, ◌^◌, ◌≤◌, ◌<◌, ◌++◌, ◌↔◌, [], List, IsTrue, length, slice_index_or};
 ghost use Rattle.std.specs.Int.{w16, w32, to_be_bytes};
 ghost use Rattle.sha2.specs.Hashers.{Holds256};
 ghost use Rattle.bar_lms.specs.Params.{chains, last, levels, signature_len, most_steps};
 ghost use Rattle.bar_lms.specs.Chains.{joined, steps_left, message_hash, one_time_key};
 ghost use Rattle.bar_lms.specs.Order.{longest_by_eights};
 ghost use Rattle.bar_lms.specs.Tree.{leaf_node, parent, climb};
-ghost use Rattle.bar_lms.specs.Signature.{Public, hash_at, number_at, end_at, candidate, candidate_steps};
+ghost use Rattle.bar_lms.specs.Signature.{hash_at, number_at, end_at, candidate, candidate_steps};
 ghost use Rattle.bar_lms.specs.Acceptance.{Accepts, is_well_formed, is_accepted, steps_taken};
 
 use crate::all_chains::all_chains;
@@ -194,8 +194,8 @@ fn key_of_ends<L: Ledger>(
     hasher.finalize()
 }
 
-// The number of four bytes at a place.
-pub(crate) fn number_at(bytes: &[u8], at: usize) -> u32
+/// The number of four bytes at a place, the highest byte first (RFC 8554, 3.1.2).
+pub fn number_at(bytes: &[u8], at: usize) -> u32
     requires { at + 4 ≤ length bytes.now }
     ensures { result ≡ number_at bytes.now at }
 {

@@ -1,7 +1,7 @@
 //! LMS signatures (RFC 8554) with SHA-256 and 32-byte hashes.
 #![tactic(auto)]
 
-pub use acceptance::verify;
+pub use acceptance::{number_at, verify};
 pub use key::{KeyFault, PublicKey};
 pub use laws::{
     acceptance_is_tested, acceptance_under_types_is_tested, hss_acceptance_is_tested,

@@ -1,10 +1,8 @@
 //! Secret keys.
 
-ghost use Rattle.std.specs.Prelude.{◌≡◌, ℕ, ◌*◌, ◌^◌, ◌≤◌, ◌<◌, true, IfOk, length, take, drop};
-ghost use Rattle.bar_bytes.specs.Tag.{tagged};
+ghost use Rattle.std.specs.Prelude.{◌≡◌, ◌*◌, ◌^◌, ◌≤◌, ◌<◌, true, IfOk, length, take, drop};
 ghost use Rattle.bar_lms.specs.Params.{levels, signature_len};
-ghost use Rattle.bar_lms.specs.Tree.{root};
-ghost use Rattle.bar_lms.specs.Signature.{key_bytes, public_of, signature};
+ghost use Rattle.bar_lms.specs.Signature.{public_of};
 ghost use Rattle.bar_lms.specs.Acceptance.{Accepts, is_accepted_under, is_key_of};
 
 use crate::bytes::put;
@@ -14,7 +12,7 @@ use crate::private::Private;
 use crate::remembered::Remembered;
 use crate::signing::sign_from;
 use crate::tree::fill;
-use bar_bytes::Tagged;
+use bar_bytes::{Tagged, tagged_hash};
 use std::alloc::{AllocError, Global};
 use std::cell::RefCell;
 use std::marker::{Brand, Model};
@@ -44,15 +42,6 @@ impl Model for SecretKey {
         × HoldsTree s.key s.nodes.items × (length s.nodes.items ≡ 2 * 2 ^ levels s.key.params.height) };
 }
 
-// The tagged hash of one field.
-fn tagged_one(tag: &[u8; 4], id: &[u8; 8], field: &[u8; 32]) -> [u8; 32]
-    ensures { result ≡ tagged tag.now id.now field.now }
-{
-    let mut hash = Tagged::new(tag, id);
-    hash.add(field);
-    hash.finish()
-}
-
 impl SecretKey {
     ghost use Rattle.bar_lms.specs.Secret.{private_of, public_key, signed};
 
@@ -67,8 +56,8 @@ impl SecretKey {
     ) -> Result<SecretKey, AllocError>
         ensures { IfOk result (λ s. s ≡ record { params = params; id = id.now; secret = secret.now }) }
     {
-        let seed = tagged_one(b"SED1", id, secret);
-        let name = tagged_one(b"IDN1", id, secret);
+        let seed = tagged_hash(b"SED1", id, secret);
+        let name = tagged_hash(b"IDN1", id, secret);
         let mut ident = [0u8; 16];
         ident.copy_from_slice(&name[..16]);
         let key = Private {
