@@ -1,5 +1,4 @@
 pub mod Terms
-pub mod Sets
 pub mod Passing
 pub mod FourTests
 pub mod One
