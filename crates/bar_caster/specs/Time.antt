@@ -1,23 +1,23 @@
 -- The time of a broadcaster: its log has as many ticks as the inputs that it took, up to the last tick of its session.
-use Rattle.std.proofs.Common.{◌≡◌, ◌≤◌, ◌<◌, ◌^◌, ◌∙◌, ℕ, ◌+◌, ◌-◌, ◌*◌, min, Bool, true, false, List, [], ◌∷◌, Option, Some, None, is_some}
+use Rattle.std.proofs.Common.{◌≡◌, ◌≤◌, ◌<◌, ◌^◌, ◌∙◌, ℕ, ◌+◌, ◌-◌, ◌*◌, min, Bool, true, false, List, [], ◌∷◌, Option, Some, None}
 use Rattle.std.proofs.Common.{length, filter, refl, arith}
 use Rattle.std.specs.Prelude.{◌==◌, ◌||◌, not, nat_le, nat_lt, if◌then◌else◌}
 use Rattle.std.proofs.lemmas.Bool.{leb-true, leb-false}
 use Rattle.bar_window.specs.declared.update.UpdateId.{UpdateId}
-use Rattle.bar_wire.specs.Datagram.{Body, Datagram, Manifest, Block, Evidence, Evict, kind_of}
+use Rattle.bar_wire.specs.Datagram.{Body, Datagram, Manifest, Block, Evict, kind_of}
 use Rattle.bar_wire.specs.Inputs.{Input}
 use Rattle.bar_wire.specs.Inputs as event
 use Rattle.bar_record.specs.Pacing.{ticks_in, ticks_of}
 use Rattle.bar_core.proofs.Stepwise.{ticks-stepwise}
+use Rattle.bar_laws.proofs.Broadcasts.{datagram-time}
 use Rattle.bar_rules.specs.Broadcaster.Party.{IsBroadcaster}
 use Rattle.bar_rules.specs.Broadcaster.Sending.{announce_by, announce_evictions, announce_manifest, caster_log_after, caster_signed}
-use Rattle.bar_rules.specs.Broadcaster.Sending.{caster_step, caster_take, caster_tick, evict_by, evicted, judge_body, judge_datagram}
+use Rattle.bar_rules.specs.Broadcaster.Sending.{caster_step, caster_take, caster_tick, evicted}
 use Rattle.bar_rules.specs.Broadcaster.Sending.{send_all, send_block, send_blocks, served}
-use Rattle.bar_rules.specs.Broadcaster.Stream.{caster_table, is_in_fanout, manifest_list, round_blocks}
-use Rattle.bar_rules.specs.Judge.Verdict.{Verdict, Shown, NotShown, verdict}
+use Rattle.bar_rules.specs.Broadcaster.Stream.{is_in_fanout, manifest_list, round_blocks}
 use Rattle.bar_roster.specs.Time.{last_tick, slot_after}
 use Rattle.bar_rules.specs.Member.{Member}
-use Rattle.bar_rules.specs.Peer.Log.{Log, Ticked, Said, Kept, first_said, has_kind_and_round, kept, round_now, ticks}
+use Rattle.bar_rules.specs.Peer.Log.{Log, Ticked, Said, first_said, has_kind_and_round, round_now, ticks}
 use Rattle.bar_rules.specs.Runs.{Outcome, begun, sending, state_after}
 use Rattle.bar_rules.specs.Values.{datagram_of, unsigned}
 use Rattle.bar_caster.specs.StandsFor.{Inputs}
@@ -90,24 +90,6 @@ tick-time me stream out =
     go true false true middle = manifest-time me stream m out
     go true false false true = send_blocks-time me m 0 (round_blocks me.session stream m) out
     go true false false false = refl
-
--- ---- nor does a datagram
-
-evict-time : (log : Log) (evidence : List (List ℕ)) (v : Verdict) → ticks (evict_by log evidence v) ≡ ticks log
-evict-time log evidence (NotShown why) = refl
-evict-time log evidence (Shown party fault) = go (is_some (kept log party))
-  where
-    go : (b : Bool) → ticks (if b then log else Kept party evidence ∷ log) ≡ ticks log
-    go true = refl
-    go false = omega arith
-
-judge-time : (me : Member) (stream : List ℕ) (log : Log) (body : Body) → ticks (judge_body me stream log body) ≡ ticks log
-judge-time me stream log (Evidence evidence) = evict-time log evidence (verdict me.session (caster_table me stream log) evidence)
-judge-time me stream log _ = refl
-
-datagram-time : (me : Member) (stream : List ℕ) (log : Log) (o : Option Datagram) → ticks (judge_datagram me stream log o) ≡ ticks log
-datagram-time me stream log None = refl
-datagram-time me stream log (Some d) = judge-time me stream log d.message.body
 
 -- ---- over the inputs
 

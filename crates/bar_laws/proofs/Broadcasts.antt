@@ -10,4 +10,4 @@ pub use Rattle.bar_laws.proofs.Broadcasts.Serving.{serves-the-others}
 pub use Rattle.bar_laws.proofs.Broadcasts.Signing.{signs-once}
 pub use Rattle.bar_laws.proofs.Broadcasts.Evicting.{evicts-exactly}
 pub use Rattle.bar_laws.proofs.Broadcasts.FanoutCounts.{fanouts-whole}
-pub use Rattle.bar_laws.proofs.Broadcasts.FanoutSends.{to-the-fanout, out-twice}
+pub use Rattle.bar_laws.proofs.Broadcasts.FanoutSends.{to-the-fanout, out-twice, datagram-time}

@@ -21,4 +21,4 @@ pub use Rattle.bar_laws.proofs.Memory.AgreeTotals.{totals-agree}
 pub use Rattle.bar_laws.proofs.Memory.GoingOn.{goes-on}
 pub use Rattle.bar_laws.proofs.Memory.Rewritten.{rewritten}
 pub use Rattle.bar_laws.proofs.Memory.Remembered.{remembered}
-pub use Rattle.bar_laws.proofs.Memory.Sound.{sound}
+pub use Rattle.bar_laws.proofs.Memory.Sound.{sound, found-heard}

@@ -33,7 +33,7 @@ use Rattle.bar_peer.proofs.Keys.{admitted_row, admitted_for}
 use Rattle.bar_peer.proofs.Rows.{in_time as row_in_time}
 use Rattle.bar_peer.proofs.Again.{SpellOne}
 use Rattle.bar_peer.proofs.Stale.{in-time-by, stale-orders, repeated-is}
-use Rattle.bar_peer.proofs.Later.{obeys_before_all}
+use Rattle.bar_laws.proofs.Fitting.{perform_all-before}
 use Rattle.bar_peer.proofs.Sent.{none_stand}
 use Rattle.bar_peer.proofs.DueReplies.{IsDue, says-due, orders-due, row-deadline}
 
@@ -41,7 +41,7 @@ use Rattle.bar_peer.proofs.DueReplies.{IsDue, says-due, orders-due, row-deadline
 
 repeat-before : (me : Member) (log : Log) (o : Option Datagram) → IsObedient me (answer_repeat me log o).state → IsObedient me log
 repeat-before me log None h = h
-repeat-before me log (Some d) h = obeys_before_all me (begun log) (reply_orders me (known me log) false d) h
+repeat-before me log (Some d) h = perform_all-before me (reply_orders me (known me log) false d) (begun log) h
 
 -- what answers a datagram that is admitted or not
 abbrev answered-by : Member → Log → Datagram → Bool → Out
@@ -49,7 +49,7 @@ answered-by me log d b =
     if b then perform_all me (begun (Heard d ∷ log)) (reply_orders me (known me (Heard d ∷ log)) true d) else answer_repeat me log (repeated me (known me log) d)
 
 by-before : (me : Member) (log : Log) (d : Datagram) (b : Bool) → IsObedient me (answered-by me log d b).state → IsObedient me log
-by-before me log d true h = (obeys_before_all me (begun (Heard d ∷ log)) (reply_orders me (known me (Heard d ∷ log)) true d) h).1
+by-before me log d true h = (perform_all-before me (reply_orders me (known me (Heard d ∷ log)) true d) (begun (Heard d ∷ log)) h).1
 by-before me log d false h = repeat-before me log (repeated me (known me log) d) h
 
 pub answered-before : (me : Member) (log : Log) (d : Datagram) → IsObedient me (answered_to me log d).state → IsObedient me log

@@ -17,7 +17,8 @@ use Rattle.bar_peer.specs.Orders.{Orders}
 use Rattle.bar_peer.specs.Memory.{member_of}
 use Rattle.bar_peer.specs.Sending.{Stands}
 use Rattle.bar_peer.specs.Ticking.{orders_of_opens, is_first_slot, AsksPartners, Reports}
-use Rattle.bar_peer.proofs.Later.{obeys_before_all, announced_after, evidence_after}
+use Rattle.bar_laws.proofs.Fitting.{perform_all-before}
+use Rattle.bar_peer.proofs.Later.{announced_after, evidence_after}
 use Rattle.bar_peer.proofs.Sent.{all_append}
 use Rattle.bar_peer.proofs.Unlogged.{opens_state}
 
@@ -64,7 +65,7 @@ asked_at_tick m n o p log time first asks room h obedient =
     let between : Out = perform_all me (begun log) (first_orders me k true) in
     let is_last : Bool = slot_after k.ticks == 7 in
     let allowed : IsObedient me between.state =
-    obeys_before_all me between (orders_when is_last (reports me k))
+    perform_all-before me (orders_when is_last (reports me k)) between
     (subst (λ (out : Out). IsObedient me out.state) (sym (at_tick me log true is_last (ap (is_first_slot me.session) time ∙ first) refl)) obedient)
     in
     let same : between ≡ perform_all me before (new_requests me (known me before.state) (round_after m.ticks)) =

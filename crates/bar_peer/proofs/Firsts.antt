@@ -5,13 +5,13 @@ use Rattle.bar_window.specs.declared.exchange.Exchange.{Exchange}
 use Rattle.bar_window.specs.declared.exchange.Role.TheVariants.{Initiator, Responder}
 use Rattle.bar_window.specs.declared.exchange.XKind.TheVariants.{Balanced}
 use Rattle.bar_window.specs.Terms.{Terms}
-use Rattle.bar_wire.specs.Datagram.{Datagram, Body, Response, Briefcase, place_by, place_of, kind_of}
+use Rattle.bar_wire.specs.Datagram.{Datagram, Body, Response, place_by, place_of, kind_of}
 use Rattle.bar_wire.specs.declared.kind.Kind.{Kind}
 use Rattle.bar_wire.specs.declared.kind.Kind.TheVariants as kinds
 use Rattle.bar_rules.specs.Member.{Member}
 use Rattle.bar_rules.specs.Peer.Agreement.{IsRecent}
 use Rattle.bar_rules.specs.Peer.Exchanges.{role_of, partner_in, answer_kind}
-use Rattle.bar_rules.specs.Peer.Holdings.{history, case_in}
+use Rattle.bar_rules.specs.Peer.Holdings.{history}
 use Rattle.bar_rules.specs.Peer.Knowledge.{Knowledge, known, with_said, this_round, answer_deadline, has_heard_of, has_said_of}
 use Rattle.bar_rules.specs.Peer.Machine.{message_to}
 use Rattle.bar_rules.specs.Peer.Orders.{answer_body, case_body, key_body}
@@ -20,6 +20,7 @@ use Rattle.bar_rules.specs.Peer.Run.{Out, say, say_new, say_or_repeat, perform}
 use Rattle.bar_rules.specs.Peer.Signing.{signed, MaySay}
 use Rattle.bar_rules.specs.Peer.Terms.{terms_of}
 use Rattle.bar_laws.specs.Knowing.{EntryIsLearned}
+use Rattle.bar_laws.proofs.Memory.{found-heard}
 use Rattle.bar_ledger.specs.Recalls.{Recalls}
 use Rattle.bar_exchange.specs.Keeping.{IsSaidNow}
 use Rattle.bar_exchange.specs.Says.{order_by}
@@ -167,10 +168,6 @@ gives_case old m x result learned same life teach without out lacks obeys holds 
         (carried_new kinds.Case x (case_body me k x t) out _ old m learned (λ me k x. refl) same holds (says t) some.1
         (is (Some t) e))
 
-some_case : (o : Option Datagram) (c : Briefcase) → case_in o ≡ Some c → is_some o ≡ true
-some_case None c is = absurd (cc)
-some_case (Some d) c is = refl
-
 -- a KEY follows this member's CASE
 pub gives_key : (old m : Memory) (x : Exchange) (result : Bool) → EntryIsLearned → HasOtherLedger old m → 2 ≤ m.who.session.shape.life
     → ((k : Knowledge) (d : Datagram) → IsMemoryOf (member_of m.who) k old → IsSaidNow (member_of m.who) k d kinds.Key x
@@ -203,7 +200,7 @@ gives_key old m x result learned same life teach out lacks obeys holds own =
     case_said : has_said_of k kinds.Case x (role_of me x) ≡ true
     case_said =
         let rule = allowed me x (key_body me x) out _ obeys is in
-        (λ i. has_said_of k kinds.Case ((sym place i).exchange) (role_of me x)) ∙ some_case _ rule.ours rule.said
+        (λ i. has_said_of k kinds.Case ((sym place i).exchange) (role_of me x)) ∙ found-heard _ rule.ours rule.said
 
     given : (result ≡ true) × Learns m k (signed_in me out x (key_body me x))
     given = teach k (signed_in me out x (key_body me x)) holds says case_said

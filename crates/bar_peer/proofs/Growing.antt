@@ -17,7 +17,6 @@ use Rattle.bar_rules.specs.Peer.Knowledge.{Knowledge, known, this_round}
 use Rattle.bar_rules.specs.Peer.Log.{Log, Said, ticks, earliest, kept_in}
 use Rattle.bar_rules.specs.Peer.Machine.{send_if}
 use Rattle.bar_rules.specs.Peer.Orders.{Order, Ask, Answer, Reveal, GiveCase, AskKey, GiveKey, Resend, Report}
-use Rattle.bar_rules.specs.Peer.Rules.{IsObedient}
 use Rattle.bar_rules.specs.Peer.Run.{Out, say_or_repeat, perform}
 use Rattle.bar_exchange.specs.declared.say.Say.{Say}
 use Rattle.bar_laws.proofs.Logs.{option_or-some}
@@ -54,11 +53,6 @@ state_after_order P me out (Resend kind x) same more =
 state_after_order P me out (Reveal x) same more = state_if_sent P me out (partner_in me x) _ same
 state_after_order P me out (AskKey x) same more = same
 state_after_order P me out (Report q) same more = state_if_sent P me out 0 _ same
-
--- what stood before an allowed log was allowed
-pub obeys_before : (me : Member) (out : Out) (o : Order) → IsObedient me (perform me out o).state → IsObedient me out.state
-obeys_before me out o =
-    state_after_order (λ log. IsObedient me log → IsObedient me out.state) me out o (λ obeys. obeys) (λ d obeys. obeys.1)
 
 -- ---- what is known then
 

@@ -1,17 +1,12 @@
--- What stands before orders: the log was obedient, the same parties were announced evicted, and the same evidence was kept.
+-- What stands before orders: the same parties were announced evicted, and the same evidence was kept.
 use Rattle.std.proofs.Common.{◌≡◌, ℕ, ◌∙◌, List, [], ◌∷◌, Option, Some, None, is_some, refl}
 use Rattle.std.specs.Option.{option_or}
 use Rattle.bar_rules.specs.Member.{Member}
 use Rattle.bar_rules.specs.Peer.Knowledge.{known}
 use Rattle.bar_rules.specs.Peer.Log.{Log, earliest, heard_in, if_passes, names_party}
 use Rattle.bar_rules.specs.Peer.Orders.{Order}
-use Rattle.bar_rules.specs.Peer.Rules.{IsObedient}
 use Rattle.bar_rules.specs.Peer.Run.{Out, perform, perform_all}
-use Rattle.bar_peer.proofs.Growing.{state_after_order, obeys_before, grows}
-
-pub obeys_before_all : (me : Member) (out : Out) (os : List Order) → IsObedient me (perform_all me out os).state → IsObedient me out.state
-obeys_before_all me out [] obeys = obeys
-obeys_before_all me out (o ∷ os) obeys = obeys_before me out o (obeys_before_all me (perform me out o) os obeys)
+use Rattle.bar_peer.proofs.Growing.{state_after_order, grows}
 
 with_none : {X : Type 0} (o : Option X) → is_some (option_or o None) ≡ is_some o
 with_none None = refl

@@ -16,7 +16,8 @@ use Rattle.bar_peer.specs.Orders.{Orders}
 use Rattle.bar_peer.specs.Memory.{member_of}
 use Rattle.bar_peer.specs.Sending.{Stands}
 use Rattle.bar_peer.specs.Ticking.{AsksPartner}
-use Rattle.bar_peer.proofs.Later.{obeys_before_all, announced_after}
+use Rattle.bar_laws.proofs.Fitting.{perform_all-before}
+use Rattle.bar_peer.proofs.Later.{announced_after}
 use Rattle.bar_peer.proofs.Sent.{all_append}
 
 pub both_asked : (who : Credentials) (round : ℕ) (m n q : Memory) (o p r : Orders) → AsksPartner who round Balanced m o n p
@@ -37,7 +38,7 @@ both_asked who round m n q o p r first second few same out some obedient h room 
     in
     let allowed : IsObedient me (perform_all me between ps).state = subst (λ (after : Out). IsObedient me after.state) (sym all) obedient in
     let one : Stands between n p =
-    first out k (λ party. refl) (obeys_before_all me between ps allowed) h (omega arith)
+    first out k (λ party. refl) (perform_all-before me ps between allowed) h (omega arith)
     in
     subst (λ (after : Out). Stands after q r) all
     (second between k (λ party. sym (announced_after me out os party)) allowed one (omega arith))

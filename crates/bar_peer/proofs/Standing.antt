@@ -19,7 +19,8 @@ use Rattle.bar_peer.specs.declared.order.Order.TheVariants as queued
 use Rattle.bar_peer.specs.Orders.{Orders}
 use Rattle.bar_peer.specs.Memory.{member_of}
 use Rattle.bar_peer.specs.Sending.{order_now, IsOrderTimely, IsOwn, AreFor, IsCarriedOut, Stands}
-use Rattle.bar_peer.proofs.Growing.{Grows, grows, sends_stay, timely_still, all_timely_still, own_still, obeys_before}
+use Rattle.bar_laws.proofs.Fitting.{perform-before}
+use Rattle.bar_peer.proofs.Growing.{Grows, grows, sends_stay, timely_still, all_timely_still, own_still}
 
 -- orders are of what was sent still, where something more was said
 pub orders_stay : (me : Member) (old new : Knowledge) (list : List Order) (sends : List (ℕ × Datagram)) → Grows old new
@@ -111,7 +112,7 @@ two_stand old mid new orders put pushed first second says out is who room short 
     (sym is)
     (λ obeys stands own left.
     subst (λ (who : Credentials). Replies who mid put new pushed second) who two after obeys
-    (one out (obeys_before me after (order_by second.kind second.x) obeys) stands own.0 (omega (arith, left)))
+    (one out (perform-before me after (order_by second.kind second.x) obeys) stands own.0 (omega (arith, left)))
     (own_still me (known me out.state) (known me after.state) (grows me out (order_by first.kind first.x)) second own.1.0)
     (omega (arith, left, room, short)))
   where

@@ -13,7 +13,7 @@ use Rattle.bar_window.specs.declared.exchange.XKind.{XKind}
 use Rattle.bar_window.specs.Exchange.{party_on}
 use Rattle.bar_terms.specs.Table.{Table}
 use Rattle.bar_wire.specs.Bodies.{is_peer_kind}
-use Rattle.bar_wire.specs.Datagram.{Message, Datagram, Body, Manifest, Place, exchange_by, part_of, place_by, place_of, round_of, is_signed}
+use Rattle.bar_wire.specs.Datagram.{Message, Datagram, Body, Manifest, Place, exchange_by, part_of, place_by, place_of, round_of}
 use Rattle.bar_wire.specs.Grammar.{IsDatagram, SpellsDatagram}
 use Rattle.bar_wire.specs.Places as places
 use Rattle.bar_wire.specs.Views.{datagram}
@@ -25,11 +25,11 @@ use Rattle.bar_judge.specs.declared.fault.Fault.{Fault as CodeFault}
 use Rattle.bar_rules.specs.Judge.Verdict.{Fault, all_read, are_of_one_peer, fault_of, judged, sender_of, verdict, verdict_on}
 use Rattle.bar_rules.specs.Member.{Session, Member}
 use Rattle.bar_rules.specs.Values.{datagram_bytes, datagram_of, is_signed_by}
-use Rattle.bar_rules.specs.Peer.Admission.{has_valid_signature}
 use Rattle.bar_rules.specs.Peer.Agreement.{IsRecent}
 use Rattle.bar_rules.specs.Peer.Evidence.{accuses, if_accuses, is_tried, new_evidence, pair_with, pairs_of}
 use Rattle.bar_rules.specs.Peer.Knowledge.{Knowledge, table_of, this_round}
 use Rattle.bar_laws.specs.Soundness.{IsSound}
+use Rattle.bar_laws.proofs.Keeping.{accepted-of}
 use Rattle.bar_ledger.specs.declared.ledger.Ledger.{Ledger}
 use Rattle.bar_ledger.specs.Lookups.{heard_in}
 use Rattle.bar_ledger.specs.Recalls.{Recalls}
@@ -80,18 +80,6 @@ round_at m p e = part_round m.body ∙ go (part_of m.body) e
         sym (round_by q.0 q.1 q.2 m.from m.to) ∙ ap (λ (p : Place). p.exchange.round) (same_Some (place_by m.from m.to q) p e)
 
 -- ---- what is accepted
-
-signed_by_peers : (b : Body) → (if is_peer_kind b then is_signed b else true) ≡ true
-signed_by_peers (Manifest r ds) = refl
-signed_by_peers _ = refl
-
--- of a kind that peers sign the signature is accepted
-accepted_of : (s : Session) (d : Datagram) → has_valid_signature s d ≡ true → is_peer_kind d.message.body ≡ true → is_signed_by s d ≡ true
-accepted_of s d valid kind =
-    let signed : is_signed d.message.body ≡ true =
-    (λ i. if sym kind i then is_signed d.message.body else true) ∙ signed_by_peers d.message.body
-    in
-    (λ i. if sym signed i then is_signed_by s d else true) ∙ valid
 
 -- ---- what a verdict shows of a sender
 
@@ -167,7 +155,7 @@ earlier_of me k d e kind x role spelled sound at is = record {
       one_sender e.message d.message (record { exchange = x; role = role })
       (is_here e.message kind x role (sound.heard kind x role e is)).place_is
       at;
-  accepted = accepted_of me.session e (sound.accepted kind x role e is);
+  accepted = accepted-of me.session e (sound.accepted kind x role e is);
   read = read_back me.session e spelled (sound.spelled kind x role e is);
 }
 

@@ -406,7 +406,7 @@ judge-time : (me : Member) (stream : List ℕ) (log : Log) (b : Body) → ticks 
 judge-time me stream log (Evidence evidence) = evict-time log evidence (verdict me.session (caster_table me stream log) evidence)
 judge-time me stream log _ = refl
 
-datagram-time : (me : Member) (stream : List ℕ) (log : Log) (o : Option Datagram) → ticks (judge_datagram me stream log o) ≡ ticks log
+pub datagram-time : (me : Member) (stream : List ℕ) (log : Log) (o : Option Datagram) → ticks (judge_datagram me stream log o) ≡ ticks log
 datagram-time me stream log None = refl
 datagram-time me stream log (Some d) = judge-time me stream log d.message.body
 

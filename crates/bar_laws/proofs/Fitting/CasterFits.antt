@@ -67,10 +67,10 @@ leaf-length me leaf message s low =
 
 -- ---- blocks
 
-block-whole : (content : List ℕ) → length content ≤ 1022 → length (block_bytes content) ≡ 1024
+pub block-whole : (content : List ℕ) → length content ≤ 1022 → length (block_bytes content) ≡ 1024
 block-whole content few = simp (length-append, length_u16, length-replicate) (omega (arith, few))
 
-piece-short : (stream : List ℕ) (b : ℕ) → length (piece_of stream b) ≤ 1022
+pub piece-short : (stream : List ℕ) (b : ℕ) → length (piece_of stream b) ≤ 1022
 piece-short stream b = simp length-take (omega arith)
 
 pub blocks-are-whole : (s : Session) (stream : List ℕ) (round : ℕ) (block : List ℕ) → Contains (round_blocks s stream round) block → length block ≡ 1024

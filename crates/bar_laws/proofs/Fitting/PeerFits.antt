@@ -165,7 +165,7 @@ say-before me out kind x b h = go (first_said (is_of kind x (role_of me x)) out.
 if-before : (me : Member) (out : Out) (to : ℕ) (o : Option Body) → IsObedient me (send_if me out to o).state → IsObedient me out.state
 if-before me out to o h = subst (λ l. IsObedient me l) (send_if-log me out to o) h
 
-perform-before : (me : Member) (out : Out) (o : Order) → IsObedient me (perform me out o).state → IsObedient me out.state
+pub perform-before : (me : Member) (out : Out) (o : Order) → IsObedient me (perform me out o).state → IsObedient me out.state
 perform-before me out (Ask x) h = say-before me out _ x _ h
 perform-before me out (Answer x) h = say-before me out _ x _ h
 perform-before me out (GiveCase x) h = say-before me out kinds.Case x _ h
@@ -175,7 +175,7 @@ perform-before me out (Reveal x) h = if-before me out _ _ h
 perform-before me out (AskKey x) h = h
 perform-before me out (Report q) h = if-before me out 0 _ h
 
-perform_all-before : (me : Member) (os : List Order) (out : Out) → IsObedient me (perform_all me out os).state → IsObedient me out.state
+pub perform_all-before : (me : Member) (os : List Order) (out : Out) → IsObedient me (perform_all me out os).state → IsObedient me out.state
 perform_all-before me [] out h = h
 perform_all-before me (o ∷ os) out h = perform-before me out o (perform_all-before me os (perform me out o) h)
 

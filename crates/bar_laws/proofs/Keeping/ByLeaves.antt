@@ -61,7 +61,8 @@ two-parties s (Case c) from to p may = may.2
 two-parties s (Key k) from to p may = may.2
 two-parties s _ from to p may = cc
 
-accepted-of : (s : Session) (e : Datagram) → has_valid_signature s e ≡ true → is_peer_kind e.message.body ≡ true → is_signed_by s e ≡ true
+-- of a kind that peers sign the signature is accepted
+pub accepted-of : (s : Session) (e : Datagram) → has_valid_signature s e ≡ true → is_peer_kind e.message.body ≡ true → is_signed_by s e ≡ true
 accepted-of s e valid peer =
     let signed : is_signed e.message.body ≡ true = peer_kind_signed e.message.body peer in
     (λ i. if sym signed i then is_signed_by s e else true) ∙ valid

@@ -67,7 +67,7 @@ can-give me log x t h e f =
 -- ---- what a CASE of the other side has
 
 -- where a briefcase was found, a CASE was heard
-found-heard : (o : Option Datagram) (c : Briefcase) → case_in o ≡ Some c → is_some o ≡ true
+pub found-heard : (o : Option Datagram) (c : Briefcase) → case_in o ≡ Some c → is_some o ≡ true
 found-heard (Some d) c e = refl
 found-heard None c e = absurd (cc)
 

@@ -15,7 +15,7 @@ use Rattle.bar_balanced.specs.Balanced.{AreSpelled}
 use Rattle.bar_peer.specs.Memory.{member_of}
 use Rattle.bar_peer.specs.Sending.{Stands}
 use Rattle.bar_peer.proofs.Answered.{nothing-changed, answered-before, answered-new, answered-again, new-replied, repeat-answered, not-repeated, apart, received}
-use Rattle.bar_peer.proofs.Later.{obeys_before_all}
+use Rattle.bar_laws.proofs.Fitting.{perform_all-before}
 use Rattle.bar_peer.proofs.Sent.{none_stand}
 use Rattle.bar_peer.proofs.intake.answer.Goals as goal
 
@@ -27,7 +27,7 @@ returns-then-is_admitted-clause-stands c log obeys tells weighed empty room =
     let is = answered-new me log d admitted in
     let now = subst (λ out. IsObedient me out.state) is obeys in
     let heard : IsObedient me (Heard d ∷ log) =
-    obeys_before_all me (begun (Heard d ∷ log)) (reply_orders me (known me (Heard d ∷ log)) true d) now
+    perform_all-before me (reply_orders me (known me (Heard d ∷ log)) true d) (begun (Heard d ∷ log)) now
     in
     subst (λ out. Stands out c.reply.new.memory c.reply.new.orders) (sym is)
     (new-replied log d c.args.memory.now c.hear.new.self c.reply.new.memory c.args.orders.now c.reply.new.orders c.says_to-says.result
