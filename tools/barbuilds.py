@@ -4,16 +4,14 @@ A folder of the tools has the sources of such a program, and in its folder `proo
 crate of its own, or its sources take the places of those of the crate `bar`, so that it is over the same files, link and streams. What is
 built is kept under the crate's `out`, by the checksum of all that it was made of, so it is built again only where a source has changed.
 """
-import contextlib
 import dataclasses
 import hashlib
-import os
 import pathlib
 import re
 import shutil
 import tempfile
 
-from barprogram import CRATE, ROOT, BuildFailed, crates_below, rt_run
+from barprogram import CRATE, ROOT, BuildFailed, crates_below, keep, rt_run
 from barscript import progress
 
 # the ending of a source that stands outside the crates
@@ -123,19 +121,7 @@ def built(build):
         return path
     with tempfile.TemporaryDirectory(prefix=f"bar-{build.name}-") as room:
         program = made(build, pathlib.Path(room))
-        path.parent.mkdir(exist_ok=True)
         for old in path.parent.glob(f"{build.name}-*"):
             old.unlink()
         keep(program, path)
     return path
-
-
-def keep(program, path):
-    """Puts a program in its place at once, so that no other process finds a part of it."""
-    beside = path.with_name(f".{path.name}.{os.getpid()}")
-    try:
-        shutil.copy(program, beside)
-        beside.rename(path)
-    finally:
-        with contextlib.suppress(FileNotFoundError):
-            beside.unlink()

@@ -10,13 +10,17 @@ import enum
 import os
 import pathlib
 import queue
+import re
 import select
+import shutil
 import signal
 import subprocess
 import sys
+import tempfile
 import threading
+import time
 
-from barscript import Count, Refusal, held, progress
+from barscript import Count, Refusal, counted, held, progress
 
 ROOT = pathlib.Path(__file__).resolve().parent.parent
 CRATE = ROOT / "crates/bar"
@@ -221,6 +225,15 @@ def end_calls(pool):
 
 # ---- building
 
+# a line by which `rt ci` tells that a crate is proved
+PROVED = re.compile(r"rt: (\w+) proved")
+
+# how many of the last lines that `rt` printed are shown where it failed
+SHOWN = 30
+
+# what isn't copied of a crate that is proved in another folder: what `rt` made of it, its edits and its tests
+LEFT_OUT = shutil.ignore_patterns("out", "must-fail", "tests*")
+
 
 class BuildFailed(Refusal):
     """The program isn't built; `rt` ended with this status."""
@@ -230,28 +243,107 @@ class BuildFailed(Refusal):
         self.rt_status = rt_status
 
 
-def rt_run(folder, *words):
-    """Has `rt` prove, build and run the program of a crate, and returns its exit status. All that it prints goes to standard error."""
+@contextlib.contextmanager
+def running_rt(*words, **options):
+    """A process of `rt`."""
     try:
-        with running(["rt", "run", *words], cwd=folder, stdout=sys.stderr) as process:
-            await_end(process)
-            return status_of(process)
+        with running(["rt", *words], **options) as process:
+            yield process
     except FileNotFoundError:
         raise BuildFailed("there is no `rt`: put the toolchain's folder on the PATH, or name a built program by --bar", 127) from None
 
 
+def rt_run(folder, *words):
+    """Has `rt` prove, build and run the program of a crate, and returns its exit status. All that it prints goes to standard error."""
+    with running_rt("run", *words, cwd=folder, stdout=sys.stderr) as process:
+        await_end(process)
+        return status_of(process)
+
+
+def rt_ci(room, names):
+    """Has `rt ci` prove the crates of a folder side by side, try their edits, and build and run their programs. It tells which crates are
+    proved, and how long the others are likely to take. Returns the exit status and the lines that were printed.
+    """
+    sizes, begun, lines = {name: size_of(room / "crates" / name) for name in names}, time.monotonic(), []
+    proved = []
+    with running_rt("ci", cwd=room, stdout=subprocess.PIPE, stderr=subprocess.STDOUT) as process:
+        for line in lines_of(process):
+            lines.append(line)
+            found = PROVED.fullmatch(line)
+            if found and found[1] in sizes:
+                proved.append(found[1])
+                tell_proved(sizes, proved, time.monotonic() - begun)
+        await_end(process)
+        return status_of(process), lines
+
+
+def size_of(folder):
+    """How many bytes the sources and proofs of a crate have."""
+    return sum(path.stat().st_size for ending in ("rt", "antt") for path in folder.rglob(f"*.{ending}"))
+
+
+def tell_proved(sizes, proved, seconds):
+    """Tells that a crate is proved after so many seconds. The time that is left is estimated by the sizes of the others."""
+    done, whole = sum(sizes[name] for name in proved), sum(sizes.values())
+    left = f"; some {round(seconds * (whole - done) / done / 60) + 1} more for the others" if done < whole else ""
+    progress(f"{proved[-1]} is proved, {len(proved)} of {counted(len(sizes), 'crate')}, after {round(seconds / 60)} minutes{left}")
+
+
+def crates_in(lines):
+    """What each crate stands on, by the lines of crates.txt."""
+    found = (line.partition(":") for line in lines.splitlines() if not line.startswith("#"))
+    return {name: words.split() for name, colon, words in found if colon}
+
+
 def crates_below(lines, crate):
     """What a crate stands on, by the lines of crates.txt."""
-    return next(line.partition(":")[2].split() for line in lines.splitlines() if line.startswith(f"{crate}:"))
+    return crates_in(lines)[crate]
+
+
+def needed_for(lines, names):
+    """These crates and all crates of crates.txt that they stand on, with what each stands on."""
+    crates, needed, left = crates_in(lines), set(), [*names]
+    while left:
+        name = left.pop()
+        if name in crates and name not in needed:
+            needed.add(name)
+            left += crates[name]
+    return {name: crates[name] for name in crates if name in needed}
+
+
+def lay_out(names, room):
+    """Copies crates and all that they stand on to a folder, without their tests and edits. Returns their names."""
+    needed = needed_for((ROOT / "crates.txt").read_text(), names)
+    for name in needed:
+        shutil.copytree(ROOT / "crates" / name, room / "crates" / name, ignore=LEFT_OUT)
+    (room / "crates.txt").write_text("".join(f"{name}: {' '.join(below)}\n" for name, below in needed.items()))
+    shutil.copy(ROOT / "HANDLES", room)
+    return [*needed]
+
+
+def keep(program, path):
+    """Puts a program in its place at once, so that no other process finds a part of it."""
+    beside = path.with_name(f".{path.name}.{os.getpid()}")
+    path.parent.mkdir(exist_ok=True)
+    try:
+        shutil.copy(program, beside)
+        beside.rename(path)
+    finally:
+        with contextlib.suppress(FileNotFoundError):
+            beside.unlink()
 
 
 def build():
-    """Builds the program where it stands in this repository. It judges an example then, which ends with status 0."""
-    progress("there is no program: `rt run` proves and builds it, which takes a while")
-    files = {"session": "session.toml", "table": "table", "evidence": "bad-opening"}
-    status = rt_run(CRATE, "--", *words_of("judge", **{name: ROOT / "examples/evidence" / file for name, file in files.items()}))
-    if status or not PROGRAM.exists():
-        raise BuildFailed(f"`rt run` in {CRATE} ends with status {status}: what it says stands above", status)
+    """Builds the program of this repository: `rt ci` proves the crates that it is made of, in a copy without tests and edits."""
+    progress("there is no program: `rt ci` proves and builds it, which takes half an hour on four processors")
+    with tempfile.TemporaryDirectory(prefix="bar-build-") as folder:
+        room = pathlib.Path(folder)
+        status, lines = rt_ci(room, lay_out([CRATE.name], room))
+        program = room / "crates" / CRATE.name / "out" / PROGRAM.name
+        if status or not program.exists():
+            progress("\n".join(lines[-SHOWN:]))
+            raise BuildFailed(f"`rt ci` over a copy of {CRATE} and what it stands on ends with status {status}: see above", status or 1)
+        keep(program, PROGRAM)
 
 
 def take_program(parser):

@@ -137,9 +137,25 @@ class Buildings(RoomCase):
         return mock.patch.dict(os.environ, PATH=f"{self.room}:/usr/bin:/bin")
 
     def program_of(self, path):
-        """Calls for the program, where that of the repository is one of a made-up folder."""
-        with mock.patch.multiple(barprogram, PROGRAM=self.room / "out/bar", CRATE=self.room):
+        """Calls for the program, where the repository is a made-up folder."""
+        crate = self.room / "crates/bar"
+        with mock.patch.multiple(barprogram, ROOT=self.room, PROGRAM=crate / "out/bar", CRATE=crate):
             return barprogram.program_of(mock.Mock(bar=path))
+
+    def make_crates(self):
+        """Makes a repository of two crates and a program, and returns where the program has to be."""
+        for name, text in {
+            "crates.txt": "# ground\nbar_bytes: sha2\nbar_tests: bar_bytes\nbar: bar_bytes sha2\n",
+            "HANDLES": "Handles allowed: none.\n",
+            "crates/bar/src/main.rt": "fn main",
+            "crates/bar/src/tests.rt": "tests",
+            "crates/bar/must-fail/a.edit": "edit",
+            "crates/bar_bytes/src/lib.rt": "lib",
+        }.items():
+            path = self.room / name
+            path.parent.mkdir(parents=True, exist_ok=True)
+            path.write_text(text)
+        return self.room / "crates/bar/out/bar"
 
     def test_a_program_that_is_there(self):
         program = fake_program(self.room)
@@ -148,7 +164,7 @@ class Buildings(RoomCase):
     def test_what_is_no_program(self):
         for path in (self.room / "none", self.room, self.stream):
             reasons = self.reasons_of(lambda path=path: self.program_of(path))
-            self.assertEqual(reasons, (f"there is no program at {path}: `rt run` in {self.room} builds one",))
+            self.assertEqual(reasons, (f"there is no program at {path}: `rt run` in {self.room / 'crates/bar'} builds one",))
 
     def test_an_earlier_program(self):
         program = fake_program(self.room)
@@ -159,28 +175,44 @@ class Buildings(RoomCase):
         self.assertTrue(reasons[0].startswith(f"there is no program at {self.stream}: "), reasons)
 
     def test_a_program_is_built_where_it_is_not_there(self):
-        script = 'echo "$@" > words; mkdir out; echo > out/bar; chmod 755 out/bar'
-        with self.rt(script), mock.patch.object(sys, "stderr", open(os.devnull, "w")) as quiet, quiet:
-            self.assertEqual(self.program_of(self.room / "out/bar"), (self.room / "out/bar").resolve())
-        self.assertTrue((self.room / "words").read_text().startswith("run -- judge --session "))
+        path = self.make_crates()
+        script = """
+find crates -type f | sort > "$LEFT"; cat crates.txt >> "$LEFT"
+echo "rt: bar_bytes proved"; echo "rt: bar proved"
+mkdir -p crates/bar/out; echo built > crates/bar/out/bar; chmod 755 crates/bar/out/bar; echo "$1" >> "$LEFT"
+"""
+        with self.rt(script), mock.patch.dict(os.environ, LEFT=str(self.room / "left")):
+            program, out, err = lines_of(lambda: self.program_of(path))
+        self.assertEqual((program, path.read_text(), out), (path.resolve(), "built\n", []))
+        left = ["crates/bar/src/main.rt", "crates/bar_bytes/src/lib.rt", "bar_bytes: sha2", "bar: bar_bytes sha2", "ci"]
+        self.assertEqual((self.room / "left").read_text().splitlines(), left)
+        told = ["bar_bytes is proved, 1 of 2 crates, after 0 minutes; some 1 more for the others", "bar is proved, 2 of 2 crates, after 0 minutes"]
+        self.assertEqual(err[1:], told)
 
     def test_a_build_that_fails(self):
-        with self.rt("exit 3"), mock.patch.object(sys, "stderr", open(os.devnull, "w")) as quiet, quiet:
+        path = self.make_crates()
+        with self.rt("echo bar NOT PROVED; exit 3"), mock.patch.object(sys, "stderr", open(os.devnull, "w")) as quiet, quiet:
             with self.assertRaises(barprogram.BuildFailed) as failed:
-                self.program_of(self.room / "out/bar")
-        self.assertEqual((failed.exception.rt_status, failed.exception.status), (3, 2))
+                self.program_of(path)
+        self.assertEqual((failed.exception.rt_status, failed.exception.status, path.exists()), (3, 2, False))
         self.assertIn("ends with status 3", str(failed.exception))
 
     def test_no_toolchain(self):
+        path = self.make_crates()
         with mock.patch.dict(os.environ, PATH="/nowhere"), mock.patch.object(sys, "stderr", open(os.devnull, "w")) as quiet, quiet:
             with self.assertRaises(barprogram.BuildFailed) as failed:
-                self.program_of(self.room / "out/bar")
+                self.program_of(path)
         self.assertIn("there is no `rt`", str(failed.exception))
+
+    def test_the_time_that_is_left(self):
+        told = lines_of(lambda: barprogram.tell_proved({"low": 100, "high": 300}, ["low"], 300))[2]
+        self.assertEqual(told, ["low is proved, 1 of 2 crates, after 5 minutes; some 16 more for the others"])
 
     def test_what_a_crate_stands_on(self):
         lines = "# ground\nbar_bytes:\nbar_lms: bar_bytes bar_lanes sha2\nbar: bar_lms\n"
         self.assertEqual(barprogram.crates_below(lines, "bar_lms"), ["bar_bytes", "bar_lanes", "sha2"])
         self.assertEqual(barprogram.crates_below(lines, "bar_bytes"), [])
+        self.assertEqual([*barprogram.needed_for(lines, ["bar_lms"])], ["bar_bytes", "bar_lms"])
 
 
 if __name__ == "__main__":

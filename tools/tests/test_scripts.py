@@ -314,7 +314,9 @@ class Builds(RoomCase):
     def test_the_demo_hands_on_the_status_of_a_build(self):
         tools = self.room / "repository/tools"
         shutil.copytree(TOOLS, tools, ignore=shutil.ignore_patterns("tests", "__pycache__"))
-        (self.room / "repository/crates/bar").mkdir(parents=True)
+        (self.room / "repository/crates/bar/src").mkdir(parents=True)
+        (self.room / "repository/crates.txt").write_text("bar:\n")
+        (self.room / "repository/HANDLES").write_text("Handles allowed: none.\n")
         rt = self.room / "rt"
         rt.write_text("#!/bin/sh\necho proving crates\nexit 101\n")
         rt.chmod(0o755)
@@ -322,7 +324,7 @@ class Builds(RoomCase):
         status, out, err = run_script(tools / "demo", env=os.environ | {"PATH": path})
         self.assertEqual((status, out), (101, []))
         self.assertEqual((err[0][:20], err[1]), ("there is no program:", "proving crates"))
-        self.assertRegex(err[2], "^REFUSED: `rt run` in .*/crates/bar ends with status 101")
+        self.assertRegex(err[2], "^REFUSED: `rt ci` over a copy of .*/crates/bar .* ends with status 101")
         status, _, _ = run_script(tools / "check-streams", env=os.environ | {"PATH": path})
         self.assertEqual(status, 2)
 

@@ -137,55 +137,50 @@ fn check_refused(
     Ok(())
 }
 
+/// Each row changes one place of the text of the smallest session, and has the fault that this shows.
+const CHANGES: &str = "\
+    version = 1|version|NotToml;\
+    version = 1|version = 3|BadValue version;\
+    66aB|66a|BadValue id;\
+    66aB|66ag|BadValue id;\
+    rounds = 1\n|rounds = 0\n|BadValue rounds;\
+    rounds = 1\n|rounds = 1821\n|BadValue rounds;\
+    rounds = 1\n|rounds = \"1\"\n|BadValue rounds;\
+    rounds = 1\n|rounds = 2\n|TooFewLeaves need 36 have 32;\
+    life = 2|life = 1|BadValue life;\
+    life = 2|life = 17|BadValue life;\
+    cap = 3|cap = 0|BadValue cap;\
+    cap = 3|cap = 17|BadValue cap;\
+    per_round = 4|per_round = 0|BadValue per_round;\
+    per_round = 4|per_round = 65|BadValue per_round;\
+    version = 1|version = 0|BadValue version;\
+    port = 1024|port = 1023|BadValue port;\
+    port = 1024|port = 65336|BadValue port;\
+    tick_ms = 5|tick_ms = 0|BadValue tick_ms;\
+    tick_ms = 5|tick_ms = 60001|BadValue tick_ms;\
+    lms = 5|lms = 4|BadValue lms;\
+    lms = 5|lms = 8|BadValue lms;\
+    lms = 5|lms = 6|BadValue key;\
+    ots = 4|ots = 0|BadValue ots;\
+    ots = 4|ots = 5|BadValue ots;\
+    fanout = 1|fanout = 0|BadValue fanout;\
+    fanout = 1|fanout = 3|BadValue fanout;\
+    key = \"0|key = \"|BadValue key;\
+    [[peer]]|[[other]]|BadValue peer;\
+    [[peer]]\nkey|[[peer]]\nother|Missing peer 1 key;\
+    1\"\nanchor|0\"\nanchor|BadValue peer 1 key;\
+    2\"\nanchor|1\"\nanchor|BadValue peer 2 key;\
+    1\"\nanchor|1\"\nother|Missing peer 1 anchor;\
+    2\"\nanchor = \"0|2\"\nanchor = \"|BadValue peer 2 anchor;\
+";
+
 #[test]
 fn refused_texts_have_their_faults(rt: HostRuntime) -> Result<(), Fail> {
     let alloc = rt.alloc();
     let text = with_parties(alloc, small_numbers(alloc)?.as_str(), 5, 2)?;
-    // each row changes one place of the text of the smallest session
-    let rows = [
-        ("version = 1", "version", "NotToml"),
-        ("version = 1", "version = 3", "BadValue version"),
-        ("66aB", "66a", "BadValue id"),
-        ("66aB", "66ag", "BadValue id"),
-        ("rounds = 1\n", "rounds = 0\n", "BadValue rounds"),
-        ("rounds = 1\n", "rounds = 1821\n", "BadValue rounds"),
-        ("rounds = 1\n", "rounds = \"1\"\n", "BadValue rounds"),
-        (
-            "rounds = 1\n",
-            "rounds = 2\n",
-            "TooFewLeaves need 36 have 32",
-        ),
-        ("life = 2", "life = 1", "BadValue life"),
-        ("life = 2", "life = 17", "BadValue life"),
-        ("cap = 3", "cap = 0", "BadValue cap"),
-        ("cap = 3", "cap = 17", "BadValue cap"),
-        ("per_round = 4", "per_round = 0", "BadValue per_round"),
-        ("per_round = 4", "per_round = 65", "BadValue per_round"),
-        ("version = 1", "version = 0", "BadValue version"),
-        ("port = 1024", "port = 1023", "BadValue port"),
-        ("port = 1024", "port = 65336", "BadValue port"),
-        ("tick_ms = 5", "tick_ms = 0", "BadValue tick_ms"),
-        ("tick_ms = 5", "tick_ms = 60001", "BadValue tick_ms"),
-        ("lms = 5", "lms = 4", "BadValue lms"),
-        ("lms = 5", "lms = 8", "BadValue lms"),
-        ("lms = 5", "lms = 6", "BadValue key"),
-        ("ots = 4", "ots = 0", "BadValue ots"),
-        ("ots = 4", "ots = 5", "BadValue ots"),
-        ("fanout = 1", "fanout = 0", "BadValue fanout"),
-        ("fanout = 1", "fanout = 3", "BadValue fanout"),
-        ("key = \"0", "key = \"", "BadValue key"),
-        ("[[peer]]", "[[other]]", "BadValue peer"),
-        ("[[peer]]\nkey", "[[peer]]\nother", "Missing peer 1 key"),
-        ("1\"\nanchor", "0\"\nanchor", "BadValue peer 1 key"),
-        ("2\"\nanchor", "1\"\nanchor", "BadValue peer 2 key"),
-        ("1\"\nanchor", "1\"\nother", "Missing peer 1 anchor"),
-        (
-            "2\"\nanchor = \"0",
-            "2\"\nanchor = \"",
-            "BadValue peer 2 anchor",
-        ),
-    ];
-    for (old, new, shown) in rows {
+    for row in CHANGES.split_terminator(';') {
+        let (old, rest) = row.split_once('|').unwrap_or(("", ""));
+        let (new, shown) = rest.split_once('|').unwrap_or(("", ""));
         check_refused(&rt, alloc, text.as_str(), old, new, shown)?;
     }
     Ok(())

@@ -187,53 +187,48 @@ fn a_key_of_two_levels_needs_leaves(rt: HostRuntime) -> Result<(), Fail> {
     Ok(())
 }
 
-const NO_LINES: [&str; 35] = [
-    "",
-    "judges --session s --table t --evidence e",
-    "judge --session s --table t",
-    "judge --session s --table t --table t",
-    // an option of a replay is missing, stands twice, or there is a word too many
-    "replay --recording r --session s --found f --played p",
-    "replay --recording r --session s --found f --played p --key k --key k",
-    "replay --recording r --session s --found f --played p --played q",
-    "replay --recording r --session s --found f --played p --key k x",
-    // a peer's time is none, and a broadcaster has no recording
-    "peer --session s --key k --begin -1 --played p --recording r --found f",
-    "peer --session s --key k --begin=18446744073709551616 --played p --recording r --found f",
-    "broadcaster --session=s --key=k --begin=0 --stream=t --found=f --recording=r",
-    // a session's time is none
-    "session --session s --keys k --stream t --begin 1x --results r --program p",
-    "keygen",
-    "keygen --party 1 --id 0011223344556677 --rounds 1 --lms 5 --ots 1 --secret s",
-    "keygen --party 1 --id 0011223344556677 --rounds 1 --lms 5 --ots 1 --secret s --secret s",
-    "keygen --party 1 --id 0011223344556677 --rounds 1 --lms 5 --ots 1 --secret s --key k x",
-    // a value is out of its range, or is none
-    "keygen --party 201 --id 0011223344556677 --rounds 1 --lms 5 --ots 1 --secret s --key k",
-    "keygen --party -1 --id 0011223344556677 --rounds 1 --lms 5 --ots 1 --secret s --key k",
-    "keygen --party +1 --id 0011223344556677 --rounds 1 --lms 5 --ots 1 --secret s --key k",
-    "keygen --party 1a --id 0011223344556677 --rounds 1 --lms 5 --ots 1 --secret s --key k",
-    "keygen --party 111111111111111111111111111111 --id 0011223344556677 --rounds 1 --lms 5 --ots 1 --secret s --key k",
-    "keygen --party 18446744073709551617 --id 0011223344556677 --rounds 1 --lms 5 --ots 1 --secret s --key k",
-    "keygen --party  --id 0011223344556677 --rounds 1 --lms 5 --ots 1 --secret s --key k",
-    "keygen --party 1 --id 001122334455667 --rounds 1 --lms 5 --ots 1 --secret s --key k",
-    "keygen --party 1 --id 001122334455667g --rounds 1 --lms 5 --ots 1 --secret s --key k",
-    "keygen --party 1 --id 0011223344556677 --rounds 0 --lms 5 --ots 1 --secret s --key k",
-    "keygen --party 1 --id 0011223344556677 --rounds 1821 --lms 7 --ots 1 --secret s --key k",
-    "keygen --party 1 --id 0011223344556677 --rounds 1 --lms 4 --ots 1 --secret s --key k",
-    "keygen --party 1 --id 0011223344556677 --rounds 1 --lms 8 --ots 1 --secret s --key k",
-    "keygen --party 1 --id 0011223344556677 --rounds 1 --lms 5 --ots 5 --secret s --key k",
-    // of one level with an upper tree, and of two with too many rounds or types out of their ranges
-    "keygen --party 1 --id 0011223344556677 --rounds 1 --top 5 --ots 4 --secret s --key k",
-    "hsskeygen --party 1 --id 0011223344556677 --rounds 1 --lms 5 --ots 4 --secret s --key k",
-    "hsskeygen --party 1 --id 0011223344556677 --rounds 7201 --top 7 --ots 4 --secret s --key k",
-    "hsskeygen --party 1 --id 0011223344556677 --rounds 1 --top 8 --ots 4 --secret s --key k",
-    "hsskeygen --party 1 --id 0011223344556677 --rounds 1 --top 5 --ots 2 --secret s --key k",
-];
+// One line each, the first of no words.
+const NO_LINES: &str = "\
+    \n\
+    judges --session s --table t --evidence e\n\
+    judge --session s --table t\n\
+    judge --session s --table t --table t\n\
+    replay --recording r --session s --found f --played p\n\
+    replay --recording r --session s --found f --played p --key k --key k\n\
+    replay --recording r --session s --found f --played p --played q\n\
+    replay --recording r --session s --found f --played p --key k x\n\
+    peer --session s --key k --begin -1 --played p --recording r --found f\n\
+    peer --session s --key k --begin=18446744073709551616 --played p --recording r --found f\n\
+    broadcaster --session=s --key=k --begin=0 --stream=t --found=f --recording=r\n\
+    session --session s --keys k --stream t --begin 1x --results r --program p\n\
+    keygen\n\
+    keygen --party 1 --id 0011223344556677 --rounds 1 --lms 5 --ots 1 --secret s\n\
+    keygen --party 1 --id 0011223344556677 --rounds 1 --lms 5 --ots 1 --secret s --secret s\n\
+    keygen --party 1 --id 0011223344556677 --rounds 1 --lms 5 --ots 1 --secret s --key k x\n\
+    keygen --party 201 --id 0011223344556677 --rounds 1 --lms 5 --ots 1 --secret s --key k\n\
+    keygen --party -1 --id 0011223344556677 --rounds 1 --lms 5 --ots 1 --secret s --key k\n\
+    keygen --party +1 --id 0011223344556677 --rounds 1 --lms 5 --ots 1 --secret s --key k\n\
+    keygen --party 1a --id 0011223344556677 --rounds 1 --lms 5 --ots 1 --secret s --key k\n\
+    keygen --party 111111111111111111111111111111 --id 0011223344556677 --rounds 1 --lms 5 --ots 1 --secret s --key k\n\
+    keygen --party 18446744073709551617 --id 0011223344556677 --rounds 1 --lms 5 --ots 1 --secret s --key k\n\
+    keygen --party  --id 0011223344556677 --rounds 1 --lms 5 --ots 1 --secret s --key k\n\
+    keygen --party 1 --id 001122334455667 --rounds 1 --lms 5 --ots 1 --secret s --key k\n\
+    keygen --party 1 --id 001122334455667g --rounds 1 --lms 5 --ots 1 --secret s --key k\n\
+    keygen --party 1 --id 0011223344556677 --rounds 0 --lms 5 --ots 1 --secret s --key k\n\
+    keygen --party 1 --id 0011223344556677 --rounds 1821 --lms 7 --ots 1 --secret s --key k\n\
+    keygen --party 1 --id 0011223344556677 --rounds 1 --lms 4 --ots 1 --secret s --key k\n\
+    keygen --party 1 --id 0011223344556677 --rounds 1 --lms 8 --ots 1 --secret s --key k\n\
+    keygen --party 1 --id 0011223344556677 --rounds 1 --lms 5 --ots 5 --secret s --key k\n\
+    keygen --party 1 --id 0011223344556677 --rounds 1 --top 5 --ots 4 --secret s --key k\n\
+    hsskeygen --party 1 --id 0011223344556677 --rounds 1 --lms 5 --ots 4 --secret s --key k\n\
+    hsskeygen --party 1 --id 0011223344556677 --rounds 7201 --top 7 --ots 4 --secret s --key k\n\
+    hsskeygen --party 1 --id 0011223344556677 --rounds 1 --top 8 --ots 4 --secret s --key k\n\
+    hsskeygen --party 1 --id 0011223344556677 --rounds 1 --top 5 --ots 2 --secret s --key k";
 
 #[test]
 fn words_that_are_no_line(rt: HostRuntime) -> Result<(), Fail> {
     let alloc = rt.alloc();
-    for line in NO_LINES {
+    for line in NO_LINES.split('\n') {
         let left = run_keygen(alloc, line, &[7; 32], &[], &[])?;
         assert_eq!(rt; left.status, 2, "{line}");
         check_end(&rt, &left, 2, "", "bar: usage\n");
