@@ -173,9 +173,9 @@ def key_words(numbers, **values):
     return words_of(command, **{name: numbers[name] for name in COMMANDS[command] if name in numbers} | values)
 
 
-def run_words(program, words, stdout=subprocess.PIPE):
+def run_words(program, words, stdout=subprocess.PIPE, **options):
     """Runs the program to its end. What it prints may go elsewhere than to the answer."""
-    with running([program, *words], stdout=stdout, stderr=subprocess.PIPE) as process:
+    with running([program, *words], stdout=stdout, stderr=subprocess.PIPE, **options) as process:
         printed, said = await_end(process)
         return Ran(status_of(process), printed or b"", said)
 

@@ -2,7 +2,6 @@
 
 use bar_roster::{KeyFile, KeyFileFault, Session, key_text};
 use std::alloc::Global;
-use std::process::Abort;
 use std::test::Fail;
 
 const TEXT_OF_200: &str = "version = 1
@@ -36,12 +35,6 @@ const ANCHOR: &str = "7d42701b352a962f7b93a08f44069823e35a35f58196fe87405a25b018
 
 // The broadcaster's secret; its public key, which stands in the session, is by a Python program written from RFC 8554.
 const CASTER_SECRET: &str = "adba12a48106cbc6119fe8fac3e4df58a497d74bed9486c41acad3818572de2a";
-
-// Another key of these types, and another anchor.
-const OTHER_KEY: &str =
-    "0000000500000001214fcbf092c12b40edd797557739a15c67edceaaeae6787687e838b2d7671595e0c6a07986d99fb99075bfe58fdd7053";
-
-const OTHER_ANCHOR: &str = "7d42701b352a962f7b93a08f44069823e35a35f58196fe87405a25b0189cf715";
 
 const BEFORE_KEY: &str = "version = 1
 id = \"0501aabbccddeeff\"
@@ -162,85 +155,6 @@ fn the_broadcasters_key_file_has_its_key(rt: HostRuntime) -> Result<(), Fail> {
     Ok(())
 }
 
-/// Checks which fault a fresh key file has.
-fn check_fault(
-    rt: &impl Abort,
-    alloc: Global,
-    bytes: &[u8],
-    session: &Session,
-    caster: bool,
-    wanted: KeyFileFault,
-) {
-    assert!(rt; session.top().is_none());
-    match KeyFile::read(alloc, bytes, session, caster, true) {
-        Ok(_) => assert!(rt; false),
-        Err(fault) => assert_eq!(rt; fault, wanted),
-    }
-}
-
-#[test]
-fn the_first_fault_is_told(rt: HostRuntime) -> Result<(), Fail> {
-    let alloc = rt.alloc();
-    let fresh = text(alloc, 2, SECRET, 1, false)?;
-    let spent = text(alloc, 2, SECRET, 1, true)?;
-    for (bytes, key, anchor, caster, wanted) in [
-        // no document
-        (
-            b"version = ".as_slice(),
-            KEY,
-            ANCHOR,
-            false,
-            KeyFileFault::NotToml,
-        ),
-        // no values
-        (
-            b"version = 1\n".as_slice(),
-            KEY,
-            ANCHOR,
-            false,
-            KeyFileFault::BadValue,
-        ),
-        // another key
-        (
-            fresh.as_slice(),
-            OTHER_KEY,
-            ANCHOR,
-            false,
-            KeyFileFault::NotInRoster,
-        ),
-        // another anchor
-        (
-            fresh.as_slice(),
-            KEY,
-            OTHER_ANCHOR,
-            false,
-            KeyFileFault::NotInRoster,
-        ),
-        // another role
-        (
-            fresh.as_slice(),
-            KEY,
-            ANCHOR,
-            true,
-            KeyFileFault::NotInRoster,
-        ),
-        // spent, another key
-        (
-            spent.as_slice(),
-            OTHER_KEY,
-            ANCHOR,
-            false,
-            KeyFileFault::NotInRoster,
-        ),
-        // spent
-        (spent.as_slice(), KEY, ANCHOR, false, KeyFileFault::Spent),
-    ] {
-        let session = session(alloc, key, anchor)?;
-        check_fault(&rt, alloc, bytes, &session, caster, wanted);
-    }
-    Ok(())
-}
-
 // A key file whose writing was stopped, at whatever byte, is no fresh key.
 #[test]
 fn no_front_of_a_spent_key_text_is_a_fresh_key(rt: HostRuntime) -> Result<(), Fail> {
@@ -252,24 +166,6 @@ fn no_front_of_a_spent_key_text_is_a_fresh_key(rt: HostRuntime) -> Result<(), Fa
         let front = spent.get(..len).unwrap_or(b"");
         let read = KeyFile::read(alloc, front, &session, false, true);
         assert!(rt; matches!(read, Err(_)), "at {len}");
-    }
-    Ok(())
-}
-
-#[test]
-fn another_party_and_other_rounds_are_not_in_the_roster(rt: HostRuntime) -> Result<(), Fail> {
-    let alloc = rt.alloc();
-    let session = session(alloc, KEY, ANCHOR)?;
-    for (party, rounds) in [(1, 1), (3, 1), (2, 2)] {
-        let bytes = text(alloc, party, SECRET, rounds, false)?;
-        check_fault(
-            &rt,
-            alloc,
-            &bytes,
-            &session,
-            false,
-            KeyFileFault::NotInRoster,
-        );
     }
     Ok(())
 }

@@ -44,43 +44,6 @@ fn a_recording_is_read_in_order(rt: HostRuntime) -> Result<(), Fail> {
 }
 
 #[test]
-fn refused_recordings_have_their_faults(rt: HostRuntime) -> Result<(), Fail> {
-    let rows: [(&[u8], RecordFault); 12] = [
-        (&[], RecordFault::NoEnd),
-        (&[1], RecordFault::NoEnd),
-        (&[3], RecordFault::BadEntry { at: 15 }),
-        (&[1, 2], RecordFault::BadEntry { at: 16 }),
-        (&[1, 2, 0], RecordFault::BadEntry { at: 16 }),
-        (&[1, 2, 0, 2, 7], RecordFault::BadEntry { at: 16 }),
-        (&[2, 0, 1, 7, 4, 0], RecordFault::BadEntry { at: 19 }),
-        (&[0, 0], RecordFault::AfterEnd),
-        (&[1, 0, 1], RecordFault::AfterEnd),
-        (&[1, 1, 1, 0], RecordFault::AfterLast { at: 17 }),
-        (
-            &[1, 2, 0, 1, 7, 1, 2, 0, 0, 0],
-            RecordFault::AfterLast { at: 21 },
-        ),
-        (&[1, 1, 4, 0], RecordFault::BadEntry { at: 17 }),
-    ];
-    for (entries, fault) in rows {
-        let mut bytes = Vec::new(rt.alloc());
-        bytes.extend_from_slice(&HEAD)?;
-        bytes.extend_from_slice(entries)?;
-        assert_eq!(rt; read(&bytes, &ID, 2, 2).err(), Some(fault), "{entries:?}");
-    }
-    assert_eq!(rt;
-        read(&HEAD[..14], &ID, 2, 2).err(),
-        Some(RecordFault::BadHead)
-    );
-    assert_eq!(rt; read(&HEAD, &ID, 1, 2).err(), Some(RecordFault::BadHead));
-    assert_eq!(rt;
-        read(&HEAD, &[0; 8], 2, 2).err(),
-        Some(RecordFault::BadHead)
-    );
-    Ok(())
-}
-
-#[test]
 fn faults_are_shown_by_their_names(rt: HostRuntime) -> Result<(), Fail> {
     let rows = [
         (RecordFault::BadHead, "BadHead"),

@@ -1,7 +1,7 @@
 //! Replays, and a peer, over files, links and sinks in memory. The keys and the signatures are by a Python program written from RFC 8554.
 use crate::outcome::{Left, check_end, check_file, check_status, outside_of, run};
 use bar_outside::MemFiles;
-use bar_samples::keys::{peer_key, small_caster_key, small_key, small_spent_key};
+use bar_samples::keys::{peer_key, small_key, small_spent_key};
 use bar_samples::sessions::{ID, session, small_session};
 use bar_samples::signatures::{other_signature, signature, small_signature};
 use bar_samples::signed::block_with;
@@ -292,237 +292,17 @@ const SENT: [(&str, usize); 8] = [
     (" 1 ba47010600112233445566770002000100000002", 16),
 ];
 
-// What a recording of party 2 that is refused begins with.
-const BAD_ENTRY: &[u8] = b"BARL\x01\x00\x11\x22\x33\x44\x55\x66\x77\x00\x02\x03";
-
-const NO_END: &[u8] = b"BARL\x01\x00\x11\x22\x33\x44\x55\x66\x77\x00\x02\x01";
-
-const AFTER_END: &[u8] = b"BARL\x01\x00\x11\x22\x33\x44\x55\x66\x77\x00\x02\x00\x00";
-
-// A recording of party 1.
-const OTHER_PARTY: &[u8] = b"BARL\x01\x00\x11\x22\x33\x44\x55\x66\x77\x00\x01\x00";
-
-// Recordings that are refused, and the lines that say so.
-const REFUSED: [(&[u8], &str); 5] = [
-    (b"BARL", "bar: input refused: recording BadHead\n"),
-    (OTHER_PARTY, "bar: input refused: recording BadHead\n"),
-    (BAD_ENTRY, "bar: input refused: recording BadEntry at 15\n"),
-    (NO_END, "bar: input refused: recording NoEnd\n"),
-    (AFTER_END, "bar: input refused: recording AfterEnd\n"),
-];
-
-#[test]
-fn recordings_that_are_refused(rt: HostRuntime) -> Result<(), Fail> {
-    let alloc = rt.alloc();
-    for (bytes, said) in REFUSED {
-        let left = replay(alloc, small_session(), small_key(), bytes, &[], &[], &[])?;
-        check_end(&rt, &left, 8, "", said);
-        check_file(&rt, &left, "p", b"none");
-    }
-    Ok(())
-}
-
-/// The text of a session or of a key file.
-#[derive(Clone, Copy)]
-enum Text {
-    Plain(&'static str),
-    SmallSession,
-    SmallKey,
-    SpentKey,
-    CasterKey,
-}
-
-impl Text {
-    fn text(self) -> &'static str {
-        match self {
-            Text::Plain(text) => text,
-            Text::SmallSession => small_session(),
-            Text::SmallKey => small_key(),
-            Text::SpentKey => small_spent_key(),
-            Text::CasterKey => small_caster_key(),
-        }
-    }
-}
-
-// The session's text and the key file, the failing calls of the files, of out and of err, and the status, what err has, what was played, and
-// how many lines were begun.
-const ENDS: [(Text, Text, &[u64], &[u64], &[u64], u8, &str, &[u8], usize); 16] = [
-    (
-        Text::SmallSession,
-        Text::SpentKey,
-        &[],
-        &[],
-        &[],
-        0,
-        "",
-        b"hi",
-        16,
-    ),
-    (
-        Text::Plain("version = 1"),
-        Text::SmallKey,
-        &[],
-        &[],
-        &[],
-        4,
-        "bar: session refused: Missing id\n",
-        b"none",
-        0,
-    ),
-    (
-        Text::Plain("version"),
-        Text::SmallKey,
-        &[],
-        &[],
-        &[],
-        4,
-        "bar: session refused: NotToml\n",
-        b"none",
-        0,
-    ),
-    (
-        Text::SmallSession,
-        Text::Plain("version"),
-        &[],
-        &[],
-        &[],
-        5,
-        "bar: key refused: NotToml\n",
-        b"none",
-        0,
-    ),
-    (
-        Text::SmallSession,
-        Text::Plain("version = 1"),
-        &[],
-        &[],
-        &[],
-        5,
-        "bar: key refused: BadValue\n",
-        b"none",
-        0,
-    ),
-    (
-        Text::SmallSession,
-        Text::CasterKey,
-        &[],
-        &[],
-        &[],
-        5,
-        "bar: key refused: NotInRoster\n",
-        b"none",
-        0,
-    ),
-    (
-        Text::SmallSession,
-        Text::SmallKey,
-        &[1],
-        &[],
-        &[],
-        3,
-        FAILED,
-        b"none",
-        0,
-    ),
-    (
-        Text::SmallSession,
-        Text::SmallKey,
-        &[2],
-        &[],
-        &[],
-        3,
-        FAILED,
-        b"none",
-        0,
-    ),
-    (
-        Text::SmallSession,
-        Text::SmallKey,
-        &[3],
-        &[],
-        &[],
-        3,
-        FAILED,
-        b"none",
-        0,
-    ),
-    (
-        Text::SmallSession,
-        Text::SmallKey,
-        &[4],
-        &[],
-        &[],
-        3,
-        FAILED,
-        b"none",
-        0,
-    ),
-    (
-        Text::SmallSession,
-        Text::SmallKey,
-        &[5],
-        &[],
-        &[],
-        3,
-        FAILED,
-        b"h",
-        16,
-    ),
-    (
-        Text::SmallSession,
-        Text::SmallKey,
-        &[6],
-        &[],
-        &[],
-        3,
-        FAILED,
-        b"hi",
-        16,
-    ),
-    (
-        Text::SmallSession,
-        Text::SmallKey,
-        &[7],
-        &[],
-        &[],
-        3,
-        FAILED,
-        b"hi",
-        16,
-    ),
-    (
-        Text::SmallSession,
-        Text::SmallKey,
-        &[],
-        &[1],
-        &[],
-        7,
-        "bar: output failed\n",
-        b"",
-        1,
-    ),
-    (
-        Text::SmallSession,
-        Text::SmallKey,
-        &[],
-        &[16],
-        &[],
-        7,
-        "bar: output failed\n",
-        b"",
-        16,
-    ),
-    (
-        Text::Plain("version = 3"),
-        Text::SmallKey,
-        &[],
-        &[],
-        &[1],
-        4,
-        "bar: session refuse",
-        b"none",
-        0,
-    ),
+// The failing calls of the files and of out, and the status, what err has, what was played, and how many lines were begun.
+const ENDS: [(&[u64], &[u64], u8, &str, &[u8], usize); 9] = [
+    (&[1], &[], 3, FAILED, b"none", 0),
+    (&[2], &[], 3, FAILED, b"none", 0),
+    (&[3], &[], 3, FAILED, b"none", 0),
+    (&[4], &[], 3, FAILED, b"none", 0),
+    (&[5], &[], 3, FAILED, b"h", 16),
+    (&[6], &[], 3, FAILED, b"hi", 16),
+    (&[7], &[], 3, FAILED, b"hi", 16),
+    (&[], &[1], 7, "bar: output failed\n", b"", 1),
+    (&[], &[16], 7, "bar: output failed\n", b"", 16),
 ];
 
 const FAILED: &str = "bar: file failed\n";
@@ -549,41 +329,39 @@ fn statuses_and_lines(rt: HostRuntime) -> Result<(), Fail> {
     let alloc = rt.alloc();
     let streams = signed_streams(alloc, small_signature())?;
     let entries = [START, Entry::Manifest, Entry::Block, END];
-    let whole = recording(alloc, &streams, &entries)?;
-    for (session, key, fail_files, fail_out, fail_err, status, said, played, lines) in ENDS {
-        let bytes = whole.as_slice();
+    let bytes = recording(alloc, &streams, &entries)?;
+    for (fail_files, fail_out, status, said, played, lines) in ENDS {
         let left = replay(
             alloc,
-            session.text(),
-            key.text(),
-            bytes,
+            small_session(),
+            small_key(),
+            &bytes,
             fail_files,
             fail_out,
-            fail_err,
+            &[],
         )?;
         check_status(&rt, &left, status, said);
         check_file(&rt, &left, "p", played);
         assert_eq!(rt; lines_like(left.outside.out.bytes(), b" "), lines);
-        check_file(&rt, &left, "rec", bytes);
+        check_file(&rt, &left, "rec", &bytes);
     }
     Ok(())
 }
 
+// A replay takes a key that is spent. The status tells of the session even where standard error can't be written.
 #[test]
-fn files_that_are_not_there(rt: HostRuntime) -> Result<(), Fail> {
+fn a_spent_key_and_a_closed_standard_error(rt: HostRuntime) -> Result<(), Fail> {
     let alloc = rt.alloc();
-    for (name, other) in [
-        ("none", "none"),
-        ("ses", "none"),
-        ("ses", "k"),
-        ("rec", "k"),
-    ] {
-        let mut files = MemFiles::make(alloc, Vec::new(alloc));
-        files.put(name, small_session().as_bytes())?;
-        files.put(other, small_key().as_bytes())?;
-        let left = run(alloc, LINE, outside_of(alloc, files, &[], &[])?)?;
-        check_status(&rt, &left, 3, FAILED);
-    }
+    let streams = signed_streams(alloc, small_signature())?;
+    let entries = [START, Entry::Manifest, Entry::Block, END];
+    let bytes = recording(alloc, &streams, &entries)?;
+    let spent = small_spent_key();
+    let left = replay(alloc, small_session(), spent, &bytes, &[], &[], &[])?;
+    check_status(&rt, &left, 0, "");
+    check_file(&rt, &left, "p", b"hi");
+    let left = replay(alloc, "version = 3", spent, &bytes, &[], &[], &[1])?;
+    check_status(&rt, &left, 4, "bar: session refuse");
+    check_file(&rt, &left, "p", b"none");
     Ok(())
 }
 

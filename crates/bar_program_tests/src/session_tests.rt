@@ -24,59 +24,14 @@ fn run_session(
 #[test]
 fn children_and_their_statuses(rt: HostRuntime) -> Result<(), Fail> {
     let alloc = rt.alloc();
-    // statuses, failing calls of the spawner and of out; status, calls of the spawner, and what is printed
-    let rows: [(&[i32], &[u64], &[u64], u8, usize, &str, &str); 5] = [
-        (
-            &[0, 0, 6],
-            &[],
-            &[],
-            9,
-            6,
-            "party 1 status 0\nparty 2 status 0\nparty 0 status 6\n",
-            "bar: child failed\n",
-        ),
-        (
-            &[0, 0, 0],
-            &[],
-            &[],
-            0,
-            6,
-            "party 1 status 0\nparty 2 status 0\nparty 0 status 0\n",
-            "",
-        ),
-        (
-            &[0, 0, 0],
-            &[2],
-            &[],
-            9,
-            2,
-            "party 1 status 0\n",
-            "bar: child failed\n",
-        ),
-        (
-            &[0, 0, 0],
-            &[5],
-            &[],
-            9,
-            6,
-            "party 1 status 0\nparty 0 status 0\n",
-            "bar: child failed\n",
-        ),
-        (
-            &[0, 4, 0],
-            &[],
-            &[1],
-            7,
-            6,
-            "party 1 ",
-            "bar: output failed\n",
-        ),
-    ];
-    for (statuses, fail_spawn, fail_out, status, calls, out, err) in rows {
-        let left = run_session(alloc, session(), statuses, fail_spawn, fail_out)?;
-        check_end(&rt, &left, status, out, err);
-        assert_eq!(rt; left.outside.spawn.calls().len(), calls);
-    }
+    let left = run_session(alloc, session(), &[0, 0, 6], &[], &[])?;
+    let all = "party 1 status 0\nparty 2 status 0\nparty 0 status 6\n";
+    check_end(&rt, &left, 9, all, "bar: child failed\n");
+    assert_eq!(rt; left.outside.spawn.calls().len(), 6);
+    let left = run_session(alloc, session(), &[0, 4, 0], &[], &[1])?;
+    check_end(&rt, &left, 7, "party 1 ", "bar: output failed\n");
+    let left = run_session(alloc, session(), &[], &[2], &[])?;
+    check_end(&rt, &left, 9, "party 1 status 0\n", "bar: child failed\n");
     let left = run_session(alloc, "", &[], &[], &[])?;
     check_end(&rt, &left, 4, "", "bar: session refused: Missing version\n");
     assert!(rt; left.outside.spawn.calls().is_empty());
