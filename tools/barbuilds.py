@@ -91,7 +91,7 @@ def lay_out(build, room):
     """Copies the crates to a folder and puts the program's sources in their places. Returns the folder of its crate."""
     shutil.copytree(ROOT / "crates", room / "crates", ignore=left_out(build))
     shutil.copy(ROOT / "HANDLES", room)
-    (room / "crates.txt").write_text(lines_with((ROOT / "crates.txt").read_text(), build))
+    (room / "crates.txt").write_text(lines_with((ROOT / "crates.txt").read_text("utf-8"), build))
     folder = room / "crates" / build.crate
     for place, path in build.sources().items():
         (folder / place).parent.mkdir(parents=True, exist_ok=True)

@@ -82,7 +82,7 @@ def casts_of(session, logs, secret, stream, table, evicted):
 def casts_in(folder, session, logs, found):
     """What the broadcaster of a folder sent, by what it found too, or None where its key, its stream or its table isn't there."""
     try:
-        secret = bytes.fromhex(tomllib.loads(folder.key(0).read_text())["secret"])
+        secret = bytes.fromhex(tomllib.loads(folder.key(0).read_text("utf-8"))["secret"])
         return casts_of(session, logs, secret, folder.stream.read_bytes(), found["table"], {int(name) for name in found if name != "table"})
     except (OSError, ValueError, KeyError):
         return None

@@ -44,7 +44,7 @@ class Clock:
     def __init__(self, room):
         self.library, self.file = room / "clock.so", room / "seconds"
         source = room / "clock.c"
-        source.write_text(SOURCE)
+        source.write_text(SOURCE, "utf-8")
         ran = run_words(found("cc"), ["-shared", "-fPIC", "-o", str(self.library), str(source)])
         if ran.status:
             raise Skipped(f"`cc` ends with status {ran.status}: {' '.join(ran.said.decode(errors='replace').split())}")
@@ -62,5 +62,5 @@ class Clock:
 
     def require(self, process):
         """A process that doesn't read this clock, as it takes no library, is none that can be tried."""
-        if str(self.library) not in pathlib.Path(f"/proc/{process}/maps").read_text():
+        if str(self.library) not in pathlib.Path(f"/proc/{process}/maps").read_text("utf-8"):
             raise Skipped("the program takes no library before its own, so its clock can't be set")

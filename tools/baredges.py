@@ -206,10 +206,10 @@ class Bench:
         """A copy of the session, with fresh keys, ports of its own and other numbers."""
         folder = Folder(self.room / name)
         shutil.copytree(self.folder.path, folder.path)
-        text = folder.session.read_text()
+        text = folder.session.read_text("utf-8")
         for key, value in ({"port": next(self.ports)} | numbers).items():
             text = re.sub(rf"^{key} = \d+$", f"{key} = {value}", text, flags=re.MULTILINE)
-        folder.session.write_text(text)
+        folder.session.write_text(text, "utf-8")
         return folder, Session.read(folder.session)
 
     def live(self, name, disturb=lambda live: None, ways=lambda folder: {}, begin=None, **numbers):

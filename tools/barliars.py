@@ -19,7 +19,7 @@ FAULTS = {
 def liars_in(folder):
     """The peers that lied in the run of a folder, each with its lie. There are none where nothing is told of its network."""
     try:
-        told = json.loads(folder.network.read_text())
+        told = json.loads(folder.network.read_text("utf-8"))
     except FileNotFoundError:
         return {}
     return {int(party): lie for party, lie in told["liars"].items()}

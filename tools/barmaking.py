@@ -137,7 +137,7 @@ def make(wanted, program, told="keys"):
     numbers = wanted.numbers if "port" in wanted.numbers else wanted.numbers | {"port": free_port(wanted.numbers["peers"] + 1)}
     with new_folder(wanted.folder) as folder:
         keys = make_keys(folder, program, session_id, numbers, seed, told)
-        folder.session.write_text(text_of(session_id, numbers, keys))
+        folder.session.write_text(text_of(session_id, numbers, keys), "utf-8")
         shutil.copyfile(wanted.stream, folder.stream)
         return folder, Session.read(folder.session)
 

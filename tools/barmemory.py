@@ -71,7 +71,7 @@ class Refusing:
     def __init__(self, room):
         self.library = room / "memory.so"
         source = room / "memory.c"
-        source.write_text(SOURCE)
+        source.write_text(SOURCE, "utf-8")
         ran = run_words(found("cc"), ["-shared", "-fPIC", "-o", str(self.library), str(source)])
         if ran.status:
             raise Skipped(f"`cc` ends with status {ran.status}: {' '.join(ran.said.decode(errors='replace').split())}")

@@ -40,6 +40,6 @@ def write_files(words, rows):
     for path, spelled in ((words.json, json_of), (words.csv, csv_of)):
         if path:
             try:
-                path.write_text(spelled(rows))
+                path.write_text(spelled(rows), "utf-8")
             except OSError as error:
                 raise Failure(f"{path} can't be written: {error.strerror}") from None

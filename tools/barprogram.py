@@ -313,10 +313,10 @@ def needed_for(lines, names):
 
 def lay_out(names, room):
     """Copies crates and all that they stand on to a folder, without their tests and edits. Returns their names."""
-    needed = needed_for((ROOT / "crates.txt").read_text(), names)
+    needed = needed_for((ROOT / "crates.txt").read_text("utf-8"), names)
     for name in needed:
         shutil.copytree(ROOT / "crates" / name, room / "crates" / name, ignore=LEFT_OUT)
-    (room / "crates.txt").write_text("".join(f"{name}: {' '.join(below)}\n" for name, below in needed.items()))
+    (room / "crates.txt").write_text("".join(f"{name}: {' '.join(below)}\n" for name, below in needed.items()), "utf-8")
     shutil.copy(ROOT / "HANDLES", room)
     return [*needed]
 

@@ -76,9 +76,9 @@ def with_port(text, port):
 
 def write_texts(folder, session, layout, room):
     """Writes the text of each party to a folder, and returns where each one stands."""
-    text, paths = folder.session.read_text(), {party: room / f"session.{party}.toml" for party in session.parties}
+    text, paths = folder.session.read_text("utf-8"), {party: room / f"session.{party}.toml" for party in session.parties}
     for party, path in paths.items():
-        path.write_text(with_port(text, layout.base(party)))
+        path.write_text(with_port(text, layout.base(party)), "utf-8")
     return paths
 
 

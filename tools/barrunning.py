@@ -147,7 +147,7 @@ def draw(folder, run, picture):
     drawn |= {picture: lambda: barpicture.picture(run)} if picture else {}
     for path, draw_in in drawn.items():
         try:
-            path.write_text(draw_in())
+            path.write_text(draw_in(), "utf-8")
         except OSError as error:
             return [f"{path} can't be written: {error.strerror}"], f"{path.name} isn't whole"
     return [], f"page {folder.page}"
@@ -220,7 +220,7 @@ def outcome_of_run(folder, session, program, ran, kill=None, picture=None):
     """Audits a run, compares its replays and draws it, and returns the script's outcome."""
     causes = [*causes_of(folder, session, ran.statuses, ran.status, kill)]
     if ran.fates:
-        folder.network.write_text(ran.fates.text())
+        folder.network.write_text(ran.fates.text(), "utf-8")
         say(ran.fates.line)
     audit = audit_of(folder, session, program)
     say(audit.line)

@@ -328,7 +328,7 @@ def one_peer(run):
 
 def page(run):
     """The page of a run."""
-    style, script = ((PARTS / name).read_text() for name in ("page.css", "page.js"))
+    style, script = ((PARTS / name).read_text("utf-8") for name in ("page.css", "page.js"))
     parts = [tag("h1", "A session, as its peers recorded it"), tag("p", subtitle(run), class_="soft"), figures(run), *notes(run)]
     life, fanout = run.session["life"], counted(run.session["fanout"], "peer")
     reading = [tag("p", said.format(life=life, fanout=fanout)) for said in READING]

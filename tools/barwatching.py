@@ -84,7 +84,7 @@ class Watch:
         if line:
             progress(line)
         with contextlib.suppress(OSError, ValueError):
-            self.drops |= drops_of(SOCKETS.read_text(), self.ports)
+            self.drops |= drops_of(SOCKETS.read_text("utf-8"), self.ports)
         if self.victim and now >= self.middle:
             self.kill()
 
