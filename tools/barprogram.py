@@ -234,6 +234,9 @@ SHOWN = 30
 # what isn't copied of a crate that is proved in another folder: what `rt` made of it, its edits and its tests
 LEFT_OUT = shutil.ignore_patterns("out", "must-fail", "tests*")
 
+# by which a source names its tests
+NAMES_TESTS = "#[cfg(test)]\nmod tests;\n"
+
 
 class BuildFailed(Refusal):
     """The program isn't built; `rt` ended with this status."""
@@ -316,9 +319,18 @@ def lay_out(names, room):
     needed = needed_for((ROOT / "crates.txt").read_text("utf-8"), names)
     for name in needed:
         shutil.copytree(ROOT / "crates" / name, room / "crates" / name, ignore=LEFT_OUT)
+        forget_tests(room / "crates" / name)
     (room / "crates.txt").write_text("".join(f"{name}: {' '.join(below)}\n" for name, below in needed.items()), "utf-8")
     shutil.copy(ROOT / "HANDLES", room)
     return [*needed]
+
+
+def forget_tests(folder):
+    """Has the sources of a copied crate name no tests, in the layout in which `rt` wants them."""
+    for path in folder.glob("src/**/*.rt"):
+        text = path.read_text("utf-8")
+        if NAMES_TESTS in text:
+            path.write_text(re.sub("\n{3,}", "\n\n", text.replace(NAMES_TESTS, "")), "utf-8")
 
 
 def keep(program, path):

@@ -147,7 +147,7 @@ class Buildings(RoomCase):
         for name, text in {
             "crates.txt": "# ground\nbar_bytes: sha2\nbar_tests: bar_bytes\nbar: bar_bytes sha2\n",
             "HANDLES": "Handles allowed: none.\n",
-            "crates/bar/src/main.rt": "fn main",
+            "crates/bar/src/main.rt": "use std;\n\n#[cfg(test)]\nmod tests;\n\nfn main",
             "crates/bar/src/tests.rt": "tests",
             "crates/bar/must-fail/a.edit": "edit",
             "crates/bar_bytes/src/lib.rt": "lib",
@@ -177,14 +177,14 @@ class Buildings(RoomCase):
     def test_a_program_is_built_where_it_is_not_there(self):
         path = self.make_crates()
         script = """
-find crates -type f | sort > "$LEFT"; cat crates.txt >> "$LEFT"
+find crates -type f | sort > "$LEFT"; cat crates.txt crates/bar/src/main.rt >> "$LEFT"
 echo "rt: bar_bytes proved"; echo "rt: bar proved"
 mkdir -p crates/bar/out; echo built > crates/bar/out/bar; chmod 755 crates/bar/out/bar; echo "$1" >> "$LEFT"
 """
         with self.rt(script), mock.patch.dict(os.environ, LEFT=str(self.room / "left")):
             program, out, err = lines_of(lambda: self.program_of(path))
         self.assertEqual((program, path.read_text(), out), (path.resolve(), "built\n", []))
-        left = ["crates/bar/src/main.rt", "crates/bar_bytes/src/lib.rt", "bar_bytes: sha2", "bar: bar_bytes sha2", "ci"]
+        left = ["crates/bar/src/main.rt", "crates/bar_bytes/src/lib.rt", "bar_bytes: sha2", "bar: bar_bytes sha2", "use std;", "", "fn mainci"]
         self.assertEqual((self.room / "left").read_text().splitlines(), left)
         told = ["bar_bytes is proved, 1 of 2 crates, after 0 minutes; some 1 more for the others", "bar is proved, 2 of 2 crates, after 0 minutes"]
         self.assertEqual(err[1:], told)
