@@ -9,7 +9,7 @@ use Rattle.bar_window.specs.declared.update.UpdateId.{UpdateId}
 use Rattle.bar_wire.specs.Inputs.{Input}
 use Rattle.bar_wire.specs.Datagram.{Datagram, Key, Briefcase, KeyGiven, is_signed, exchange_by}
 use Rattle.bar_rules.specs.Peer.Holdings.{is_held, case_heard_from}
-use Rattle.bar_rules.specs.Peer.Log.{Log, Heard, table, round_now, kept}
+use Rattle.bar_rules.specs.Peer.Log.{Log, Heard, HasSigned, table, round_now, kept}
 use Rattle.bar_rules.specs.Member.{Session, Member, is_alive}
 use Rattle.bar_rules.specs.Values.{opening_of, is_good, datagram_bytes, datagram_of, is_signed_by}
 use Rattle.bar_rules.specs.World.World.{World, Move, member, party_step, run, AreUnforged, Setup, IsSetup, initial}
@@ -90,6 +90,15 @@ KeysWork setup trusted w =
 
 abbrev pub KeysOpenWell : Type 0
 KeysOpenWell = InUnforgedWorlds KeysWork
+
+-- what a peer heard that is signed and of a trusted party, this party said
+abbrev pub HearsTheSaid : Setup → (ℕ → Bool) → World → Type 0
+HearsTheSaid setup trusted w =
+    (peer sayer : ℕ) (mine theirs : Log) (d : Datagram) → 1 ≤ peer → slice_get w.logs peer ≡ Some mine → slice_get w.logs sayer ≡ Some theirs
+    → trusted sayer ≡ true → Contains mine (Heard d) → is_signed d.message.body ≡ true → d.message.from ≡ sayer → HasSigned theirs d
+
+abbrev pub HeardWasSaid : Type 0
+HeardWasSaid = InUnforgedWorlds HearsTheSaid
 
 -- the broadcaster's table extends the table of each trusted peer
 abbrev pub ExtendsTables : Setup → (ℕ → Bool) → World → Type 0

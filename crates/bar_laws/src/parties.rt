@@ -3,7 +3,7 @@
 //! Each function's contract speaks of a set of trusted parties with the broadcaster in it, and of any list of moves that forges no signature that
 //! is accepted as one of theirs. That signatures can't be forged is this premise, and no theorem.
 
-ghost use Rattle.bar_laws.specs.Parties.{NobodyIsEvicted, NobodyIsAccused, KeysOpenWell, TablesAreExtended, StepIsAccepted, SentIsAccepted};
+ghost use Rattle.bar_laws.specs.Parties.{NobodyIsEvicted, NobodyIsAccused, KeysOpenWell, TablesAreExtended, StepIsAccepted, SentIsAccepted, HeardWasSaid};
 
 /// No trusted peer is evicted.
 pub fn nobody_is_evicted()
@@ -32,4 +32,9 @@ pub fn sent_is_accepted()
     ensures step { StepIsAccepted }
     // of all that was ever sent
     ensures packets { SentIsAccepted }
+{}
+
+/// What a peer heard that is signed and of a trusted party, this party said.
+pub fn what_was_heard_was_said()
+    ensures { HeardWasSaid }
 {}
