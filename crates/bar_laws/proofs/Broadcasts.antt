@@ -5,9 +5,11 @@ mod Signing
 mod Evicting
 mod FanoutCounts
 mod FanoutSends
+mod Growing
 -- the lemmas that other groups may cite
 pub use Rattle.bar_laws.proofs.Broadcasts.Serving.{serves-the-others}
 pub use Rattle.bar_laws.proofs.Broadcasts.Signing.{signs-once}
 pub use Rattle.bar_laws.proofs.Broadcasts.Evicting.{evicts-exactly}
 pub use Rattle.bar_laws.proofs.Broadcasts.FanoutCounts.{fanouts-whole}
 pub use Rattle.bar_laws.proofs.Broadcasts.FanoutSends.{to-the-fanout, out-twice, datagram-time}
+pub use Rattle.bar_laws.proofs.Broadcasts.Growing.{caster-grows}

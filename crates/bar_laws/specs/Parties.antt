@@ -91,11 +91,11 @@ KeysWork setup trusted w =
 abbrev pub KeysOpenWell : Type 0
 KeysOpenWell = InUnforgedWorlds KeysWork
 
--- what a peer heard that is signed and of a trusted party, this party said
+-- a signed datagram that a peer admitted from a trusted party was signed by this party
 abbrev pub HearsTheSaid : Setup → (ℕ → Bool) → World → Type 0
 HearsTheSaid setup trusted w =
-    (peer sayer : ℕ) (mine theirs : Log) (d : Datagram) → 1 ≤ peer → slice_get w.logs peer ≡ Some mine → slice_get w.logs sayer ≡ Some theirs
-    → trusted sayer ≡ true → Contains mine (Heard d) → is_signed d.message.body ≡ true → d.message.from ≡ sayer → HasSigned theirs d
+    (peer sayer : ℕ) (mine theirs : Log) (d : Datagram) → 1 ≤ peer → slice_get w.logs peer ≡ Some mine → IsTrusted trusted w sayer theirs
+    → Contains mine (Heard d) → is_signed d.message.body ≡ true → d.message.from ≡ sayer → HasSigned theirs d
 
 abbrev pub HeardWasSaid : Type 0
 HeardWasSaid = InUnforgedWorlds HearsTheSaid

@@ -34,7 +34,7 @@ pub fn sent_is_accepted()
     ensures packets { SentIsAccepted }
 {}
 
-/// What a peer heard that is signed and of a trusted party, this party said.
+/// Each signed datagram that a peer admitted from a trusted party was signed by this party.
 pub fn what_was_heard_was_said()
     ensures { HeardWasSaid }
 {}

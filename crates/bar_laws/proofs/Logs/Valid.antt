@@ -39,7 +39,8 @@ use Rattle.bar_window.proofs.Sets.{same_self}
 use Rattle.bar_window.proofs.Exchanges.{same_exchange-is}
 use Rattle.bar_laws.proofs.Logs.FirstFinds.{IsFind, find-of, allowed-at}
 use Rattle.bar_laws.proofs.Logs.EqualityTests.{some-equal, no-value}
-use Rattle.bar_laws.proofs.Logs.LaterLogs.{IsLater, later-entry, then-later}
+use Rattle.bar_laws.specs.Growing.{IsLater}
+use Rattle.bar_laws.proofs.Logs.LaterLogs.{later-entry, then-later}
 use Rattle.bar_laws.proofs.Logs.Spoken.{spoken_in, WasSpoken, first_on-was, body_on-later}
 use Rattle.bar_laws.proofs.Logs.Tables.{table-later, within-extends, history-within, held-within, admitted-row, admitted-for, all-filter}
 use Rattle.bar_bytes.proofs.Tests.{eqb_refl, and-second}
