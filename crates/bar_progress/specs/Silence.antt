@@ -26,7 +26,8 @@ abbrev pub until_tick : List Move → Move → List Move → List Move
 until_tick moves report waiting = moves ++ report ∷ waiting
 
 -- A report reaches the broadcaster in time. After more moves that forge nothing its next tick begins a round of the session.
-pub record IsDenounced (setup : Setup) (trusted : ℕ → Bool) (moves : List Move) (report : Move) (waiting : List Move) (party round : ℕ) : Type 0 where
+pub record IsDenounced (setup : Setup) (trusted : ℕ → Bool) (moves : List Move) (report : Move) (waiting : List Move)
+    (party round : ℕ) : Type 0 where
   pub reported : IsReported setup trusted moves report party
   pub unforged : ForgesNothing setup trusted (until_tick moves report waiting)
   pub caster : Log
