@@ -14,7 +14,7 @@ use Rattle.bar_rules.specs.World.World.{Deliver, Move, Setup, TickOf, member}
 use Rattle.bar_laws.specs.Parties.{ForgesNothing, IsCastersLog, after}
 use Rattle.bar_progress.specs.Evictions.{AwaitsNotice, IsNoticeDue, IsReported, IsSpared}
 
--- Whatever comes under the party's name leaves the peer as it was, and at no input anything is sent to the party.
+-- Whatever is delivered under the party's name leaves the peer as it was, and the peer sends the party nothing at any input.
 pub record LeavesAlone (me : Member) (log : Log) (party : ℕ) : Type 0 where
   pub takes_nothing :
       (bytes : List ℕ) (d : Datagram) → datagram_of me.session bytes ≡ Some d → d.message.from ≡ party
