@@ -20,7 +20,8 @@ use Rattle.bar_laws.specs.OwnRuns.{BroadcasterRuns, PeersRun, brought_to, input_
 use Rattle.bar_laws.specs.Parties.{NobodyIsAccused, after}
 use Rattle.bar_laws.specs.Premises.{PeersAreMembers}
 use Rattle.bar_laws.proofs.Logs.{some-equal}
-use Rattle.bar_progress.specs.Evictions.{AnnouncedAreIgnored, AnnouncedGetNothing, AwaitsNotice, IsNoticeDue, IsSpared, NoticesArrive, NoticesAreSent, ReportsEvict, SendsNotice}
+use Rattle.bar_progress.specs.Evictions.{AnnouncedAreIgnored, AnnouncedGetNothing, AwaitsNotice, IsSpared, NoticesArrive, NoticesAreSent, ReportsEvict, SendsNotice}
+use Rattle.bar_progress.specs.Rounds.{IsRoundDue}
 use Rattle.bar_progress.specs.Silence.{EvidenceEndsTrade, IsDenounced, LeavesAlone, until_tick}
 use Rattle.bar_progress.proofs.Holding.{contains-back}
 use Rattle.bar_progress.proofs.Moves.{run-on, set-same}
@@ -116,7 +117,7 @@ module _ (evicts : ReportsEvict) (sends : NoticesAreSent) (accuses : NobodyIsAcc
   notice =
       subst (λ (l : Log). SendsNotice (caster_step caster setup.stream l event.Tick) peer round (evicted setup.session l)) (sym caster-is)
       (sends caster setup.stream (record { session = is_setup.session; party = refl; fits = is_setup.fits 0 (omega arith) }) (inputs_of setup before 0) round peer party
-      (subst (λ (l : Log). IsNoticeDue caster l round) caster-is r.due)
+      (subst (λ (l : Log). IsRoundDue caster l round) caster-is r.due)
       (subst (λ (l : Log). Contains (evicted setup.session l) party) caster-is (evicts setup trusted moves waiting report party r.caster r.reported r.caster_is))
       (subst (λ (l : Log). Contains (served setup.session l) peer) caster-is serves))
     where

@@ -12,7 +12,8 @@ use Rattle.bar_rules.specs.Runs.{begun}
 use Rattle.bar_rules.specs.Values.{datagram_of}
 use Rattle.bar_rules.specs.World.World.{Deliver, Move, Setup, TickOf, member}
 use Rattle.bar_laws.specs.Parties.{ForgesNothing, IsCastersLog, after}
-use Rattle.bar_progress.specs.Evictions.{AwaitsNotice, IsNoticeDue, IsReported, IsSpared}
+use Rattle.bar_progress.specs.Evictions.{AwaitsNotice, IsReported, IsSpared}
+use Rattle.bar_progress.specs.Rounds.{IsRoundDue}
 
 -- Whatever is delivered under the party's name leaves the peer as it was, and the peer sends the party nothing at any input.
 pub record LeavesAlone (me : Member) (log : Log) (party : ℕ) : Type 0 where
@@ -32,7 +33,7 @@ pub record IsDenounced (setup : Setup) (trusted : ℕ → Bool) (moves : List Mo
   pub unforged : ForgesNothing setup trusted (until_tick moves report waiting)
   pub caster : Log
   pub caster_is : IsCastersLog (after setup (until_tick moves report waiting)) caster
-  pub due : IsNoticeDue (member setup 0) caster round
+  pub due : IsRoundDue (member setup 0) caster round
 
 -- After these moves a packet with the notice is on its way to the peer. Once it is delivered in time, whatever moves come after, the peer
 -- leaves the party alone.
