@@ -11,8 +11,8 @@ pub fn requests_are_made()
     ensures { RequestsAreMade }
 {}
 
-/// A REQUEST that a peer of a world has signed is admitted by its receiver if this is in time, has a seat left and hasn't announced the peer
-/// evicted, whatever is forged.
+/// A REQUEST that a peer of a world has signed is admitted by its receiver if this is in time, has a seat left and hasn't announced the
+/// peer evicted, whatever is forged.
 pub fn requests_are_admitted()
     ensures { RequestsAreAdmitted }
 {
