@@ -13,3 +13,4 @@ pub use Rattle.bar_laws.proofs.Broadcasts.Evicting.{evicts-exactly}
 pub use Rattle.bar_laws.proofs.Broadcasts.FanoutCounts.{fanouts-whole}
 pub use Rattle.bar_laws.proofs.Broadcasts.FanoutSends.{to-the-fanout, out-twice, datagram-time}
 pub use Rattle.bar_laws.proofs.Broadcasts.Growing.{caster-grows}
+pub use Rattle.bar_laws.proofs.Broadcasts.Steps.{judged-keeps}
