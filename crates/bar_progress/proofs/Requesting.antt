@@ -11,27 +11,27 @@ use Rattle.bar_window.specs.declared.exchange.Role.{Role}
 use Rattle.bar_window.specs.declared.exchange.Role.TheVariants.{Initiator}
 use Rattle.bar_window.specs.declared.exchange.XKind.{XKind}
 use Rattle.bar_window.specs.declared.exchange.XKind.TheVariants.{Balanced}
-use Rattle.bar_wire.specs.Datagram.{Body, Datagram, KeyReq, Message, Request, exchange_by, is_of, kind_number, part_of, round_of}
+use Rattle.bar_wire.specs.Datagram.{Body, Datagram, Message, Request, exchange_by, is_of, kind_number, part_of, round_of}
 use Rattle.bar_wire.specs.Inputs as event
 use Rattle.bar_wire.specs.Kinds.{code_of}
 use Rattle.bar_wire.specs.Limits.{seats_a_round}
 use Rattle.bar_wire.specs.declared.kind.Kind.TheVariants as kinds
 use Rattle.bar_rules.specs.Member.{IsMember, Member}
 use Rattle.bar_rules.specs.Secrets.{is_seed, partner_of, secrets_of}
-use Rattle.bar_rules.specs.Values.{is_signed_by, unsigned}
+use Rattle.bar_rules.specs.Values.{is_signed_by}
 use Rattle.bar_rules.specs.Peer.Admission.{is_admitted}
 use Rattle.bar_rules.specs.Peer.Exchanges.{partner_in, role_of}
 use Rattle.bar_rules.specs.Peer.Knowledge.{Knowledge, has_heard_of, known, this_round}
 use Rattle.bar_rules.specs.Peer.Log.{Log, Said, Ticked, first_heard, first_said, is_announced, names_party, round_now, ticks}
 use Rattle.bar_rules.specs.Peer.Machine as machine
 use Rattle.bar_rules.specs.Peer.Machine.{message_to, send_if}
-use Rattle.bar_rules.specs.Peer.Orders.{Answer, Ask, AskKey, GiveCase, GiveKey, Order, Report, Resend, Reveal, ask_body}
+use Rattle.bar_rules.specs.Peer.Orders.{Ask, Order, ask_body}
 use Rattle.bar_rules.specs.Peer.Replies.{orders_when}
 use Rattle.bar_rules.specs.Peer.Rules.{IsObedient, IsSignedByRule}
 use Rattle.bar_rules.specs.Peer.Run.{Out, perform, perform_all, say_or_repeat, step, take_input}
 use Rattle.bar_rules.specs.Peer.Signing.{MayRequest, MaySay, asking, signed}
 use Rattle.bar_rules.specs.Peer.Ticks.{new_requests, orders_at_tick, reports}
-use Rattle.bar_rules.specs.Runs.{begun, sending}
+use Rattle.bar_rules.specs.Runs.{begun}
 use Rattle.bar_rules.specs.World.World.{Move, Setup, member}
 use Rattle.bar_laws.specs.Obedience.{SignedByRule}
 use Rattle.bar_laws.specs.OwnRuns.{PeersRun, inputs_of}
@@ -42,6 +42,7 @@ use Rattle.bar_laws.proofs.Runs.{said-contains}
 use Rattle.bar_progress.specs.Requests.{CanSeat, IsRequested, MakesRequest, RequestsAreAdmitted, RequestsAreMade, partner_then}
 use Rattle.bar_progress.proofs.Announcing.{with_body}
 use Rattle.bar_progress.proofs.Holding.{contains-back, contains-front}
+use Rattle.bar_progress.proofs.Performing.{IsKept, all-keeps}
 
 -- ---- what an order leaves
 
@@ -56,40 +57,25 @@ request-is x m e = let w = is_of-is kinds.Request x Initiator m e in request-by 
 
 module _ (me : Member) (to round : ℕ) where
   -- what was said and sent stays so
-  sending-makes : (out : Out) (q : ℕ) (d : Datagram) → MakesRequest out to round → MakesRequest (sending out q d) to round
-  sending-makes out q d h = record { request = h.request; seed = h.seed; commitment = h.commitment; body = h.body; said = h.said; sent = contains-front out.sends ((q, d) ∷ []) (to, h.request) h.sent }
-
-  say-makes : (out : Out) (x : Exchange) (o : Option Datagram) (b : Option Body) → MakesRequest out to round → MakesRequest (say_or_repeat me out x o b) to round
-  say-makes out x (Some d) b h = sending-makes out (partner_in me x) d h
-  say-makes out x None None h = h
-  say-makes out x None (Some b) h =
-      let d : Datagram = signed me (known me out.state) (message_to me x b) in
-      record {
-        request = h.request;
-        seed = h.seed;
-        commitment = h.commitment;
-        body = h.body;
-        said = Contains-later (Said d) (Said h.request) out.state h.said;
-        sent = contains-front out.sends ((partner_in me x, d) ∷ []) (to, h.request) h.sent;
-      }
-
-  if-makes : (out : Out) (q : ℕ) (b : Option Body) → MakesRequest out to round → MakesRequest (send_if me out q b) to round
-  if-makes out q None h = h
-  if-makes out q (Some b) h = sending-makes out q (unsigned (record { from = me.party; to = q; body = b })) h
-
-  perform-makes : (out : Out) (o : Order) → MakesRequest out to round → MakesRequest (perform me out o) to round
-  perform-makes out (Ask x) h = say-makes out x _ _ h
-  perform-makes out (Answer x) h = say-makes out x _ _ h
-  perform-makes out (GiveCase x) h = say-makes out x _ _ h
-  perform-makes out (GiveKey x) h = say-makes out x _ _ h
-  perform-makes out (Resend kind x) h = say-makes out x _ _ h
-  perform-makes out (Reveal x) h = if-makes out _ _ h
-  perform-makes out (AskKey x) h = if-makes out (partner_in me x) (Some (KeyReq x.round x.kind (role_of me x))) h
-  perform-makes out (Report q) h = if-makes out 0 _ h
-
-  all-makes : (out : Out) (os : List Order) → MakesRequest out to round → MakesRequest (perform_all me out os) to round
-  all-makes out [] h = h
-  all-makes out (o ∷ os) h = all-makes (perform me out o) os (perform-makes out o h)
+  stays : IsKept (λ out. MakesRequest out to round)
+  stays = record {
+    sent = λ out q d h. record {
+      request = h.request;
+      seed = h.seed;
+      commitment = h.commitment;
+      body = h.body;
+      said = h.said;
+      sent = contains-front out.sends ((q, d) ∷ []) (to, h.request) h.sent;
+    };
+    said = λ out d h. record {
+      request = h.request;
+      seed = h.seed;
+      commitment = h.commitment;
+      body = h.body;
+      said = Contains-later (Said d) (Said h.request) out.state h.said;
+      sent = h.sent;
+    };
+  }
 
   -- the order to ask makes the request
   abbrev x : Exchange
@@ -120,12 +106,12 @@ module _ (me : Member) (to round : ℕ) where
   among-makes out (o ∷ os) c = go (Contains_cases o (Ask x) os c) (among-makes (perform me out o) os)
     where
       go : (o ≡ Ask x) ⊎ Contains os (Ask x) → (Contains os (Ask x) → MakesRequest (perform_all me (perform me out o) os) to round) → MakesRequest (perform_all me (perform me out o) os) to round
-      go (inl e) more = all-makes (perform me out o) os (subst (λ z. MakesRequest (perform me out z) to round) (sym e) (ask-makes out))
+      go (inl e) more = all-keeps me (λ out. MakesRequest out to round) stays (perform me out o) os (subst (λ z. MakesRequest (perform me out z) to round) (sym e) (ask-makes out))
       go (inr c) more = more c
 
 -- ---- the tick
 
-when-has : (b : Bool) (os : List Order) (o : Order) → b ≡ true → Contains os o → Contains (orders_when b os) o
+pub when-has : (b : Bool) (os : List Order) (o : Order) → b ≡ true → Contains os o → Contains (orders_when b os) o
 when-has b os o e c = subst (λ z. Contains (orders_when z os) o) (sym e) c
 
 -- the orders of a round's first slot have it
