@@ -1,0 +1,75 @@
+-- A balanced exchange goes on whatever stands between its deliveries.
+use Rattle.std.specs.Prelude.{◌≡◌, ℕ, ◌<◌, Bool, true, false, List, [], ◌∷◌, ◌++◌, Some, slice_get}
+use Rattle.bar_roster.specs.Time.{last_tick}
+use Rattle.bar_window.specs.Exchange.{other_role, party_on}
+use Rattle.bar_window.specs.Terms.{Terms}
+use Rattle.bar_window.specs.declared.exchange.Exchange.{Exchange}
+use Rattle.bar_window.specs.declared.exchange.Role.{Role}
+use Rattle.bar_window.specs.declared.exchange.Role.TheVariants.{Initiator, Responder}
+use Rattle.bar_window.specs.declared.update.UpdateId.{UpdateId}
+use Rattle.bar_wire.specs.Datagram.{Datagram, is_of}
+use Rattle.bar_wire.specs.declared.kind.Kind.{Kind}
+use Rattle.bar_wire.specs.declared.kind.Kind.TheVariants.{Response, Divulge, Case, KeyReq, Key}
+use Rattle.bar_rules.specs.Member.{Member}
+use Rattle.bar_rules.specs.Peer.Exchanges.{partner_in, revealed}
+use Rattle.bar_rules.specs.Peer.Knowledge.{is_in_time, known}
+use Rattle.bar_rules.specs.Peer.Log.{Log, is_announced, ticks}
+use Rattle.bar_rules.specs.Values.{datagram_bytes, datagram_of}
+use Rattle.bar_rules.specs.World.World.{Move, Setup, member}
+use Rattle.bar_laws.specs.Parties.{ForgesNothing, after}
+use Rattle.bar_progress.specs.Trades.{BeginsTrade, HaveTraded, agreed, and_deliver, pair_in}
+use Rattle.bar_progress.specs.Trading.{trade}
+
+-- a datagram of an exchange, by its kind and the side that sends it
+abbrev pub Part : Type 0
+Part = Kind × Role
+
+-- what follows the REQUEST of a balanced exchange, in order
+abbrev pub parts : List Part
+parts =
+    (Response, Responder) ∷ (Divulge, Initiator) ∷ (Case, Initiator) ∷ (Case, Responder) ∷ (KeyReq, Responder) ∷ (KeyReq, Initiator)
+    ∷ (Key, Initiator) ∷ (Key, Responder) ∷ []
+
+abbrev pub receiver : Exchange → Part → ℕ
+receiver x part = party_on x (other_role part.1)
+
+-- The packet of this number is such a datagram, to the other side.
+pub record IsSent (setup : Setup) (moves : List Move) (x : Exchange) (part : Part) (number : ℕ) : Type 0 where
+  pub d : Datagram
+  pub packet : slice_get (after setup moves).packets number ≡ Some (receiver x part, datagram_bytes setup.session d)
+  pub reads : datagram_of setup.session (datagram_bytes setup.session d) ≡ Some d
+  pub of : is_of part.0 x part.1 d.message ≡ true
+
+-- The receiver takes it in time: before its last tick, while its partner isn't announced evicted, and within the deadline of its kind. And
+-- nobody has revealed to it another nonce or history than the REQUEST commits to, which takes two openings of one commitment.
+pub record IsReady (me : Member) (log : Log) (x : Exchange) (kind : Kind) (commits : List ℕ × List UpdateId) : Type 0 where
+  pub going : ticks log < last_tick me.session
+  pub trading : is_announced log (partner_in me x) ≡ false
+  pub in_time : is_in_time me.session (known me log) kind x.round ≡ true
+  pub bound : (a : List ℕ × List UpdateId) → revealed me log x ≡ Some a → a ≡ commits
+
+-- Whatever moves come between that forge nothing, the next of these parts has been sent, and once it is delivered to a receiver that takes
+-- it in time, it goes on so with those that follow; after the last part this end is reached.
+abbrev pub GoesOn : Setup → (ℕ → Bool) → Exchange → List ℕ × List UpdateId → (List Move → Type 0) → List Part → List Move → Type 0
+GoesOn setup trusted x commits Ends [] moves = Ends moves
+GoesOn setup trusted x commits Ends (part ∷ rest) moves =
+    (between : List Move) → ForgesNothing setup trusted (moves ++ between)
+    → (number : ℕ) × IsSent setup (moves ++ between) x part number
+    × ((log : Log) → slice_get (after setup (moves ++ between)).logs (receiver x part) ≡ Some log
+    → IsReady (member setup (receiver x part)) log x part.0 commits
+    → GoesOn setup trusted x commits Ends rest (and_deliver (moves ++ between) number))
+
+-- both have traded, whatever moves come after
+abbrev pub HaveTradedForGood : Setup → (ℕ → Bool) → ℕ → ℕ → ℕ → Terms → List Move → Type 0
+HaveTradedForGood setup trusted a b round terms moves =
+    (later : List Move) (mine theirs : Log) → ForgesNothing setup trusted (moves ++ later)
+    → slice_get (after setup (moves ++ later)).logs a ≡ Some mine → slice_get (after setup (moves ++ later)).logs b ≡ Some theirs
+    → HaveTraded setup a b round terms mine theirs
+
+-- Two trusted peers can trade, and the REQUEST is delivered: then the exchange goes on to its end.
+abbrev pub TradesGoOn : Type 0
+TradesGoOn =
+    (setup : Setup) (trusted : ℕ → Bool) (moves : List Move) (request a b round : ℕ) (nonce : List ℕ) (ha : List UpdateId)
+    → (t : BeginsTrade setup trusted moves request a b round nonce ha)
+    → GoesOn setup trusted (trade (pair_in setup a b round)) (nonce, ha)
+    (HaveTradedForGood setup trusted a b round (agreed setup a b round t.mine t.theirs t.d nonce ha)) parts (and_deliver moves request)
