@@ -35,7 +35,7 @@ use Rattle.bar_laws.specs.Growing.{PeersGrow}
 use Rattle.bar_laws.specs.Knowing.{StepIsKnown}
 use Rattle.bar_laws.specs.Obedience.{SignedByRule}
 use Rattle.bar_laws.specs.OwnRuns.{PeersRun}
-use Rattle.bar_laws.specs.Parties.{ForgesNothing, HeardWasSaid, IsSentBy, IsTrustedPeer, KeysOpenWell, NobodyIsAccused, StepIsAccepted, after}
+use Rattle.bar_laws.specs.Parties.{ForgesNothing, HeardWasSaid, IsSentBy, IsTrustedPeer, KeysOpenWell, NobodyIsAccused, NobodyIsAnnounced, StepIsAccepted, after}
 use Rattle.bar_laws.specs.Premises.{PeersAreMembers}
 use Rattle.bar_laws.specs.Soundness.{LogIsSound}
 use Rattle.bar_laws.proofs.Logs.{IsCaseOf, SaidIn, WasHeard, first_heard-was, first_said-was, is_of-case, is_of-key, is_of-own, read-fits, receiver-on, round-by, said-in, sender-on, some-equal, some-is, some-same, table-later, unique, within-extends}
@@ -59,7 +59,7 @@ use Rattle.bar_progress.proofs.Trades.{gains}
 
 -- ---- two sides
 
-module _ (knows : StepIsKnown) (peers : PeersRun) (grow : PeersGrow) (accepts : StepIsAccepted) (ruled : SignedByRule) (members : PeersAreMembers) (accuses : NobodyIsAccused) (equal : PromisesEqual) (hears : HeardWasSaid)
+module _ (knows : StepIsKnown) (peers : PeersRun) (grow : PeersGrow) (accepts : StepIsAccepted) (ruled : SignedByRule) (members : PeersAreMembers) (accuses : NobodyIsAccused) (unannounced : NobodyIsAnnounced) (equal : PromisesEqual) (hears : HeardWasSaid)
     (opens : KeysOpenWell) (sound : LogIsSound) (setup : Setup) (trusted : ℕ → Bool) (moves : List Move) (request a b round : ℕ) (nonce : List ℕ) (ha : List UpdateId)
     (r : BeginsTrade setup trusted moves request a b round nonce ha) where
   abbrev p : Pair
@@ -216,17 +216,17 @@ module _ (knows : StepIsKnown) (peers : PeersRun) (grow : PeersGrow) (accepts : 
   abbrev Ready-b : Kind → List Move → Type 0
   Ready-b kind ms = IsReady (member setup b) (log-b ms) x kind commits
 
-  trading-a : (kind : Kind) (ms : List Move) → Ready-a kind ms → is_announced (log-a ms) b ≡ false
-  trading-a kind ms y = ap (is_announced (log-a ms)) (sym (receiving.partner-is knows peers grow accepts ruled members setup is a r.asks.low present-a b apart x Initiator refl)) ∙ y.trading
+  trading-a : (ms : List Move) → ForgesNothing setup trusted ms → is_announced (log-a ms) b ≡ false
+  trading-a ms f = unannounced setup trusted ms f a b (log-a ms) (log-b ms) r.asks.low (happening.log-is knows peers grow accepts ruled members setup is a r.asks.low present-a ms) (record { low = r.answers.low; trust = r.answers.trust; log_is = happening.log-is knows peers grow accepts ruled members setup is b r.answers.low present-b ms })
 
-  trading-b : (kind : Kind) (ms : List Move) → Ready-b kind ms → is_announced (log-b ms) a ≡ false
-  trading-b kind ms y = ap (is_announced (log-b ms)) (sym (receiving.partner-is knows peers grow accepts ruled members setup is b r.answers.low present-b a (λ e. apart (sym e)) x Responder refl)) ∙ y.trading
+  trading-b : (ms : List Move) → ForgesNothing setup trusted ms → is_announced (log-b ms) a ≡ false
+  trading-b ms f = unannounced setup trusted ms f b a (log-b ms) (log-a ms) r.answers.low (happening.log-is knows peers grow accepts ruled members setup is b r.answers.low present-b ms) (record { low = r.asks.low; trust = r.asks.trust; log_is = happening.log-is knows peers grow accepts ruled members setup is a r.asks.low present-a ms })
 
-  comes-a : (kind : Kind) (ms : List Move) (s : Sent-b kind ms) → Ready-a kind ms → Comes knows peers grow accepts ruled members setup is a r.asks.low present-a b apart x Initiator refl ms kind s.d
-  comes-a kind ms s y = record { of = s.of; signed = s.sent.accepted.accepted; trading = trading-a kind ms y; in_time = y.in_time }
+  comes-a : (kind : Kind) (ms : List Move) → ForgesNothing setup trusted ms → (s : Sent-b kind ms) → Ready-a kind ms → Comes knows peers grow accepts ruled members setup is a r.asks.low present-a b apart x Initiator refl ms kind s.d
+  comes-a kind ms f s y = record { of = s.of; signed = s.sent.accepted.accepted; trading = trading-a ms f; in_time = y.in_time }
 
-  comes-b : (kind : Kind) (ms : List Move) (s : Sent-a kind ms) → Ready-b kind ms → Comes knows peers grow accepts ruled members setup is b r.answers.low present-b a (λ e. apart (sym e)) x Responder refl ms kind s.d
-  comes-b kind ms s y = record { of = s.of; signed = s.sent.accepted.accepted; trading = trading-b kind ms y; in_time = y.in_time }
+  comes-b : (kind : Kind) (ms : List Move) → ForgesNothing setup trusted ms → (s : Sent-a kind ms) → Ready-b kind ms → Comes knows peers grow accepts ruled members setup is b r.answers.low present-b a (λ e. apart (sym e)) x Responder refl ms kind s.d
+  comes-b kind ms f s y = record { of = s.of; signed = s.sent.accepted.accepted; trading = trading-b ms f; in_time = y.in_time }
 
   -- ---- RESPONSE
 
@@ -251,15 +251,15 @@ module _ (knows : StepIsKnown) (peers : PeersRun) (grow : PeersGrow) (accepts : 
   response-of-it : is_of kinds.Response x Responder d2.message ≡ true
   response-of-it = is_of-own d2.message round Balanced Responder refl
 
-  response-admitted : (ms : List Move) → Since ms → SentIn knows peers grow accepts ruled members setup is b r.answers.low present-b ms a d2 → Ready-a kinds.Response ms → (known-a ms).heard kinds.Response x Responder ≡ None → is_admitted (member setup a) (known-a ms) d2 ≡ true
+  response-admitted : (ms : List Move) → Since ms → ForgesNothing setup trusted ms → SentIn knows peers grow accepts ruled members setup is b r.answers.low present-b ms a d2 → Ready-a kinds.Response ms → (known-a ms).heard kinds.Response x Responder ≡ None → is_admitted (member setup a) (known-a ms) d2 ≡ true
   unfolding is_admitted
-  response-admitted ms s sent y none =
+  response-admitted ms s f sent y none =
       and_from _ _
-      (and_from _ _ (and_from _ _ (and_from _ _ (eqb_refl a) (ap not (trading-a kinds.Response ms y))) (sent.accepted.accepted refl)) (ap (λ (o : Option Datagram). not (is_some o)) none))
+      (and_from _ _ (and_from _ _ (and_from _ _ (eqb_refl a) (ap not (trading-a ms f))) (sent.accepted.accepted refl)) (ap (λ (o : Option Datagram). not (is_some o)) none))
       (and_from _ _ (and_from _ _ (requested ms s) (within-a ms s)) y.in_time)
 
-  takes-response : (ms : List Move) → Since ms → (sent : SentIn knows peers grow accepts ruled members setup is b r.answers.low present-b ms a d2) → Ready-a kinds.Response ms → Heard-a kinds.Response (and_deliver ms sent.number)
-  takes-response ms s sent y = happening.arrives knows peers grow accepts ruled members setup is a r.asks.low present-a ms sent.number kinds.Response x Responder d2 sent.packet sent.accepted.reads response-of-it y.going (response-admitted ms s sent y)
+  takes-response : (ms : List Move) → Since ms → ForgesNothing setup trusted ms → (sent : SentIn knows peers grow accepts ruled members setup is b r.answers.low present-b ms a d2) → Ready-a kinds.Response ms → Heard-a kinds.Response (and_deliver ms sent.number)
+  takes-response ms s f sent y = happening.arrives knows peers grow accepts ruled members setup is a r.asks.low present-a ms sent.number kinds.Response x Responder d2 sent.packet sent.accepted.reads response-of-it y.going (response-admitted ms s f sent y)
 
   -- the one that was heard is the one that was said
   same-history : (ms : List Move) → Since ms → ForgesNothing setup trusted ms → (d : Datagram) → (known-a ms).heard kinds.Response x Responder ≡ Some d → history_in d.message.body ≡ Some hb
@@ -343,11 +343,11 @@ module _ (knows : StepIsKnown) (peers : PeersRun) (grow : PeersGrow) (accepts : 
       ap (λ o. option_map_or (λ z. bytes_eq z (commitment_of setup.session x nonce ha)) (option_and_then commitment_in (option_map (λ (d : Datagram). d.message.body) o)) false) (asked ms s)
       ∙ bytes_eq-refl (commitment_of setup.session x nonce ha)
 
-  divulge-admitted : (ms : List Move) → Since ms → Ready-b kinds.Divulge ms → (known-b ms).heard kinds.Divulge x Initiator ≡ None → is_admitted (member setup b) (known-b ms) d3 ≡ true
+  divulge-admitted : (ms : List Move) → Since ms → ForgesNothing setup trusted ms → Ready-b kinds.Divulge ms → (known-b ms).heard kinds.Divulge x Initiator ≡ None → is_admitted (member setup b) (known-b ms) d3 ≡ true
   unfolding is_admitted
-  divulge-admitted ms s y none =
+  divulge-admitted ms s f y none =
       and_from _ _
-      (and_from _ _ (and_from _ _ (and_from _ _ (eqb_refl b) (ap not (trading-b kinds.Divulge ms y))) refl) refl)
+      (and_from _ _ (and_from _ _ (and_from _ _ (eqb_refl b) (ap not (trading-b ms f))) refl) refl)
       (and_from _ _ (and_from _ _ (and_from _ _ (met ms s) (ap (λ (o : Option Datagram). not (is_some o)) none)) (within-b ms s)) y.in_time)
 
   abbrev Revealed-b : List Move → Type 0
@@ -356,9 +356,9 @@ module _ (knows : StepIsKnown) (peers : PeersRun) (grow : PeersGrow) (accepts : 
   more-revealed : (ms ns : List Move) → Revealed-b ms → Revealed-b (ms ++ ns)
   more-revealed ms ns e = happening.revealed-stays knows peers grow accepts ruled members setup is b r.answers.low present-b ms ns x commits e
 
-  takes-divulge : (ms : List Move) → Since ms → (sent : SentIn knows peers grow accepts ruled members setup is a r.asks.low present-a ms b d3) → Ready-b kinds.Divulge ms → Heard-b kinds.Divulge (and_deliver ms sent.number) × Revealed-b (and_deliver ms sent.number)
-  takes-divulge ms s sent y = (
-    happening.arrives knows peers grow accepts ruled members setup is b r.answers.low present-b ms sent.number kinds.Divulge x Initiator d3 sent.packet sent.accepted.reads divulge-of-it y.going (divulge-admitted ms s y),
+  takes-divulge : (ms : List Move) → Since ms → ForgesNothing setup trusted ms → (sent : SentIn knows peers grow accepts ruled members setup is a r.asks.low present-a ms b d3) → Ready-b kinds.Divulge ms → Heard-b kinds.Divulge (and_deliver ms sent.number) × Revealed-b (and_deliver ms sent.number)
+  takes-divulge ms s f sent y = (
+    happening.arrives knows peers grow accepts ruled members setup is b r.answers.low present-b ms sent.number kinds.Divulge x Initiator d3 sent.packet sent.accepted.reads divulge-of-it y.going (divulge-admitted ms s f y),
     go ((known-b ms).heard kinds.Divulge x Initiator) refl,
   )
     where
@@ -371,7 +371,7 @@ module _ (knows : StepIsKnown) (peers : PeersRun) (grow : PeersGrow) (accepts : 
           let f = heard-reveals (member setup b) (log-b ms) x d e in
           more-revealed ms (Deliver sent.number ∷ []) (f.1 ∙ ap Some (y.bound f.0 f.1))
       go None e =
-          ap (λ (k : Knowledge). k.revealed x) (happening.knows-delivered knows peers grow accepts ruled members setup is b r.answers.low present-b ms sent.number d3 sent.packet sent.accepted.reads y.going (divulge-admitted ms s y e))
+          ap (λ (k : Knowledge). k.revealed x) (happening.knows-delivered knows peers grow accepts ruled members setup is b r.answers.low present-b ms sent.number d3 sent.packet sent.accepted.reads y.going (divulge-admitted ms s f y e))
           ∙ answer-reveals (member setup b) x commits (known-b ms) d3 (new_evidence (member setup b) (known-b ms) d3) (learned-then ((known-b ms).revealed x) refl)
 
   terms-b : (ms : List Move) → Since ms → Revealed-b ms → terms_of (member setup b) (known-b ms) x ≡ Some terms
@@ -434,7 +434,7 @@ module _ (knows : StepIsKnown) (peers : PeersRun) (grow : PeersGrow) (accepts : 
       let k : IsCaseOf x Initiator theirs.d.message = is_of-case x Initiator theirs.d.message theirs.of in
       let says = receiving.said-content knows peers grow accepts ruled members setup is a r.asks.low present-a b apart x Initiator refl ms terms theirs.d k (terms-a ms s f h1) (theirs.sent.said (signed-case Initiator theirs.d theirs.of)) in
       happening.arrives knows peers grow accepts ruled members setup is b r.answers.low present-b ms theirs.sent.number kinds.Case x Initiator theirs.d theirs.sent.packet theirs.sent.accepted.reads theirs.of y.going
-      (receiving.case-admitted knows peers grow accepts ruled members setup is b r.answers.low present-b a (λ e. apart (sym e)) x Responder refl ms theirs.d k terms (comes-b kinds.Case ms theirs y) (given-b ms ours) (terms-b ms s shown) says.0 agree says.1)
+      (receiving.case-admitted knows peers grow accepts ruled members setup is b r.answers.low present-b a (λ e. apart (sym e)) x Responder refl ms theirs.d k terms (comes-b kinds.Case ms f theirs y) (given-b ms ours) (terms-b ms s shown) says.0 agree says.1)
 
   takes-case-a : (ms : List Move) → Since ms → ForgesNothing setup trusted ms → Heard-a kinds.Response ms → Revealed-b ms → (theirs : Sent-b kinds.Case ms) → Sent-a kinds.Case ms → Ready-a kinds.Case ms
       → Heard-a kinds.Case (and_deliver ms theirs.sent.number)
@@ -442,7 +442,7 @@ module _ (knows : StepIsKnown) (peers : PeersRun) (grow : PeersGrow) (accepts : 
       let k : IsCaseOf x Responder theirs.d.message = is_of-case x Responder theirs.d.message theirs.of in
       let says = receiving.said-content knows peers grow accepts ruled members setup is b r.answers.low present-b a (λ e. apart (sym e)) x Responder refl ms terms theirs.d k (terms-b ms s shown) (theirs.sent.said (signed-case Responder theirs.d theirs.of)) in
       happening.arrives knows peers grow accepts ruled members setup is a r.asks.low present-a ms theirs.sent.number kinds.Case x Responder theirs.d theirs.sent.packet theirs.sent.accepted.reads theirs.of y.going
-      (receiving.case-admitted knows peers grow accepts ruled members setup is a r.asks.low present-a b apart x Initiator refl ms theirs.d k terms (comes-a kinds.Case ms theirs y) (given-a ms ours) (terms-a ms s f h1) says.0 agree says.1)
+      (receiving.case-admitted knows peers grow accepts ruled members setup is a r.asks.low present-a b apart x Initiator refl ms theirs.d k terms (comes-a kinds.Case ms f theirs y) (given-a ms ours) (terms-a ms s f h1) says.0 agree says.1)
 
   -- each is answered by a KEYREQ
   case-answered-b : (ms : List Move) → Since ms → Heard-b kinds.Case ms → Sent-b kinds.KeyReq ms
@@ -457,15 +457,15 @@ module _ (knows : StepIsKnown) (peers : PeersRun) (grow : PeersGrow) (accepts : 
 
   -- ---- KEYREQ
 
-  takes-request-a : (ms : List Move) (theirs : Sent-b kinds.KeyReq ms) → Sent-a kinds.Case ms → Heard-a kinds.Case ms → Ready-a kinds.KeyReq ms → Heard-a kinds.KeyReq (and_deliver ms theirs.sent.number)
-  takes-request-a ms theirs ours h y =
+  takes-request-a : (ms : List Move) → ForgesNothing setup trusted ms → (theirs : Sent-b kinds.KeyReq ms) → Sent-a kinds.Case ms → Heard-a kinds.Case ms → Ready-a kinds.KeyReq ms → Heard-a kinds.KeyReq (and_deliver ms theirs.sent.number)
+  takes-request-a ms f theirs ours h y =
       happening.arrives knows peers grow accepts ruled members setup is a r.asks.low present-a ms theirs.sent.number kinds.KeyReq x Responder theirs.d theirs.sent.packet theirs.sent.accepted.reads theirs.of y.going
-      (receiving.request-admitted knows peers grow accepts ruled members setup is a r.asks.low present-a b apart x Initiator refl ms theirs.d (comes-a kinds.KeyReq ms theirs y) (given-a ms ours) (ap is_some h.1))
+      (receiving.request-admitted knows peers grow accepts ruled members setup is a r.asks.low present-a b apart x Initiator refl ms theirs.d (comes-a kinds.KeyReq ms f theirs y) (given-a ms ours) (ap is_some h.1))
 
-  takes-request-b : (ms : List Move) (theirs : Sent-a kinds.KeyReq ms) → Sent-b kinds.Case ms → Heard-b kinds.Case ms → Ready-b kinds.KeyReq ms → Heard-b kinds.KeyReq (and_deliver ms theirs.sent.number)
-  takes-request-b ms theirs ours h y =
+  takes-request-b : (ms : List Move) → ForgesNothing setup trusted ms → (theirs : Sent-a kinds.KeyReq ms) → Sent-b kinds.Case ms → Heard-b kinds.Case ms → Ready-b kinds.KeyReq ms → Heard-b kinds.KeyReq (and_deliver ms theirs.sent.number)
+  takes-request-b ms f theirs ours h y =
       happening.arrives knows peers grow accepts ruled members setup is b r.answers.low present-b ms theirs.sent.number kinds.KeyReq x Initiator theirs.d theirs.sent.packet theirs.sent.accepted.reads theirs.of y.going
-      (receiving.request-admitted knows peers grow accepts ruled members setup is b r.answers.low present-b a (λ e. apart (sym e)) x Responder refl ms theirs.d (comes-b kinds.KeyReq ms theirs y) (given-b ms ours) (ap is_some h.1))
+      (receiving.request-admitted knows peers grow accepts ruled members setup is b r.answers.low present-b a (λ e. apart (sym e)) x Responder refl ms theirs.d (comes-b kinds.KeyReq ms f theirs y) (given-b ms ours) (ap is_some h.1))
 
   request-answered-a : (ms : List Move) → Since ms → Heard-a kinds.KeyReq ms → Sent-a kinds.Key ms
   request-answered-a ms s h =
@@ -479,15 +479,15 @@ module _ (knows : StepIsKnown) (peers : PeersRun) (grow : PeersGrow) (accepts : 
 
   -- ---- KEY
 
-  takes-key-b : (ms : List Move) (theirs : Sent-a kinds.Key ms) → Sent-b kinds.Case ms → Heard-b kinds.Case ms → Ready-b kinds.Key ms → Heard-b kinds.Key (and_deliver ms theirs.sent.number)
-  takes-key-b ms theirs ours h y =
+  takes-key-b : (ms : List Move) → ForgesNothing setup trusted ms → (theirs : Sent-a kinds.Key ms) → Sent-b kinds.Case ms → Heard-b kinds.Case ms → Ready-b kinds.Key ms → Heard-b kinds.Key (and_deliver ms theirs.sent.number)
+  takes-key-b ms f theirs ours h y =
       happening.arrives knows peers grow accepts ruled members setup is b r.answers.low present-b ms theirs.sent.number kinds.Key x Initiator theirs.d theirs.sent.packet theirs.sent.accepted.reads theirs.of y.going
-      (receiving.key-admitted knows peers grow accepts ruled members setup is b r.answers.low present-b a (λ e. apart (sym e)) x Responder refl ms theirs.d (comes-b kinds.Key ms theirs y) (given-b ms ours) (ap is_some h.1))
+      (receiving.key-admitted knows peers grow accepts ruled members setup is b r.answers.low present-b a (λ e. apart (sym e)) x Responder refl ms theirs.d (comes-b kinds.Key ms f theirs y) (given-b ms ours) (ap is_some h.1))
 
-  takes-key-a : (ms : List Move) (theirs : Sent-b kinds.Key ms) → Sent-a kinds.Case ms → Heard-a kinds.Case ms → Ready-a kinds.Key ms → Heard-a kinds.Key (and_deliver ms theirs.sent.number)
-  takes-key-a ms theirs ours h y =
+  takes-key-a : (ms : List Move) → ForgesNothing setup trusted ms → (theirs : Sent-b kinds.Key ms) → Sent-a kinds.Case ms → Heard-a kinds.Case ms → Ready-a kinds.Key ms → Heard-a kinds.Key (and_deliver ms theirs.sent.number)
+  takes-key-a ms f theirs ours h y =
       happening.arrives knows peers grow accepts ruled members setup is a r.asks.low present-a ms theirs.sent.number kinds.Key x Responder theirs.d theirs.sent.packet theirs.sent.accepted.reads theirs.of y.going
-      (receiving.key-admitted knows peers grow accepts ruled members setup is a r.asks.low present-a b apart x Initiator refl ms theirs.d (comes-a kinds.Key ms theirs y) (given-a ms ours) (ap is_some h.1))
+      (receiving.key-admitted knows peers grow accepts ruled members setup is a r.asks.low present-a b apart x Initiator refl ms theirs.d (comes-a kinds.Key ms f theirs y) (given-a ms ours) (ap is_some h.1))
 
   signed-key : (role : Role) (d : Datagram) → is_of kinds.Key x role d.message ≡ true → is_signed d.message.body ≡ true
   signed-key role d of = ap is_signed (is_of-key x role d.message of).body
@@ -634,7 +634,7 @@ module _ (knows : StepIsKnown) (peers : PeersRun) (grow : PeersGrow) (accepts : 
           request-a = more-a kinds.KeyReq w ns (more-a kinds.KeyReq ms between h5);
           request-b = more-b kinds.KeyReq w ns (more-b kinds.KeyReq ms between h6);
           key-b = more-b kinds.Key w ns (more-b kinds.Key ms between h7);
-          key-a = takes-key-a w sent (response-answered w sw f g1).1 (more-a kinds.Case ms between h4) (ready-a kinds.Key w log at y);
+          key-a = takes-key-a w f sent (response-answered w sw f g1).1 (more-a kinds.Case ms between h4) (ready-a kinds.Key w log at y);
         }),
       )
 
@@ -654,7 +654,7 @@ module _ (knows : StepIsKnown) (peers : PeersRun) (grow : PeersGrow) (accepts : 
         λ log at y.
             goes7 (and_deliver w n) (since-more w ns sw) (more-a kinds.Response w ns (more-a kinds.Response ms between h1)) (more-b kinds.Divulge w ns g2) (more-revealed w ns gs) (more-b kinds.Case w ns g3)
             (more-a kinds.Case w ns (more-a kinds.Case ms between h4)) (more-a kinds.KeyReq w ns (more-a kinds.KeyReq ms between h5)) (more-b kinds.KeyReq w ns (more-b kinds.KeyReq ms between h6))
-            (takes-key-b w sent (divulge-answered w sw g2 gs) g3 (ready-b kinds.Key w log at y)),
+            (takes-key-b w f sent (divulge-answered w sw g2 gs) g3 (ready-b kinds.Key w log at y)),
       )
 
   goes5 : (ms : List Move) → Since ms → Heard-a kinds.Response ms → Heard-b kinds.Divulge ms → Revealed-b ms → Heard-b kinds.Case ms → Heard-a kinds.Case ms → Heard-a kinds.KeyReq ms
@@ -673,7 +673,7 @@ module _ (knows : StepIsKnown) (peers : PeersRun) (grow : PeersGrow) (accepts : 
         is-sent-a kinds.KeyReq w sent,
         λ log at y.
             goes6 (and_deliver w n) (since-more w ns sw) (more-a kinds.Response w ns (more-a kinds.Response ms between h1)) (more-b kinds.Divulge w ns g2) (more-revealed w ns gs) (more-b kinds.Case w ns g3)
-            (more-a kinds.Case w ns g4) (more-a kinds.KeyReq w ns (more-a kinds.KeyReq ms between h5)) (takes-request-b w sent (divulge-answered w sw g2 gs) g3 (ready-b kinds.KeyReq w log at y)),
+            (more-a kinds.Case w ns g4) (more-a kinds.KeyReq w ns (more-a kinds.KeyReq ms between h5)) (takes-request-b w f sent (divulge-answered w sw g2 gs) g3 (ready-b kinds.KeyReq w log at y)),
       )
 
   goes4 : (ms : List Move) → Since ms → Heard-a kinds.Response ms → Heard-b kinds.Divulge ms → Revealed-b ms → Heard-b kinds.Case ms → Heard-a kinds.Case ms
@@ -691,7 +691,7 @@ module _ (knows : StepIsKnown) (peers : PeersRun) (grow : PeersGrow) (accepts : 
         is-sent-b kinds.KeyReq w sent,
         λ log at y.
             goes5 (and_deliver w n) (since-more w ns sw) (more-a kinds.Response w ns g1) (more-b kinds.Divulge w ns (more-b kinds.Divulge ms between h2)) (more-revealed w ns (more-revealed ms between shown))
-            (more-b kinds.Case w ns g3) (more-a kinds.Case w ns g4) (takes-request-a w sent (response-answered w sw f g1).1 g4 (ready-a kinds.KeyReq w log at y)),
+            (more-b kinds.Case w ns g3) (more-a kinds.Case w ns g4) (takes-request-a w f sent (response-answered w sw f g1).1 g4 (ready-a kinds.KeyReq w log at y)),
       )
 
   goes3 : (ms : List Move) → Since ms → Heard-a kinds.Response ms → Heard-b kinds.Divulge ms → Revealed-b ms → Heard-b kinds.Case ms
@@ -742,7 +742,7 @@ module _ (knows : StepIsKnown) (peers : PeersRun) (grow : PeersGrow) (accepts : 
         n,
         record { d = d3; packet = sent.packet; reads = sent.accepted.reads; of = divulge-of-it },
         λ log at y.
-            let taken = takes-divulge w sw sent (ready-b kinds.Divulge w log at y) in
+            let taken = takes-divulge w sw f sent (ready-b kinds.Divulge w log at y) in
             goes2 (and_deliver w n) (since-more w ns sw) (more-a kinds.Response w ns g1) taken.0 taken.1,
       )
 
@@ -755,9 +755,9 @@ module _ (knows : StepIsKnown) (peers : PeersRun) (grow : PeersGrow) (accepts : 
       let ns : List Move = Deliver n ∷ [] in (
         n,
         record { d = d2; packet = sent.packet; reads = sent.accepted.reads; of = response-of-it },
-        λ log at y. goes1 (and_deliver w n) (since-more w ns sw) (takes-response w sw sent (ready-a kinds.Response w log at y)),
+        λ log at y. goes1 (and_deliver w n) (since-more w ns sw) (takes-response w sw f sent (ready-a kinds.Response w log at y)),
       )
 
-pub trades-go-on : StepIsKnown → PeersRun → PeersGrow → StepIsAccepted → SignedByRule → PeersAreMembers → NobodyIsAccused → PromisesEqual → HeardWasSaid → KeysOpenWell → LogIsSound → TradesGoOn
-trades-go-on knows peers grow accepts ruled members accuses equal hears opens sound setup trusted moves request a b round nonce ha r =
-    goes0 knows peers grow accepts ruled members accuses equal hears opens sound setup trusted moves request a b round nonce ha r
+pub trades-go-on : StepIsKnown → PeersRun → PeersGrow → StepIsAccepted → SignedByRule → PeersAreMembers → NobodyIsAccused → NobodyIsAnnounced → PromisesEqual → HeardWasSaid → KeysOpenWell → LogIsSound → TradesGoOn
+trades-go-on knows peers grow accepts ruled members accuses unannounced equal hears opens sound setup trusted moves request a b round nonce ha r =
+    goes0 knows peers grow accepts ruled members accuses unannounced equal hears opens sound setup trusted moves request a b round nonce ha r

@@ -1,5 +1,5 @@
 -- A balanced exchange goes on whatever stands between its deliveries.
-use Rattle.std.specs.Prelude.{◌≡◌, ℕ, ◌<◌, Bool, true, false, List, [], ◌∷◌, ◌++◌, Some, slice_get}
+use Rattle.std.specs.Prelude.{◌≡◌, ℕ, ◌<◌, Bool, true, List, [], ◌∷◌, ◌++◌, Some, slice_get}
 use Rattle.bar_roster.specs.Time.{last_tick}
 use Rattle.bar_window.specs.Exchange.{other_role, party_on}
 use Rattle.bar_window.specs.Terms.{Terms}
@@ -11,9 +11,9 @@ use Rattle.bar_wire.specs.Datagram.{Datagram, is_of}
 use Rattle.bar_wire.specs.declared.kind.Kind.{Kind}
 use Rattle.bar_wire.specs.declared.kind.Kind.TheVariants.{Response, Divulge, Case, KeyReq, Key}
 use Rattle.bar_rules.specs.Member.{Member}
-use Rattle.bar_rules.specs.Peer.Exchanges.{partner_in, revealed}
+use Rattle.bar_rules.specs.Peer.Exchanges.{revealed}
 use Rattle.bar_rules.specs.Peer.Knowledge.{is_in_time, known}
-use Rattle.bar_rules.specs.Peer.Log.{Log, is_announced, ticks}
+use Rattle.bar_rules.specs.Peer.Log.{Log, ticks}
 use Rattle.bar_rules.specs.Values.{datagram_bytes, datagram_of}
 use Rattle.bar_rules.specs.World.World.{Move, Setup, member}
 use Rattle.bar_laws.specs.Parties.{ForgesNothing, after}
@@ -40,11 +40,10 @@ pub record IsSent (setup : Setup) (moves : List Move) (x : Exchange) (part : Par
   pub reads : datagram_of setup.session (datagram_bytes setup.session d) ≡ Some d
   pub of : is_of part.0 x part.1 d.message ≡ true
 
--- The receiver takes it in time: before its last tick, while its partner isn't announced evicted, and within the deadline of its kind. And
--- nobody has revealed to it another nonce or history than the REQUEST commits to, which takes two openings of one commitment.
+-- The receiver takes it in time: before its last tick, and within the deadline of its kind. And nobody has revealed to it another nonce or
+-- history than those that the REQUEST commits to, which takes two openings of one commitment.
 pub record IsReady (me : Member) (log : Log) (x : Exchange) (kind : Kind) (commits : List ℕ × List UpdateId) : Type 0 where
   pub going : ticks log < last_tick me.session
-  pub trading : is_announced log (partner_in me x) ≡ false
   pub in_time : is_in_time me.session (known me log) kind x.round ≡ true
   pub bound : (a : List ℕ × List UpdateId) → revealed me log x ≡ Some a → a ≡ commits
 

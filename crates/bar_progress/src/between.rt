@@ -8,7 +8,8 @@ use bar_laws::memories::logs_are_sound;
 use bar_laws::obedience::signed_by_rule;
 use bar_laws::own_runs::parties_run_alone;
 use bar_laws::parties::{
-    keys_open_well, nobody_is_accused, sent_is_accepted, what_was_heard_was_said,
+    keys_open_well, nobody_is_accused, nobody_is_announced, sent_is_accepted,
+    what_was_heard_was_said,
 };
 use bar_laws::premises::premises_can_be_met;
 use bar_terms::laws::promises_are_equally_long;
@@ -26,6 +27,7 @@ pub fn trades_go_on()
     parties_run_alone();
     keys_open_well();
     nobody_is_accused();
+    nobody_is_announced();
     sent_is_accepted();
     what_was_heard_was_said();
     premises_can_be_met();
