@@ -1,5 +1,5 @@
 -- A balanced exchange goes on, whatever moves stand between its deliveries.
-use Rattle.std.proofs.Common.{◌≡◌, ◌∙◌, inl, inr, ℕ, ◌≤◌, Bool, true, false, not, List, [], ◌∷◌, ◌++◌, length, refl, sym, ap, subst, append_assoc}
+use Rattle.std.proofs.Common.{◌≡◌, ◌∙◌, inl, inr, ℕ, ◌<◌, ◌≤◌, Bool, true, false, not, List, [], ◌∷◌, ◌++◌, length, refl, sym, ap, subst, append_assoc}
 use Rattle.std.specs.Prelude.{Option, Some, None, is_some, slice_get}
 use Rattle.std.specs.Bool.{then_some}
 use Rattle.std.specs.Option.{option_map_or, option_or}
@@ -7,6 +7,7 @@ use Rattle.std.specs.Prelude.{option_and_then, option_map}
 use Rattle.std.specs.Str.{bytes_eq}
 use Rattle.std.proofs.lemmas.Bool.{and_from}
 use Rattle.bar_bytes.proofs.Tests.{bytes_eq-refl, eqb_refl}
+use Rattle.bar_roster.specs.Time.{last_tick}
 use Rattle.bar_terms.specs.Table.{is_within}
 use Rattle.bar_terms.specs.Terms.{promise, promised_updates}
 use Rattle.bar_window.specs.Exchange.{other_role}
@@ -19,28 +20,31 @@ use Rattle.bar_window.specs.declared.update.UpdateId.{UpdateId}
 use Rattle.bar_wire.specs.Bodies.{briefcase_in, commitment_in, history_in}
 use Rattle.bar_wire.specs.Datagram.{Body, Briefcase, Datagram, Divulge, Key, Response, identity_of, is_of, is_signed, kind_number, named}
 use Rattle.bar_wire.specs.Grammar.{IsDatagram}
+use Rattle.bar_wire.specs.Inputs as event
 use Rattle.bar_wire.specs.declared.kind.Kind.{Kind}
 use Rattle.bar_wire.specs.declared.kind.Kind.TheVariants as kinds
 use Rattle.bar_rules.specs.Peer.Admission.{is_admitted, meets_commitment, same_terms}
 use Rattle.bar_rules.specs.Peer.Evidence.{new_evidence}
 use Rattle.bar_rules.specs.Peer.Holdings.{case_heard_from, case_in}
-use Rattle.bar_rules.specs.Peer.Knowledge.{Knowledge, has_said_of, known, table_of, with_heard}
-use Rattle.bar_rules.specs.Peer.Log.{Log, is_announced, table}
+use Rattle.bar_rules.specs.Member.{Member}
+use Rattle.bar_rules.specs.Peer.Exchanges.{revealed}
+use Rattle.bar_rules.specs.Peer.Knowledge.{Knowledge, has_said_of, is_in_time, known, table_of, with_heard}
+use Rattle.bar_rules.specs.Peer.Log.{Log, is_announced, table, ticks}
 use Rattle.bar_rules.specs.Peer.Orders.{case_body}
 use Rattle.bar_rules.specs.Peer.Terms.{terms_of}
 use Rattle.bar_rules.specs.Secrets.{briefcase_key, commitment_of}
 use Rattle.bar_rules.specs.Values.{datagram_bytes}
-use Rattle.bar_rules.specs.World.World.{Deliver, IsSetup, Move, Setup, member}
+use Rattle.bar_rules.specs.World.World.{IsSetup, Move, Setup, member}
 use Rattle.bar_laws.specs.Growing.{PeersGrow}
 use Rattle.bar_laws.specs.Knowing.{StepIsKnown}
 use Rattle.bar_laws.specs.Obedience.{SignedByRule}
-use Rattle.bar_laws.specs.OwnRuns.{PeersRun}
+use Rattle.bar_laws.specs.OwnRuns.{PeersRun, input_at}
 use Rattle.bar_laws.specs.Parties.{ForgesNothing, HeardWasSaid, IsSentBy, IsTrustedPeer, KeysOpenWell, NobodyIsAccused, NobodyIsAnnounced, StepIsAccepted, after}
 use Rattle.bar_laws.specs.Premises.{PeersAreMembers}
 use Rattle.bar_laws.specs.Soundness.{LogIsSound}
 use Rattle.bar_laws.proofs.Logs.{IsCaseOf, SaidIn, WasHeard, first_heard-was, first_said-was, is_of-case, is_of-key, is_of-own, read-fits, receiver-on, round-by, said-in, sender-on, some-equal, some-is, some-same, table-later, unique, within-extends}
 use Rattle.bar_laws.proofs.Runs.{heard-in}
-use Rattle.bar_progress.specs.Between.{GoesOn, HaveTradedForGood, IsReady, IsSent, Part, TradesGoOn, parts}
+use Rattle.bar_progress.specs.Between.{GoesOn, HaveTradedForGood, IsSent, IsTaken, Part, TradesGoOn, parts}
 use Rattle.bar_progress.specs.Trades.{BeginsTrade, HaveTraded, Holds, and_deliver, pair_in, talk_in}
 use Rattle.bar_progress.specs.Trading.{Pair, Talk, trade}
 use Rattle.bar_progress.proofs.Announcing.{with_body}
@@ -204,17 +208,27 @@ module _ (knows : StepIsKnown) (peers : PeersRun) (grow : PeersGrow) (accepts : 
   Sent-b kind ms = HasSent knows peers grow accepts ruled members setup is b r.answers.low present-b a (λ e. apart (sym e)) x Responder refl ms kind
 
   -- by the side that sent it
-  is-sent-a : (kind : Kind) (ms : List Move) (s : Sent-a kind ms) → IsSent setup ms x (kind, Initiator) s.sent.number
-  is-sent-a kind ms s = record { d = s.d; packet = s.sent.packet; reads = s.sent.accepted.reads; of = s.of }
+  abbrev is-sent-a : (kind : Kind) (ms : List Move) (s : Sent-a kind ms) → IsSent setup ms x (kind, Initiator)
+  is-sent-a kind ms s = record { d = s.d; number = s.sent.number; packet = s.sent.packet; reads = s.sent.accepted.reads; of = s.of }
 
-  is-sent-b : (kind : Kind) (ms : List Move) (s : Sent-b kind ms) → IsSent setup ms x (kind, Responder) s.sent.number
-  is-sent-b kind ms s = record { d = s.d; packet = s.sent.packet; reads = s.sent.accepted.reads; of = s.of }
+  abbrev is-sent-b : (kind : Kind) (ms : List Move) (s : Sent-b kind ms) → IsSent setup ms x (kind, Responder)
+  is-sent-b kind ms s = record { d = s.d; number = s.sent.number; packet = s.sent.packet; reads = s.sent.accepted.reads; of = s.of }
+
+  -- a peer takes a datagram in time
+  record Ready (me : Member) (log : Log) (kind : Kind) : Type 0 where
+    going : ticks log < last_tick setup.session
+    in_time : is_in_time setup.session (known me log) kind x.round ≡ true
+    bound : (c : List ℕ × List UpdateId) → revealed me log x ≡ Some c → c ≡ commits
 
   abbrev Ready-a : Kind → List Move → Type 0
-  Ready-a kind ms = IsReady (member setup a) (log-a ms) x kind commits
+  Ready-a kind ms = Ready (member setup a) (log-a ms) kind
 
   abbrev Ready-b : Kind → List Move → Type 0
-  Ready-b kind ms = IsReady (member setup b) (log-b ms) x kind commits
+  Ready-b kind ms = Ready (member setup b) (log-b ms) kind
+
+  -- a move gives it to a peer
+  abbrev Brings : ℕ → List Move → Move → Datagram → Type 0
+  Brings peer ms m d = input_at (after setup ms) peer m ≡ event.Datagram (datagram_bytes setup.session d) ∷ []
 
   trading-a : (ms : List Move) → ForgesNothing setup trusted ms → is_announced (log-a ms) b ≡ false
   trading-a ms f = unannounced setup trusted ms f a b (log-a ms) (log-b ms) r.asks.low (happening.log-is knows peers grow accepts ruled members setup is a r.asks.low present-a ms) (record { low = r.answers.low; trust = r.answers.trust; log_is = happening.log-is knows peers grow accepts ruled members setup is b r.answers.low present-b ms })
@@ -258,8 +272,8 @@ module _ (knows : StepIsKnown) (peers : PeersRun) (grow : PeersGrow) (accepts : 
       (and_from _ _ (and_from _ _ (and_from _ _ (eqb_refl a) (ap not (trading-a ms f))) (sent.accepted.accepted refl)) (ap (λ (o : Option Datagram). not (is_some o)) none))
       (and_from _ _ (and_from _ _ (requested ms s) (within-a ms s)) y.in_time)
 
-  takes-response : (ms : List Move) → Since ms → ForgesNothing setup trusted ms → (sent : SentIn knows peers grow accepts ruled members setup is b r.answers.low present-b ms a d2) → Ready-a kinds.Response ms → Heard-a kinds.Response (and_deliver ms sent.number)
-  takes-response ms s f sent y = happening.arrives knows peers grow accepts ruled members setup is a r.asks.low present-a ms sent.number kinds.Response x Responder d2 sent.packet sent.accepted.reads response-of-it y.going (response-admitted ms s f sent y)
+  takes-response : (ms : List Move) → Since ms → ForgesNothing setup trusted ms → (sent : SentIn knows peers grow accepts ruled members setup is b r.answers.low present-b ms a d2) → (m : Move) → Brings a ms m d2 → Ready-a kinds.Response ms → Heard-a kinds.Response (ms ++ m ∷ [])
+  takes-response ms s f sent m brings y = happening.arrives knows peers grow accepts ruled members setup is a r.asks.low present-a ms m kinds.Response x Responder d2 brings sent.accepted.reads response-of-it y.going (response-admitted ms s f sent y)
 
   -- the one that was heard is the one that was said
   same-history : (ms : List Move) → Since ms → ForgesNothing setup trusted ms → (d : Datagram) → (known-a ms).heard kinds.Response x Responder ≡ Some d → history_in d.message.body ≡ Some hb
@@ -356,9 +370,9 @@ module _ (knows : StepIsKnown) (peers : PeersRun) (grow : PeersGrow) (accepts : 
   more-revealed : (ms ns : List Move) → Revealed-b ms → Revealed-b (ms ++ ns)
   more-revealed ms ns e = happening.revealed-stays knows peers grow accepts ruled members setup is b r.answers.low present-b ms ns x commits e
 
-  takes-divulge : (ms : List Move) → Since ms → ForgesNothing setup trusted ms → (sent : SentIn knows peers grow accepts ruled members setup is a r.asks.low present-a ms b d3) → Ready-b kinds.Divulge ms → Heard-b kinds.Divulge (and_deliver ms sent.number) × Revealed-b (and_deliver ms sent.number)
-  takes-divulge ms s f sent y = (
-    happening.arrives knows peers grow accepts ruled members setup is b r.answers.low present-b ms sent.number kinds.Divulge x Initiator d3 sent.packet sent.accepted.reads divulge-of-it y.going (divulge-admitted ms s f y),
+  takes-divulge : (ms : List Move) → Since ms → ForgesNothing setup trusted ms → (sent : SentIn knows peers grow accepts ruled members setup is a r.asks.low present-a ms b d3) → (m : Move) → Brings b ms m d3 → Ready-b kinds.Divulge ms → Heard-b kinds.Divulge (ms ++ m ∷ []) × Revealed-b (ms ++ m ∷ [])
+  takes-divulge ms s f sent m brings y = (
+    happening.arrives knows peers grow accepts ruled members setup is b r.answers.low present-b ms m kinds.Divulge x Initiator d3 brings sent.accepted.reads divulge-of-it y.going (divulge-admitted ms s f y),
     go ((known-b ms).heard kinds.Divulge x Initiator) refl,
   )
     where
@@ -366,12 +380,12 @@ module _ (knows : StepIsKnown) (peers : PeersRun) (grow : PeersGrow) (accepts : 
       learned-then (Some c) e = ap Some (y.bound c e)
       learned-then None e = ap (λ z. then_some z commits) divulge-of-it
 
-      go : (o : Option Datagram) → (known-b ms).heard kinds.Divulge x Initiator ≡ o → Revealed-b (and_deliver ms sent.number)
+      go : (o : Option Datagram) → (known-b ms).heard kinds.Divulge x Initiator ≡ o → Revealed-b (ms ++ m ∷ [])
       go (Some d) e =
           let f = heard-reveals (member setup b) (log-b ms) x d e in
-          more-revealed ms (Deliver sent.number ∷ []) (f.1 ∙ ap Some (y.bound f.0 f.1))
+          more-revealed ms (m ∷ []) (f.1 ∙ ap Some (y.bound f.0 f.1))
       go None e =
-          ap (λ (k : Knowledge). k.revealed x) (happening.knows-delivered knows peers grow accepts ruled members setup is b r.answers.low present-b ms sent.number d3 sent.packet sent.accepted.reads y.going (divulge-admitted ms s f y e))
+          ap (λ (k : Knowledge). k.revealed x) (happening.knows-given knows peers grow accepts ruled members setup is b r.answers.low present-b ms m d3 brings sent.accepted.reads y.going (divulge-admitted ms s f y e))
           ∙ answer-reveals (member setup b) x commits (known-b ms) d3 (new_evidence (member setup b) (known-b ms) d3) (learned-then ((known-b ms).revealed x) refl)
 
   terms-b : (ms : List Move) → Since ms → Revealed-b ms → terms_of (member setup b) (known-b ms) x ≡ Some terms
@@ -428,20 +442,20 @@ module _ (knows : StepIsKnown) (peers : PeersRun) (grow : PeersGrow) (accepts : 
   agree : same_terms terms terms ≡ true
   agree = same-terms nonce ha hb
 
-  takes-case-b : (ms : List Move) → Since ms → ForgesNothing setup trusted ms → Heard-a kinds.Response ms → Revealed-b ms → (theirs : Sent-a kinds.Case ms) → Sent-b kinds.Case ms → Ready-b kinds.Case ms
-      → Heard-b kinds.Case (and_deliver ms theirs.sent.number)
-  takes-case-b ms s f h1 shown theirs ours y =
+  takes-case-b : (ms : List Move) → Since ms → ForgesNothing setup trusted ms → Heard-a kinds.Response ms → Revealed-b ms → (theirs : Sent-a kinds.Case ms) → Sent-b kinds.Case ms → (m : Move) → Brings b ms m theirs.d → Ready-b kinds.Case ms
+      → Heard-b kinds.Case (ms ++ m ∷ [])
+  takes-case-b ms s f h1 shown theirs ours m brings y =
       let k : IsCaseOf x Initiator theirs.d.message = is_of-case x Initiator theirs.d.message theirs.of in
       let says = receiving.said-content knows peers grow accepts ruled members setup is a r.asks.low present-a b apart x Initiator refl ms terms theirs.d k (terms-a ms s f h1) (theirs.sent.said (signed-case Initiator theirs.d theirs.of)) in
-      happening.arrives knows peers grow accepts ruled members setup is b r.answers.low present-b ms theirs.sent.number kinds.Case x Initiator theirs.d theirs.sent.packet theirs.sent.accepted.reads theirs.of y.going
+      happening.arrives knows peers grow accepts ruled members setup is b r.answers.low present-b ms m kinds.Case x Initiator theirs.d brings theirs.sent.accepted.reads theirs.of y.going
       (receiving.case-admitted knows peers grow accepts ruled members setup is b r.answers.low present-b a (λ e. apart (sym e)) x Responder refl ms theirs.d k terms (comes-b kinds.Case ms f theirs y) (given-b ms ours) (terms-b ms s shown) says.0 agree says.1)
 
-  takes-case-a : (ms : List Move) → Since ms → ForgesNothing setup trusted ms → Heard-a kinds.Response ms → Revealed-b ms → (theirs : Sent-b kinds.Case ms) → Sent-a kinds.Case ms → Ready-a kinds.Case ms
-      → Heard-a kinds.Case (and_deliver ms theirs.sent.number)
-  takes-case-a ms s f h1 shown theirs ours y =
+  takes-case-a : (ms : List Move) → Since ms → ForgesNothing setup trusted ms → Heard-a kinds.Response ms → Revealed-b ms → (theirs : Sent-b kinds.Case ms) → Sent-a kinds.Case ms → (m : Move) → Brings a ms m theirs.d → Ready-a kinds.Case ms
+      → Heard-a kinds.Case (ms ++ m ∷ [])
+  takes-case-a ms s f h1 shown theirs ours m brings y =
       let k : IsCaseOf x Responder theirs.d.message = is_of-case x Responder theirs.d.message theirs.of in
       let says = receiving.said-content knows peers grow accepts ruled members setup is b r.answers.low present-b a (λ e. apart (sym e)) x Responder refl ms terms theirs.d k (terms-b ms s shown) (theirs.sent.said (signed-case Responder theirs.d theirs.of)) in
-      happening.arrives knows peers grow accepts ruled members setup is a r.asks.low present-a ms theirs.sent.number kinds.Case x Responder theirs.d theirs.sent.packet theirs.sent.accepted.reads theirs.of y.going
+      happening.arrives knows peers grow accepts ruled members setup is a r.asks.low present-a ms m kinds.Case x Responder theirs.d brings theirs.sent.accepted.reads theirs.of y.going
       (receiving.case-admitted knows peers grow accepts ruled members setup is a r.asks.low present-a b apart x Initiator refl ms theirs.d k terms (comes-a kinds.Case ms f theirs y) (given-a ms ours) (terms-a ms s f h1) says.0 agree says.1)
 
   -- each is answered by a KEYREQ
@@ -457,14 +471,14 @@ module _ (knows : StepIsKnown) (peers : PeersRun) (grow : PeersGrow) (accepts : 
 
   -- ---- KEYREQ
 
-  takes-request-a : (ms : List Move) → ForgesNothing setup trusted ms → (theirs : Sent-b kinds.KeyReq ms) → Sent-a kinds.Case ms → Heard-a kinds.Case ms → Ready-a kinds.KeyReq ms → Heard-a kinds.KeyReq (and_deliver ms theirs.sent.number)
-  takes-request-a ms f theirs ours h y =
-      happening.arrives knows peers grow accepts ruled members setup is a r.asks.low present-a ms theirs.sent.number kinds.KeyReq x Responder theirs.d theirs.sent.packet theirs.sent.accepted.reads theirs.of y.going
+  takes-request-a : (ms : List Move) → ForgesNothing setup trusted ms → (theirs : Sent-b kinds.KeyReq ms) → Sent-a kinds.Case ms → Heard-a kinds.Case ms → (m : Move) → Brings a ms m theirs.d → Ready-a kinds.KeyReq ms → Heard-a kinds.KeyReq (ms ++ m ∷ [])
+  takes-request-a ms f theirs ours h m brings y =
+      happening.arrives knows peers grow accepts ruled members setup is a r.asks.low present-a ms m kinds.KeyReq x Responder theirs.d brings theirs.sent.accepted.reads theirs.of y.going
       (receiving.request-admitted knows peers grow accepts ruled members setup is a r.asks.low present-a b apart x Initiator refl ms theirs.d (comes-a kinds.KeyReq ms f theirs y) (given-a ms ours) (ap is_some h.1))
 
-  takes-request-b : (ms : List Move) → ForgesNothing setup trusted ms → (theirs : Sent-a kinds.KeyReq ms) → Sent-b kinds.Case ms → Heard-b kinds.Case ms → Ready-b kinds.KeyReq ms → Heard-b kinds.KeyReq (and_deliver ms theirs.sent.number)
-  takes-request-b ms f theirs ours h y =
-      happening.arrives knows peers grow accepts ruled members setup is b r.answers.low present-b ms theirs.sent.number kinds.KeyReq x Initiator theirs.d theirs.sent.packet theirs.sent.accepted.reads theirs.of y.going
+  takes-request-b : (ms : List Move) → ForgesNothing setup trusted ms → (theirs : Sent-a kinds.KeyReq ms) → Sent-b kinds.Case ms → Heard-b kinds.Case ms → (m : Move) → Brings b ms m theirs.d → Ready-b kinds.KeyReq ms → Heard-b kinds.KeyReq (ms ++ m ∷ [])
+  takes-request-b ms f theirs ours h m brings y =
+      happening.arrives knows peers grow accepts ruled members setup is b r.answers.low present-b ms m kinds.KeyReq x Initiator theirs.d brings theirs.sent.accepted.reads theirs.of y.going
       (receiving.request-admitted knows peers grow accepts ruled members setup is b r.answers.low present-b a (λ e. apart (sym e)) x Responder refl ms theirs.d (comes-b kinds.KeyReq ms f theirs y) (given-b ms ours) (ap is_some h.1))
 
   request-answered-a : (ms : List Move) → Since ms → Heard-a kinds.KeyReq ms → Sent-a kinds.Key ms
@@ -479,14 +493,14 @@ module _ (knows : StepIsKnown) (peers : PeersRun) (grow : PeersGrow) (accepts : 
 
   -- ---- KEY
 
-  takes-key-b : (ms : List Move) → ForgesNothing setup trusted ms → (theirs : Sent-a kinds.Key ms) → Sent-b kinds.Case ms → Heard-b kinds.Case ms → Ready-b kinds.Key ms → Heard-b kinds.Key (and_deliver ms theirs.sent.number)
-  takes-key-b ms f theirs ours h y =
-      happening.arrives knows peers grow accepts ruled members setup is b r.answers.low present-b ms theirs.sent.number kinds.Key x Initiator theirs.d theirs.sent.packet theirs.sent.accepted.reads theirs.of y.going
+  takes-key-b : (ms : List Move) → ForgesNothing setup trusted ms → (theirs : Sent-a kinds.Key ms) → Sent-b kinds.Case ms → Heard-b kinds.Case ms → (m : Move) → Brings b ms m theirs.d → Ready-b kinds.Key ms → Heard-b kinds.Key (ms ++ m ∷ [])
+  takes-key-b ms f theirs ours h m brings y =
+      happening.arrives knows peers grow accepts ruled members setup is b r.answers.low present-b ms m kinds.Key x Initiator theirs.d brings theirs.sent.accepted.reads theirs.of y.going
       (receiving.key-admitted knows peers grow accepts ruled members setup is b r.answers.low present-b a (λ e. apart (sym e)) x Responder refl ms theirs.d (comes-b kinds.Key ms f theirs y) (given-b ms ours) (ap is_some h.1))
 
-  takes-key-a : (ms : List Move) → ForgesNothing setup trusted ms → (theirs : Sent-b kinds.Key ms) → Sent-a kinds.Case ms → Heard-a kinds.Case ms → Ready-a kinds.Key ms → Heard-a kinds.Key (and_deliver ms theirs.sent.number)
-  takes-key-a ms f theirs ours h y =
-      happening.arrives knows peers grow accepts ruled members setup is a r.asks.low present-a ms theirs.sent.number kinds.Key x Responder theirs.d theirs.sent.packet theirs.sent.accepted.reads theirs.of y.going
+  takes-key-a : (ms : List Move) → ForgesNothing setup trusted ms → (theirs : Sent-b kinds.Key ms) → Sent-a kinds.Case ms → Heard-a kinds.Case ms → (m : Move) → Brings a ms m theirs.d → Ready-a kinds.Key ms → Heard-a kinds.Key (ms ++ m ∷ [])
+  takes-key-a ms f theirs ours h m brings y =
+      happening.arrives knows peers grow accepts ruled members setup is a r.asks.low present-a ms m kinds.Key x Responder theirs.d brings theirs.sent.accepted.reads theirs.of y.going
       (receiving.key-admitted knows peers grow accepts ruled members setup is a r.asks.low present-a b apart x Initiator refl ms theirs.d (comes-a kinds.Key ms f theirs y) (given-a ms ours) (ap is_some h.1))
 
   signed-key : (role : Role) (d : Datagram) → is_of kinds.Key x role d.message ≡ true → is_signed d.message.body ≡ true
@@ -588,12 +602,16 @@ module _ (knows : StepIsKnown) (peers : PeersRun) (grow : PeersGrow) (accepts : 
   abbrev Goes : List Part → List Move → Type 0
   Goes rest ms = GoesOn setup trusted x commits Ends rest ms
 
-  -- what is ready of a log that is there
-  ready-a : (kind : Kind) (ms : List Move) (log : Log) → slice_get (after setup ms).logs a ≡ Some log → IsReady (member setup a) log x kind commits → Ready-a kind ms
-  ready-a kind ms log at y = subst (λ l. IsReady (member setup a) l x kind commits) (some-equal log (log-a ms) (sym at ∙ happening.log-is knows peers grow accepts ruled members setup is a r.asks.low present-a ms)) y
+  -- who takes it in time is ready
+  ready-a : (kind : Kind) (ms : List Move) (m : Move) (d : Datagram) → IsTaken setup ms m a d x kind commits → Ready-a kind ms
+  ready-a kind ms m d y =
+      subst (λ l. Ready (member setup a) l kind) (some-equal y.log (log-a ms) (sym y.log_is ∙ happening.log-is knows peers grow accepts ruled members setup is a r.asks.low present-a ms))
+      (record { going = y.going; in_time = y.in_time; bound = y.bound })
 
-  ready-b : (kind : Kind) (ms : List Move) (log : Log) → slice_get (after setup ms).logs b ≡ Some log → IsReady (member setup b) log x kind commits → Ready-b kind ms
-  ready-b kind ms log at y = subst (λ l. IsReady (member setup b) l x kind commits) (some-equal log (log-b ms) (sym at ∙ happening.log-is knows peers grow accepts ruled members setup is b r.answers.low present-b ms)) y
+  ready-b : (kind : Kind) (ms : List Move) (m : Move) (d : Datagram) → IsTaken setup ms m b d x kind commits → Ready-b kind ms
+  ready-b kind ms m d y =
+      subst (λ l. Ready (member setup b) l kind) (some-equal y.log (log-b ms) (sym y.log_is ∙ happening.log-is knows peers grow accepts ruled members setup is b r.answers.low present-b ms))
+      (record { going = y.going; in_time = y.in_time; bound = y.bound })
 
   goes8 : (ms : List Move) → AllHeard ms → Goes [] ms
   goes8 ms h later mine theirs f at bt =
@@ -619,22 +637,19 @@ module _ (knows : StepIsKnown) (peers : PeersRun) (grow : PeersGrow) (accepts : 
       let w : List Move = ms ++ between in
       let sw : Since w = since-more ms between s in
       let g1 : Heard-a kinds.Response w = more-a kinds.Response ms between h1 in
-      let sent : Sent-b kinds.Key w = request-answered-b w sw (more-b kinds.KeyReq ms between h6) in
-      let n : ℕ = sent.sent.number in
-      let ns : List Move = Deliver n ∷ [] in (
-        n,
+      let sent : Sent-b kinds.Key w = request-answered-b w sw (more-b kinds.KeyReq ms between h6) in (
         is-sent-b kinds.Key w sent,
-        λ log at y. goes8 (and_deliver w n) (record {
-          since = since-more w ns sw;
-          response = more-a kinds.Response w ns g1;
-          divulge = more-b kinds.Divulge w ns (more-b kinds.Divulge ms between h2);
-          shown = more-revealed w ns (more-revealed ms between shown);
-          case-b = more-b kinds.Case w ns (more-b kinds.Case ms between h3);
-          case-a = more-a kinds.Case w ns (more-a kinds.Case ms between h4);
-          request-a = more-a kinds.KeyReq w ns (more-a kinds.KeyReq ms between h5);
-          request-b = more-b kinds.KeyReq w ns (more-b kinds.KeyReq ms between h6);
-          key-b = more-b kinds.Key w ns (more-b kinds.Key ms between h7);
-          key-a = takes-key-a w f sent (response-answered w sw f g1).1 (more-a kinds.Case ms between h4) (ready-a kinds.Key w log at y);
+        λ m y. goes8 (w ++ m ∷ []) (record {
+          since = since-more w (m ∷ []) sw;
+          response = more-a kinds.Response w (m ∷ []) g1;
+          divulge = more-b kinds.Divulge w (m ∷ []) (more-b kinds.Divulge ms between h2);
+          shown = more-revealed w (m ∷ []) (more-revealed ms between shown);
+          case-b = more-b kinds.Case w (m ∷ []) (more-b kinds.Case ms between h3);
+          case-a = more-a kinds.Case w (m ∷ []) (more-a kinds.Case ms between h4);
+          request-a = more-a kinds.KeyReq w (m ∷ []) (more-a kinds.KeyReq ms between h5);
+          request-b = more-b kinds.KeyReq w (m ∷ []) (more-b kinds.KeyReq ms between h6);
+          key-b = more-b kinds.Key w (m ∷ []) (more-b kinds.Key ms between h7);
+          key-a = takes-key-a w f sent (response-answered w sw f g1).1 (more-a kinds.Case ms between h4) m y.brings (ready-a kinds.Key w m sent.d y);
         }),
       )
 
@@ -646,15 +661,12 @@ module _ (knows : StepIsKnown) (peers : PeersRun) (grow : PeersGrow) (accepts : 
       let g2 : Heard-b kinds.Divulge w = more-b kinds.Divulge ms between h2 in
       let gs : Revealed-b w = more-revealed ms between shown in
       let g3 : Heard-b kinds.Case w = more-b kinds.Case ms between h3 in
-      let sent : Sent-a kinds.Key w = request-answered-a w sw (more-a kinds.KeyReq ms between h5) in
-      let n : ℕ = sent.sent.number in
-      let ns : List Move = Deliver n ∷ [] in (
-        n,
+      let sent : Sent-a kinds.Key w = request-answered-a w sw (more-a kinds.KeyReq ms between h5) in (
         is-sent-a kinds.Key w sent,
-        λ log at y.
-            goes7 (and_deliver w n) (since-more w ns sw) (more-a kinds.Response w ns (more-a kinds.Response ms between h1)) (more-b kinds.Divulge w ns g2) (more-revealed w ns gs) (more-b kinds.Case w ns g3)
-            (more-a kinds.Case w ns (more-a kinds.Case ms between h4)) (more-a kinds.KeyReq w ns (more-a kinds.KeyReq ms between h5)) (more-b kinds.KeyReq w ns (more-b kinds.KeyReq ms between h6))
-            (takes-key-b w f sent (divulge-answered w sw g2 gs) g3 (ready-b kinds.Key w log at y)),
+        λ m y.
+            goes7 (w ++ m ∷ []) (since-more w (m ∷ []) sw) (more-a kinds.Response w (m ∷ []) (more-a kinds.Response ms between h1)) (more-b kinds.Divulge w (m ∷ []) g2) (more-revealed w (m ∷ []) gs) (more-b kinds.Case w (m ∷ []) g3)
+            (more-a kinds.Case w (m ∷ []) (more-a kinds.Case ms between h4)) (more-a kinds.KeyReq w (m ∷ []) (more-a kinds.KeyReq ms between h5)) (more-b kinds.KeyReq w (m ∷ []) (more-b kinds.KeyReq ms between h6))
+            (takes-key-b w f sent (divulge-answered w sw g2 gs) g3 m y.brings (ready-b kinds.Key w m sent.d y)),
       )
 
   goes5 : (ms : List Move) → Since ms → Heard-a kinds.Response ms → Heard-b kinds.Divulge ms → Revealed-b ms → Heard-b kinds.Case ms → Heard-a kinds.Case ms → Heard-a kinds.KeyReq ms
@@ -666,14 +678,11 @@ module _ (knows : StepIsKnown) (peers : PeersRun) (grow : PeersGrow) (accepts : 
       let gs : Revealed-b w = more-revealed ms between shown in
       let g3 : Heard-b kinds.Case w = more-b kinds.Case ms between h3 in
       let g4 : Heard-a kinds.Case w = more-a kinds.Case ms between h4 in
-      let sent : Sent-a kinds.KeyReq w = case-answered-a w sw g4 in
-      let n : ℕ = sent.sent.number in
-      let ns : List Move = Deliver n ∷ [] in (
-        n,
+      let sent : Sent-a kinds.KeyReq w = case-answered-a w sw g4 in (
         is-sent-a kinds.KeyReq w sent,
-        λ log at y.
-            goes6 (and_deliver w n) (since-more w ns sw) (more-a kinds.Response w ns (more-a kinds.Response ms between h1)) (more-b kinds.Divulge w ns g2) (more-revealed w ns gs) (more-b kinds.Case w ns g3)
-            (more-a kinds.Case w ns g4) (more-a kinds.KeyReq w ns (more-a kinds.KeyReq ms between h5)) (takes-request-b w f sent (divulge-answered w sw g2 gs) g3 (ready-b kinds.KeyReq w log at y)),
+        λ m y.
+            goes6 (w ++ m ∷ []) (since-more w (m ∷ []) sw) (more-a kinds.Response w (m ∷ []) (more-a kinds.Response ms between h1)) (more-b kinds.Divulge w (m ∷ []) g2) (more-revealed w (m ∷ []) gs) (more-b kinds.Case w (m ∷ []) g3)
+            (more-a kinds.Case w (m ∷ []) g4) (more-a kinds.KeyReq w (m ∷ []) (more-a kinds.KeyReq ms between h5)) (takes-request-b w f sent (divulge-answered w sw g2 gs) g3 m y.brings (ready-b kinds.KeyReq w m sent.d y)),
       )
 
   goes4 : (ms : List Move) → Since ms → Heard-a kinds.Response ms → Heard-b kinds.Divulge ms → Revealed-b ms → Heard-b kinds.Case ms → Heard-a kinds.Case ms
@@ -684,14 +693,11 @@ module _ (knows : StepIsKnown) (peers : PeersRun) (grow : PeersGrow) (accepts : 
       let g1 : Heard-a kinds.Response w = more-a kinds.Response ms between h1 in
       let g3 : Heard-b kinds.Case w = more-b kinds.Case ms between h3 in
       let g4 : Heard-a kinds.Case w = more-a kinds.Case ms between h4 in
-      let sent : Sent-b kinds.KeyReq w = case-answered-b w sw g3 in
-      let n : ℕ = sent.sent.number in
-      let ns : List Move = Deliver n ∷ [] in (
-        n,
+      let sent : Sent-b kinds.KeyReq w = case-answered-b w sw g3 in (
         is-sent-b kinds.KeyReq w sent,
-        λ log at y.
-            goes5 (and_deliver w n) (since-more w ns sw) (more-a kinds.Response w ns g1) (more-b kinds.Divulge w ns (more-b kinds.Divulge ms between h2)) (more-revealed w ns (more-revealed ms between shown))
-            (more-b kinds.Case w ns g3) (more-a kinds.Case w ns g4) (takes-request-a w f sent (response-answered w sw f g1).1 g4 (ready-a kinds.KeyReq w log at y)),
+        λ m y.
+            goes5 (w ++ m ∷ []) (since-more w (m ∷ []) sw) (more-a kinds.Response w (m ∷ []) g1) (more-b kinds.Divulge w (m ∷ []) (more-b kinds.Divulge ms between h2)) (more-revealed w (m ∷ []) (more-revealed ms between shown))
+            (more-b kinds.Case w (m ∷ []) g3) (more-a kinds.Case w (m ∷ []) g4) (takes-request-a w f sent (response-answered w sw f g1).1 g4 m y.brings (ready-a kinds.KeyReq w m sent.d y)),
       )
 
   goes3 : (ms : List Move) → Since ms → Heard-a kinds.Response ms → Heard-b kinds.Divulge ms → Revealed-b ms → Heard-b kinds.Case ms
@@ -702,14 +708,11 @@ module _ (knows : StepIsKnown) (peers : PeersRun) (grow : PeersGrow) (accepts : 
       let g1 : Heard-a kinds.Response w = more-a kinds.Response ms between h1 in
       let g2 : Heard-b kinds.Divulge w = more-b kinds.Divulge ms between h2 in
       let gs : Revealed-b w = more-revealed ms between shown in
-      let sent : Sent-b kinds.Case w = divulge-answered w sw g2 gs in
-      let n : ℕ = sent.sent.number in
-      let ns : List Move = Deliver n ∷ [] in (
-        n,
+      let sent : Sent-b kinds.Case w = divulge-answered w sw g2 gs in (
         is-sent-b kinds.Case w sent,
-        λ log at y.
-            goes4 (and_deliver w n) (since-more w ns sw) (more-a kinds.Response w ns g1) (more-b kinds.Divulge w ns g2) (more-revealed w ns gs) (more-b kinds.Case w ns (more-b kinds.Case ms between h3))
-            (takes-case-a w sw f g1 gs sent (response-answered w sw f g1).1 (ready-a kinds.Case w log at y)),
+        λ m y.
+            goes4 (w ++ m ∷ []) (since-more w (m ∷ []) sw) (more-a kinds.Response w (m ∷ []) g1) (more-b kinds.Divulge w (m ∷ []) g2) (more-revealed w (m ∷ []) gs) (more-b kinds.Case w (m ∷ []) (more-b kinds.Case ms between h3))
+            (takes-case-a w sw f g1 gs sent (response-answered w sw f g1).1 m y.brings (ready-a kinds.Case w m sent.d y)),
       )
 
   goes2 : (ms : List Move) → Since ms → Heard-a kinds.Response ms → Heard-b kinds.Divulge ms → Revealed-b ms
@@ -720,14 +723,11 @@ module _ (knows : StepIsKnown) (peers : PeersRun) (grow : PeersGrow) (accepts : 
       let g1 : Heard-a kinds.Response w = more-a kinds.Response ms between h1 in
       let g2 : Heard-b kinds.Divulge w = more-b kinds.Divulge ms between h2 in
       let gs : Revealed-b w = more-revealed ms between shown in
-      let sent : Sent-a kinds.Case w = (response-answered w sw f g1).1 in
-      let n : ℕ = sent.sent.number in
-      let ns : List Move = Deliver n ∷ [] in (
-        n,
+      let sent : Sent-a kinds.Case w = (response-answered w sw f g1).1 in (
         is-sent-a kinds.Case w sent,
-        λ log at y.
-            goes3 (and_deliver w n) (since-more w ns sw) (more-a kinds.Response w ns g1) (more-b kinds.Divulge w ns g2) (more-revealed w ns gs)
-            (takes-case-b w sw f g1 gs sent (divulge-answered w sw g2 gs) (ready-b kinds.Case w log at y)),
+        λ m y.
+            goes3 (w ++ m ∷ []) (since-more w (m ∷ []) sw) (more-a kinds.Response w (m ∷ []) g1) (more-b kinds.Divulge w (m ∷ []) g2) (more-revealed w (m ∷ []) gs)
+            (takes-case-b w sw f g1 gs sent (divulge-answered w sw g2 gs) m y.brings (ready-b kinds.Case w m sent.d y)),
       )
 
   goes1 : (ms : List Move) → Since ms → Heard-a kinds.Response ms
@@ -736,26 +736,20 @@ module _ (knows : StepIsKnown) (peers : PeersRun) (grow : PeersGrow) (accepts : 
       let w : List Move = ms ++ between in
       let sw : Since w = since-more ms between s in
       let g1 : Heard-a kinds.Response w = more-a kinds.Response ms between h1 in
-      let sent : SentIn knows peers grow accepts ruled members setup is a r.asks.low present-a w b d3 = (response-answered w sw f g1).0 in
-      let n : ℕ = sent.number in
-      let ns : List Move = Deliver n ∷ [] in (
-        n,
-        record { d = d3; packet = sent.packet; reads = sent.accepted.reads; of = divulge-of-it },
-        λ log at y.
-            let taken = takes-divulge w sw f sent (ready-b kinds.Divulge w log at y) in
-            goes2 (and_deliver w n) (since-more w ns sw) (more-a kinds.Response w ns g1) taken.0 taken.1,
+      let sent : SentIn knows peers grow accepts ruled members setup is a r.asks.low present-a w b d3 = (response-answered w sw f g1).0 in (
+        record { d = d3; number = sent.number; packet = sent.packet; reads = sent.accepted.reads; of = divulge-of-it },
+        λ m y.
+            let taken = takes-divulge w sw f sent m y.brings (ready-b kinds.Divulge w m d3 y) in
+            goes2 (w ++ m ∷ []) (since-more w (m ∷ []) sw) (more-a kinds.Response w (m ∷ []) g1) taken.0 taken.1,
       )
 
   pub goes0 : Goes parts ms1
   goes0 between f =
       let w : List Move = ms1 ++ between in
       let sw : Since w = (between, refl) in
-      let sent : SentIn knows peers grow accepts ruled members setup is b r.answers.low present-b w a d2 = response-sent w sw in
-      let n : ℕ = sent.number in
-      let ns : List Move = Deliver n ∷ [] in (
-        n,
-        record { d = d2; packet = sent.packet; reads = sent.accepted.reads; of = response-of-it },
-        λ log at y. goes1 (and_deliver w n) (since-more w ns sw) (takes-response w sw f sent (ready-a kinds.Response w log at y)),
+      let sent : SentIn knows peers grow accepts ruled members setup is b r.answers.low present-b w a d2 = response-sent w sw in (
+        record { d = d2; number = sent.number; packet = sent.packet; reads = sent.accepted.reads; of = response-of-it },
+        λ m y. goes1 (w ++ m ∷ []) (since-more w (m ∷ []) sw) (takes-response w sw f sent m y.brings (ready-a kinds.Response w m d2 y)),
       )
 
 pub trades-go-on : StepIsKnown → PeersRun → PeersGrow → StepIsAccepted → SignedByRule → PeersAreMembers → NobodyIsAccused → NobodyIsAnnounced → PromisesEqual → HeardWasSaid → KeysOpenWell → LogIsSound → TradesGoOn

@@ -3,7 +3,6 @@ use Rattle.std.proofs.Common.{◌≡◌, ◌∙◌, ◌⊎◌, inl, inr, ℕ, ze
 use Rattle.std.specs.Prelude.{Option, Some, None, is_some, slice_get, if◌then◌else◌}
 use Rattle.std.specs.List.{AllByRecursion}
 use Rattle.std.proofs.lemmas.Bool.{both_ways}
-use Rattle.bar_bytes.proofs.Tests.{eqb_refl}
 use Rattle.bar_roster.specs.Time.{last_tick}
 use Rattle.bar_window.specs.declared.exchange.Exchange.{Exchange}
 use Rattle.bar_window.specs.declared.exchange.Role.{Role}
@@ -32,7 +31,6 @@ use Rattle.bar_laws.specs.Parties.{IsSentBy, StepIsAccepted, after}
 use Rattle.bar_laws.specs.Premises.{PeersAreMembers}
 use Rattle.bar_laws.proofs.Logs.{SaidIn, find-later}
 use Rattle.bar_laws.proofs.Runs.{SentBy, step-adds}
-use Rattle.bar_progress.specs.Trades.{and_deliver}
 use Rattle.bar_progress.proofs.Fetching.{peer-steps}
 use Rattle.bar_progress.proofs.Hearing.{HearsNow, IsAmong, answer-hears, answer-is, answer-reveals, answers, hears-now}
 use Rattle.bar_progress.proofs.Moves.{happens-is, inputs-on, run-on}
@@ -301,26 +299,23 @@ module _ (knows : StepIsKnown) (peers : PeersRun) (grow : PeersGrow) (accepts : 
       (sent-now h.before h.move h.input to d h.brings
       (subst (λ (o : Outcome Knowledge). IsAmong (to, d) o.sends) (sym (ap (step_known me (knows_at h.before)) h.now.input ∙ answer-is me (knows_at h.before) h.now.bytes h.now.d h.now.going h.now.read h.now.admitted)) among)))
 
-  -- ---- deliveries
+  -- ---- what it is given
 
-  brought : (ms : List Move) (n : ℕ) (bytes : List ℕ) → slice_get (after setup ms).packets n ≡ Some (p, bytes) → input_at (after setup ms) p (Deliver n) ≡ event.Datagram bytes ∷ []
-  brought ms n bytes e = ap (brought_to p) e ∙ ap (λ b. if b then event.Datagram bytes ∷ [] else []) (eqb_refl p)
-
-  pub knows-delivered : (ms : List Move) (n : ℕ) (d : Datagram) → slice_get (after setup ms).packets n ≡ Some (p, datagram_bytes setup.session d) → datagram_of setup.session (datagram_bytes setup.session d) ≡ Some d
-      → ticks (log_at ms) < last_tick setup.session → is_admitted me (knows_at ms) d ≡ true → knows_at (and_deliver ms n) ≡ (answers me (knows_at ms) d (new_evidence me (knows_at ms) d)).state
-  knows-delivered ms n d packet reads going admitted =
-      knows-moved ms (Deliver n) (event.Datagram (datagram_bytes setup.session d)) (brought ms n (datagram_bytes setup.session d) packet)
+  pub knows-given : (ms : List Move) (m : Move) (d : Datagram) → input_at (after setup ms) p m ≡ event.Datagram (datagram_bytes setup.session d) ∷ [] → datagram_of setup.session (datagram_bytes setup.session d) ≡ Some d
+      → ticks (log_at ms) < last_tick setup.session → is_admitted me (knows_at ms) d ≡ true → knows_at (ms ++ m ∷ []) ≡ (answers me (knows_at ms) d (new_evidence me (knows_at ms) d)).state
+  knows-given ms m d brings reads going admitted =
+      knows-moved ms m (event.Datagram (datagram_bytes setup.session d)) brings
       ∙ ap (λ (o : Outcome Knowledge). o.state) (answer-is me (knows_at ms) (datagram_bytes setup.session d) d going reads admitted)
 
-  -- what is delivered is heard, or one like it was
-  pub arrives : (ms : List Move) (n : ℕ) (kind : Kind) (x : Exchange) (role : Role) (d : Datagram) → slice_get (after setup ms).packets n ≡ Some (p, datagram_bytes setup.session d)
+  -- what it is given is heard, or one like it was
+  pub arrives : (ms : List Move) (m : Move) (kind : Kind) (x : Exchange) (role : Role) (d : Datagram) → input_at (after setup ms) p m ≡ event.Datagram (datagram_bytes setup.session d) ∷ []
       → datagram_of setup.session (datagram_bytes setup.session d) ≡ Some d → is_of kind x role d.message ≡ true → ticks (log_at ms) < last_tick setup.session
-      → ((knows_at ms).heard kind x role ≡ None → is_admitted me (knows_at ms) d ≡ true) → (e : Datagram) × ((knows_at (and_deliver ms n)).heard kind x role ≡ Some e)
-  arrives ms n kind x role d packet reads of going admits = go ((knows_at ms).heard kind x role) refl
+      → ((knows_at ms).heard kind x role ≡ None → is_admitted me (knows_at ms) d ≡ true) → (e : Datagram) × ((knows_at (ms ++ m ∷ [])).heard kind x role ≡ Some e)
+  arrives ms m kind x role d brings reads of going admits = go ((knows_at ms).heard kind x role) refl
     where
-      go : (o : Option Datagram) → (knows_at ms).heard kind x role ≡ o → (e : Datagram) × ((knows_at (and_deliver ms n)).heard kind x role ≡ Some e)
-      go (Some e) f = (e, heard-stays ms (Deliver n ∷ []) kind x role e f)
+      go : (o : Option Datagram) → (knows_at ms).heard kind x role ≡ o → (e : Datagram) × ((knows_at (ms ++ m ∷ [])).heard kind x role ≡ Some e)
+      go (Some e) f = (e, heard-stays ms (m ∷ []) kind x role e f)
       go None f = (
         d,
-        ap (λ (k : Knowledge). k.heard kind x role) (knows-delivered ms n d packet reads going (admits f)) ∙ answer-hears me (knows_at ms) d (new_evidence me (knows_at ms) d) kind x role f of,
+        ap (λ (k : Knowledge). k.heard kind x role) (knows-given ms m d brings reads going (admits f)) ∙ answer-hears me (knows_at ms) d (new_evidence me (knows_at ms) d) kind x role f of,
       )

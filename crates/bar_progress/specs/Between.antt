@@ -8,14 +8,15 @@ use Rattle.bar_window.specs.declared.exchange.Role.{Role}
 use Rattle.bar_window.specs.declared.exchange.Role.TheVariants.{Initiator, Responder}
 use Rattle.bar_window.specs.declared.update.UpdateId.{UpdateId}
 use Rattle.bar_wire.specs.Datagram.{Datagram, is_of}
+use Rattle.bar_wire.specs.Inputs as event
 use Rattle.bar_wire.specs.declared.kind.Kind.{Kind}
 use Rattle.bar_wire.specs.declared.kind.Kind.TheVariants.{Response, Divulge, Case, KeyReq, Key}
-use Rattle.bar_rules.specs.Member.{Member}
 use Rattle.bar_rules.specs.Peer.Exchanges.{revealed}
 use Rattle.bar_rules.specs.Peer.Knowledge.{is_in_time, known}
 use Rattle.bar_rules.specs.Peer.Log.{Log, ticks}
 use Rattle.bar_rules.specs.Values.{datagram_bytes, datagram_of}
 use Rattle.bar_rules.specs.World.World.{Move, Setup, member}
+use Rattle.bar_laws.specs.OwnRuns.{input_at}
 use Rattle.bar_laws.specs.Parties.{ForgesNothing, after}
 use Rattle.bar_progress.specs.Trades.{BeginsTrade, HaveTraded, agreed, and_deliver, pair_in}
 use Rattle.bar_progress.specs.Trading.{trade}
@@ -33,30 +34,35 @@ parts =
 abbrev pub receiver : Exchange → Part → ℕ
 receiver x part = party_on x (other_role part.1)
 
--- The packet of this number is such a datagram, to the other side.
-pub record IsSent (setup : Setup) (moves : List Move) (x : Exchange) (part : Part) (number : ℕ) : Type 0 where
+-- Such a datagram was sent to the other side: it is a packet of the pool.
+pub record IsSent (setup : Setup) (moves : List Move) (x : Exchange) (part : Part) : Type 0 where
   pub d : Datagram
+  pub number : ℕ
   pub packet : slice_get (after setup moves).packets number ≡ Some (receiver x part, datagram_bytes setup.session d)
   pub reads : datagram_of setup.session (datagram_bytes setup.session d) ≡ Some d
   pub of : is_of part.0 x part.1 d.message ≡ true
 
--- The receiver takes it in time: before its last tick, and within the deadline of its kind. And nobody has revealed to it another nonce or
--- history than those that the REQUEST commits to, which takes two openings of one commitment.
-pub record IsReady (me : Member) (log : Log) (x : Exchange) (kind : Kind) (commits : List ℕ × List UpdateId) : Type 0 where
-  pub going : ticks log < last_tick me.session
-  pub in_time : is_in_time me.session (known me log) kind x.round ≡ true
-  pub bound : (a : List ℕ × List UpdateId) → revealed me log x ≡ Some a → a ≡ commits
+-- The move gives a peer the bytes of a datagram, by a delivery or from whoever has them, and the peer takes it in time: before its last tick,
+-- and within the deadline of its kind. And nobody has revealed to the peer another nonce or history than those that the REQUEST commits to,
+-- which takes two openings of one commitment.
+pub record IsTaken (setup : Setup) (moves : List Move) (move : Move) (peer : ℕ) (d : Datagram) (x : Exchange) (kind : Kind)
+    (commits : List ℕ × List UpdateId) : Type 0 where
+  pub brings : input_at (after setup moves) peer move ≡ event.Datagram (datagram_bytes setup.session d) ∷ []
+  pub log : Log
+  pub log_is : slice_get (after setup moves).logs peer ≡ Some log
+  pub going : ticks log < last_tick setup.session
+  pub in_time : is_in_time setup.session (known (member setup peer) log) kind x.round ≡ true
+  pub bound : (a : List ℕ × List UpdateId) → revealed (member setup peer) log x ≡ Some a → a ≡ commits
 
--- Whatever moves come between that forge nothing, the next of these parts has been sent, and once it is delivered to a receiver that takes
--- it in time, it goes on so with those that follow; after the last part this end is reached.
+-- Whatever moves come between that forge nothing, the next of these parts has been sent, and once the receiver takes it in time, it goes on
+-- so with those that follow; after the last part this end is reached.
 abbrev pub GoesOn : Setup → (ℕ → Bool) → Exchange → List ℕ × List UpdateId → (List Move → Type 0) → List Part → List Move → Type 0
 GoesOn setup trusted x commits Ends [] moves = Ends moves
 GoesOn setup trusted x commits Ends (part ∷ rest) moves =
     (between : List Move) → ForgesNothing setup trusted (moves ++ between)
-    → (number : ℕ) × IsSent setup (moves ++ between) x part number
-    × ((log : Log) → slice_get (after setup (moves ++ between)).logs (receiver x part) ≡ Some log
-    → IsReady (member setup (receiver x part)) log x part.0 commits
-    → GoesOn setup trusted x commits Ends rest (and_deliver (moves ++ between) number))
+    → (sent : IsSent setup (moves ++ between) x part)
+    × ((move : Move) → IsTaken setup (moves ++ between) move (receiver x part) sent.d x part.0 commits
+    → GoesOn setup trusted x commits Ends rest ((moves ++ between) ++ move ∷ []))
 
 -- both have traded, whatever moves come after
 abbrev pub HaveTradedForGood : Setup → (ℕ → Bool) → ℕ → ℕ → ℕ → Terms → List Move → Type 0

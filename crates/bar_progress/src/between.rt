@@ -15,8 +15,8 @@ use bar_laws::premises::premises_can_be_met;
 use bar_terms::laws::promises_are_equally_long;
 
 /// Between two trusted peers of a world that can trade, a balanced exchange goes on whatever moves stand between its deliveries: ticks,
-/// repeats, hostile datagrams, and other exchanges of the two. After each delivery the next datagram has been sent, and after the last both
-/// have what was agreed, for good.
+/// repeats, hostile datagrams, and other exchanges of the two. Each next datagram has been sent; once its receiver takes it in time, by a
+/// delivery or from whoever has its bytes, the one after it has been sent too; and after the last both have what was agreed, for good.
 pub fn trades_go_on()
     ensures { TradesGoOn }
 {
