@@ -42,9 +42,9 @@ pub record IsSent (setup : Setup) (moves : List Move) (x : Exchange) (part : Par
   pub reads : datagram_of setup.session (datagram_bytes setup.session d) ≡ Some d
   pub of : is_of part.0 x part.1 d.message ≡ true
 
--- The move gives a peer the bytes of a datagram, by a delivery or from whoever has them, and the peer takes it in time: before its last tick,
--- and within the deadline of its kind. And nobody has revealed to the peer another nonce or history than those that the REQUEST commits to,
--- which takes two openings of one commitment.
+-- The move gives a peer the bytes of a datagram, by a delivery or from whoever has them, and the peer takes it in time: before its last
+-- tick, and within the deadline of its kind. And nobody has revealed to the peer another nonce or history than those that the REQUEST
+-- commits to, which takes two openings of one commitment.
 pub record IsTaken (setup : Setup) (moves : List Move) (move : Move) (peer : ℕ) (d : Datagram) (x : Exchange) (kind : Kind)
     (commits : List ℕ × List UpdateId) : Type 0 where
   pub brings : input_at (after setup moves) peer move ≡ event.Datagram (datagram_bytes setup.session d) ∷ []

@@ -1,7 +1,6 @@
 -- Whom a notice of evictions names, evidence is kept against.
-use Rattle.bar_rules.specs.Broadcaster.Sending.{announce, announce_by, announce_evictions, announce_manifest, caster_signed, caster_step, caster_take, caster_tick, evict_by, evicted, judge_body, judge_datagram, send_all, send_block, send_blocks, served}
-use Rattle.bar_rules.specs.Broadcaster.Stream.{caster_table, is_in_fanout, manifest_list, peers_of, round_blocks}
-use Rattle.bar_rules.specs.Judge.Verdict.{NotShown, Shown, Verdict, verdict}
+use Rattle.bar_rules.specs.Broadcaster.Sending.{announce, announce_by, announce_evictions, announce_manifest, caster_signed, caster_step, caster_take, caster_tick, evicted, send_all, send_block, send_blocks, served}
+use Rattle.bar_rules.specs.Broadcaster.Stream.{is_in_fanout, manifest_list, peers_of, round_blocks}
 use Rattle.bar_rules.specs.Member.{Member}
 use Rattle.bar_rules.specs.Peer.Log.{Entry, Kept, Log, Said, Ticked, first_said, has_kind_and_round, kept, kept_in, round_now, said_in, ticks}
 use Rattle.bar_rules.specs.Peer.Run.{Out}
@@ -10,7 +9,7 @@ use Rattle.bar_rules.specs.Values.{datagram_of, unsigned}
 use Rattle.bar_roster.specs.Time.{last_tick}
 use Rattle.bar_window.specs.declared.update.UpdateId.{UpdateId}
 use Rattle.bar_wire.specs.Bodies.{evictions_in}
-use Rattle.bar_wire.specs.Datagram.{Body, Datagram, Evidence, Evict, Manifest, Block, kind_of}
+use Rattle.bar_wire.specs.Datagram.{Body, Datagram, Evict, Manifest, Block, kind_of}
 use Rattle.bar_wire.specs.Inputs.{Input}
 use Rattle.bar_wire.specs.Inputs as event
 use Rattle.std.proofs.Common.{◌≡◌, ◌∙◌, inl, inr, ℕ, ◌+◌, ◌*◌, ◌-◌, Bool, true, false, ◌||◌, List, [], ◌∷◌, refl, sym, ap, subst, eqb, not, length}
@@ -18,6 +17,7 @@ use Rattle.std.specs.Prelude.{Option, Some, None, cond, filter, is_some, nat_le,
 use Rattle.std.specs.List.{list_any}
 use Rattle.std.specs.Option.{option_or}
 use Rattle.std.proofs.lemmas.Bool.{eqb-true}
+use Rattle.bar_laws.proofs.Broadcasts.Steps.{judged-keeps}
 use Rattle.bar_laws.proofs.Logs.{SaidIn, no-value, some-equal}
 
 -- a body names a party
@@ -114,25 +114,9 @@ tick-names me stream out h = go (not (nat_le m me.session.shape.rounds)) _ _ _
 
 -- ---- one input
 
-evict-names : (log : Log) (evidence : List (List ℕ)) (v : Verdict) → NamesKept log → NamesKept (evict_by log evidence v)
-evict-names log evidence (NotShown why) h = h
-evict-names log evidence (Shown party fault) h = go (is_some (kept log party))
-  where
-    go : (b : Bool) → NamesKept (cond b log (Kept party evidence ∷ log))
-    go true = h
-    go false = names-other log (Kept party evidence) refl h
-
-body-names : (me : Member) (stream : List ℕ) (log : Log) (b : Body) → NamesKept log → NamesKept (judge_body me stream log b)
-body-names me stream log (Evidence ds) h = evict-names log ds (verdict me.session (caster_table me stream log) ds) h
-body-names me stream log _ h = h
-
 take-names : (me : Member) (stream : List ℕ) (log : Log) (i : Input) → NamesKept log → NamesKept (caster_take me stream log i).state
 take-names me stream log event.Tick h = tick-names me stream (begun (Ticked ∷ log)) (names-other log Ticked refl h)
-take-names me stream log (event.Datagram bytes) h = go (datagram_of me.session bytes)
-  where
-    go : (o : Option Datagram) → NamesKept (judge_datagram me stream log o)
-    go None = h
-    go (Some d) = body-names me stream log d.message.body h
+take-names me stream log (event.Datagram bytes) h = judged-keeps NamesKept me stream log (datagram_of me.session bytes) h (λ q evidence. names-other log (Kept q evidence) refl h)
 
 step-names : (me : Member) (stream : List ℕ) (log : Log) (i : Input) → NamesKept log → NamesKept (caster_step me stream log i).state
 unfolding caster_step
