@@ -1,9 +1,8 @@
 -- A balanced exchange goes on, whatever moves stand between its deliveries.
 use Rattle.std.proofs.Common.{◌≡◌, ◌∙◌, inl, inr, ℕ, ◌<◌, ◌≤◌, Bool, true, false, not, List, [], ◌∷◌, ◌++◌, length, refl, sym, ap, subst, append_assoc}
-use Rattle.std.specs.Prelude.{Option, Some, None, is_some, slice_get}
+use Rattle.std.specs.Prelude.{Option, Some, None, is_some, slice_get, option_and_then, option_map, if◌then◌else◌}
 use Rattle.std.specs.Bool.{then_some}
 use Rattle.std.specs.Option.{option_map_or, option_or}
-use Rattle.std.specs.Prelude.{option_and_then, option_map}
 use Rattle.std.specs.Str.{bytes_eq}
 use Rattle.std.proofs.lemmas.Bool.{and_from}
 use Rattle.bar_bytes.proofs.Tests.{bytes_eq-refl, eqb_refl}
@@ -38,13 +37,13 @@ use Rattle.bar_rules.specs.World.World.{IsSetup, Move, Setup, member}
 use Rattle.bar_laws.specs.Growing.{PeersGrow}
 use Rattle.bar_laws.specs.Knowing.{StepIsKnown}
 use Rattle.bar_laws.specs.Obedience.{SignedByRule}
-use Rattle.bar_laws.specs.OwnRuns.{PeersRun, input_at}
+use Rattle.bar_laws.specs.OwnRuns.{PeersRun, brought_to, input_at}
 use Rattle.bar_laws.specs.Parties.{ForgesNothing, HeardWasSaid, IsSentBy, IsTrustedPeer, KeysOpenWell, NobodyIsAccused, NobodyIsAnnounced, StepIsAccepted, after}
 use Rattle.bar_laws.specs.Premises.{PeersAreMembers}
 use Rattle.bar_laws.specs.Soundness.{LogIsSound}
 use Rattle.bar_laws.proofs.Logs.{IsCaseOf, SaidIn, WasHeard, first_heard-was, first_said-was, is_of-case, is_of-key, is_of-own, read-fits, receiver-on, round-by, said-in, sender-on, some-equal, some-is, some-same, table-later, unique, within-extends}
 use Rattle.bar_laws.proofs.Runs.{heard-in}
-use Rattle.bar_progress.specs.Between.{GoesOn, HaveTradedForGood, IsSent, IsTaken, Part, TradesGoOn, parts}
+use Rattle.bar_progress.specs.Between.{GoesOn, HaveTradedForGood, IsSent, IsTaken, PacketsAreGiven, Part, TradesGoOn, parts, receiver}
 use Rattle.bar_progress.specs.Trades.{BeginsTrade, HaveTraded, Holds, and_deliver, pair_in, talk_in}
 use Rattle.bar_progress.specs.Trading.{Pair, Talk, trade}
 use Rattle.bar_progress.proofs.Announcing.{with_body}
@@ -60,6 +59,12 @@ use Rattle.bar_progress.proofs.Talking as talk
 use Rattle.bar_progress.proofs.Talking.{PromisesEqual, terms-one, terms-two}
 use Rattle.bar_progress.proofs.Trades as trades
 use Rattle.bar_progress.proofs.Trades.{gains}
+
+-- ---- packets
+
+pub packets-given : PacketsAreGiven
+packets-given setup moves x part sent =
+    ap (brought_to (receiver x part)) sent.packet ∙ ap (λ b. if b then event.Datagram (datagram_bytes setup.session sent.d) ∷ [] else []) (eqb_refl (receiver x part))
 
 -- ---- two sides
 
@@ -218,7 +223,7 @@ module _ (knows : StepIsKnown) (peers : PeersRun) (grow : PeersGrow) (accepts : 
   record Ready (me : Member) (log : Log) (kind : Kind) : Type 0 where
     going : ticks log < last_tick setup.session
     in_time : is_in_time setup.session (known me log) kind x.round ≡ true
-    bound : (c : List ℕ × List UpdateId) → revealed me log x ≡ Some c → c ≡ commits
+    bound : kind ≡ kinds.Divulge → (c : List ℕ × List UpdateId) → revealed me log x ≡ Some c → c ≡ commits
 
   abbrev Ready-a : Kind → List Move → Type 0
   Ready-a kind ms = Ready (member setup a) (log-a ms) kind
@@ -377,13 +382,13 @@ module _ (knows : StepIsKnown) (peers : PeersRun) (grow : PeersGrow) (accepts : 
   )
     where
       learned-then : (o : Option (List ℕ × List UpdateId)) → (known-b ms).revealed x ≡ o → option_or o (then_some (is_of kinds.Divulge x Initiator d3.message) commits) ≡ Some commits
-      learned-then (Some c) e = ap Some (y.bound c e)
+      learned-then (Some c) e = ap Some (y.bound refl c e)
       learned-then None e = ap (λ z. then_some z commits) divulge-of-it
 
       go : (o : Option Datagram) → (known-b ms).heard kinds.Divulge x Initiator ≡ o → Revealed-b (ms ++ m ∷ [])
       go (Some d) e =
           let f = heard-reveals (member setup b) (log-b ms) x d e in
-          more-revealed ms (m ∷ []) (f.1 ∙ ap Some (y.bound f.0 f.1))
+          more-revealed ms (m ∷ []) (f.1 ∙ ap Some (y.bound refl f.0 f.1))
       go None e =
           ap (λ (k : Knowledge). k.revealed x) (happening.knows-given knows peers grow accepts ruled members setup is b r.answers.low present-b ms m d3 brings sent.accepted.reads y.going (divulge-admitted ms s f y e))
           ∙ answer-reveals (member setup b) x commits (known-b ms) d3 (new_evidence (member setup b) (known-b ms) d3) (learned-then ((known-b ms).revealed x) refl)

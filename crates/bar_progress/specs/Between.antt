@@ -15,7 +15,7 @@ use Rattle.bar_rules.specs.Peer.Exchanges.{revealed}
 use Rattle.bar_rules.specs.Peer.Knowledge.{is_in_time, known}
 use Rattle.bar_rules.specs.Peer.Log.{Log, ticks}
 use Rattle.bar_rules.specs.Values.{datagram_bytes, datagram_of}
-use Rattle.bar_rules.specs.World.World.{Move, Setup, member}
+use Rattle.bar_rules.specs.World.World.{Deliver, Move, Setup, member}
 use Rattle.bar_laws.specs.OwnRuns.{input_at}
 use Rattle.bar_laws.specs.Parties.{ForgesNothing, after}
 use Rattle.bar_progress.specs.Trades.{BeginsTrade, HaveTraded, agreed, and_deliver, pair_in}
@@ -42,9 +42,15 @@ pub record IsSent (setup : Setup) (moves : List Move) (x : Exchange) (part : Par
   pub reads : datagram_of setup.session (datagram_bytes setup.session d) ≡ Some d
   pub of : is_of part.0 x part.1 d.message ≡ true
 
+-- a delivery of the packet gives the receiver its bytes
+abbrev pub PacketsAreGiven : Type 0
+PacketsAreGiven =
+    (setup : Setup) (moves : List Move) (x : Exchange) (part : Part) → (sent : IsSent setup moves x part)
+    → input_at (after setup moves) (receiver x part) (Deliver sent.number) ≡ event.Datagram (datagram_bytes setup.session sent.d) ∷ []
+
 -- The move gives a peer the bytes of a datagram, by a delivery or from whoever has them, and the peer takes it in time: before its last
--- tick, and within the deadline of its kind. And nobody has revealed to the peer another nonce or history than those that the REQUEST
--- commits to, which takes two openings of one commitment.
+-- tick, and within the deadline of its kind. And before a DIVULGE nobody has revealed to the peer another nonce or history than those that
+-- the REQUEST commits to, which takes two openings of one commitment.
 pub record IsTaken (setup : Setup) (moves : List Move) (move : Move) (peer : ℕ) (d : Datagram) (x : Exchange) (kind : Kind)
     (commits : List ℕ × List UpdateId) : Type 0 where
   pub brings : input_at (after setup moves) peer move ≡ event.Datagram (datagram_bytes setup.session d) ∷ []
@@ -52,7 +58,7 @@ pub record IsTaken (setup : Setup) (moves : List Move) (move : Move) (peer : ℕ
   pub log_is : slice_get (after setup moves).logs peer ≡ Some log
   pub going : ticks log < last_tick setup.session
   pub in_time : is_in_time setup.session (known (member setup peer) log) kind x.round ≡ true
-  pub bound : (a : List ℕ × List UpdateId) → revealed (member setup peer) log x ≡ Some a → a ≡ commits
+  pub bound : kind ≡ Divulge → (a : List ℕ × List UpdateId) → revealed (member setup peer) log x ≡ Some a → a ≡ commits
 
 -- Whatever moves come between that forge nothing, the next of these parts has been sent, and once the receiver takes it in time, it goes on
 -- so with those that follow; after the last part this end is reached.

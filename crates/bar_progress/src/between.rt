@@ -1,6 +1,6 @@
 //! Exchanges go on, whatever stands between their deliveries.
 
-ghost use Rattle.bar_progress.specs.Between.{TradesGoOn};
+ghost use Rattle.bar_progress.specs.Between.{PacketsAreGiven, TradesGoOn};
 
 use bar_laws::growing::logs_grow;
 use bar_laws::knowing::knowledge_is_enough;
@@ -18,7 +18,9 @@ use bar_terms::laws::promises_are_equally_long;
 /// repeats, hostile datagrams, and other exchanges of the two. Each next datagram has been sent; once its receiver takes it in time, by a
 /// delivery or from whoever has its bytes, the one after it has been sent too; and after the last both have what was agreed, for good.
 pub fn trades_go_on()
-    ensures { TradesGoOn }
+    ensures goes { TradesGoOn }
+    // a delivery is such a move
+    ensures given { PacketsAreGiven }
 {
     logs_grow();
     knowledge_is_enough();
