@@ -25,7 +25,7 @@ use Rattle.bar_rules.specs.Peer.Exchanges.{role_of, partner_in}
 use Rattle.bar_rules.specs.Peer.Knowledge.{Knowledge, has_said_of, is_in_time, learned, with_heard, with_kept, with_tick}
 use Rattle.bar_rules.specs.Peer.Machine as machine
 use Rattle.bar_rules.specs.Peer.Machine.{message_to, minds, step_known}
-use Rattle.bar_rules.specs.Peer.Orders.{Order, Ask, Answer, Reveal, GiveCase, AskKey, GiveKey, Resend, Report, case_body, key_body}
+use Rattle.bar_rules.specs.Peer.Orders.{Order, Reveal, GiveCase, GiveKey, case_body, key_body}
 use Rattle.bar_rules.specs.Peer.Replies.{is_trade_worth, orders_when, repeated, reply_orders}
 use Rattle.bar_rules.specs.Peer.Signing.{signed}
 use Rattle.bar_rules.specs.Peer.Terms.{terms_by, terms_of}
@@ -34,6 +34,7 @@ use Rattle.bar_rules.specs.Runs.{Outcome, begun, sending}
 use Rattle.bar_rules.specs.Values.{counts_ok, datagram_of, unsigned}
 use Rattle.bar_laws.proofs.Logs.{is_of-is, option_or-some}
 use Rattle.bar_progress.proofs.Announcing.{with_body}
+use Rattle.bar_progress.proofs.Performing.{IsKept, all-keeps, report-keeps, say-keeps}
 use Rattle.bar_progress.proofs.Saying.{now-first, sends-plain}
 
 abbrev pub Known : Type 0
@@ -67,32 +68,14 @@ pub record Sends (sends : List (ℕ × Datagram)) (to : ℕ) (kind : Kind) (x : 
 -- ---- what is heard
 
 module _ (me : Member) where
-  say-heard : (out : Known) (x : Exchange) (o : Option Datagram) (b : Option Body) → ◌≡◌ {A = Firsts} (machine.say_or_repeat (minds me) me out x o b).state.heard out.state.heard
-  say-heard out x (Some d) b = refl
-  say-heard out x None None = refl
-  say-heard out x None (Some b) = refl
-
-  send-heard : (out : Known) (to : ℕ) (b : Option Body) → ◌≡◌ {A = Firsts} (machine.send_if me out to b).state.heard out.state.heard
-  send-heard out to None = refl
-  send-heard out to (Some b) = refl
-
-  perform-heard : (out : Known) (o : Order) → ◌≡◌ {A = Firsts} (machine.perform (minds me) me out o).state.heard out.state.heard
-  perform-heard out (Ask x) = say-heard out x _ _
-  perform-heard out (Answer x) = say-heard out x _ _
-  perform-heard out (GiveCase x) = say-heard out x _ _
-  perform-heard out (GiveKey x) = say-heard out x _ _
-  perform-heard out (Resend kind x) = say-heard out x _ _
-  perform-heard out (Reveal x) = send-heard out _ _
-  perform-heard out (AskKey x) = refl
-  perform-heard out (Report q) = send-heard out _ _
+  heard-kept : (h : Firsts) → IsKept (minds me) (λ out. ◌≡◌ {A = Firsts} out.state.heard h)
+  heard-kept h = record { sent = λ out to d e. e; said = λ out d e. e }
 
   all-heard : (os : List Order) (out : Known) → ◌≡◌ {A = Firsts} (machine.perform_all (minds me) me out os).state.heard out.state.heard
-  all-heard [] out = refl
-  all-heard (o ∷ os) out = all-heard os (machine.perform (minds me) me out o) ∙ perform-heard out o
+  all-heard os out = all-keeps (minds me) me (λ o. ◌≡◌ {A = Firsts} o.state.heard out.state.heard) (heard-kept out.state.heard) out os refl
 
   report-heard : (out : Known) (q : ℕ) (o : Option (List (List ℕ))) → ◌≡◌ {A = Firsts} (machine.report_new (minds me) me out q o).state.heard out.state.heard
-  report-heard out q None = refl
-  report-heard out q (Some v) = send-heard out 0 _
+  report-heard out q o = report-keeps (minds me) me (λ o. ◌≡◌ {A = Firsts} o.state.heard out.state.heard) (heard-kept out.state.heard) out q o refl
 
   evidence-heard : (k : Knowledge) (q : ℕ) (o : Option (List (List ℕ))) → ◌≡◌ {A = Firsts} (machine.with_evidence (minds me) k q o).heard k.heard
   evidence-heard k q None = refl
@@ -214,18 +197,14 @@ module _ (me : Member) where
 
   -- ---- what stays among it
 
-  if-still : (s : ℕ × Datagram) (out : Known) (to : ℕ) (b : Option Body) → IsAmong s out.sends → IsAmong s (machine.send_if me out to b).sends
-  if-still s out to None h = h
-  if-still s out to (Some b) h = among-front s out.sends _ h
+  sent-kept : (s : ℕ × Datagram) → IsKept (minds me) (λ out. IsAmong s out.sends)
+  sent-kept s = record { sent = λ out to d h. among-front s out.sends ((to, d) ∷ []) h; said = λ out d h. h }
 
   report-still : (s : ℕ × Datagram) (out : Known) (q : ℕ) (o : Option (List (List ℕ))) → IsAmong s out.sends → IsAmong s (machine.report_new (minds me) me out q o).sends
-  report-still s out q None h = h
-  report-still s out q (Some v) h = if-still s out 0 _ h
+  report-still s out q o h = report-keeps (minds me) me (λ z. IsAmong s z.sends) (sent-kept s) out q o h
 
   say-still : (s : ℕ × Datagram) (out : Known) (y : Exchange) (o : Option Datagram) (b : Option Body) → IsAmong s out.sends → IsAmong s (machine.say_or_repeat (minds me) me out y o b).sends
-  say-still s out y (Some d) b h = among-front s out.sends _ h
-  say-still s out y None None h = h
-  say-still s out y None (Some b) h = among-front s out.sends _ h
+  say-still s out y o b h = say-keeps (minds me) me (λ z. IsAmong s z.sends) (sent-kept s) out y o b h
 
   -- what is said is sent, new or again
   say-sends : (out : Known) (kind : Kind) (y : Exchange) (role : Role) (to : ℕ) (o : Option Body) (b : Body) → role_of me y ≡ role → partner_in me y ≡ to → o ≡ Some b
@@ -430,28 +409,8 @@ module _ (me : Member) where
     abbrev Reveals : Knowledge → Type 0
     Reveals k = k.revealed x ≡ Some a
 
-    say-reveals : (out : Known) (y : Exchange) (o : Option Datagram) (b : Option Body) → Reveals out.state → Reveals (machine.say_or_repeat (minds me) me out y o b).state
-    say-reveals out y (Some d) b e = e
-    say-reveals out y None None e = e
-    say-reveals out y None (Some b) e = option_or-some (out.state.revealed x) _ a e
-
-    send-reveals : (out : Known) (to : ℕ) (b : Option Body) → Reveals out.state → Reveals (machine.send_if me out to b).state
-    send-reveals out to None e = e
-    send-reveals out to (Some b) e = e
-
-    perform-reveals : (out : Known) (o : Order) → Reveals out.state → Reveals (machine.perform (minds me) me out o).state
-    perform-reveals out (Ask y) e = say-reveals out y _ _ e
-    perform-reveals out (Answer y) e = say-reveals out y _ _ e
-    perform-reveals out (GiveCase y) e = say-reveals out y _ _ e
-    perform-reveals out (GiveKey y) e = say-reveals out y _ _ e
-    perform-reveals out (Resend kind y) e = say-reveals out y _ _ e
-    perform-reveals out (Reveal y) e = send-reveals out _ _ e
-    perform-reveals out (AskKey y) e = e
-    perform-reveals out (Report q) e = send-reveals out _ _ e
-
-    all-reveals : (os : List Order) (out : Known) → Reveals out.state → Reveals (machine.perform_all (minds me) me out os).state
-    all-reveals [] out e = e
-    all-reveals (o ∷ os) out e = all-reveals os (machine.perform (minds me) me out o) (perform-reveals out o e)
+    reveals-kept : IsKept (minds me) (λ out. Reveals out.state)
+    reveals-kept = record { sent = λ out to d e. e; said = λ out d e. option_or-some (out.state.revealed x) _ a e }
 
     learned-reveals : (k : Knowledge) (q : ℕ) (o : Option (List (List ℕ))) (d : Datagram) (b : Body) → Reveals (learned me d k b) → Reveals (learned me d (machine.with_evidence (minds me) k q o) b)
     learned-reveals k q None d b e = e
@@ -468,12 +427,8 @@ module _ (me : Member) where
     learned-reveals k q (Some v) d (Evidence ds) e = e
     learned-reveals k q (Some v) d (Evict r ps) e = e
 
-    report-reveals : (out : Known) (q : ℕ) (o : Option (List (List ℕ))) → Reveals out.state → Reveals (machine.report_new (minds me) me out q o).state
-    report-reveals out q None e = e
-    report-reveals out q (Some v) e = send-reveals out 0 _ e
-
     pub answer-reveals : (k : Knowledge) (d : Datagram) (o : Option (List (List ℕ))) → Reveals (with_heard me d k) → Reveals (answers k d o).state
     answer-reveals k d o e =
-        report-reveals (machine.answer_new (minds me) me (with_heard me d (machine.with_evidence (minds me) k d.message.from o)) d) d.message.from o
-        (all-reveals (reply_orders me (with_heard me d (machine.with_evidence (minds me) k d.message.from o)) true d) (begun (with_heard me d (machine.with_evidence (minds me) k d.message.from o)))
-        (learned-reveals k d.message.from o d d.message.body e))
+        let kk : Knowledge = with_heard me d (machine.with_evidence (minds me) k d.message.from o) in
+        report-keeps (minds me) me (λ out. Reveals out.state) reveals-kept (machine.answer_new (minds me) me kk d) d.message.from o
+        (all-keeps (minds me) me (λ out. Reveals out.state) reveals-kept (begun kk) (reply_orders me kk true d) (learned-reveals k d.message.from o d d.message.body e))

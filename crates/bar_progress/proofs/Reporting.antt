@@ -11,7 +11,7 @@ use Rattle.bar_rules.specs.Member.{Member}
 use Rattle.bar_rules.specs.Peer.Knowledge.{Knowledge, known}
 use Rattle.bar_rules.specs.Peer.Log.{Ticked, first_heard, is_announced, kept, names_party, ticks}
 use Rattle.bar_rules.specs.Peer.Machine as machine
-use Rattle.bar_rules.specs.Peer.Machine.{send_if}
+use Rattle.bar_rules.specs.Peer.Machine.{logs, send_if}
 use Rattle.bar_rules.specs.Peer.Orders.{Order, Report}
 use Rattle.bar_rules.specs.Peer.Replies.{orders_when}
 use Rattle.bar_rules.specs.Peer.Run.{Out, perform, perform_all, take_input}
@@ -30,10 +30,10 @@ module _ (me : Member) (party : ℕ) (evidence : List (List ℕ)) where
   abbrev Sends : Out → Type 0
   Sends out = Contains out.sends (0, report_of me evidence)
 
-  keeping : IsKept Keeps
+  keeping : IsKept (logs me) Keeps
   keeping = record { sent = λ out to d h. h; said = λ out d h. option_or-some (kept out.state party) None evidence h }
 
-  sent-still : IsKept Sends
+  sent-still : IsKept (logs me) Sends
   sent-still = record { sent = λ out to d h. contains-front out.sends ((to, d) ∷ []) (0, report_of me evidence) h; said = λ out d h. h }
 
   reports-now : (out : Out) → Keeps out → Sends (perform me out (Report party))
@@ -43,10 +43,10 @@ module _ (me : Member) (party : ℕ) (evidence : List (List ℕ)) where
 
   among-reports : (out : Out) (os : List Order) → Contains os (Report party) → Keeps out → Sends (perform_all me out os)
   among-reports out [] c h = absurd (omega (arith, c.1))
-  among-reports out (o ∷ os) c h = go (Contains_cases o (Report party) os c) (λ later. among-reports (perform me out o) os later (perform-keeps me Keeps keeping out o h))
+  among-reports out (o ∷ os) c h = go (Contains_cases o (Report party) os c) (λ later. among-reports (perform me out o) os later (perform-keeps (logs me) me Keeps keeping out o h))
     where
       go : (o ≡ Report party) ⊎ Contains os (Report party) → (Contains os (Report party) → Sends (perform_all me (perform me out o) os)) → Sends (perform_all me (perform me out o) os)
-      go (inl e) more = all-keeps me Sends sent-still (perform me out o) os (subst (λ z. Sends (perform me out z)) (sym e) (reports-now out h))
+      go (inl e) more = all-keeps (logs me) me Sends sent-still (perform me out o) os (subst (λ z. Sends (perform me out z)) (sym e) (reports-now out h))
       go (inr c) more = more c
 
 pub reports-sent : ReportsAreSent

@@ -24,7 +24,7 @@ use Rattle.bar_rules.specs.Peer.Exchanges.{partner_in, role_of}
 use Rattle.bar_rules.specs.Peer.Knowledge.{Knowledge, has_heard_of, known, this_round}
 use Rattle.bar_rules.specs.Peer.Log.{Log, Said, Ticked, first_heard, first_said, is_announced, names_party, round_now, ticks}
 use Rattle.bar_rules.specs.Peer.Machine as machine
-use Rattle.bar_rules.specs.Peer.Machine.{message_to, send_if}
+use Rattle.bar_rules.specs.Peer.Machine.{logs, message_to, send_if}
 use Rattle.bar_rules.specs.Peer.Orders.{Ask, Order, ask_body}
 use Rattle.bar_rules.specs.Peer.Replies.{orders_when}
 use Rattle.bar_rules.specs.Peer.Rules.{IsObedient, IsSignedByRule}
@@ -57,7 +57,7 @@ request-is x m e = let w = is_of-is kinds.Request x Initiator m e in request-by 
 
 module _ (me : Member) (to round : ℕ) where
   -- what was said and sent stays so
-  stays : IsKept (λ out. MakesRequest out to round)
+  stays : IsKept (logs me) (λ out. MakesRequest out to round)
   stays = record {
     sent = λ out q d h. record {
       request = h.request;
@@ -106,7 +106,7 @@ module _ (me : Member) (to round : ℕ) where
   among-makes out (o ∷ os) c = go (Contains_cases o (Ask x) os c) (among-makes (perform me out o) os)
     where
       go : (o ≡ Ask x) ⊎ Contains os (Ask x) → (Contains os (Ask x) → MakesRequest (perform_all me (perform me out o) os) to round) → MakesRequest (perform_all me (perform me out o) os) to round
-      go (inl e) more = all-keeps me (λ out. MakesRequest out to round) stays (perform me out o) os (subst (λ z. MakesRequest (perform me out z) to round) (sym e) (ask-makes out))
+      go (inl e) more = all-keeps (logs me) me (λ out. MakesRequest out to round) stays (perform me out o) os (subst (λ z. MakesRequest (perform me out z) to round) (sym e) (ask-makes out))
       go (inr c) more = more c
 
 -- ---- the tick
