@@ -10,7 +10,7 @@ use Rattle.bar_roster.specs.Time.{last_tick}
 use Rattle.bar_terms.specs.Table.{Table}
 use Rattle.bar_window.specs.declared.exchange.XKind.TheVariants.{Balanced}
 use Rattle.bar_wire.specs.Bodies.{evidence_in}
-use Rattle.bar_wire.specs.Datagram.{Datagram, Evidence, Message, Request, place_of}
+use Rattle.bar_wire.specs.Datagram.{Datagram, Message, Request, place_of}
 use Rattle.bar_wire.specs.Grammar.{IsDatagram}
 use Rattle.bar_wire.specs.Inputs.{Input}
 use Rattle.bar_wire.specs.Inputs as event
@@ -25,14 +25,14 @@ use Rattle.bar_rules.specs.Peer.Log.{Kept, Log, ticks}
 use Rattle.bar_rules.specs.Peer.Run.{Out, answered_to, report_new, with_evidence}
 use Rattle.bar_rules.specs.Runs.{begun}
 use Rattle.bar_rules.specs.Secrets.{is_seed, partner_of, signature_of}
-use Rattle.bar_rules.specs.Values.{datagram_bytes, datagram_of, is_signed_by, message_bytes, unsigned}
+use Rattle.bar_rules.specs.Values.{datagram_bytes, datagram_of, is_signed_by, message_bytes}
 use Rattle.bar_rules.specs.World.World.{AllGenuine, Deliver, Hostile, IsSetup, IsUnforged, Setup, TickOf, World, happens, initial, member, party_step, spelled, takes_by}
 use Rattle.bar_laws.specs.OwnRuns.{BroadcasterRuns, PeersRun, brought_to, input_at}
 use Rattle.bar_laws.specs.Parties.{after}
 use Rattle.bar_laws.proofs.Broadcasts.{judged-keeps}
 use Rattle.bar_laws.proofs.Fitting.{signed-accepted}
 use Rattle.bar_laws.proofs.Logs.{fits-back, signed_long, some-equal}
-use Rattle.bar_progress.specs.Evictions.{report_bytes}
+use Rattle.bar_progress.specs.Evictions.{report_bytes, report_of}
 use Rattle.bar_progress.specs.Liars.{HasLiar, LiarsAreDenounced}
 use Rattle.bar_progress.proofs.Announcing.{by-admission, step-takes}
 use Rattle.bar_progress.proofs.Fetching.{peer-steps}
@@ -141,7 +141,7 @@ module _ (peers : PeersRun) (casters : BroadcasterRuns) (setup : Setup) (is : Is
   refused = rw apart (rw (never (is_seed s 1 1 seed) _ _) (and-false _))
 
   abbrev told : Out
-  told = record { state = keeps; sends = (0, unsigned (record { from = p; to = 0; body = Evidence evidence })) ∷ []; contents = [] }
+  told = record { state = keeps; sends = (0, report_of me evidence) ∷ []; contents = [] }
 
   stepped : party_step setup p [] (event.Datagram bytes) ≡ told
   stepped =
