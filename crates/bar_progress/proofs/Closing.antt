@@ -259,7 +259,7 @@ gains opens setup trusted ms h receiver sender mine theirs one_is two_is x role 
     let held : is_held setup.session (Heard d ∷ before) u ≡ true =
     well.held u (subst (λ (z : Briefcase). Contains (promised_updates setup.session.cap z.terms z.role) u) (sym same) promised) then in
     let f = some-is (block_of setup.session (Heard d ∷ before) u) held in
-    ap is_some (find-later _ mine (Heard d ∷ before) f.0 (record { new = was.0.place.after; split = was.0.place.split }) f.1)
+    ap is_some {y = Some f.0} (find-later _ mine (Heard d ∷ before) f.0 (record { new = was.0.place.after; split = was.0.place.split }) f.1)
 
 module _ (knows : StepIsKnown) (accepted : StepIsAccepted) (accuses : NobodyIsAccused) (setup : Setup) (trusted : ℕ → Bool) (a b : ℕ) (apart : a ≡ b → ⊥) (x : Exchange) (ru rv : Role)
     (su : Side (member setup a) x ru rv b) (sv : Side (member setup b) x rv ru a) (terms : Terms) (ku kv : Knowledge) (zu gu zv gv : List ℕ)
