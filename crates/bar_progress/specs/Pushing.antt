@@ -33,7 +33,8 @@ offer_terms_then p t young aged =
     let give : List UpdateId = given_of (two p) t.theirs young aged in
     forms.Push young aged want give (length want - length give)
 
--- The first peer's QUERY is on its way, and the second one admits it. Nothing else of the exchange was said or heard, and both are in time.
+-- The first peer has said a QUERY, which is on its way, and the second one admits it. Nothing else of the exchange was said or heard, neither
+-- has the other announced evicted, and both are in time for all datagrams of the exchange.
 pub record CanPush (p : Pair) (t : Talk) (young aged : List UpdateId) : Type 0 where
   pub apart : p.first ≡ p.second → ⊥
   pub seed : List ℕ
