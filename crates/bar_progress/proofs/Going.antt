@@ -48,6 +48,7 @@ use Rattle.bar_progress.specs.Trades.{BeginsTrade, HaveTraded, Holds, and_delive
 use Rattle.bar_progress.specs.Trading.{Pair, Talk, trade}
 use Rattle.bar_progress.proofs.Announcing.{with_body}
 use Rattle.bar_progress.proofs.Arriving.{heard-contains, signed-in}
+use Rattle.bar_progress.proofs.Closing.{gains, head_of}
 use Rattle.bar_progress.proofs.Happening as happening
 use Rattle.bar_progress.proofs.Happening.{HeardAt, SentIn}
 use Rattle.bar_progress.proofs.Hearing.{IsAmong, Sends, answer-reveals, answers, divulge-gives, response-gives}
@@ -58,7 +59,6 @@ use Rattle.bar_progress.proofs.Saying.{not-yet, now-first, same-terms}
 use Rattle.bar_progress.proofs.Talking as talk
 use Rattle.bar_progress.proofs.Talking.{PromisesEqual, terms-one, terms-two}
 use Rattle.bar_progress.proofs.Trades as trades
-use Rattle.bar_progress.proofs.Trades.{gains}
 
 -- ---- packets
 
@@ -75,7 +75,7 @@ module _ (knows : StepIsKnown) (peers : PeersRun) (grow : PeersGrow) (accepts : 
   p = pair_in setup a b round
 
   abbrev t : Talk
-  t = talk_in setup a b r.mine r.theirs r.d
+  t = talk_in setup a b r.way.mine r.way.theirs r.way.d
 
   abbrev x : Exchange
   x = trade p
@@ -105,10 +105,10 @@ module _ (knows : StepIsKnown) (peers : PeersRun) (grow : PeersGrow) (accepts : 
   apart = r.can.apart
 
   is : IsSetup setup
-  is = r.unforged.setup_is
+  is = r.way.unforged.setup_is
 
   fits : IsDatagram setup.session.shape d1
-  fits = subst (IsDatagram setup.session.shape) (trades.same knows accepts accuses equal setup trusted moves request a b round nonce ha r) (read-fits setup.session (datagram_bytes setup.session r.d) r.d r.accepted.reads)
+  fits = subst (IsDatagram setup.session.shape) (ap (head_of r.way.d) r.can.way) (read-fits setup.session (datagram_bytes setup.session r.way.d) r.way.d r.way.accepted.reads)
 
   present-a : a ≤ setup.session.shape.peers
   present-a = fits.may_send.0.1
@@ -117,10 +117,10 @@ module _ (knows : StepIsKnown) (peers : PeersRun) (grow : PeersGrow) (accepts : 
   present-b = fits.may_send.1.1
 
   abbrev log-a : List Move → Log
-  log-a ms = happening.log_at knows peers grow accepts ruled members setup is a r.asks.low present-a ms
+  log-a ms = happening.log_at knows peers grow accepts ruled members setup is a r.way.asks.low present-a ms
 
   abbrev log-b : List Move → Log
-  log-b ms = happening.log_at knows peers grow accepts ruled members setup is b r.answers.low present-b ms
+  log-b ms = happening.log_at knows peers grow accepts ruled members setup is b r.way.answers.low present-b ms
 
   abbrev known-a : List Move → Knowledge
   known-a ms = known (member setup a) (log-a ms)
@@ -136,10 +136,10 @@ module _ (knows : StepIsKnown) (peers : PeersRun) (grow : PeersGrow) (accepts : 
   m1 = trades.m1 knows accepts accuses equal setup trusted moves request a b round nonce ha r
 
   first-a : known-a ms1 ≡ t.mine
-  first-a = ap (known (member setup a)) (some-equal (log-a ms1) m1.sides.mine (sym (happening.log-is knows peers grow accepts ruled members setup is a r.asks.low present-a ms1) ∙ m1.sides.one_is.log_is)) ∙ m1.sides.one_knows
+  first-a = ap (known (member setup a)) (some-equal (log-a ms1) m1.sides.mine (sym (happening.log-is knows peers grow accepts ruled members setup is a r.way.asks.low present-a ms1) ∙ m1.sides.one_is.log_is)) ∙ m1.sides.one_knows
 
   first-b : known-b ms1 ≡ kb2
-  first-b = ap (known (member setup b)) (some-equal (log-b ms1) m1.sides.theirs (sym (happening.log-is knows peers grow accepts ruled members setup is b r.answers.low present-b ms1) ∙ m1.sides.two_is.log_is)) ∙ m1.sides.two_knows
+  first-b = ap (known (member setup b)) (some-equal (log-b ms1) m1.sides.theirs (sym (happening.log-is knows peers grow accepts ruled members setup is b r.way.answers.low present-b ms1) ∙ m1.sides.two_is.log_is)) ∙ m1.sides.two_knows
 
   -- ---- what both know ever after
 
@@ -150,24 +150,24 @@ module _ (knows : StepIsKnown) (peers : PeersRun) (grow : PeersGrow) (accepts : 
   since-more ms ns s = (s.0 ++ ns, ap (λ l. l ++ ns) s.1 ∙ append_assoc ms1 s.0 ns)
 
   committed : (ms : List Move) → Since ms → (known-a ms).revealed x ≡ Some commits
-  committed ms s = subst (λ z. (known-a z).revealed x ≡ Some commits) (sym s.1) (happening.revealed-stays knows peers grow accepts ruled members setup is a r.asks.low present-a ms1 s.0 x commits (ap (λ (k : Knowledge). k.revealed x) first-a ∙ r.can.committed))
+  committed ms s = subst (λ z. (known-a z).revealed x ≡ Some commits) (sym s.1) (happening.revealed-stays knows peers grow accepts ruled members setup is a r.way.asks.low present-a ms1 s.0 x commits (ap (λ (k : Knowledge). k.revealed x) first-a ∙ r.can.committed))
 
   requested : (ms : List Move) → Since ms → has_said_of (known-a ms) kinds.Request x Initiator ≡ true
   requested ms s =
       let f = some-is (t.mine.said kinds.Request x Initiator) r.can.asked in
       subst (λ z. has_said_of (known-a z) kinds.Request x Initiator ≡ true) (sym s.1)
-      (ap is_some (happening.said-stays knows peers grow accepts ruled members setup is a r.asks.low present-a ms1 s.0 kinds.Request x Initiator f.0 (ap (λ (k : Knowledge). k.said kinds.Request x Initiator) first-a ∙ f.1)))
+      (ap is_some (happening.said-stays knows peers grow accepts ruled members setup is a r.way.asks.low present-a ms1 s.0 kinds.Request x Initiator f.0 (ap (λ (k : Knowledge). k.said kinds.Request x Initiator) first-a ∙ f.1)))
 
   within-a : (ms : List Move) → Since ms → is_within (table_of (known-a ms)) hb ≡ true
   within-a ms s =
       subst (λ z. is_within (table (log-a z)) hb ≡ true) (sym s.1)
-      (within-extends (table (log-a ms1)) (table (log-a (ms1 ++ s.0))) hb (table-later (log-a (ms1 ++ s.0)) (log-a ms1) (happening.later knows peers grow accepts ruled members setup is a r.asks.low present-a ms1 s.0))
+      (within-extends (table (log-a ms1)) (table (log-a (ms1 ++ s.0))) hb (table-later (log-a (ms1 ++ s.0)) (log-a ms1) (happening.later knows peers grow accepts ruled members setup is a r.way.asks.low present-a ms1 s.0))
       (ap (λ (k : Knowledge). is_within (table_of k) hb) first-a ∙ r.can.within_mine))
 
   within-b : (ms : List Move) → Since ms → is_within (table_of (known-b ms)) ha ≡ true
   within-b ms s =
       subst (λ z. is_within (table (log-b z)) ha ≡ true) (sym s.1)
-      (within-extends (table (log-b ms1)) (table (log-b (ms1 ++ s.0))) ha (table-later (log-b (ms1 ++ s.0)) (log-b ms1) (happening.later knows peers grow accepts ruled members setup is b r.answers.low present-b ms1 s.0))
+      (within-extends (table (log-b ms1)) (table (log-b (ms1 ++ s.0))) ha (table-later (log-b (ms1 ++ s.0)) (log-b ms1) (happening.later knows peers grow accepts ruled members setup is b r.way.answers.low present-b ms1 s.0))
       (ap (λ (k : Knowledge). is_within (table_of k) ha) first-b ∙ r.can.within_theirs))
 
   answered1 : kb2.said kinds.Response x Responder ≡ Some d2
@@ -176,7 +176,7 @@ module _ (knows : StepIsKnown) (peers : PeersRun) (grow : PeersGrow) (accepts : 
   answered : (ms : List Move) → Since ms → (known-b ms).said kinds.Response x Responder ≡ Some d2
   answered ms s =
       subst (λ z. (known-b z).said kinds.Response x Responder ≡ Some d2) (sym s.1)
-      (happening.said-stays knows peers grow accepts ruled members setup is b r.answers.low present-b ms1 s.0 kinds.Response x Responder d2 (ap (λ (k : Knowledge). k.said kinds.Response x Responder) first-b ∙ answered1))
+      (happening.said-stays knows peers grow accepts ruled members setup is b r.way.answers.low present-b ms1 s.0 kinds.Response x Responder d2 (ap (λ (k : Knowledge). k.said kinds.Response x Responder) first-b ∙ answered1))
 
   heard1 : kb2.heard kinds.Request x Initiator ≡ Some d1
   heard1 = now-first d1 t.theirs.heard kinds.Request x Initiator (is_of-own d1.message round Balanced Initiator refl) (r.can.fresh_theirs.unheard kinds.Request Initiator)
@@ -184,7 +184,7 @@ module _ (knows : StepIsKnown) (peers : PeersRun) (grow : PeersGrow) (accepts : 
   asked : (ms : List Move) → Since ms → (known-b ms).heard kinds.Request x Initiator ≡ Some d1
   asked ms s =
       subst (λ z. (known-b z).heard kinds.Request x Initiator ≡ Some d1) (sym s.1)
-      (happening.heard-stays knows peers grow accepts ruled members setup is b r.answers.low present-b ms1 s.0 kinds.Request x Initiator d1 (ap (λ (k : Knowledge). k.heard kinds.Request x Initiator) first-b ∙ heard1))
+      (happening.heard-stays knows peers grow accepts ruled members setup is b r.way.answers.low present-b ms1 s.0 kinds.Request x Initiator d1 (ap (λ (k : Knowledge). k.heard kinds.Request x Initiator) first-b ∙ heard1))
 
   unheard-a : (kind : Kind) → (known-a ms1).heard kind x Responder ≡ None
   unheard-a kind = ap (λ (k : Knowledge). k.heard kind x Responder) first-a ∙ r.can.fresh_mine.unheard kind Responder
@@ -201,16 +201,16 @@ module _ (knows : StepIsKnown) (peers : PeersRun) (grow : PeersGrow) (accepts : 
   Heard-b kind ms = (d : Datagram) × ((known-b ms).heard kind x Initiator ≡ Some d)
 
   more-a : (kind : Kind) (ms ns : List Move) → Heard-a kind ms → Heard-a kind (ms ++ ns)
-  more-a kind ms ns h = (h.0, happening.heard-stays knows peers grow accepts ruled members setup is a r.asks.low present-a ms ns kind x Responder h.0 h.1)
+  more-a kind ms ns h = (h.0, happening.heard-stays knows peers grow accepts ruled members setup is a r.way.asks.low present-a ms ns kind x Responder h.0 h.1)
 
   more-b : (kind : Kind) (ms ns : List Move) → Heard-b kind ms → Heard-b kind (ms ++ ns)
-  more-b kind ms ns h = (h.0, happening.heard-stays knows peers grow accepts ruled members setup is b r.answers.low present-b ms ns kind x Initiator h.0 h.1)
+  more-b kind ms ns h = (h.0, happening.heard-stays knows peers grow accepts ruled members setup is b r.way.answers.low present-b ms ns kind x Initiator h.0 h.1)
 
   abbrev Sent-a : Kind → List Move → Type 0
-  Sent-a kind ms = HasSent knows peers grow accepts ruled members setup is a r.asks.low present-a b apart x Initiator refl ms kind
+  Sent-a kind ms = HasSent knows peers grow accepts ruled members setup is a r.way.asks.low present-a b apart x Initiator refl ms kind
 
   abbrev Sent-b : Kind → List Move → Type 0
-  Sent-b kind ms = HasSent knows peers grow accepts ruled members setup is b r.answers.low present-b a (λ e. apart (sym e)) x Responder refl ms kind
+  Sent-b kind ms = HasSent knows peers grow accepts ruled members setup is b r.way.answers.low present-b a (λ e. apart (sym e)) x Responder refl ms kind
 
   -- by the side that sent it
   abbrev is-sent-a : (kind : Kind) (ms : List Move) (s : Sent-a kind ms) → IsSent setup ms x (kind, Initiator)
@@ -236,20 +236,20 @@ module _ (knows : StepIsKnown) (peers : PeersRun) (grow : PeersGrow) (accepts : 
   Brings peer ms m d = input_at (after setup ms) peer m ≡ event.Datagram (datagram_bytes setup.session d) ∷ []
 
   trading-a : (ms : List Move) → ForgesNothing setup trusted ms → is_announced (log-a ms) b ≡ false
-  trading-a ms f = unannounced setup trusted ms f a b (log-a ms) (log-b ms) r.asks.low (happening.log-is knows peers grow accepts ruled members setup is a r.asks.low present-a ms) (record { low = r.answers.low; trust = r.answers.trust; log_is = happening.log-is knows peers grow accepts ruled members setup is b r.answers.low present-b ms })
+  trading-a ms f = unannounced setup trusted ms f a b (log-a ms) (log-b ms) r.way.asks.low (happening.log-is knows peers grow accepts ruled members setup is a r.way.asks.low present-a ms) (record { low = r.way.answers.low; trust = r.way.answers.trust; log_is = happening.log-is knows peers grow accepts ruled members setup is b r.way.answers.low present-b ms })
 
   trading-b : (ms : List Move) → ForgesNothing setup trusted ms → is_announced (log-b ms) a ≡ false
-  trading-b ms f = unannounced setup trusted ms f b a (log-b ms) (log-a ms) r.answers.low (happening.log-is knows peers grow accepts ruled members setup is b r.answers.low present-b ms) (record { low = r.asks.low; trust = r.asks.trust; log_is = happening.log-is knows peers grow accepts ruled members setup is a r.asks.low present-a ms })
+  trading-b ms f = unannounced setup trusted ms f b a (log-b ms) (log-a ms) r.way.answers.low (happening.log-is knows peers grow accepts ruled members setup is b r.way.answers.low present-b ms) (record { low = r.way.asks.low; trust = r.way.asks.trust; log_is = happening.log-is knows peers grow accepts ruled members setup is a r.way.asks.low present-a ms })
 
-  comes-a : (kind : Kind) (ms : List Move) → ForgesNothing setup trusted ms → (s : Sent-b kind ms) → Ready-a kind ms → Comes knows peers grow accepts ruled members setup is a r.asks.low present-a b apart x Initiator refl ms kind s.d
+  comes-a : (kind : Kind) (ms : List Move) → ForgesNothing setup trusted ms → (s : Sent-b kind ms) → Ready-a kind ms → Comes knows peers grow accepts ruled members setup is a r.way.asks.low present-a b apart x Initiator refl ms kind s.d
   comes-a kind ms f s y = record { of = s.of; signed = s.sent.accepted.accepted; trading = trading-a ms f; in_time = y.in_time }
 
-  comes-b : (kind : Kind) (ms : List Move) → ForgesNothing setup trusted ms → (s : Sent-a kind ms) → Ready-b kind ms → Comes knows peers grow accepts ruled members setup is b r.answers.low present-b a (λ e. apart (sym e)) x Responder refl ms kind s.d
+  comes-b : (kind : Kind) (ms : List Move) → ForgesNothing setup trusted ms → (s : Sent-a kind ms) → Ready-b kind ms → Comes knows peers grow accepts ruled members setup is b r.way.answers.low present-b a (λ e. apart (sym e)) x Responder refl ms kind s.d
   comes-b kind ms f s y = record { of = s.of; signed = s.sent.accepted.accepted; trading = trading-b ms f; in_time = y.in_time }
 
   -- ---- RESPONSE
 
-  sent-response : SentIn knows peers grow accepts ruled members setup is b r.answers.low present-b ms1 a d2
+  sent-response : SentIn knows peers grow accepts ruled members setup is b r.way.answers.low present-b ms1 a d2
   sent-response = record {
     number = there.0;
     packet = ap (λ l. slice_get l there.0) m1.packets ∙ there.1;
@@ -264,21 +264,21 @@ module _ (knows : StepIsKnown) (peers : PeersRun) (grow : PeersGrow) (accepts : 
       by (inl e) = absurd (apart (sym e.from))
       by (inr e) = e
 
-  response-sent : (ms : List Move) → Since ms → SentIn knows peers grow accepts ruled members setup is b r.answers.low present-b ms a d2
-  response-sent ms s = subst (λ z. SentIn knows peers grow accepts ruled members setup is b r.answers.low present-b z a d2) (sym s.1) (happening.sent-stays knows peers grow accepts ruled members setup is b r.answers.low present-b ms1 s.0 a d2 sent-response)
+  response-sent : (ms : List Move) → Since ms → SentIn knows peers grow accepts ruled members setup is b r.way.answers.low present-b ms a d2
+  response-sent ms s = subst (λ z. SentIn knows peers grow accepts ruled members setup is b r.way.answers.low present-b z a d2) (sym s.1) (happening.sent-stays knows peers grow accepts ruled members setup is b r.way.answers.low present-b ms1 s.0 a d2 sent-response)
 
   response-of-it : is_of kinds.Response x Responder d2.message ≡ true
   response-of-it = is_of-own d2.message round Balanced Responder refl
 
-  response-admitted : (ms : List Move) → Since ms → ForgesNothing setup trusted ms → SentIn knows peers grow accepts ruled members setup is b r.answers.low present-b ms a d2 → Ready-a kinds.Response ms → (known-a ms).heard kinds.Response x Responder ≡ None → is_admitted (member setup a) (known-a ms) d2 ≡ true
+  response-admitted : (ms : List Move) → Since ms → ForgesNothing setup trusted ms → SentIn knows peers grow accepts ruled members setup is b r.way.answers.low present-b ms a d2 → Ready-a kinds.Response ms → (known-a ms).heard kinds.Response x Responder ≡ None → is_admitted (member setup a) (known-a ms) d2 ≡ true
   unfolding is_admitted
   response-admitted ms s f sent y none =
       and_from _ _
       (and_from _ _ (and_from _ _ (and_from _ _ (eqb_refl a) (ap not (trading-a ms f))) (sent.accepted.accepted refl)) (ap (λ (o : Option Datagram). not (is_some o)) none))
       (and_from _ _ (and_from _ _ (requested ms s) (within-a ms s)) y.in_time)
 
-  takes-response : (ms : List Move) → Since ms → ForgesNothing setup trusted ms → (sent : SentIn knows peers grow accepts ruled members setup is b r.answers.low present-b ms a d2) → (m : Move) → Brings a ms m d2 → Ready-a kinds.Response ms → Heard-a kinds.Response (ms ++ m ∷ [])
-  takes-response ms s f sent m brings y = happening.arrives knows peers grow accepts ruled members setup is a r.asks.low present-a ms m kinds.Response x Responder d2 brings sent.accepted.reads response-of-it y.going (response-admitted ms s f sent y)
+  takes-response : (ms : List Move) → Since ms → ForgesNothing setup trusted ms → (sent : SentIn knows peers grow accepts ruled members setup is b r.way.answers.low present-b ms a d2) → (m : Move) → Brings a ms m d2 → Ready-a kinds.Response ms → Heard-a kinds.Response (ms ++ m ∷ [])
+  takes-response ms s f sent m brings y = happening.arrives knows peers grow accepts ruled members setup is a r.way.asks.low present-a ms m kinds.Response x Responder d2 brings sent.accepted.reads response-of-it y.going (response-admitted ms s f sent y)
 
   -- the one that was heard is the one that was said
   same-history : (ms : List Move) → Since ms → ForgesNothing setup trusted ms → (d : Datagram) → (known-a ms).heard kinds.Response x Responder ≡ Some d → history_in d.message.body ≡ Some hb
@@ -302,27 +302,27 @@ module _ (knows : StepIsKnown) (peers : PeersRun) (grow : PeersGrow) (accepts : 
       said : SaidIn (log-b ms) d
       said =
           signed-in (log-b ms) d
-          (hears setup trusted ms f a b (log-a ms) (log-b ms) d r.asks.low (happening.log-is knows peers grow accepts ruled members setup is a r.asks.low present-a ms) (record { trust = r.answers.trust; log_is = happening.log-is knows peers grow accepts ruled members setup is b r.answers.low present-b ms })
+          (hears setup trusted ms f a b (log-a ms) (log-b ms) d r.way.asks.low (happening.log-is knows peers grow accepts ruled members setup is a r.way.asks.low present-a ms) (record { trust = r.way.answers.trust; log_is = happening.log-is knows peers grow accepts ruled members setup is b r.way.answers.low present-b ms })
           (heard-contains (log-a ms) d (heard-in (log-a ms) d was.0)) (ap is_signed o.body) from)
 
       named-alike : identity_of d.message ≡ identity_of d2.message
       named-alike = ap (λ (z : Body). kind_number z ∷ named z d.message.from d.message.to) o.body ∙ (λ i. 4 ∷ from i ∷ to i ∷ rounds i ∷ [])
 
       one : d ≡ d2
-      one = unique (member setup b) (log-b ms) d d2 (happening.obedient knows peers grow accepts ruled members setup is b r.answers.low present-b ms) said (said-in (log-b ms) d2 (first_said-was (is_of kinds.Response x Responder) (log-b ms) d2 (answered ms s)).0) named-alike
+      one = unique (member setup b) (log-b ms) d d2 (happening.obedient knows peers grow accepts ruled members setup is b r.way.answers.low present-b ms) said (said-in (log-b ms) d2 (first_said-was (is_of kinds.Response x Responder) (log-b ms) d2 (answered ms s)).0) named-alike
 
   terms-a : (ms : List Move) → Since ms → ForgesNothing setup trusted ms → Heard-a kinds.Response ms → terms_of (member setup a) (known-a ms) x ≡ Some terms
   terms-a ms s f h = terms-one p (known-a ms) nonce ha hb h.0 (committed ms s) h.1 (same-history ms s f h.0 h.1)
 
   -- it is answered by the DIVULGE and the CASE
-  response-answered : (ms : List Move) → Since ms → ForgesNothing setup trusted ms → Heard-a kinds.Response ms → SentIn knows peers grow accepts ruled members setup is a r.asks.low present-a ms b d3 × Sent-a kinds.Case ms
+  response-answered : (ms : List Move) → Since ms → ForgesNothing setup trusted ms → Heard-a kinds.Response ms → SentIn knows peers grow accepts ruled members setup is a r.way.asks.low present-a ms b d3 × Sent-a kinds.Case ms
   response-answered ms s f heard = (
-    happening.sent-then knows peers grow accepts ruled members setup is a r.asks.low present-a ms1 ms kinds.Response x Responder h b d3 given.0,
-    record { d = given.1.d; sent = happening.sent-then knows peers grow accepts ruled members setup is a r.asks.low present-a ms1 ms kinds.Response x Responder h b given.1.d given.1.among; of = given.1.of },
+    happening.sent-then knows peers grow accepts ruled members setup is a r.way.asks.low present-a ms1 ms kinds.Response x Responder h b d3 given.0,
+    record { d = given.1.d; sent = happening.sent-then knows peers grow accepts ruled members setup is a r.way.asks.low present-a ms1 ms kinds.Response x Responder h b given.1.d given.1.among; of = given.1.of },
   )
     where
-      h : HeardAt knows peers grow accepts ruled members setup is a r.asks.low present-a ms1 ms kinds.Response x Responder
-      h = subst (λ z. HeardAt knows peers grow accepts ruled members setup is a r.asks.low present-a ms1 z kinds.Response x Responder) (sym s.1) (happening.heard-at knows peers grow accepts ruled members setup is a r.asks.low present-a ms1 s.0 kinds.Response x Responder heard.0 (unheard-a kinds.Response) (subst (λ z. (known-a z).heard kinds.Response x Responder ≡ Some heard.0) s.1 heard.1))
+      h : HeardAt knows peers grow accepts ruled members setup is a r.way.asks.low present-a ms1 ms kinds.Response x Responder
+      h = subst (λ z. HeardAt knows peers grow accepts ruled members setup is a r.way.asks.low present-a ms1 z kinds.Response x Responder) (sym s.1) (happening.heard-at knows peers grow accepts ruled members setup is a r.way.asks.low present-a ms1 s.0 kinds.Response x Responder heard.0 (unheard-a kinds.Response) (subst (λ z. (known-a z).heard kinds.Response x Responder ≡ Some heard.0) s.1 heard.1))
 
       o : IsResponseOf x h.now.d.message
       o = response-of x h.now.d.message h.now.of
@@ -337,7 +337,7 @@ module _ (knows : StepIsKnown) (peers : PeersRun) (grow : PeersGrow) (accepts : 
       revealed_then = committed h.before (h.more, h.since)
 
       history : history_in h.now.d.message.body ≡ Some hb
-      history = same-history ms s f h.now.d (happening.heard-then knows peers grow accepts ruled members setup is a r.asks.low present-a ms1 ms kinds.Response x Responder h)
+      history = same-history ms s f h.now.d (happening.heard-then knows peers grow accepts ruled members setup is a r.way.asks.low present-a ms1 ms kinds.Response x Responder h)
 
       terms_then : terms_of (member setup a) (with_heard (member setup a) (with_body h.now.d (Response o.round o.hb)) k) x ≡ Some terms
       terms_then =
@@ -348,9 +348,9 @@ module _ (knows : StepIsKnown) (peers : PeersRun) (grow : PeersGrow) (accepts : 
       given : IsAmong (b, d3) (answers (member setup a) k h.now.d (new_evidence (member setup a) k h.now.d)).sends × Sends (answers (member setup a) k h.now.d (new_evidence (member setup a) k h.now.d)).sends b kinds.Case x Initiator
       given =
           subst (λ z. IsAmong (b, d3) (answers (member setup a) k z (new_evidence (member setup a) k h.now.d)).sends × Sends (answers (member setup a) k z (new_evidence (member setup a) k h.now.d)).sends b kinds.Case x Initiator) (sym e)
-          (response-gives (member setup a) k h.now.d o.round o.hb (new_evidence (member setup a) k h.now.d) x b commits terms o.exchange (receiving.role-is knows peers grow accepts ruled members setup is a r.asks.low present-a b apart x Initiator refl) (receiving.partner-is knows peers grow accepts ruled members setup is a r.asks.low present-a b apart x Initiator refl) terms_then r.can.worth revealed_then
+          (response-gives (member setup a) k h.now.d o.round o.hb (new_evidence (member setup a) k h.now.d) x b commits terms o.exchange (receiving.role-is knows peers grow accepts ruled members setup is a r.way.asks.low present-a b apart x Initiator refl) (receiving.partner-is knows peers grow accepts ruled members setup is a r.way.asks.low present-a b apart x Initiator refl) terms_then r.can.worth revealed_then
           (λ c g. (first_said-was (is_of kinds.Case x Initiator) (log-a h.before) c g).1)
-          (λ l. receiving.own-of knows peers grow accepts ruled members setup is a r.asks.low present-a b apart x Initiator refl (case_body (member setup a) l x terms) (ap (λ (z : Role). Some (x.round, x.kind, z)) (receiving.role-is knows peers grow accepts ruled members setup is a r.asks.low present-a b apart x Initiator refl))))
+          (λ l. receiving.own-of knows peers grow accepts ruled members setup is a r.way.asks.low present-a b apart x Initiator refl (case_body (member setup a) l x terms) (ap (λ (z : Role). Some (x.round, x.kind, z)) (receiving.role-is knows peers grow accepts ruled members setup is a r.way.asks.low present-a b apart x Initiator refl))))
 
   -- ---- DIVULGE
 
@@ -373,11 +373,11 @@ module _ (knows : StepIsKnown) (peers : PeersRun) (grow : PeersGrow) (accepts : 
   Revealed-b ms = (known-b ms).revealed x ≡ Some commits
 
   more-revealed : (ms ns : List Move) → Revealed-b ms → Revealed-b (ms ++ ns)
-  more-revealed ms ns e = happening.revealed-stays knows peers grow accepts ruled members setup is b r.answers.low present-b ms ns x commits e
+  more-revealed ms ns e = happening.revealed-stays knows peers grow accepts ruled members setup is b r.way.answers.low present-b ms ns x commits e
 
-  takes-divulge : (ms : List Move) → Since ms → ForgesNothing setup trusted ms → (sent : SentIn knows peers grow accepts ruled members setup is a r.asks.low present-a ms b d3) → (m : Move) → Brings b ms m d3 → Ready-b kinds.Divulge ms → Heard-b kinds.Divulge (ms ++ m ∷ []) × Revealed-b (ms ++ m ∷ [])
+  takes-divulge : (ms : List Move) → Since ms → ForgesNothing setup trusted ms → (sent : SentIn knows peers grow accepts ruled members setup is a r.way.asks.low present-a ms b d3) → (m : Move) → Brings b ms m d3 → Ready-b kinds.Divulge ms → Heard-b kinds.Divulge (ms ++ m ∷ []) × Revealed-b (ms ++ m ∷ [])
   takes-divulge ms s f sent m brings y = (
-    happening.arrives knows peers grow accepts ruled members setup is b r.answers.low present-b ms m kinds.Divulge x Initiator d3 brings sent.accepted.reads divulge-of-it y.going (divulge-admitted ms s f y),
+    happening.arrives knows peers grow accepts ruled members setup is b r.way.answers.low present-b ms m kinds.Divulge x Initiator d3 brings sent.accepted.reads divulge-of-it y.going (divulge-admitted ms s f y),
     go ((known-b ms).heard kinds.Divulge x Initiator) refl,
   )
     where
@@ -390,7 +390,7 @@ module _ (knows : StepIsKnown) (peers : PeersRun) (grow : PeersGrow) (accepts : 
           let f = heard-reveals (member setup b) (log-b ms) x d e in
           more-revealed ms (m ∷ []) (f.1 ∙ ap Some (y.bound refl f.0 f.1))
       go None e =
-          ap (λ (k : Knowledge). k.revealed x) (happening.knows-given knows peers grow accepts ruled members setup is b r.answers.low present-b ms m d3 brings sent.accepted.reads y.going (divulge-admitted ms s f y e))
+          ap (λ (k : Knowledge). k.revealed x) (happening.knows-given knows peers grow accepts ruled members setup is b r.way.answers.low present-b ms m d3 brings sent.accepted.reads y.going (divulge-admitted ms s f y e))
           ∙ answer-reveals (member setup b) x commits (known-b ms) d3 (new_evidence (member setup b) (known-b ms) d3) (learned-then ((known-b ms).revealed x) refl)
 
   terms-b : (ms : List Move) → Since ms → Revealed-b ms → terms_of (member setup b) (known-b ms) x ≡ Some terms
@@ -398,10 +398,10 @@ module _ (knows : StepIsKnown) (peers : PeersRun) (grow : PeersGrow) (accepts : 
 
   -- it is answered by the CASE
   divulge-answered : (ms : List Move) → Since ms → Heard-b kinds.Divulge ms → Revealed-b ms → Sent-b kinds.Case ms
-  divulge-answered ms s heard shown = record { d = given.d; sent = happening.sent-then knows peers grow accepts ruled members setup is b r.answers.low present-b ms1 ms kinds.Divulge x Initiator h a given.d given.among; of = given.of }
+  divulge-answered ms s heard shown = record { d = given.d; sent = happening.sent-then knows peers grow accepts ruled members setup is b r.way.answers.low present-b ms1 ms kinds.Divulge x Initiator h a given.d given.among; of = given.of }
     where
-      h : HeardAt knows peers grow accepts ruled members setup is b r.answers.low present-b ms1 ms kinds.Divulge x Initiator
-      h = subst (λ z. HeardAt knows peers grow accepts ruled members setup is b r.answers.low present-b ms1 z kinds.Divulge x Initiator) (sym s.1) (happening.heard-at knows peers grow accepts ruled members setup is b r.answers.low present-b ms1 s.0 kinds.Divulge x Initiator heard.0 (unheard-b kinds.Divulge refl) (subst (λ z. (known-b z).heard kinds.Divulge x Initiator ≡ Some heard.0) s.1 heard.1))
+      h : HeardAt knows peers grow accepts ruled members setup is b r.way.answers.low present-b ms1 ms kinds.Divulge x Initiator
+      h = subst (λ z. HeardAt knows peers grow accepts ruled members setup is b r.way.answers.low present-b ms1 z kinds.Divulge x Initiator) (sym s.1) (happening.heard-at knows peers grow accepts ruled members setup is b r.way.answers.low present-b ms1 s.0 kinds.Divulge x Initiator heard.0 (unheard-b kinds.Divulge refl) (subst (λ z. (known-b z).heard kinds.Divulge x Initiator ≡ Some heard.0) s.1 heard.1))
 
       o : IsDivulgeOf x h.now.d.message
       o = divulge-of x h.now.d.message h.now.of
@@ -420,7 +420,7 @@ module _ (knows : StepIsKnown) (peers : PeersRun) (grow : PeersGrow) (accepts : 
       v = some-revealed (k.revealed x) (is_of kinds.Divulge x Initiator (with_body h.now.d (Divulge o.round o.nonce o.ha)).message) (subst (λ (z : Datagram). is_of kinds.Divulge x Initiator z.message ≡ true) e h.now.of)
 
       same : v.0 ≡ commits
-      same = some-same ((known-b ms).revealed x) v.0 commits (happening.revealed-then knows peers grow accepts ruled members setup is b r.answers.low present-b ms1 ms kinds.Divulge x x Initiator h v.0 (subst (λ (z : Datagram). (with_heard (member setup b) z k).revealed x ≡ Some v.0) (sym e) v.1)) shown
+      same = some-same ((known-b ms).revealed x) v.0 commits (happening.revealed-then knows peers grow accepts ruled members setup is b r.way.answers.low present-b ms1 ms kinds.Divulge x x Initiator h v.0 (subst (λ (z : Datagram). (with_heard (member setup b) z k).revealed x ≡ Some v.0) (sym e) v.1)) shown
 
       terms_then : terms_of (member setup b) (with_heard (member setup b) (with_body h.now.d (Divulge o.round o.nonce o.ha)) k) x ≡ Some terms
       terms_then =
@@ -429,9 +429,9 @@ module _ (knows : StepIsKnown) (peers : PeersRun) (grow : PeersGrow) (accepts : 
       given : Sends (answers (member setup b) k h.now.d (new_evidence (member setup b) k h.now.d)).sends a kinds.Case x Responder
       given =
           subst (λ z. Sends (answers (member setup b) k z (new_evidence (member setup b) k h.now.d)).sends a kinds.Case x Responder) (sym e)
-          (divulge-gives (member setup b) k h.now.d o.round o.nonce o.ha (new_evidence (member setup b) k h.now.d) x a terms o.exchange (receiving.role-is knows peers grow accepts ruled members setup is b r.answers.low present-b a (λ e. apart (sym e)) x Responder refl) (receiving.partner-is knows peers grow accepts ruled members setup is b r.answers.low present-b a (λ e. apart (sym e)) x Responder refl) terms_then r.can.worth
+          (divulge-gives (member setup b) k h.now.d o.round o.nonce o.ha (new_evidence (member setup b) k h.now.d) x a terms o.exchange (receiving.role-is knows peers grow accepts ruled members setup is b r.way.answers.low present-b a (λ e. apart (sym e)) x Responder refl) (receiving.partner-is knows peers grow accepts ruled members setup is b r.way.answers.low present-b a (λ e. apart (sym e)) x Responder refl) terms_then r.can.worth
           (λ c g. (first_said-was (is_of kinds.Case x Responder) (log-b h.before) c g).1)
-          (λ l. receiving.own-of knows peers grow accepts ruled members setup is b r.answers.low present-b a (λ e. apart (sym e)) x Responder refl (case_body (member setup b) l x terms) (ap (λ (z : Role). Some (x.round, x.kind, z)) (receiving.role-is knows peers grow accepts ruled members setup is b r.answers.low present-b a (λ e. apart (sym e)) x Responder refl))))
+          (λ l. receiving.own-of knows peers grow accepts ruled members setup is b r.way.answers.low present-b a (λ e. apart (sym e)) x Responder refl (case_body (member setup b) l x terms) (ap (λ (z : Role). Some (x.round, x.kind, z)) (receiving.role-is knows peers grow accepts ruled members setup is b r.way.answers.low present-b a (λ e. apart (sym e)) x Responder refl))))
 
   -- ---- CASE
 
@@ -439,10 +439,10 @@ module _ (knows : StepIsKnown) (peers : PeersRun) (grow : PeersGrow) (accepts : 
   signed-case role d of = ap is_signed (is_of-case x role d.message of).body
 
   given-a : (ms : List Move) → Sent-a kinds.Case ms → has_said_of (known-a ms) kinds.Case x Initiator ≡ true
-  given-a ms s = receiving.sent-is-said knows peers grow accepts ruled members setup is a r.asks.low present-a b apart x Initiator refl ms kinds.Case s (signed-case Initiator s.d s.of)
+  given-a ms s = receiving.sent-is-said knows peers grow accepts ruled members setup is a r.way.asks.low present-a b apart x Initiator refl ms kinds.Case s (signed-case Initiator s.d s.of)
 
   given-b : (ms : List Move) → Sent-b kinds.Case ms → has_said_of (known-b ms) kinds.Case x Responder ≡ true
-  given-b ms s = receiving.sent-is-said knows peers grow accepts ruled members setup is b r.answers.low present-b a (λ e. apart (sym e)) x Responder refl ms kinds.Case s (signed-case Responder s.d s.of)
+  given-b ms s = receiving.sent-is-said knows peers grow accepts ruled members setup is b r.way.answers.low present-b a (λ e. apart (sym e)) x Responder refl ms kinds.Case s (signed-case Responder s.d s.of)
 
   agree : same_terms terms terms ≡ true
   agree = same-terms nonce ha hb
@@ -451,71 +451,71 @@ module _ (knows : StepIsKnown) (peers : PeersRun) (grow : PeersGrow) (accepts : 
       → Heard-b kinds.Case (ms ++ m ∷ [])
   takes-case-b ms s f h1 shown theirs ours m brings y =
       let k : IsCaseOf x Initiator theirs.d.message = is_of-case x Initiator theirs.d.message theirs.of in
-      let says = receiving.said-content knows peers grow accepts ruled members setup is a r.asks.low present-a b apart x Initiator refl ms terms theirs.d k (terms-a ms s f h1) (theirs.sent.said (signed-case Initiator theirs.d theirs.of)) in
-      happening.arrives knows peers grow accepts ruled members setup is b r.answers.low present-b ms m kinds.Case x Initiator theirs.d brings theirs.sent.accepted.reads theirs.of y.going
-      (receiving.case-admitted knows peers grow accepts ruled members setup is b r.answers.low present-b a (λ e. apart (sym e)) x Responder refl ms theirs.d k terms (comes-b kinds.Case ms f theirs y) (given-b ms ours) (terms-b ms s shown) says.0 agree says.1)
+      let says = receiving.said-content knows peers grow accepts ruled members setup is a r.way.asks.low present-a b apart x Initiator refl ms terms theirs.d k (terms-a ms s f h1) (theirs.sent.said (signed-case Initiator theirs.d theirs.of)) in
+      happening.arrives knows peers grow accepts ruled members setup is b r.way.answers.low present-b ms m kinds.Case x Initiator theirs.d brings theirs.sent.accepted.reads theirs.of y.going
+      (receiving.case-admitted knows peers grow accepts ruled members setup is b r.way.answers.low present-b a (λ e. apart (sym e)) x Responder refl ms theirs.d k terms (comes-b kinds.Case ms f theirs y) (given-b ms ours) (terms-b ms s shown) says.0 agree says.1)
 
   takes-case-a : (ms : List Move) → Since ms → ForgesNothing setup trusted ms → Heard-a kinds.Response ms → Revealed-b ms → (theirs : Sent-b kinds.Case ms) → Sent-a kinds.Case ms → (m : Move) → Brings a ms m theirs.d → Ready-a kinds.Case ms
       → Heard-a kinds.Case (ms ++ m ∷ [])
   takes-case-a ms s f h1 shown theirs ours m brings y =
       let k : IsCaseOf x Responder theirs.d.message = is_of-case x Responder theirs.d.message theirs.of in
-      let says = receiving.said-content knows peers grow accepts ruled members setup is b r.answers.low present-b a (λ e. apart (sym e)) x Responder refl ms terms theirs.d k (terms-b ms s shown) (theirs.sent.said (signed-case Responder theirs.d theirs.of)) in
-      happening.arrives knows peers grow accepts ruled members setup is a r.asks.low present-a ms m kinds.Case x Responder theirs.d brings theirs.sent.accepted.reads theirs.of y.going
-      (receiving.case-admitted knows peers grow accepts ruled members setup is a r.asks.low present-a b apart x Initiator refl ms theirs.d k terms (comes-a kinds.Case ms f theirs y) (given-a ms ours) (terms-a ms s f h1) says.0 agree says.1)
+      let says = receiving.said-content knows peers grow accepts ruled members setup is b r.way.answers.low present-b a (λ e. apart (sym e)) x Responder refl ms terms theirs.d k (terms-b ms s shown) (theirs.sent.said (signed-case Responder theirs.d theirs.of)) in
+      happening.arrives knows peers grow accepts ruled members setup is a r.way.asks.low present-a ms m kinds.Case x Responder theirs.d brings theirs.sent.accepted.reads theirs.of y.going
+      (receiving.case-admitted knows peers grow accepts ruled members setup is a r.way.asks.low present-a b apart x Initiator refl ms theirs.d k terms (comes-a kinds.Case ms f theirs y) (given-a ms ours) (terms-a ms s f h1) says.0 agree says.1)
 
   -- each is answered by a KEYREQ
   case-answered-b : (ms : List Move) → Since ms → Heard-b kinds.Case ms → Sent-b kinds.KeyReq ms
   case-answered-b ms s h =
       subst (λ z. Sent-b kinds.KeyReq z) (sym s.1)
-      (receiving.case-asked knows peers grow accepts ruled members setup is b r.answers.low present-b a (λ e. apart (sym e)) x Responder refl ms1 s.0 h.0 (unheard-b kinds.Case refl) (subst (λ z. (known-b z).heard kinds.Case x Initiator ≡ Some h.0) s.1 h.1))
+      (receiving.case-asked knows peers grow accepts ruled members setup is b r.way.answers.low present-b a (λ e. apart (sym e)) x Responder refl ms1 s.0 h.0 (unheard-b kinds.Case refl) (subst (λ z. (known-b z).heard kinds.Case x Initiator ≡ Some h.0) s.1 h.1))
 
   case-answered-a : (ms : List Move) → Since ms → Heard-a kinds.Case ms → Sent-a kinds.KeyReq ms
   case-answered-a ms s h =
       subst (λ z. Sent-a kinds.KeyReq z) (sym s.1)
-      (receiving.case-asked knows peers grow accepts ruled members setup is a r.asks.low present-a b apart x Initiator refl ms1 s.0 h.0 (unheard-a kinds.Case) (subst (λ z. (known-a z).heard kinds.Case x Responder ≡ Some h.0) s.1 h.1))
+      (receiving.case-asked knows peers grow accepts ruled members setup is a r.way.asks.low present-a b apart x Initiator refl ms1 s.0 h.0 (unheard-a kinds.Case) (subst (λ z. (known-a z).heard kinds.Case x Responder ≡ Some h.0) s.1 h.1))
 
   -- ---- KEYREQ
 
   takes-request-a : (ms : List Move) → ForgesNothing setup trusted ms → (theirs : Sent-b kinds.KeyReq ms) → Sent-a kinds.Case ms → Heard-a kinds.Case ms → (m : Move) → Brings a ms m theirs.d → Ready-a kinds.KeyReq ms → Heard-a kinds.KeyReq (ms ++ m ∷ [])
   takes-request-a ms f theirs ours h m brings y =
-      happening.arrives knows peers grow accepts ruled members setup is a r.asks.low present-a ms m kinds.KeyReq x Responder theirs.d brings theirs.sent.accepted.reads theirs.of y.going
-      (receiving.request-admitted knows peers grow accepts ruled members setup is a r.asks.low present-a b apart x Initiator refl ms theirs.d (comes-a kinds.KeyReq ms f theirs y) (given-a ms ours) (ap is_some h.1))
+      happening.arrives knows peers grow accepts ruled members setup is a r.way.asks.low present-a ms m kinds.KeyReq x Responder theirs.d brings theirs.sent.accepted.reads theirs.of y.going
+      (receiving.request-admitted knows peers grow accepts ruled members setup is a r.way.asks.low present-a b apart x Initiator refl ms theirs.d (comes-a kinds.KeyReq ms f theirs y) (given-a ms ours) (ap is_some h.1))
 
   takes-request-b : (ms : List Move) → ForgesNothing setup trusted ms → (theirs : Sent-a kinds.KeyReq ms) → Sent-b kinds.Case ms → Heard-b kinds.Case ms → (m : Move) → Brings b ms m theirs.d → Ready-b kinds.KeyReq ms → Heard-b kinds.KeyReq (ms ++ m ∷ [])
   takes-request-b ms f theirs ours h m brings y =
-      happening.arrives knows peers grow accepts ruled members setup is b r.answers.low present-b ms m kinds.KeyReq x Initiator theirs.d brings theirs.sent.accepted.reads theirs.of y.going
-      (receiving.request-admitted knows peers grow accepts ruled members setup is b r.answers.low present-b a (λ e. apart (sym e)) x Responder refl ms theirs.d (comes-b kinds.KeyReq ms f theirs y) (given-b ms ours) (ap is_some h.1))
+      happening.arrives knows peers grow accepts ruled members setup is b r.way.answers.low present-b ms m kinds.KeyReq x Initiator theirs.d brings theirs.sent.accepted.reads theirs.of y.going
+      (receiving.request-admitted knows peers grow accepts ruled members setup is b r.way.answers.low present-b a (λ e. apart (sym e)) x Responder refl ms theirs.d (comes-b kinds.KeyReq ms f theirs y) (given-b ms ours) (ap is_some h.1))
 
   request-answered-a : (ms : List Move) → Since ms → Heard-a kinds.KeyReq ms → Sent-a kinds.Key ms
   request-answered-a ms s h =
       subst (λ z. Sent-a kinds.Key z) (sym s.1)
-      (receiving.key-given knows peers grow accepts ruled members setup is a r.asks.low present-a b apart x Initiator refl ms1 s.0 h.0 (unheard-a kinds.KeyReq) (subst (λ z. (known-a z).heard kinds.KeyReq x Responder ≡ Some h.0) s.1 h.1))
+      (receiving.key-given knows peers grow accepts ruled members setup is a r.way.asks.low present-a b apart x Initiator refl ms1 s.0 h.0 (unheard-a kinds.KeyReq) (subst (λ z. (known-a z).heard kinds.KeyReq x Responder ≡ Some h.0) s.1 h.1))
 
   request-answered-b : (ms : List Move) → Since ms → Heard-b kinds.KeyReq ms → Sent-b kinds.Key ms
   request-answered-b ms s h =
       subst (λ z. Sent-b kinds.Key z) (sym s.1)
-      (receiving.key-given knows peers grow accepts ruled members setup is b r.answers.low present-b a (λ e. apart (sym e)) x Responder refl ms1 s.0 h.0 (unheard-b kinds.KeyReq refl) (subst (λ z. (known-b z).heard kinds.KeyReq x Initiator ≡ Some h.0) s.1 h.1))
+      (receiving.key-given knows peers grow accepts ruled members setup is b r.way.answers.low present-b a (λ e. apart (sym e)) x Responder refl ms1 s.0 h.0 (unheard-b kinds.KeyReq refl) (subst (λ z. (known-b z).heard kinds.KeyReq x Initiator ≡ Some h.0) s.1 h.1))
 
   -- ---- KEY
 
   takes-key-b : (ms : List Move) → ForgesNothing setup trusted ms → (theirs : Sent-a kinds.Key ms) → Sent-b kinds.Case ms → Heard-b kinds.Case ms → (m : Move) → Brings b ms m theirs.d → Ready-b kinds.Key ms → Heard-b kinds.Key (ms ++ m ∷ [])
   takes-key-b ms f theirs ours h m brings y =
-      happening.arrives knows peers grow accepts ruled members setup is b r.answers.low present-b ms m kinds.Key x Initiator theirs.d brings theirs.sent.accepted.reads theirs.of y.going
-      (receiving.key-admitted knows peers grow accepts ruled members setup is b r.answers.low present-b a (λ e. apart (sym e)) x Responder refl ms theirs.d (comes-b kinds.Key ms f theirs y) (given-b ms ours) (ap is_some h.1))
+      happening.arrives knows peers grow accepts ruled members setup is b r.way.answers.low present-b ms m kinds.Key x Initiator theirs.d brings theirs.sent.accepted.reads theirs.of y.going
+      (receiving.key-admitted knows peers grow accepts ruled members setup is b r.way.answers.low present-b a (λ e. apart (sym e)) x Responder refl ms theirs.d (comes-b kinds.Key ms f theirs y) (given-b ms ours) (ap is_some h.1))
 
   takes-key-a : (ms : List Move) → ForgesNothing setup trusted ms → (theirs : Sent-b kinds.Key ms) → Sent-a kinds.Case ms → Heard-a kinds.Case ms → (m : Move) → Brings a ms m theirs.d → Ready-a kinds.Key ms → Heard-a kinds.Key (ms ++ m ∷ [])
   takes-key-a ms f theirs ours h m brings y =
-      happening.arrives knows peers grow accepts ruled members setup is a r.asks.low present-a ms m kinds.Key x Responder theirs.d brings theirs.sent.accepted.reads theirs.of y.going
-      (receiving.key-admitted knows peers grow accepts ruled members setup is a r.asks.low present-a b apart x Initiator refl ms theirs.d (comes-a kinds.Key ms f theirs y) (given-a ms ours) (ap is_some h.1))
+      happening.arrives knows peers grow accepts ruled members setup is a r.way.asks.low present-a ms m kinds.Key x Responder theirs.d brings theirs.sent.accepted.reads theirs.of y.going
+      (receiving.key-admitted knows peers grow accepts ruled members setup is a r.way.asks.low present-a b apart x Initiator refl ms theirs.d (comes-a kinds.Key ms f theirs y) (given-a ms ours) (ap is_some h.1))
 
   signed-key : (role : Role) (d : Datagram) → is_of kinds.Key x role d.message ≡ true → is_signed d.message.body ≡ true
   signed-key role d of = ap is_signed (is_of-key x role d.message of).body
 
   keyed-a : (ms : List Move) → Sent-a kinds.Key ms → has_said_of (known-a ms) kinds.Key x Initiator ≡ true
-  keyed-a ms s = receiving.sent-is-said knows peers grow accepts ruled members setup is a r.asks.low present-a b apart x Initiator refl ms kinds.Key s (signed-key Initiator s.d s.of)
+  keyed-a ms s = receiving.sent-is-said knows peers grow accepts ruled members setup is a r.way.asks.low present-a b apart x Initiator refl ms kinds.Key s (signed-key Initiator s.d s.of)
 
   keyed-b : (ms : List Move) → Sent-b kinds.Key ms → has_said_of (known-b ms) kinds.Key x Responder ≡ true
-  keyed-b ms s = receiving.sent-is-said knows peers grow accepts ruled members setup is b r.answers.low present-b a (λ e. apart (sym e)) x Responder refl ms kinds.Key s (signed-key Responder s.d s.of)
+  keyed-b ms s = receiving.sent-is-said knows peers grow accepts ruled members setup is b r.way.answers.low present-b a (λ e. apart (sym e)) x Responder refl ms kinds.Key s (signed-key Responder s.d s.of)
 
   abbrev Key-of : Role → List ℕ → Body
   Key-of role key = Key (record { round = x.round; kind = x.kind; role = role; key = key })
@@ -524,18 +524,18 @@ module _ (knows : StepIsKnown) (peers : PeersRun) (grow : PeersGrow) (accepts : 
   key-opens-a : (ms : List Move) → ForgesNothing setup trusted ms → (h : Heard-a kinds.Key ms) → h.0.message.body ≡ Key-of Responder (briefcase_key (member setup b) x Responder)
   key-opens-a ms f h =
       let was = first_heard-was (is_of kinds.Key x Responder) (log-a ms) h.0 h.1 in
-      receiving.said-key knows peers grow accepts ruled members setup is b r.answers.low present-b a (λ e. apart (sym e)) x Responder refl ms h.0
+      receiving.said-key knows peers grow accepts ruled members setup is b r.way.answers.low present-b a (λ e. apart (sym e)) x Responder refl ms h.0
       (signed-in (log-b ms) h.0
-      (hears setup trusted ms f a b (log-a ms) (log-b ms) h.0 r.asks.low (happening.log-is knows peers grow accepts ruled members setup is a r.asks.low present-a ms) (record { trust = r.answers.trust; log_is = happening.log-is knows peers grow accepts ruled members setup is b r.answers.low present-b ms })
+      (hears setup trusted ms f a b (log-a ms) (log-b ms) h.0 r.way.asks.low (happening.log-is knows peers grow accepts ruled members setup is a r.way.asks.low present-a ms) (record { trust = r.way.answers.trust; log_is = happening.log-is knows peers grow accepts ruled members setup is b r.way.answers.low present-b ms })
       (heard-contains (log-a ms) h.0 (heard-in (log-a ms) h.0 was.0)) (signed-key Responder h.0 was.1) (sender-on kinds.Key x Responder h.0.message was.1)))
       was.1
 
   key-opens-b : (ms : List Move) → ForgesNothing setup trusted ms → (h : Heard-b kinds.Key ms) → h.0.message.body ≡ Key-of Initiator (briefcase_key (member setup a) x Initiator)
   key-opens-b ms f h =
       let was = first_heard-was (is_of kinds.Key x Initiator) (log-b ms) h.0 h.1 in
-      receiving.said-key knows peers grow accepts ruled members setup is a r.asks.low present-a b apart x Initiator refl ms h.0
+      receiving.said-key knows peers grow accepts ruled members setup is a r.way.asks.low present-a b apart x Initiator refl ms h.0
       (signed-in (log-a ms) h.0
-      (hears setup trusted ms f b a (log-b ms) (log-a ms) h.0 r.answers.low (happening.log-is knows peers grow accepts ruled members setup is b r.answers.low present-b ms) (record { trust = r.asks.trust; log_is = happening.log-is knows peers grow accepts ruled members setup is a r.asks.low present-a ms })
+      (hears setup trusted ms f b a (log-b ms) (log-a ms) h.0 r.way.answers.low (happening.log-is knows peers grow accepts ruled members setup is b r.way.answers.low present-b ms) (record { trust = r.way.asks.trust; log_is = happening.log-is knows peers grow accepts ruled members setup is a r.way.asks.low present-a ms })
       (heard-contains (log-b ms) h.0 (heard-in (log-b ms) h.0 was.0)) (signed-key Initiator h.0 was.1) (sender-on kinds.Key x Initiator h.0.message was.1)))
       was.1
 
@@ -552,14 +552,14 @@ module _ (knows : StepIsKnown) (peers : PeersRun) (grow : PeersGrow) (accepts : 
   case-heard-a ms s f h1 h =
       let k : IsCaseOf x Responder h.0.message = is_of-case x Responder h.0.message (first_heard-was (is_of kinds.Case x Responder) (log-a ms) h.0 h.1).1 in
       let found : case_heard_from (log-a ms) x Responder ≡ Some k.case = ap case_in h.1 ∙ ap briefcase_in k.body in
-      let told = (sound (member setup a) (log-a ms) (happening.obedient knows peers grow accepts ruled members setup is a r.asks.low present-a ms)).theirs x k.case (ap (λ z. case_heard_from (log-a ms) x (other_role z)) (receiving.role-is knows peers grow accepts ruled members setup is a r.asks.low present-a b apart x Initiator refl) ∙ found) in
+      let told = (sound (member setup a) (log-a ms) (happening.obedient knows peers grow accepts ruled members setup is a r.way.asks.low present-a ms)).theirs x k.case (ap (λ z. case_heard_from (log-a ms) x (other_role z)) (receiving.role-is knows peers grow accepts ruled members setup is a r.way.asks.low present-a b apart x Initiator refl) ∙ found) in
       (k.case, found, some-same (terms_of (member setup a) (known-a ms) x) k.case.terms terms told.terms (terms-a ms s f h1), k.side)
 
   case-heard-b : (ms : List Move) → Since ms → Revealed-b ms → Heard-b kinds.Case ms → (c : Briefcase) × (case_heard_from (log-b ms) x Initiator ≡ Some c) × (c.terms ≡ terms) × (c.role ≡ Initiator)
   case-heard-b ms s shown h =
       let k : IsCaseOf x Initiator h.0.message = is_of-case x Initiator h.0.message (first_heard-was (is_of kinds.Case x Initiator) (log-b ms) h.0 h.1).1 in
       let found : case_heard_from (log-b ms) x Initiator ≡ Some k.case = ap case_in h.1 ∙ ap briefcase_in k.body in
-      let told = (sound (member setup b) (log-b ms) (happening.obedient knows peers grow accepts ruled members setup is b r.answers.low present-b ms)).theirs x k.case (ap (λ z. case_heard_from (log-b ms) x (other_role z)) (receiving.role-is knows peers grow accepts ruled members setup is b r.answers.low present-b a (λ e. apart (sym e)) x Responder refl) ∙ found) in
+      let told = (sound (member setup b) (log-b ms) (happening.obedient knows peers grow accepts ruled members setup is b r.way.answers.low present-b ms)).theirs x k.case (ap (λ z. case_heard_from (log-b ms) x (other_role z)) (receiving.role-is knows peers grow accepts ruled members setup is b r.way.answers.low present-b a (λ e. apart (sym e)) x Responder refl) ∙ found) in
       (k.case, found, some-same (terms_of (member setup b) (known-b ms) x) k.case.terms terms told.terms (terms-b ms s shown), k.side)
 
   -- all eight parts were heard
@@ -576,18 +576,18 @@ module _ (knows : StepIsKnown) (peers : PeersRun) (grow : PeersGrow) (accepts : 
     key-a : Heard-a kinds.Key ms
 
   trusted-a : (ms : List Move) → IsTrustedPeer trusted (after setup ms) a (log-a ms)
-  trusted-a ms = record { low = r.asks.low; trust = r.asks.trust; log_is = happening.log-is knows peers grow accepts ruled members setup is a r.asks.low present-a ms }
+  trusted-a ms = record { low = r.way.asks.low; trust = r.way.asks.trust; log_is = happening.log-is knows peers grow accepts ruled members setup is a r.way.asks.low present-a ms }
 
   trusted-b : (ms : List Move) → IsTrustedPeer trusted (after setup ms) b (log-b ms)
-  trusted-b ms = record { low = r.answers.low; trust = r.answers.trust; log_is = happening.log-is knows peers grow accepts ruled members setup is b r.answers.low present-b ms }
+  trusted-b ms = record { low = r.way.answers.low; trust = r.way.answers.trust; log_is = happening.log-is knows peers grow accepts ruled members setup is b r.way.answers.low present-b ms }
 
-  have-traded : (ms : List Move) → ForgesNothing setup trusted ms → AllHeard ms → HaveTraded setup a b round terms (log-a ms) (log-b ms)
+  have-traded : (ms : List Move) → ForgesNothing setup trusted ms → AllHeard ms → HaveTraded setup x terms (log-a ms) (log-b ms)
   have-traded ms f h = record {
     first =
-        receiving.traded knows peers grow accepts ruled members setup is a r.asks.low present-a b apart x Initiator refl sound ms terms count h.case-a.0 h.key-a.0 (briefcase_key (member setup b) x Responder) (terms-a ms h.since f h.response) refl (sym even)
+        receiving.traded knows peers grow accepts ruled members setup is a r.way.asks.low present-a b apart x Initiator refl sound ms terms count h.case-a.0 h.key-a.0 (briefcase_key (member setup b) x Responder) (terms-a ms h.since f h.response) refl (sym even)
         (given-a ms (response-answered ms h.since f h.response).1) h.case-a.1 (keyed-a ms (request-answered-a ms h.since h.request-a)) h.key-a.1 (key-opens-a ms f h.key-a);
     second =
-        receiving.traded knows peers grow accepts ruled members setup is b r.answers.low present-b a (λ e. apart (sym e)) x Responder refl sound ms terms count h.case-b.0 h.key-b.0 (briefcase_key (member setup a) x Initiator) (terms-b ms h.since h.shown) (sym even) refl
+        receiving.traded knows peers grow accepts ruled members setup is b r.way.answers.low present-b a (λ e. apart (sym e)) x Responder refl sound ms terms count h.case-b.0 h.key-b.0 (briefcase_key (member setup a) x Initiator) (terms-b ms h.since h.shown) (sym even) refl
         (given-b ms (divulge-answered ms h.since h.divulge h.shown)) h.case-b.1 (keyed-b ms (request-answered-b ms h.since h.request-b)) h.key-b.1 (key-opens-b ms f h.key-b);
     first_gains =
         let c = case-heard-a ms h.since f h.response h.case-a in
@@ -610,12 +610,12 @@ module _ (knows : StepIsKnown) (peers : PeersRun) (grow : PeersGrow) (accepts : 
   -- who takes it in time is ready
   ready-a : (kind : Kind) (ms : List Move) (m : Move) (d : Datagram) → IsTaken setup ms m a d x kind commits → Ready-a kind ms
   ready-a kind ms m d y =
-      subst (λ l. Ready (member setup a) l kind) (some-equal y.log (log-a ms) (sym y.log_is ∙ happening.log-is knows peers grow accepts ruled members setup is a r.asks.low present-a ms))
+      subst (λ l. Ready (member setup a) l kind) (some-equal y.log (log-a ms) (sym y.log_is ∙ happening.log-is knows peers grow accepts ruled members setup is a r.way.asks.low present-a ms))
       (record { going = y.going; in_time = y.in_time; bound = y.bound })
 
   ready-b : (kind : Kind) (ms : List Move) (m : Move) (d : Datagram) → IsTaken setup ms m b d x kind commits → Ready-b kind ms
   ready-b kind ms m d y =
-      subst (λ l. Ready (member setup b) l kind) (some-equal y.log (log-b ms) (sym y.log_is ∙ happening.log-is knows peers grow accepts ruled members setup is b r.answers.low present-b ms))
+      subst (λ l. Ready (member setup b) l kind) (some-equal y.log (log-b ms) (sym y.log_is ∙ happening.log-is knows peers grow accepts ruled members setup is b r.way.answers.low present-b ms))
       (record { going = y.going; in_time = y.in_time; bound = y.bound })
 
   goes8 : (ms : List Move) → AllHeard ms → Goes [] ms
@@ -633,8 +633,8 @@ module _ (knows : StepIsKnown) (peers : PeersRun) (grow : PeersGrow) (accepts : 
         key-b = more-b kinds.Key ms later h.key-b;
         key-a = more-a kinds.Key ms later h.key-a;
       } in
-      subst (λ l. HaveTraded setup a b round terms l theirs) (some-equal (log-a now) mine (sym (happening.log-is knows peers grow accepts ruled members setup is a r.asks.low present-a now) ∙ at))
-      (subst (λ l. HaveTraded setup a b round terms (log-a now) l) (some-equal (log-b now) theirs (sym (happening.log-is knows peers grow accepts ruled members setup is b r.answers.low present-b now) ∙ bt)) (have-traded now f all))
+      subst (λ l. HaveTraded setup x terms l theirs) (some-equal (log-a now) mine (sym (happening.log-is knows peers grow accepts ruled members setup is a r.way.asks.low present-a now) ∙ at))
+      (subst (λ l. HaveTraded setup x terms (log-a now) l) (some-equal (log-b now) theirs (sym (happening.log-is knows peers grow accepts ruled members setup is b r.way.answers.low present-b now) ∙ bt)) (have-traded now f all))
 
   goes7 : (ms : List Move) → Since ms → Heard-a kinds.Response ms → Heard-b kinds.Divulge ms → Revealed-b ms → Heard-b kinds.Case ms → Heard-a kinds.Case ms → Heard-a kinds.KeyReq ms → Heard-b kinds.KeyReq ms → Heard-b kinds.Key ms
       → Goes ((kinds.Key, Responder) ∷ []) ms
@@ -741,7 +741,7 @@ module _ (knows : StepIsKnown) (peers : PeersRun) (grow : PeersGrow) (accepts : 
       let w : List Move = ms ++ between in
       let sw : Since w = since-more ms between s in
       let g1 : Heard-a kinds.Response w = more-a kinds.Response ms between h1 in
-      let sent : SentIn knows peers grow accepts ruled members setup is a r.asks.low present-a w b d3 = (response-answered w sw f g1).0 in (
+      let sent : SentIn knows peers grow accepts ruled members setup is a r.way.asks.low present-a w b d3 = (response-answered w sw f g1).0 in (
         record { d = d3; number = sent.number; packet = sent.packet; reads = sent.accepted.reads; of = divulge-of-it },
         λ m y.
             let taken = takes-divulge w sw f sent m y.brings (ready-b kinds.Divulge w m d3 y) in
@@ -752,7 +752,7 @@ module _ (knows : StepIsKnown) (peers : PeersRun) (grow : PeersGrow) (accepts : 
   goes0 between f =
       let w : List Move = ms1 ++ between in
       let sw : Since w = (between, refl) in
-      let sent : SentIn knows peers grow accepts ruled members setup is b r.answers.low present-b w a d2 = response-sent w sw in (
+      let sent : SentIn knows peers grow accepts ruled members setup is b r.way.answers.low present-b w a d2 = response-sent w sw in (
         record { d = d2; number = sent.number; packet = sent.packet; reads = sent.accepted.reads; of = response-of-it },
         λ m y. goes1 (w ++ m ∷ []) (since-more w (m ∷ []) sw) (takes-response w sw f sent m y.brings (ready-a kinds.Response w m d2 y)),
       )

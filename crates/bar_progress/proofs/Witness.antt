@@ -1,6 +1,6 @@
--- A world in which two peers can trade: each is given the block of one update, and the first asks.
-use Rattle.std.proofs.Common.{◌≡◌, ◌∙◌, ℕ, ◌+◌, ◌-◌, ◌*◌, ◌<◌, Bool, true, false, ◌&&◌, List, [], ◌∷◌, ◌++◌, length, map, refl, eqb, ap, subst, arith}
-use Rattle.std.specs.Prelude.{Option, None, cond, filter, nat_lt, slice_get, slice_set, unwrap_or, replicate}
+-- A world in which two peers can trade: each is given the block of one update, and the first asks and offers.
+use Rattle.std.proofs.Common.{◌≡◌, ◌∙◌, ℕ, ◌+◌, ◌-◌, ◌*◌, ◌<◌, Bool, true, false, ◌&&◌, not, List, [], ◌∷◌, ◌++◌, length, map, refl, eqb, ap, subst, arith}
+use Rattle.std.specs.Prelude.{Option, Some, None, cond, filter, nat_lt, slice_get, slice_set, unwrap_or, replicate}
 use Rattle.std.specs.Bool.{then_some}
 use Rattle.std.specs.List.{AllByRecursion, concat}
 use Rattle.std.specs.Option.{option_or}
@@ -14,7 +14,7 @@ use Rattle.bar_roster.specs.Sessions.{IsSession}
 use Rattle.bar_seeds.proofs.PartnerLemmas.{partner_low, partner_high, partner_other}
 use Rattle.bar_seeds.proofs.SeedLemmas.{own_seed}
 use Rattle.bar_seeds.specs.Seeds as seeds
-use Rattle.bar_terms.specs.Table.{Digest, Known, digest_at, is_known}
+use Rattle.bar_terms.specs.Table.{Digest, Known, digest_at, is_known, is_past_end}
 use Rattle.bar_window.specs.declared.exchange.Exchange.{Exchange}
 use Rattle.bar_window.specs.declared.exchange.Role.{Role}
 use Rattle.bar_window.specs.declared.exchange.XKind.{XKind}
@@ -43,11 +43,12 @@ use Rattle.bar_rules.specs.Values.{datagram_bytes, unsigned}
 use Rattle.bar_rules.specs.World.World.{Deliver, IsSetup, Move, Setup, TickOf, World, happens, initial, member, run, spelled}
 use Rattle.bar_laws.specs.Broadcasting.{FanoutsAreWhole}
 use Rattle.bar_laws.specs.Parties.{IsSentBy, StepIsAccepted, after}
-use Rattle.bar_laws.specs.Premises.{PlainMovesForgeNothing, SetupOf, SetupsExist}
-use Rattle.bar_progress.specs.Trades.{BeginsTrade}
+use Rattle.bar_laws.specs.Premises.{IsPlainMove, PlainMovesForgeNothing, SetupOf, SetupsExist}
+use Rattle.bar_progress.specs.Pushes.{BeginsPush}
+use Rattle.bar_progress.specs.Pushing.{CanPush}
 use Rattle.bar_progress.specs.Trading.{CanTrade}
-use Rattle.bar_progress.specs.Trades.{pair_in, talk_in}
-use Rattle.bar_progress.specs.Witness.{TradeBegun, all_trusted}
+use Rattle.bar_progress.specs.Trades.{BeginsTrade, IsUnderWay, pair_in, talk_in}
+use Rattle.bar_progress.specs.Witness.{PushBegun, TradeBegun, all_trusted}
 use Rattle.bar_progress.proofs.Announcing.{by-admission, step-takes}
 
 -- ---- the session
@@ -367,16 +368,17 @@ module _ (keys anchors : List (List ℕ)) (s0 s1 s2 stream : List ℕ) where
       unheard : (p : ℕ) (u : UpdateId) (b : List ℕ) (kind : Kind) (x : Exchange) (role : Role) → (known one (had p u b)).heard kind x role ≡ None
       unheard p u b kind x role = neither (eqb 1 (code_of kind)) (eqb 2 (code_of kind)) manifest (block_to p u b)
 
+      -- the seed of the round is the first peer's
+      seeded : is_seed s 1 1 (seed_of one 1) ≡ true
+      seeded =
+          ap (λ o. seeds.is_seed id (unwrap_or o []) 1 1 (seed_of one 1)) ((is.fits 1 (omega arith)).anchor (omega arith))
+          ∙ own_seed (secrets_of one) 10 1 (omega arith)
+
       admitted : is_admitted (member setup 2) (known (member setup 2) theirs) request ≡ true
       unfolding is_admitted
       admitted =
           and_from _ _ (and_from _ _ (and_from _ _ (and_from _ _ refl refl) (sent7.0.accepted refl)) refl)
-          (and_from _ _ (and_from _ _ (and_from _ _ seed (ap (λ z. eqb z 2) (partner-two s (seed_of one 1) Balanced refl))) refl) refl)
-        where
-          seed : is_seed s 1 1 (seed_of one 1) ≡ true
-          seed =
-              ap (λ o. seeds.is_seed id (unwrap_or o []) 1 1 (seed_of one 1)) ((is.fits 1 (omega arith)).anchor (omega arith))
-              ∙ own_seed (secrets_of one) 10 1 (omega arith)
+          (and_from _ _ (and_from _ _ (and_from _ _ seeded (ap (λ z. eqb z 2) (partner-two s (seed_of one 1) Balanced refl))) refl) refl)
 
       can : CanTrade (pair_in setup 1 2 1) (talk_in setup 1 2 mine theirs request) nonce ha
       can = record {
@@ -398,8 +400,10 @@ module _ (keys anchors : List (List ℕ)) (s0 s1 s2 stream : List ℕ) where
         worth = refl;
       }
 
-      begins : PlainMovesForgeNothing → BeginsTrade setup all_trusted moves 6 1 2 1 nonce ha
-      begins plain = record {
+      -- a packet of the first peer's is under way
+      under : PlainMovesForgeNothing → (number : ℕ) (d : Datagram) → slice_get w7.packets number ≡ Some (2, datagram_bytes s d) → IsSentBy setup 1 (2, d)
+          → IsUnderWay setup all_trusted moves number 1 2
+      under plain number d packet sent = record {
         unforged = plain setup all_trusted moves is refl (tt, (tt, (tt, (tt, (tt, (tt, (tt, tt)))))));
         mine = mine;
         theirs = theirs;
@@ -407,39 +411,93 @@ module _ (keys anchors : List (List ℕ)) (s0 s1 s2 stream : List ℕ) where
         answers = record { low = omega arith; trust = refl; log_is = ap (λ (w : World). slice_get w.logs 2) reach7 };
         going_mine = omega arith;
         going_theirs = omega arith;
-        d = request;
-        packet = ap (λ (w : World). slice_get w.packets 6) reach7;
-        accepted = sent7.0;
-        can = can;
+        d = d;
+        packet = ap (λ (w : World). slice_get w.packets number) reach7 ∙ packet;
+        accepted = sent;
       }
+
+      begins : PlainMovesForgeNothing → BeginsTrade setup all_trusted moves 6 1 2 1 nonce ha
+      unfolding under
+      begins plain = record { way = under plain 6 request refl sent7.0; can = can }
+
+      -- ---- the push
+
+      abbrev push : Exchange
+      push = with_one Push 2
+
+      offered : is_admitted (member setup 2) (known (member setup 2) theirs) query ≡ true
+      unfolding is_admitted
+      offered =
+          and_from _ _ (and_from _ _ (and_from _ _ (and_from _ _ refl refl) (sent7.1.0.accepted refl)) refl)
+          (and_from _ _
+          (and_from _ _
+          (and_from _ _ (and_from _ _ refl (and_from _ _ (ap (λ (g : Digest). not (is_past_end g) && true) first) refl))
+          (and_from _ _ (ap (λ (g : Digest). is_known g && true) first) refl))
+          refl)
+          (and_from _ _ (and_from _ _ (and_from _ _ seeded (ap (λ z. eqb z 2) (partner-two s (seed_of one 1) Push refl))) refl) refl))
+
+      can-push : CanPush (pair_in setup 1 2 1) (talk_in setup 1 2 mine theirs query) (u0 ∷ []) []
+      can-push = record {
+        apart = λ e. absurd (omega (arith, e));
+        seed = seed_of one 1;
+        signature = query.signature;
+        way = refl;
+        admitted = offered;
+        asked = refl;
+        unsaid_mine = refl;
+        unkeyed_mine = refl;
+        fresh_mine = record { unheard = λ kind role. ap (λ (o : Option Datagram). option_or (option_or (option_or o None) None) None) (unheard 1 u0 b0 kind push role); trading = refl; answering = refl; keying = refl };
+        unsaid_theirs = λ kind. refl;
+        fresh_theirs = record { unheard = λ kind role. unheard 2 u1 b1 kind push role; trading = refl; answering = refl; keying = refl };
+      }
+
+      begins-push : PlainMovesForgeNothing → BeginsPush setup all_trusted moves 7 1 2 1 (u0 ∷ []) []
+      unfolding under
+      begins-push plain = record { way = under plain 7 query refl sent7.1.0; can = can-push }
 
 abbrev stream : List ℕ
 stream = replicate 1023 0
 
 -- the secrets and the stream are of no account
-pub trade-begun : SetupsExist → PlainMovesForgeNothing → StepIsAccepted → FanoutsAreWhole → TradeBegun
-trade-begun setups plain accepted whole = record {
-  setup = setup keys anchors [] [] [] stream;
-  peers = refl;
-  moves = moves keys anchors [] [] [] stream (omega arith) whole is accepted;
-  plain = (tt, (tt, (tt, (tt, (tt, (tt, (tt, tt)))))));
-  request = 6;
-  nonce = nonce keys anchors [] [] [] stream (omega arith) whole is accepted;
-  ha = ha keys anchors [] [] [] stream (omega arith) whole is accepted;
-  begins = begins keys anchors [] [] [] stream (omega arith) whole is accepted plain;
-}
-  where
-    found : SetupOf (small ([] ∷ [] ∷ [] ∷ []) ([] ∷ [] ∷ [])) ([] ∷ [] ∷ [] ∷ []) stream
-    found = setups (small ([] ∷ [] ∷ [] ∷ []) ([] ∷ [] ∷ [])) ([] ∷ [] ∷ [] ∷ []) stream small-is refl
+module _ (setups : SetupsExist) (plain : PlainMovesForgeNothing) (accepted : StepIsAccepted) (whole : FanoutsAreWhole) where
+  abbrev found : SetupOf (small ([] ∷ [] ∷ [] ∷ []) ([] ∷ [] ∷ [])) ([] ∷ [] ∷ [] ∷ []) stream
+  found = setups (small ([] ∷ [] ∷ [] ∷ []) ([] ∷ [] ∷ [])) ([] ∷ [] ∷ [] ∷ []) stream small-is refl
 
-    keys : List (List ℕ)
-    keys = found.setup.session.keys
+  abbrev keys : List (List ℕ)
+  keys = found.setup.session.keys
 
-    anchors : List (List ℕ)
-    anchors = found.setup.session.anchors
+  abbrev anchors : List (List ℕ)
+  anchors = found.setup.session.anchors
 
-    same : found.setup ≡ setup keys anchors [] [] [] stream
-    same = (λ i. record { session = found.session_is i; secrets = found.secrets_are i; stream = found.stream_is i })
+  same : found.setup ≡ setup keys anchors [] [] [] stream
+  same = (λ i. record { session = found.session_is i; secrets = found.secrets_are i; stream = found.stream_is i })
 
-    is : IsSetup (setup keys anchors [] [] [] stream)
-    is = subst IsSetup same found.is
+  is : IsSetup (setup keys anchors [] [] [] stream)
+  is = subst IsSetup same found.is
+
+  all-plain : AllByRecursion (IsPlainMove (small keys anchors)) (moves keys anchors [] [] [] stream (omega arith) whole is accepted)
+  all-plain = (tt, (tt, (tt, (tt, (tt, (tt, (tt, tt)))))))
+
+  pub trade-begun : TradeBegun
+  trade-begun = record {
+    setup = setup keys anchors [] [] [] stream;
+    peers = refl;
+    moves = moves keys anchors [] [] [] stream (omega arith) whole is accepted;
+    plain = all-plain;
+    request = 6;
+    nonce = nonce keys anchors [] [] [] stream (omega arith) whole is accepted;
+    ha = ha keys anchors [] [] [] stream (omega arith) whole is accepted;
+    begins = begins keys anchors [] [] [] stream (omega arith) whole is accepted plain;
+  }
+
+  pub push-begun : PushBegun
+  push-begun = record {
+    setup = setup keys anchors [] [] [] stream;
+    peers = refl;
+    moves = moves keys anchors [] [] [] stream (omega arith) whole is accepted;
+    plain = all-plain;
+    query = 7;
+    young = u0 keys anchors [] [] [] stream ∷ [];
+    aged = [];
+    begins = begins-push keys anchors [] [] [] stream (omega arith) whole is accepted plain;
+  }

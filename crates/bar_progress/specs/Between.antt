@@ -18,7 +18,7 @@ use Rattle.bar_rules.specs.Values.{datagram_bytes, datagram_of}
 use Rattle.bar_rules.specs.World.World.{Deliver, Move, Setup, member}
 use Rattle.bar_laws.specs.OwnRuns.{input_at}
 use Rattle.bar_laws.specs.Parties.{ForgesNothing, after}
-use Rattle.bar_progress.specs.Trades.{BeginsTrade, HaveTraded, agreed, and_deliver, pair_in}
+use Rattle.bar_progress.specs.Trades.{BeginsTrade, HaveTraded, agreed, and_deliver, pair_in, trade_in}
 use Rattle.bar_progress.specs.Trading.{trade}
 
 -- a datagram of an exchange, by its kind and the side that sends it
@@ -75,7 +75,7 @@ abbrev pub HaveTradedForGood : Setup → (ℕ → Bool) → ℕ → ℕ → ℕ 
 HaveTradedForGood setup trusted a b round terms moves =
     (later : List Move) (mine theirs : Log) → ForgesNothing setup trusted (moves ++ later)
     → slice_get (after setup (moves ++ later)).logs a ≡ Some mine → slice_get (after setup (moves ++ later)).logs b ≡ Some theirs
-    → HaveTraded setup a b round terms mine theirs
+    → HaveTraded setup (trade_in setup a b round) terms mine theirs
 
 -- Two trusted peers can trade, and the REQUEST is delivered: then the exchange goes on to its end.
 abbrev pub TradesGoOn : Type 0
@@ -83,4 +83,4 @@ TradesGoOn =
     (setup : Setup) (trusted : ℕ → Bool) (moves : List Move) (request a b round : ℕ) (nonce : List ℕ) (ha : List UpdateId)
     → (t : BeginsTrade setup trusted moves request a b round nonce ha)
     → GoesOn setup trusted (trade (pair_in setup a b round)) (nonce, ha)
-    (HaveTradedForGood setup trusted a b round (agreed setup a b round t.mine t.theirs t.d nonce ha)) parts (and_deliver moves request)
+    (HaveTradedForGood setup trusted a b round (agreed setup a b round t.way.mine t.way.theirs t.way.d nonce ha)) parts (and_deliver moves request)
