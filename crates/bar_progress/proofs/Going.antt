@@ -1,10 +1,10 @@
 -- A balanced exchange goes on, whatever moves stand between its deliveries.
-use Rattle.std.proofs.Common.{◌≡◌, ◌∙◌, inl, inr, ℕ, ◌<◌, ◌≤◌, Bool, true, false, not, List, [], ◌∷◌, ◌++◌, length, refl, sym, ap, subst, append_assoc}
+use Rattle.std.proofs.Common.{◌≡◌, ◌∙◌, inl, inr, ℕ, ◌<◌, ◌≤◌, Bool, true, false, not, List, [], ◌∷◌, ◌++◌, length, refl, sym, ap, subst, append_assoc, arith, ◌+◌}
 use Rattle.std.specs.Prelude.{Option, Some, None, is_some, slice_get, option_and_then, option_map, if◌then◌else◌}
 use Rattle.std.specs.Bool.{then_some}
 use Rattle.std.specs.Option.{option_map_or, option_or}
 use Rattle.std.specs.Str.{bytes_eq}
-use Rattle.std.proofs.lemmas.Bool.{and_from}
+use Rattle.std.proofs.lemmas.Bool.{and_from, lt-ltb, ltb-true}
 use Rattle.bar_bytes.proofs.Tests.{bytes_eq-refl, eqb_refl}
 use Rattle.bar_roster.specs.Time.{last_tick}
 use Rattle.bar_terms.specs.Table.{is_within}
@@ -24,24 +24,24 @@ use Rattle.bar_wire.specs.declared.kind.Kind.{Kind}
 use Rattle.bar_wire.specs.declared.kind.Kind.TheVariants as kinds
 use Rattle.bar_rules.specs.Peer.Admission.{is_admitted, meets_commitment, same_terms}
 use Rattle.bar_rules.specs.Peer.Evidence.{new_evidence}
-use Rattle.bar_rules.specs.Peer.Holdings.{case_heard_from, case_in}
+use Rattle.bar_rules.specs.Peer.Holdings.{block_of, case_heard_from, case_in}
 use Rattle.bar_rules.specs.Member.{Member}
 use Rattle.bar_rules.specs.Peer.Exchanges.{revealed}
 use Rattle.bar_rules.specs.Peer.Knowledge.{Knowledge, has_said_of, is_in_time, known, table_of, with_heard}
-use Rattle.bar_rules.specs.Peer.Log.{Log, is_announced, table, ticks}
+use Rattle.bar_rules.specs.Peer.Log.{Log, is_announced, round_now, table, ticks}
 use Rattle.bar_rules.specs.Peer.Orders.{case_body}
 use Rattle.bar_rules.specs.Peer.Terms.{terms_of}
 use Rattle.bar_rules.specs.Secrets.{briefcase_key, commitment_of}
 use Rattle.bar_rules.specs.Values.{datagram_bytes}
 use Rattle.bar_rules.specs.World.World.{IsSetup, Move, Setup, member}
-use Rattle.bar_laws.specs.Growing.{PeersGrow}
+use Rattle.bar_laws.specs.Growing.{IsLater, PeersGrow}
 use Rattle.bar_laws.specs.Knowing.{StepIsKnown}
 use Rattle.bar_laws.specs.Obedience.{SignedByRule}
 use Rattle.bar_laws.specs.OwnRuns.{PeersRun, brought_to, input_at}
 use Rattle.bar_laws.specs.Parties.{ForgesNothing, HeardWasSaid, IsSentBy, IsTrustedPeer, KeysOpenWell, NobodyIsAccused, NobodyIsAnnounced, StepIsAccepted, after}
 use Rattle.bar_laws.specs.Premises.{PeersAreMembers}
 use Rattle.bar_laws.specs.Soundness.{LogIsSound}
-use Rattle.bar_laws.proofs.Logs.{IsCaseOf, SaidIn, WasHeard, first_heard-was, first_said-was, is_of-case, is_of-key, is_of-own, read-fits, receiver-on, round-by, said-in, sender-on, some-equal, some-is, some-same, table-later, unique, within-extends}
+use Rattle.bar_laws.proofs.Logs.{IsCaseOf, SaidIn, WasHeard, first_heard-was, first_said-was, is_of-case, is_of-key, is_of-own, read-fits, receiver-on, round-by, said-in, sender-on, some-equal, some-is, some-same, find-later, round-later, table-later, terms_of-later, unique, within-extends}
 use Rattle.bar_laws.proofs.Runs.{heard-in}
 use Rattle.bar_progress.specs.Between.{GoesOn, HaveTradedForGood, IsSent, IsTaken, PacketsAreGiven, Part, TradesGoOn, parts, receiver}
 use Rattle.bar_progress.specs.Trades.{BeginsTrade, HaveTraded, Holds, and_deliver, pair_in, talk_in}
@@ -445,7 +445,7 @@ module _ (knows : StepIsKnown) (peers : PeersRun) (grow : PeersGrow) (accepts : 
   given-b ms s = receiving.sent-is-said knows peers grow accepts ruled members setup is b r.way.answers.low present-b a (λ e. apart (sym e)) x Responder refl ms kinds.Case s (signed-case Responder s.d s.of)
 
   agree : same_terms terms terms ≡ true
-  agree = same-terms nonce ha hb
+  agree = same-terms terms
 
   takes-case-b : (ms : List Move) → Since ms → ForgesNothing setup trusted ms → Heard-a kinds.Response ms → Revealed-b ms → (theirs : Sent-a kinds.Case ms) → Sent-b kinds.Case ms → (m : Move) → Brings b ms m theirs.d → Ready-b kinds.Case ms
       → Heard-b kinds.Case (ms ++ m ∷ [])
@@ -581,22 +581,42 @@ module _ (knows : StepIsKnown) (peers : PeersRun) (grow : PeersGrow) (accepts : 
   trusted-b : (ms : List Move) → IsTrustedPeer trusted (after setup ms) b (log-b ms)
   trusted-b ms = record { low = r.way.answers.low; trust = r.way.answers.trust; log_is = happening.log-is knows peers grow accepts ruled members setup is b r.way.answers.low present-b ms }
 
-  have-traded : (ms : List Move) → ForgesNothing setup trusted ms → AllHeard ms → HaveTraded setup x terms (log-a ms) (log-b ms)
-  have-traded ms f h = record {
+  -- what is held of some updates that are alive is held later
+  holds-later : (log before : Log) (us : List UpdateId) → IsLater log before → Holds setup before us → Holds setup log us
+  holds-later log before us more h u c alive =
+      let past : round_now before ≤ round_now log = round-later log before more in
+      let early : round_now log < u.round + setup.session.shape.life = ltb-true (round_now log) (u.round + setup.session.shape.life) alive in
+      let f = some-is (block_of setup.session before u) (h u c (lt-ltb (round_now before) (u.round + setup.session.shape.life) (omega (arith, past, early)))) in
+      ap is_some (find-later _ log before f.0 more f.1)
+
+  gains-a : (ms : List Move) → ForgesNothing setup trusted ms → AllHeard ms → Holds setup (log-a ms) (promised_updates setup.session.cap terms Responder)
+  gains-a ms f h =
+      let c = case-heard-a ms h.since f h.response h.case-a in
+      subst (λ (l : List UpdateId). Holds setup (log-a ms) l) (λ i. promised_updates setup.session.cap (c.2 i) (c.3 i))
+      (gains opens setup trusted ms f a b (log-a ms) (log-b ms) (trusted-a ms) (trusted-b ms) x Responder refl h.key-a.0 h.key-a.1 c.0 c.1)
+
+  gains-b : (ms : List Move) → ForgesNothing setup trusted ms → AllHeard ms → Holds setup (log-b ms) (promised_updates setup.session.cap terms Initiator)
+  gains-b ms f h =
+      let c = case-heard-b ms h.since h.shown h.case-b in
+      subst (λ (l : List UpdateId). Holds setup (log-b ms) l) (λ i. promised_updates setup.session.cap (c.2 i) (c.3 i))
+      (gains opens setup trusted ms f b a (log-b ms) (log-a ms) (trusted-b ms) (trusted-a ms) x Initiator refl h.key-b.0 h.key-b.1 c.0 c.1)
+
+  -- after the last part both have traded, and nothing that comes later undoes it
+  have-traded : (ms later : List Move) → ForgesNothing setup trusted ms → AllHeard ms → HaveTraded setup x terms (log-a (ms ++ later)) (log-b (ms ++ later))
+  unfolding more-a more-b
+  have-traded ms later f h = record {
     first =
-        receiving.traded knows peers grow accepts ruled members setup is a r.way.asks.low present-a b apart x Initiator refl sound ms terms count h.case-a.0 h.key-a.0 (briefcase_key (member setup b) x Responder) (terms-a ms h.since f h.response) refl (sym even)
-        (given-a ms (response-answered ms h.since f h.response).1) h.case-a.1 (keyed-a ms (request-answered-a ms h.since h.request-a)) h.key-a.1 (key-opens-a ms f h.key-a);
+        receiving.traded knows peers grow accepts ruled members setup is a r.way.asks.low present-a b apart x Initiator refl sound (ms ++ later) terms count h.case-a.0 h.key-a.0 (briefcase_key (member setup b) x Responder)
+        (terms_of-later (member setup a) (log-a (ms ++ later)) (log-a ms) x terms (happening.later knows peers grow accepts ruled members setup is a r.way.asks.low present-a ms later) (terms-a ms h.since f h.response)) refl (sym even)
+        (given-a (ms ++ later) (receiving.sent-more knows peers grow accepts ruled members setup is a r.way.asks.low present-a b apart x Initiator refl ms later kinds.Case (response-answered ms h.since f h.response).1)) (more-a kinds.Case ms later h.case-a).1
+        (keyed-a (ms ++ later) (receiving.sent-more knows peers grow accepts ruled members setup is a r.way.asks.low present-a b apart x Initiator refl ms later kinds.Key (request-answered-a ms h.since h.request-a))) (more-a kinds.Key ms later h.key-a).1 (key-opens-a ms f h.key-a);
     second =
-        receiving.traded knows peers grow accepts ruled members setup is b r.way.answers.low present-b a (λ e. apart (sym e)) x Responder refl sound ms terms count h.case-b.0 h.key-b.0 (briefcase_key (member setup a) x Initiator) (terms-b ms h.since h.shown) (sym even) refl
-        (given-b ms (divulge-answered ms h.since h.divulge h.shown)) h.case-b.1 (keyed-b ms (request-answered-b ms h.since h.request-b)) h.key-b.1 (key-opens-b ms f h.key-b);
-    first_gains =
-        let c = case-heard-a ms h.since f h.response h.case-a in
-        subst (λ (l : List UpdateId). Holds setup (log-a ms) l) (λ i. promised_updates setup.session.cap (c.2 i) (c.3 i))
-        (gains opens setup trusted ms f a b (log-a ms) (log-b ms) (trusted-a ms) (trusted-b ms) x Responder refl h.key-a.0 h.key-a.1 c.0 c.1);
-    second_gains =
-        let c = case-heard-b ms h.since h.shown h.case-b in
-        subst (λ (l : List UpdateId). Holds setup (log-b ms) l) (λ i. promised_updates setup.session.cap (c.2 i) (c.3 i))
-        (gains opens setup trusted ms f b a (log-b ms) (log-a ms) (trusted-b ms) (trusted-a ms) x Initiator refl h.key-b.0 h.key-b.1 c.0 c.1);
+        receiving.traded knows peers grow accepts ruled members setup is b r.way.answers.low present-b a (λ e. apart (sym e)) x Responder refl sound (ms ++ later) terms count h.case-b.0 h.key-b.0 (briefcase_key (member setup a) x Initiator)
+        (terms_of-later (member setup b) (log-b (ms ++ later)) (log-b ms) x terms (happening.later knows peers grow accepts ruled members setup is b r.way.answers.low present-b ms later) (terms-b ms h.since h.shown)) (sym even) refl
+        (given-b (ms ++ later) (receiving.sent-more knows peers grow accepts ruled members setup is b r.way.answers.low present-b a (λ e. apart (sym e)) x Responder refl ms later kinds.Case (divulge-answered ms h.since h.divulge h.shown))) (more-b kinds.Case ms later h.case-b).1
+        (keyed-b (ms ++ later) (receiving.sent-more knows peers grow accepts ruled members setup is b r.way.answers.low present-b a (λ e. apart (sym e)) x Responder refl ms later kinds.Key (request-answered-b ms h.since h.request-b))) (more-b kinds.Key ms later h.key-b).1 (key-opens-b ms f h.key-b);
+    first_gains = holds-later (log-a (ms ++ later)) (log-a ms) (promised_updates setup.session.cap terms Responder) (happening.later knows peers grow accepts ruled members setup is a r.way.asks.low present-a ms later) (gains-a ms f h);
+    second_gains = holds-later (log-b (ms ++ later)) (log-b ms) (promised_updates setup.session.cap terms Initiator) (happening.later knows peers grow accepts ruled members setup is b r.way.answers.low present-b ms later) (gains-b ms f h);
   }
 
   -- ---- the parts, last first
@@ -619,22 +639,10 @@ module _ (knows : StepIsKnown) (peers : PeersRun) (grow : PeersGrow) (accepts : 
       (record { going = y.going; in_time = y.in_time; bound = y.bound })
 
   goes8 : (ms : List Move) → AllHeard ms → Goes [] ms
-  goes8 ms h later mine theirs f at bt =
+  goes8 ms h f later mine theirs at bt =
       let now : List Move = ms ++ later in
-      let all : AllHeard now = record {
-        since = since-more ms later h.since;
-        response = more-a kinds.Response ms later h.response;
-        divulge = more-b kinds.Divulge ms later h.divulge;
-        shown = more-revealed ms later h.shown;
-        case-b = more-b kinds.Case ms later h.case-b;
-        case-a = more-a kinds.Case ms later h.case-a;
-        request-a = more-a kinds.KeyReq ms later h.request-a;
-        request-b = more-b kinds.KeyReq ms later h.request-b;
-        key-b = more-b kinds.Key ms later h.key-b;
-        key-a = more-a kinds.Key ms later h.key-a;
-      } in
       subst (λ l. HaveTraded setup x terms l theirs) (some-equal (log-a now) mine (sym (happening.log-is knows peers grow accepts ruled members setup is a r.way.asks.low present-a now) ∙ at))
-      (subst (λ l. HaveTraded setup x terms (log-a now) l) (some-equal (log-b now) theirs (sym (happening.log-is knows peers grow accepts ruled members setup is b r.way.answers.low present-b now) ∙ bt)) (have-traded now f all))
+      (subst (λ l. HaveTraded setup x terms (log-a now) l) (some-equal (log-b now) theirs (sym (happening.log-is knows peers grow accepts ruled members setup is b r.way.answers.low present-b now) ∙ bt)) (have-traded ms later f h))
 
   goes7 : (ms : List Move) → Since ms → Heard-a kinds.Response ms → Heard-b kinds.Divulge ms → Revealed-b ms → Heard-b kinds.Case ms → Heard-a kinds.Case ms → Heard-a kinds.KeyReq ms → Heard-b kinds.KeyReq ms → Heard-b kinds.Key ms
       → Goes ((kinds.Key, Responder) ∷ []) ms

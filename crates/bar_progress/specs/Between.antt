@@ -70,12 +70,11 @@ GoesOn setup trusted x commits Ends (part ∷ rest) moves =
     × ((move : Move) → IsTaken setup (moves ++ between) move (receiver x part) sent.d x part.0 commits
     → GoesOn setup trusted x commits Ends rest ((moves ++ between) ++ move ∷ []))
 
--- both have traded, whatever moves come after
+-- both have traded, whatever moves come after: what is forged later is of no account
 abbrev pub HaveTradedForGood : Setup → (ℕ → Bool) → ℕ → ℕ → ℕ → Terms → List Move → Type 0
 HaveTradedForGood setup trusted a b round terms moves =
-    (later : List Move) (mine theirs : Log) → ForgesNothing setup trusted (moves ++ later)
-    → slice_get (after setup (moves ++ later)).logs a ≡ Some mine → slice_get (after setup (moves ++ later)).logs b ≡ Some theirs
-    → HaveTraded setup (trade_in setup a b round) terms mine theirs
+    ForgesNothing setup trusted moves → (later : List Move) (mine theirs : Log) → slice_get (after setup (moves ++ later)).logs a ≡ Some mine
+    → slice_get (after setup (moves ++ later)).logs b ≡ Some theirs → HaveTraded setup (trade_in setup a b round) terms mine theirs
 
 -- Two trusted peers can trade, and the REQUEST is delivered: then the exchange goes on to its end.
 abbrev pub TradesGoOn : Type 0
