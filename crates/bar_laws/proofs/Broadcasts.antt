@@ -5,9 +5,14 @@ mod Signing
 mod Evicting
 mod FanoutCounts
 mod FanoutSends
+mod Growing
+mod Naming
 -- the lemmas that other groups may cite
 pub use Rattle.bar_laws.proofs.Broadcasts.Serving.{serves-the-others}
 pub use Rattle.bar_laws.proofs.Broadcasts.Signing.{signs-once}
 pub use Rattle.bar_laws.proofs.Broadcasts.Evicting.{evicts-exactly}
 pub use Rattle.bar_laws.proofs.Broadcasts.FanoutCounts.{fanouts-whole}
 pub use Rattle.bar_laws.proofs.Broadcasts.FanoutSends.{to-the-fanout, out-twice, datagram-time}
+pub use Rattle.bar_laws.proofs.Broadcasts.Growing.{caster-grows}
+pub use Rattle.bar_laws.proofs.Broadcasts.Steps.{judged-keeps}
+pub use Rattle.bar_laws.proofs.Broadcasts.Naming.{NamesKept, run-names}

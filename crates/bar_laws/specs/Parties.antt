@@ -1,5 +1,5 @@
 -- What holds among several parties, whatever the network and hostile parties do.
-use Rattle.std.specs.Prelude.{◌≡◌, ℕ, ◌≤◌, Bool, true, List, ◌∷◌, ◌++◌, Some, None, slice_get, Contains}
+use Rattle.std.specs.Prelude.{◌≡◌, ℕ, ◌≤◌, Bool, true, false, List, ◌∷◌, ◌++◌, Some, None, slice_get, Contains}
 use Rattle.std.specs.List.{AllByRecursion}
 use Rattle.bar_rules.specs.Broadcaster.Sending.{evicted}
 use Rattle.bar_rules.specs.Broadcaster.Stream.{caster_table}
@@ -9,7 +9,7 @@ use Rattle.bar_window.specs.declared.update.UpdateId.{UpdateId}
 use Rattle.bar_wire.specs.Inputs.{Input}
 use Rattle.bar_wire.specs.Datagram.{Datagram, Key, Briefcase, KeyGiven, is_signed, exchange_by}
 use Rattle.bar_rules.specs.Peer.Holdings.{is_held, case_heard_from}
-use Rattle.bar_rules.specs.Peer.Log.{Log, Heard, table, round_now, kept}
+use Rattle.bar_rules.specs.Peer.Log.{Log, Heard, HasSigned, is_announced, table, round_now, kept}
 use Rattle.bar_rules.specs.Member.{Session, Member, is_alive}
 use Rattle.bar_rules.specs.Values.{opening_of, is_good, datagram_bytes, datagram_of, is_signed_by}
 use Rattle.bar_rules.specs.World.World.{World, Move, member, party_step, run, AreUnforged, Setup, IsSetup, initial}
@@ -64,6 +64,15 @@ EvictsNobody setup trusted w =
 abbrev pub NobodyIsEvicted : Type 0
 NobodyIsEvicted = InUnforgedWorlds EvictsNobody
 
+-- to no peer is a trusted peer announced evicted
+abbrev pub AnnouncesNobody : Setup → (ℕ → Bool) → World → Type 0
+AnnouncesNobody setup trusted w =
+    (peer announced : ℕ) (mine theirs : Log) → 1 ≤ peer → slice_get w.logs peer ≡ Some mine → IsTrustedPeer trusted w announced theirs
+    → is_announced mine announced ≡ false
+
+abbrev pub NobodyIsAnnounced : Type 0
+NobodyIsAnnounced = InUnforgedWorlds AnnouncesNobody
+
 -- A key that was admitted opens the partner's briefcase well, and afterwards the receiver holds each promised update that is alive then.
 pub record OpensWell (me : Member) (before : Log) (d : Datagram) (k : KeyGiven) : Type 0 where
   pub case : Briefcase
@@ -90,6 +99,15 @@ KeysWork setup trusted w =
 
 abbrev pub KeysOpenWell : Type 0
 KeysOpenWell = InUnforgedWorlds KeysWork
+
+-- a signed datagram that a peer admitted from a trusted party was signed by this party
+abbrev pub HearsTheSaid : Setup → (ℕ → Bool) → World → Type 0
+HearsTheSaid setup trusted w =
+    (peer sayer : ℕ) (mine theirs : Log) (d : Datagram) → 1 ≤ peer → slice_get w.logs peer ≡ Some mine → IsTrusted trusted w sayer theirs
+    → Contains mine (Heard d) → is_signed d.message.body ≡ true → d.message.from ≡ sayer → HasSigned theirs d
+
+abbrev pub HeardWasSaid : Type 0
+HeardWasSaid = InUnforgedWorlds HearsTheSaid
 
 -- the broadcaster's table extends the table of each trusted peer
 abbrev pub ExtendsTables : Setup → (ℕ → Bool) → World → Type 0

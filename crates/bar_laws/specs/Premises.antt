@@ -14,8 +14,9 @@ pub record SessionOf (peers rounds : ℕ) : Type 0 where
   pub peers_are : session.shape.peers ≡ peers
   pub rounds_are : session.shape.rounds ≡ rounds
 
+-- of each number of peers that a session may have
 abbrev pub SessionsExist : Type 0
-SessionsExist = SessionOf 2 10
+SessionsExist = (peers : ℕ) → 2 ≤ peers → peers ≤ 200 → SessionOf peers 10
 
 -- A setup of these secrets and this stream, whose session is that one but for its keys and anchors.
 pub record SetupOf (s : Session) (secrets : List (List ℕ)) (stream : List ℕ) : Type 0 where

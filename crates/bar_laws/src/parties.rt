@@ -3,11 +3,16 @@
 //! Each function's contract speaks of a set of trusted parties with the broadcaster in it, and of any list of moves that forges no signature that
 //! is accepted as one of theirs. That signatures can't be forged is this premise, and no theorem.
 
-ghost use Rattle.bar_laws.specs.Parties.{NobodyIsEvicted, NobodyIsAccused, KeysOpenWell, TablesAreExtended, StepIsAccepted, SentIsAccepted};
+ghost use Rattle.bar_laws.specs.Parties.{NobodyIsEvicted, NobodyIsAnnounced, NobodyIsAccused, KeysOpenWell, TablesAreExtended, StepIsAccepted, SentIsAccepted, HeardWasSaid};
 
 /// No trusted peer is evicted.
 pub fn nobody_is_evicted()
     ensures { NobodyIsEvicted }
+{}
+
+/// No trusted peer is announced evicted, to any peer.
+pub fn nobody_is_announced()
+    ensures { NobodyIsAnnounced }
 {}
 
 /// No trusted party, the broadcaster among them, keeps evidence against a trusted peer.
@@ -32,4 +37,9 @@ pub fn sent_is_accepted()
     ensures step { StepIsAccepted }
     // of all that was ever sent
     ensures packets { SentIsAccepted }
+{}
+
+/// Each signed datagram that a peer admitted from a trusted party was signed by this party.
+pub fn what_was_heard_was_said()
+    ensures { HeardWasSaid }
 {}

@@ -4,7 +4,7 @@ ghost use Rattle.bar_laws.specs.Premises.{SessionsExist, SetupsExist, PeersAreMe
 
 /// What the laws ask for is there: so none of them holds for want of a case.
 pub fn premises_can_be_met()
-    // a session
+    // a session of each number of peers
     ensures sessions { SessionsExist }
     // a setup of any session's numbers, any secrets and any stream
     ensures setups { SetupsExist }

@@ -14,7 +14,8 @@ use Rattle.bar_wire.specs.Datagram.{kind_number, kind_of, Message, Datagram, Bod
 use Rattle.bar_wire.specs.Inputs.{Input}
 use Rattle.bar_wire.specs.Inputs as event
 use Rattle.bar_laws.specs.Broadcasting.{is_block_of, IsReleased, GoesToTheFanout, GoesOutTwice}
-use Rattle.bar_laws.proofs.Logs.{IsLater, find-later, first_said-was, some-is}
+use Rattle.bar_laws.specs.Growing.{IsLater}
+use Rattle.bar_laws.proofs.Logs.{find-later, first_said-was, some-is}
 use Rattle.bar_laws.proofs.Fitting.{AreOwn, IsFair, caster-casts}
 use Rattle.bar_laws.proofs.Broadcasts.FanoutCounts.{fanouts-whole, weaker-keeps}
 use Rattle.std.proofs.Common.{◌≡◌, ◌⊎◌, ℕ, suc, ◌+◌, ◌-◌, ◌*◌, ◌<◌, ◌≤◌, Bool, true, false, not, ◌&&◌, ◌||◌, List, [], ◌∷◌, ◌++◌, length, map, append-nil, append_assoc, refl, sym, ap, ◌∙◌, subst, cond, eqb, inl, inr, arith, length-append}

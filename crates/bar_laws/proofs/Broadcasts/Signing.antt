@@ -16,7 +16,8 @@ use Rattle.bar_wire.specs.declared.kind.Kind.TheVariants as kinds
 use Rattle.std.proofs.Common.{◌≡◌, ℕ, Bool, true, false, List, [], ◌∷◌, ◌++◌, ◌-◌, ◌*◌, ◌<◌, ◌≤◌, eqb, not, arith, refl, sym, ap, subst, ◌∙◌, inl, inr}
 use Rattle.std.specs.Prelude.{Option, Some, None, ◌⊎◌, Contains, is_some, cond, nat_le}
 use Rattle.std.proofs.lemmas.Bool.{and_from, and_parts, both_ways, eq-eqb, eqb-true, le-leb, cond-true, cond-false, not_from_true, cases_lt}
-use Rattle.bar_laws.proofs.Logs.{IsLater, SaidIn, find-later, first_said-was, later-entry, option_or-some, round-later, said-found, said-in, was-said}
+use Rattle.bar_laws.specs.Growing.{IsLater}
+use Rattle.bar_laws.proofs.Logs.{SaidIn, find-later, first_said-was, later-entry, option_or-some, round-later, said-found, said-in, was-said}
 use Rattle.bar_laws.proofs.Runs.{ticked-low, was-said-in}
 use Rattle.bar_laws.proofs.Broadcasts.Steps.{IsKept, IsNew, all-keep, evictions-keep, judged-keeps, kept-begun, manifest-keeps, served-all, served-those, tick-keeps}
 use Rattle.bar_bytes.proofs.Tests.{eqb_refl}

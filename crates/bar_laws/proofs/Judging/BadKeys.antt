@@ -34,7 +34,8 @@ use Rattle.std.specs.Prelude.{Some, ◌⊎◌, is_some, option_and_then, option_
 use Rattle.std.specs.List.{AllByRecursion, range_with_len}
 use Rattle.std.proofs.lemmas.Bool.{and_parts, and_from, eq-eqb, both_ways, cases_Bool, not_from_false}
 use Rattle.bar_laws.specs.Evidence.{OpensBadly}
-use Rattle.bar_laws.proofs.Logs.{IsEntry, allowed-at, IsLater, WasHeard, WasSaid, later-entry, find-later, first_heard-was, first_said-was, said-rule, some-is, terms_of-later, table-later, within-extends, known-digest-extends, admitted-row, all-take, all-filtered, IsOwn, heard-own, inside-all, IsCaseOf, is_of-case, sender-on, receiver-on, party-on, party-over, receiver-role, receiver-partner}
+use Rattle.bar_laws.specs.Growing.{IsLater}
+use Rattle.bar_laws.proofs.Logs.{IsEntry, allowed-at, WasHeard, WasSaid, later-entry, find-later, first_heard-was, first_said-was, said-rule, some-is, terms_of-later, table-later, within-extends, known-digest-extends, admitted-row, all-take, all-filtered, IsOwn, heard-own, inside-all, IsCaseOf, is_of-case, sender-on, receiver-on, party-on, party-over, receiver-role, receiver-partner}
 use Rattle.bar_laws.proofs.Judging.ShownStays.{terms_ok-extends}
 use Rattle.bar_laws.proofs.Judging.Accuses.{IsBadPair, bad-completed}
 use Rattle.bar_laws.proofs.Judging.KeptEvidence.{IsWatchful, watchful-at}

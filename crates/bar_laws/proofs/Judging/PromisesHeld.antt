@@ -28,7 +28,8 @@ use Rattle.std.specs.Prelude.{Option, Some, None, is_some, option_and_then}
 use Rattle.std.specs.List.{list_all}
 use Rattle.std.specs.Bool.{then_some}
 use Rattle.std.proofs.lemmas.Bool.{and_parts, and_from}
-use Rattle.bar_laws.proofs.Logs.{no-value, IsEntry, IsFind, find-of, WasSaid, IsLater, later-entry, find-later, some-is, said-rule, all-filter, was-said, all-take, all-filtered, spoken-reply, IsGoodAnswer, own-unheard, inside-all}
+use Rattle.bar_laws.specs.Growing.{IsLater}
+use Rattle.bar_laws.proofs.Logs.{no-value, IsEntry, IsFind, find-of, WasSaid, later-entry, find-later, some-is, said-rule, all-filter, was-said, all-take, all-filtered, spoken-reply, IsGoodAnswer, own-unheard, inside-all}
 use Rattle.bar_laws.proofs.Judging.SaidOnce.{own-said}
 use Rattle.bar_laws.proofs.Judging.OwnWordsAgree.{trade-of, offer-of}
 

@@ -18,7 +18,8 @@ use Rattle.std.specs.Bool.{then_some}
 use Rattle.std.specs.List.{AllByRecursion, IsDistinct, list_all}
 use Rattle.std.proofs.lemmas.Bool.{and_parts, and_from, and_right, both_ways, le-leb}
 use Rattle.bar_laws.specs.Rooms.{Asking, Own, Room, asking_at, asking_of, room_of, is_kept, is_recent, LeavesRoom}
-use Rattle.bar_laws.proofs.Logs.{no-value, round-of-exchange, option_or-cases, if_passes-is, said_in-is, heard_in-is, some-is, admitted-row, IsLater}
+use Rattle.bar_laws.specs.Growing.{IsLater}
+use Rattle.bar_laws.proofs.Logs.{no-value, round-of-exchange, option_or-cases, if_passes-is, said_in-is, heard_in-is, some-is, admitted-row}
 use Rattle.bar_laws.proofs.Keeping.Few.{said-now, heard-near, keeps-few}
 use Rattle.bar_laws.proofs.Keeping.RoomsOf.{own-said, asked-at, place-parts, place-later}
 use Rattle.bar_laws.proofs.Runs.{new-seat}

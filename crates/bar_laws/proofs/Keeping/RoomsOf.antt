@@ -28,7 +28,8 @@ use Rattle.std.specs.Option.{option_map_or}
 use Rattle.std.specs.Str.{bytes_eq}
 use Rattle.std.proofs.lemmas.Bool.{and_parts, eqb-true}
 use Rattle.bar_laws.specs.Rooms.{Asking, Own, Room, asking_at, asking_of, room_of, AreInRooms}
-use Rattle.bar_laws.proofs.Logs.{no-value, allowed-at, is_of-is, IsOwn, heard-own, WasHeard, IsLater, later-entry, find-later, map-later, then-later, first_said-was, first_heard-was, some-is, parts-of, IsSaying, names-exchange, saying, is_of-part, receiver-role, admitted-row}
+use Rattle.bar_laws.specs.Growing.{IsLater}
+use Rattle.bar_laws.proofs.Logs.{no-value, allowed-at, is_of-is, IsOwn, heard-own, WasHeard, later-entry, find-later, map-later, then-later, first_said-was, first_heard-was, some-is, parts-of, IsSaying, names-exchange, saying, is_of-part, receiver-role, admitted-row}
 use Rattle.bar_laws.proofs.Runs.{said-more, heard-more, Placed, placed, seat-of, seat-few, begun-in, one-request, seat-unique}
 
 -- ---- an exchange whose request was said or admitted has a room

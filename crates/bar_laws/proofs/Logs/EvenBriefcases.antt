@@ -26,7 +26,8 @@ use Rattle.std.proofs.lemmas.Bool.{eqb-true, and_parts}
 use Rattle.bar_laws.proofs.Logs.FirstFinds.{allowed-at}
 use Rattle.bar_laws.proofs.Logs.EqualityTests.{other-kind}
 use Rattle.bar_laws.proofs.Logs.Facts.{promises_equal, terms_promise}
-use Rattle.bar_laws.proofs.Logs.LaterLogs.{IsLater, later-entry, first_said-was, first_heard-was, some-is, said-rule, then-later, WasSaid}
+use Rattle.bar_laws.specs.Growing.{IsLater}
+use Rattle.bar_laws.proofs.Logs.LaterLogs.{later-entry, first_said-was, first_heard-was, some-is, said-rule, then-later, WasSaid}
 use Rattle.bar_laws.proofs.Logs.LaterTerms.{terms_of-later, case_for-later, said-later}
 use Rattle.bar_wire.specs.Kinds.{code_of}
 

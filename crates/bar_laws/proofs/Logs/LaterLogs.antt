@@ -3,21 +3,20 @@ use Rattle.bar_rules.specs.Peer.Log.{Log, Entry, Heard, Said, earliest, heard_in
 use Rattle.bar_rules.specs.Member.{Member}
 use Rattle.bar_rules.specs.Peer.Rules.{IsObedient, IsSignedByRule}
 use Rattle.bar_wire.specs.Datagram.{Message, Datagram}
-use Rattle.std.proofs.Common.{◌≡◌, ◌≤◌, Bool, true, false, [], ◌∷◌, ◌++◌, refl, sym, ap, ◌∙◌, subst, arith}
+use Rattle.std.proofs.Common.{◌≡◌, ◌≤◌, Bool, true, false, [], ◌∷◌, ◌++◌, refl, sym, ap, ◌∙◌, subst, arith, append_assoc}
 use Rattle.std.specs.Prelude.{Option, Some, None, is_some, option_and_then, option_map}
 use Rattle.std.specs.Bool.{then_some}
+use Rattle.bar_laws.specs.Growing.{IsLater}
 use Rattle.bar_laws.proofs.Logs.FirstFinds.{earliest-more, IsEntry, find-of, allowed-at}
-
--- the log has grown from this one
-pub record IsLater (log before : Log) : Type 0 where
-  pub new : Log
-  pub split : log ≡ new ++ before
 
 pub find-later : {A : Type 0} (f : Log → Entry → Option A) (log before : Log) (a : A) → IsLater log before → earliest f before ≡ Some a → earliest f log ≡ Some a
 find-later f log before a later e = subst (λ l. earliest f l ≡ Some a) (sym later.split) (earliest-more f later.new before a e)
 
 pub later-same : (log : Log) → IsLater log log
 later-same log = record { new = []; split = refl }
+
+pub join-later : (a b c : Log) → IsLater a b → IsLater b c → IsLater a c
+join-later a b c f g = record { new = f.new ++ g.new; split = f.split ∙ ap (λ (l : Log). f.new ++ l) g.split ∙ sym (append_assoc f.new g.new c) }
 
 append-assoc : (xs : Log) (e : Entry) (ys : Log) → xs ++ e ∷ ys ≡ (xs ++ e ∷ []) ++ ys
 append-assoc [] e ys = refl

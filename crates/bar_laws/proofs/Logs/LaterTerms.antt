@@ -17,7 +17,8 @@ use Rattle.bar_wire.specs.declared.kind.Kind.TheVariants as kinds
 use Rattle.bar_wire.specs.Datagram.{Message, Datagram, Briefcase, is_of}
 use Rattle.std.proofs.Common.{◌≡◌, ℕ, Bool, List, refl}
 use Rattle.std.specs.Prelude.{Option, Some, None}
-use Rattle.bar_laws.proofs.Logs.LaterLogs.{IsLater, find-later, then-later}
+use Rattle.bar_laws.specs.Growing.{IsLater}
+use Rattle.bar_laws.proofs.Logs.LaterLogs.{find-later, then-later}
 use Rattle.bar_laws.proofs.Logs.Spoken.{body_on-later}
 
 trade-later : (o o' : Option (List ℕ × List UpdateId)) (p p' : Option (List UpdateId)) (t : Terms)

@@ -13,7 +13,8 @@ use Rattle.bar_wire.specs.Datagram.{Datagram, Body, is_of}
 use Rattle.std.proofs.Common.{◌≡◌, Bool, true, false, refl}
 use Rattle.std.specs.Prelude.{Option, Some, None, cond}
 use Rattle.bar_laws.proofs.Logs.FirstFinds.{IsEntry}
-use Rattle.bar_laws.proofs.Logs.LaterLogs.{IsLater, find-later, WasSaid, WasHeard, first_said-was, first_heard-was, map-later}
+use Rattle.bar_laws.specs.Growing.{IsLater}
+use Rattle.bar_laws.proofs.Logs.LaterLogs.{find-later, WasSaid, WasHeard, first_said-was, first_heard-was, map-later}
 
 abbrev pub spoken_in : Entry → Option Datagram
 spoken_in (Said d) = Some d

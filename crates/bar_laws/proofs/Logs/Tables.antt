@@ -26,7 +26,8 @@ use Rattle.bar_window.proofs.Sets.{same_is}
 use Rattle.bar_laws.proofs.Logs.FirstFinds.{IsEntry, IsFind, find-of, allowed-at, earliest-more}
 use Rattle.bar_laws.proofs.Logs.EqualityTests.{no-value, same_bytes-is}
 use Rattle.bar_laws.proofs.Logs.Facts.{good_told}
-use Rattle.bar_laws.proofs.Logs.LaterLogs.{IsLater, later-entry, some-is}
+use Rattle.bar_laws.specs.Growing.{IsLater}
+use Rattle.bar_laws.proofs.Logs.LaterLogs.{later-entry, some-is}
 
 -- ---- growth
 

@@ -6,7 +6,7 @@ use Rattle.bar_rules.specs.Peer.Admission.{is_row_met, is_for, is_to_all, terms_
 use Rattle.bar_rules.specs.Peer.Choices.{young_of, aged_of, wanted_of, given_of}
 use Rattle.bar_rules.specs.Peer.Exchanges.{revealed, revealed_in}
 use Rattle.bar_rules.specs.Peer.Holdings.{history, is_held, block_of}
-use Rattle.bar_rules.specs.Peer.Knowledge.{known}
+use Rattle.bar_rules.specs.Peer.Knowledge.{Knowledge, holds, known}
 use Rattle.bar_rules.specs.Peer.Log.{Log, Entry, Heard, Said, table}
 use Rattle.bar_rules.specs.Member.{Session, Member}
 use Rattle.bar_rules.specs.Peer.Replies.{is_trade_worth}
@@ -39,7 +39,8 @@ use Rattle.bar_window.proofs.Sets.{same_self}
 use Rattle.bar_window.proofs.Exchanges.{same_exchange-is}
 use Rattle.bar_laws.proofs.Logs.FirstFinds.{IsFind, find-of, allowed-at}
 use Rattle.bar_laws.proofs.Logs.EqualityTests.{some-equal, no-value}
-use Rattle.bar_laws.proofs.Logs.LaterLogs.{IsLater, later-entry, then-later}
+use Rattle.bar_laws.specs.Growing.{IsLater}
+use Rattle.bar_laws.proofs.Logs.LaterLogs.{later-entry, then-later}
 use Rattle.bar_laws.proofs.Logs.Spoken.{spoken_in, WasSpoken, first_on-was, body_on-later}
 use Rattle.bar_laws.proofs.Logs.Tables.{table-later, within-extends, history-within, held-within, admitted-row, admitted-for, all-filter}
 use Rattle.bar_bytes.proofs.Tests.{eqb_refl, and-second}
@@ -195,7 +196,7 @@ pub record IsGoodOffer (me : Member) (log : Log) (round : ℕ) (young aged : Lis
   pub young_within : is_within (table log) young ≡ true
   pub aged_within : is_within (table log) aged ≡ true
 
-offer-ok : (me : Member) (log : Log) (round : ℕ) (young aged : List UpdateId) → IsGoodOffer me log round young aged → offer_ok me.session.cap me.session.shape.life (table log) round young aged ≡ true
+pub offer-ok : (me : Member) (log : Log) (round : ℕ) (young aged : List UpdateId) → IsGoodOffer me log round young aged → offer_ok me.session.cap me.session.shape.life (table log) round young aged ≡ true
 offer-ok me log round young aged g =
     and_from _ _ (and_from _ _ (and_from _ _ g.young_rounds g.aged_rounds) (and_from _ _ g.young_len g.aged_len))
     (and_from _ _ (within-none_past (table log) young g.young_within) (within-none_past (table log) aged g.aged_within))
@@ -266,7 +267,7 @@ is_of-round kind x role m k e = go m.body (rw k at e)
         let same : exchange_by r Push Initiator m.from m.to ≡ x = same_exchange-is (exchange_by r Push Initiator m.from m.to) x (and_parts _ _ e).0 in ap (λ (z : Exchange). z.round) same
     go _ e = cc
 
-spoken-offer : (me : Member) (log : Log) (x : Exchange) (q : List UpdateId × List UpdateId) → IsObedient me log → option_and_then offer_in (body_on me (known me log) kinds.Query x Initiator) ≡ Some q → IsGoodOffer me log x.round q.0 q.1
+pub spoken-offer : (me : Member) (log : Log) (x : Exchange) (q : List UpdateId × List UpdateId) → IsObedient me log → option_and_then offer_in (body_on me (known me log) kinds.Query x Initiator) ≡ Some q → IsGoodOffer me log x.round q.0 q.1
 spoken-offer me log x q h e = go (first_on me (known me log) kinds.Query x Initiator) refl e
   where
     go : (o : Option Datagram) → first_on me (known me log) kinds.Query x Initiator ≡ o → option_and_then offer_in (option_map (λ d. d.message.body) o) ≡ Some q → IsGoodOffer me log x.round q.0 q.1
@@ -288,14 +289,15 @@ pub record IsGoodAnswer (me : Member) (log : Log) (x : Exchange) (t : List Updat
 given-len : (w g : ℕ) → g ≤ w → w ≡ g + (w - g)
 given-len w g h = omega arith
 
-own-answer : (me : Member) (before : Log) (young aged want give : List UpdateId) (junk : ℕ) → want ≡ wanted_of me (known me before) young → 0 < length want → give ≡ given_of me (known me before) young aged → junk ≡ length want - length give
+-- what is wanted and given by the holdings of a moment fits what is offered
+pub own-answer : (me : Member) (k : Knowledge) (young aged want give : List UpdateId) (junk : ℕ) → want ≡ wanted_of me k young → 0 < length want → give ≡ given_of me k young aged → junk ≡ length want - length give
     → answer_ok me.session.cap young aged want give junk ≡ true
-own-answer me before young aged want give junk a n b c =
+own-answer me k young aged want give junk a n b c =
     let w : is_inside want young ≡ true =
-    rw a (all-take (has_update young) me.session.cap _ (all-filtered {X = UpdateId} (has_update young) (λ u. not (is_held me.session before u)) young (inside_refl young))) in
+    rw a (all-take (has_update young) me.session.cap _ (all-filtered {X = UpdateId} (has_update young) (λ u. not (holds k u)) young (inside_refl young))) in
     let g : is_inside give aged ≡ true =
-    rw b (all-take (has_update aged) (length (wanted_of me (known me before) young)) _ (all-filtered {X = UpdateId} (has_update aged) (is_held me.session before) aged (inside_refl aged))) in
-    let s : length give ≤ length want = rw (b, a) (leb-true _ _ (take-short (length (wanted_of me (known me before) young)) _)) in
+    rw b (all-take (has_update aged) (length (wanted_of me k young)) _ (all-filtered {X = UpdateId} (has_update aged) (holds k) aged (inside_refl aged))) in
+    let s : length give ≤ length want = rw (b, a) (leb-true _ _ (take-short (length (wanted_of me k young)) _)) in
     let z : length want ≡ length give + junk = rw c (given-len _ _ s) in
     let some : nat_le 1 (length want) ≡ true = le-leb 1 (length want) n in
     and_from _ _ (and_from _ _ (and_from _ _ w g) (and_from _ _ some (rw a (take-short me.session.cap _)))) (eq-eqb _ _ z)
@@ -315,7 +317,7 @@ reply-said me before m (Reply r want give junk) t mine rule e =
     (record {
       query = (rule.young, rule.aged);
       stands = rw mine rule.offers;
-      fits = own-answer me before rule.young rule.aged want give junk rule.wants rule.some_wanted rule.gives rule.pads;
+      fits = own-answer me (known me before) rule.young rule.aged want give junk rule.wants rule.some_wanted rule.gives rule.pads;
     })
 reply-said me before m b t mine rule e = absurd (no-value (reply_in b) t refl e)
 

@@ -31,7 +31,8 @@ use Rattle.bar_rules.specs.Peer.Writing.{body_again, written}
 use Rattle.bar_laws.specs.Rewriting.{IsRewritten}
 use Rattle.bar_laws.proofs.Judging.{or-second, AllHeld, promise-held, IsOwnWord, commits-revealed}
 use Rattle.bar_case.proofs.Blocks.{sealed_same}
-use Rattle.bar_laws.proofs.Logs.{is_of-is, party-on, receiver-on, sender-on, WasSaid, IsLater, later-entry, find-later, first_said-was, some-is, terms_of-later, parts-of, IsSaying, saying, first_on-own, said-in}
+use Rattle.bar_laws.specs.Growing.{IsLater}
+use Rattle.bar_laws.proofs.Logs.{is_of-is, party-on, receiver-on, sender-on, WasSaid, later-entry, find-later, first_said-was, some-is, terms_of-later, parts-of, IsSaying, saying, first_on-own, said-in}
 use Rattle.bar_laws.proofs.Runs.{said-sealed}
 
 -- ---- blocks that are held stay

@@ -41,7 +41,8 @@ use Rattle.std.specs.List.{AllByRecursion}
 use Rattle.std.specs.Bool.{then_some}
 use Rattle.std.specs.Option.{option_map_or}
 use Rattle.std.proofs.lemmas.Bool.{and_parts, and_from, eqb-true, both_ways, ltb-true}
-use Rattle.bar_laws.proofs.Logs.{terms-valid, IsValid, allowed-at, IsOwn, heard-own, heard-round, part-round, once-whole, is_whole, said-found, IsLater, later-entry, some-is, WasHeard, first_heard-was, first_said-was, said-rule, find-later, terms_of-later, said-later, IsCaseOf, is_of-case, said-case, some-same, same_terms-is, admitted-row, role-initiator, round-by, receiver-role}
+use Rattle.bar_laws.specs.Growing.{IsLater}
+use Rattle.bar_laws.proofs.Logs.{terms-valid, IsValid, allowed-at, IsOwn, heard-own, heard-round, part-round, once-whole, is_whole, said-found, later-entry, some-is, WasHeard, first_heard-was, first_said-was, said-rule, find-later, terms_of-later, said-later, IsCaseOf, is_of-case, said-case, some-same, same_terms-is, admitted-row, role-initiator, round-by, receiver-role}
 use Rattle.bar_bytes.proofs.Tests.{eqb_refl}
 use Rattle.bar_bytes.proofs.Options.{or-none}
 

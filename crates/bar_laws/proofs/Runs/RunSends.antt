@@ -31,7 +31,8 @@ use Rattle.std.specs.Prelude.{Option, Some, None, ◌⊎◌, map, cond, nat_le, 
 use Rattle.std.specs.List.{AllByRecursion, list_any}
 use Rattle.std.proofs.lemmas.Bool.{or_cases, both_ways}
 use Rattle.bar_wire.proofs.Lists.{AllByRecursion-push}
-use Rattle.bar_laws.proofs.Logs.{IsLater, later-same, first_said-was, SaidIn, was-said, said-found, IsKeyOf, is_of-key, IsBalanced, balance, all-both, all-map, receiver-on}
+use Rattle.bar_laws.specs.Growing.{IsLater}
+use Rattle.bar_laws.proofs.Logs.{later-same, first_said-was, SaidIn, was-said, said-found, IsKeyOf, is_of-key, IsBalanced, balance, all-both, all-map, receiver-on}
 use Rattle.bar_laws.proofs.Runs.StepAdds.{SentBy, IsPlain, step-adds}
 
 -- ---- logs grow

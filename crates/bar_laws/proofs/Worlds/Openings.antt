@@ -19,7 +19,8 @@ use Rattle.bar_laws.specs.Parties.{OpensWell}
 use Rattle.std.proofs.Common.{◌≡◌, ◌∙◌, ℕ, Bool, true, false, [], ◌∷◌, ◌++◌, inr, refl, sym, ap, subst, eqb, ◌+◌, ◌&&◌}
 use Rattle.std.specs.Prelude.{Some, option_and_then, slice_get, nat_le, Contains}
 use Rattle.std.proofs.lemmas.Bool.{and_from, eq-eqb}
-use Rattle.bar_laws.proofs.Logs.{IsEntry, allowed-at, IsLater, later-entry, WasHeard, first_heard-was, some-is, table-later, SaidIn, sender-on, receiver-on, party-on, party-over}
+use Rattle.bar_laws.specs.Growing.{IsLater}
+use Rattle.bar_laws.proofs.Logs.{IsEntry, allowed-at, later-entry, WasHeard, first_heard-was, some-is, table-later, SaidIn, sender-on, receiver-on, party-on, party-over}
 use Rattle.bar_laws.proofs.Runs.{HeardIn, heard-in}
 use Rattle.bar_laws.proofs.Judging.{HeardBriefcase, heard-briefcase, key-row, heard-signed, signed-said, never-opens_bad, good-opening, has-block, or-second}
 use Rattle.bar_laws.proofs.Worlds.SoundWorlds.{IsSound}

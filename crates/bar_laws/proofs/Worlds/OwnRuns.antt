@@ -4,11 +4,11 @@ use Rattle.bar_rules.specs.Peer.Log.{Log}
 use Rattle.bar_rules.specs.Peer.Run.{Out, step}
 use Rattle.bar_rules.specs.Runs.{state_after, played_from, sends_from}
 use Rattle.bar_rules.specs.Values.{datagram_bytes}
-use Rattle.bar_rules.specs.World.World.{World, Move, TickOf, Deliver, Hostile, member, party_step, spelled, takes, takes_by, delivered, run, Setup, IsSetup, initial}
+use Rattle.bar_rules.specs.World.World.{World, Move, TickOf, Deliver, Hostile, member, party_step, spelled, takes, takes_by, delivered, happens, run, Setup, IsSetup, initial}
 use Rattle.bar_wire.specs.Datagram.{Datagram}
 use Rattle.bar_wire.specs.Inputs.{Input}
 use Rattle.bar_wire.specs.Inputs as event
-use Rattle.bar_laws.specs.OwnRuns.{given_to, brought_to, inputs_from, is_from, packets_of, IsOwnRun, PeersRun, BroadcasterRuns}
+use Rattle.bar_laws.specs.OwnRuns.{given_to, brought_to, input_at, inputs_from, is_from, packets_of, IsOwnRun, PeersRun, BroadcasterRuns}
 use Rattle.bar_laws.specs.Parties.{IsSentBy}
 use Rattle.std.proofs.Common.{◌≡◌, ℕ, zero, suc, ◌+◌, ◌<◌, ◌≤◌, Bool, true, false, List, [], ◌∷◌, ◌++◌, refl, sym, ap, ◌∙◌, subst, map, eqb, length, append_assoc, append-nil, arith}
 use Rattle.std.specs.Prelude.{Option, Some, None, cond, filter, slice_get, slice_set, unwrap_or}
@@ -22,7 +22,7 @@ use Rattle.bar_laws.proofs.Worlds.SoundWorlds.{IsSound, StepsKeep, steps-keep, t
 
 -- ---- lists
 
-set-other : {X : Type 0} (xs : List X) (p q : ℕ) (y : X) → eqb p q ≡ false → slice_get (slice_set xs p y) q ≡ slice_get xs q
+pub set-other : {X : Type 0} (xs : List X) (p q : ℕ) (y : X) → eqb p q ≡ false → slice_get (slice_set xs p y) q ≡ slice_get xs q
 set-other [] p q y n = refl
 set-other (x ∷ xs) zero zero y n = cc
 set-other (x ∷ xs) zero (suc q) y n = refl
@@ -98,6 +98,17 @@ takes-other setup p q w i log played sent laws sound n at = go (slice_get w.logs
     }
 
 -- ---- any moves
+
+pub run-on : (setup : Setup) (w : World) (ms ns : List Move) → run setup w (ms ++ ns) ≡ run setup (run setup w ms) ns
+run-on setup w [] ns = refl
+run-on setup w (m ∷ ms) ns = run-on setup (happens setup w m) ms ns
+
+-- what a party is given by moves that follow others
+pub inputs-on : (setup : Setup) (w : World) (p : ℕ) (ms ns : List Move) → inputs_from setup w p (ms ++ ns) ≡ inputs_from setup w p ms ++ inputs_from setup (run setup w ms) p ns
+inputs-on setup w p [] ns = refl
+inputs-on setup w p (m ∷ ms) ns =
+    ap (λ l. input_at w p m ++ l) (inputs-on setup (happens setup w m) p ms ns)
+    ∙ sym (append_assoc (input_at w p m) (inputs_from setup (happens setup w m) p ms) (inputs_from setup (run setup (happens setup w m) ms) p ns))
 
 -- from one world to another the party goes by its own steps over these inputs
 abbrev Reaches : Setup → ℕ → World → World → List Input → Type 0

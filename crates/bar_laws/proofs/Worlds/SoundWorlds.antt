@@ -18,7 +18,8 @@ use Rattle.std.specs.Prelude.{Option, Some, None, ◌⊎◌, slice_get, slice_se
 use Rattle.std.specs.List.{AllByRecursion, concat}
 use Rattle.std.proofs.lemmas.Bool.{both_ways, ne_eqb}
 use Rattle.std.specs.Bool.{then_some}
-use Rattle.bar_laws.proofs.Logs.{no-value, option_or-cases, IsLater, said-rule, spells, fits-reads, SaidIn, was-said}
+use Rattle.bar_laws.specs.Growing.{IsLater}
+use Rattle.bar_laws.proofs.Logs.{no-value, option_or-cases, said-rule, spells, fits-reads, SaidIn, was-said}
 use Rattle.bar_laws.proofs.Runs.{Adds, AddedBy, SentBy, IsSource, HeardIn, came, step-adds, step-obedient}
 use Rattle.bar_laws.proofs.Fitting.{IsFair, IsOwnBody, IsOwnMessage, AreOwn, AllFit, own-inside, caster-casts, said-accepted, said-fits, step-fits}
 use Rattle.bar_bytes.proofs.Lengths.{length-slice_set}
@@ -351,7 +352,7 @@ caster-keeps setup log i s fair own =
 pub cast-member : (setup : Setup) (p : ℕ) → IsSetup setup → 1 ≤ p → p ≤ setup.session.shape.peers → IsMember (member setup p)
 cast-member setup p is low high = record { session = is.session; peer = (omega (arith, low), high); fits = is.fits p high }
 
-cast-caster : (setup : Setup) → IsSetup setup → IsBroadcaster (member setup 0)
+pub cast-caster : (setup : Setup) → IsSetup setup → IsBroadcaster (member setup 0)
 cast-caster setup is = record { session = is.session; party = refl; fits = is.fits 0 (omega arith) }
 
 -- each party's step, where the session fits each party's secret

@@ -1,13 +1,15 @@
 -- What holds among trusted parties after any moves.
 use Rattle.bar_rules.specs.Broadcaster.Sending.{evicted}
 use Rattle.bar_rules.specs.Broadcaster.Stream.{peers_of}
-use Rattle.bar_rules.specs.Peer.Log.{kept}
-use Rattle.bar_rules.specs.World.World.{Move, Setup, initial}
-use Rattle.bar_laws.specs.Parties.{after, ForgesNothing, NobodyIsEvicted, NobodyIsAccused, KeysOpenWell, TablesAreExtended}
+use Rattle.bar_rules.specs.Peer.Log.{Heard, kept}
+use Rattle.bar_rules.specs.World.World.{Move, Setup, initial, member}
+use Rattle.bar_laws.specs.Parties.{after, ForgesNothing, NobodyIsEvicted, NobodyIsAccused, KeysOpenWell, TablesAreExtended, HeardWasSaid}
 use Rattle.std.specs.List.{list_all}
-use Rattle.std.specs.Prelude.{None, is_some, Contains, slice_index_or}
-use Rattle.bar_laws.proofs.Logs.{all-filter}
-use Rattle.std.proofs.Common.{◌≡◌, ℕ, zero, suc, ◌<◌, ◌≤◌, Bool, true, false, List, [], ◌∷◌, length, ap, subst, eqb, arith}
+use Rattle.std.specs.Prelude.{Some, None, is_some, Contains, slice_get, slice_index_or}
+use Rattle.bar_laws.proofs.Logs.{all-filter, allowed-at}
+use Rattle.bar_laws.proofs.Judging.{heard-signed, heard-was}
+use Rattle.bar_laws.proofs.Runs.{heard-in}
+use Rattle.std.proofs.Common.{◌≡◌, ℕ, zero, suc, ◌<◌, ◌≤◌, Bool, true, false, List, [], ◌∷◌, length, ap, sym, subst, eqb, arith}
 use Rattle.std.proofs.lemmas.Bool.{and_parts, both_ways, ne_eqb}
 use Rattle.bar_laws.proofs.Worlds.SoundWorlds.{IsSound, steps-keep, run-sound, opened-sound, cast-member, has-log}
 use Rattle.bar_laws.proofs.Worlds.Evictions.{caster-keeps-none, peer-keeps-none}
@@ -56,3 +58,11 @@ keys-open-well setup trusted moves h receiver sender mine theirs before d k p q 
 pub tables-extended : TablesAreExtended
 tables-extended setup trusted moves h peer log caster p at =
     table-extended setup trusted (after setup moves) peer log caster (sound-after setup trusted moves h) h.broadcaster (not-zero peer p.low) p.log_is at
+
+pub heard-said : HeardWasSaid
+heard-said setup trusted moves h peer sayer mine theirs d low at is has sign from =
+    let sound = sound-after setup trusted moves h in
+    let was = heard-was mine d has in
+    let al = allowed-at (member setup peer) mine was.before (Heard d) was.place ((sound.proper peer mine at).0 (not-zero peer low)) in
+    sound.heard peer mine d at (heard-in mine d was) d theirs al.0.1 sign (subst (λ z. trusted z ≡ true) (sym from) is.trust)
+    (heard-signed (member setup peer) was.before d al.0.0 sign) (subst (λ z. slice_get (after setup moves).logs z ≡ Some theirs) (sym from) is.log_is)

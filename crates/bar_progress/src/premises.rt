@@ -1,0 +1,25 @@
+//! The premises can be met.
+
+ghost use Rattle.bar_progress.specs.Witness.{PushBegun, TradeBegun};
+
+use bar_laws::broadcasting::blocks_reach_their_fanout;
+use bar_laws::parties::sent_is_accepted;
+use bar_laws::premises::premises_can_be_met;
+
+/// There is a world in which two trusted peers meet all that the laws of trades ask for: so none of these holds for want of a case.
+pub fn trades_can_begin()
+    ensures { TradeBegun }
+{
+    premises_can_be_met();
+    sent_is_accepted();
+    blocks_reach_their_fanout();
+}
+
+/// The same of pushes.
+pub fn pushes_can_begin()
+    ensures { PushBegun }
+{
+    premises_can_be_met();
+    sent_is_accepted();
+    blocks_reach_their_fanout();
+}
