@@ -23,6 +23,13 @@ fn a_datagram_arrives(rt: HostRuntime) -> Result<(), Fail> {
     assert_eq!(rt; one.send(2, b"hello"), Ok(()));
     assert_eq!(rt; two.next(&mut buf), Ok(Taken::Datagram(5)));
     assert!(rt; buf.starts_with(b"hello"));
+    // each goes to its receiver alone
+    assert_eq!(rt; two.send(2, b"own"), Ok(()));
+    assert_eq!(rt; two.send(1, b"back"), Ok(()));
+    assert_eq!(rt; two.next(&mut buf), Ok(Taken::Datagram(3)));
+    assert!(rt; buf.starts_with(b"own"));
+    assert_eq!(rt; one.next(&mut buf), Ok(Taken::Datagram(4)));
+    assert!(rt; buf.starts_with(b"back"));
     Ok(())
 }
 
