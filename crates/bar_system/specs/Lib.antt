@@ -2,3 +2,4 @@ pub mod Refusal
 pub mod History
 pub mod RealSink
 pub mod RealLink
+pub mod Fitting

@@ -2,10 +2,12 @@
 //! taken and handed on.
 #![tactic(auto)]
 
+mod laws;
 mod link;
 mod outside;
 mod spawner;
 
+pub use laws::some_content_fits;
 pub use link::RealLink;
 pub use outside::{RealFiles, RealSink, Standard};
 pub use spawner::RealSpawner;
