@@ -152,3 +152,11 @@ append-refused events new faults later path bytes NoMemory was noted unnoted cau
   left = λ not. refl;
   refused = λ h. absurd (true-false (sym h));
 })
+
+-- ---- what a refusal tells
+
+-- nothing is told to be added by it
+pub same-content : (events new : List Event) (path : List ℕ) (fault : FileFault) → (fault ≡ Failed → new ≡ unadded path ∷ events) →
+    (fault ≡ NoMemory → new ≡ events) → (was : Content) → content_of new was ≡ content_of events was
+same-content events new path Failed noted unnoted was = ap (λ xs. content_of xs was) (noted refl)
+same-content events new path NoMemory noted unnoted was = ap (λ xs. content_of xs was) (unnoted refl)

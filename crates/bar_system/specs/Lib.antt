@@ -3,3 +3,4 @@ pub mod History
 pub mod RealSink
 pub mod RealLink
 pub mod Fitting
+pub mod RealFiles

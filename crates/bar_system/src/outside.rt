@@ -1,8 +1,9 @@
 //! The files and streams of the system. They tell what was read and what was handed over, and count their faults.
-ghost use Rattle.std.specs.Prelude.{◌≡◌, ◌≤◌, ◌<◌, [], ◌∷◌, length, take, slice_get, string_bytes, All, IfSome, IsSomeAnd, IsTrue, OnErr, OnOk};
-ghost use Rattle.std.specs.Io.KnownBytes.{Appends};
+ghost use Rattle.std.specs.Prelude.{◌≡◌, ◌≤◌, ◌<◌, [], ◌∷◌, length, take, slice_get, string_bytes, All, IfNone, IfSome, IsSomeAnd, IsTrue, OnErr, OnOk};
+ghost use Rattle.std.specs.Io.KnownBytes.{Appends as GetsBytes};
 ghost use Rattle.bar_outside.specs.Disk.{Content, CreatedFiles};
 ghost use Rattle.bar_system.specs.History.{disk_by, made_of, stream_by};
+ghost use Rattle.bar_system.specs.RealFiles.{AddsTo, GotPiece};
 ghost use Rattle.bar_system.specs.Refusal.{IsRefusal};
 
 use bar_outside::{FileFault, Files, LARGEST_FILE, Sink, SinkFault};
@@ -53,6 +54,7 @@ impl<'a, R: rt::Files + AllocGlobal> RealFiles<'a, R> {
         ensures cause { HasCause {T = ⊤} FileFault.Failed self.old.faults self.new.faults (Err result) }
         ensures noted { result ≡ FileFault.Failed → self.new.log.events ≡ event_of note.now ∷ self.old.log.events }
         ensures unnoted { result ≡ FileFault.NoMemory → self.new.log.events ≡ self.old.log.events }
+        ensures same { self.new.created.items ≡ self.old.created.items }
     {
         if error.kind() == ErrorKind::OutOfMemory {
             return FileFault::NoMemory;
@@ -120,6 +122,9 @@ fn append_file<F: Write>(
         IfSome result (λ _. IsTrue (here path.now)) }
     ensures kept { (here : CreatedFiles) → All (λ f. IsTrue (here (string_bytes f.path))) created.old.items →
         All (λ f. IsTrue (here (string_bytes f.path))) created.new.items }
+    // a file that says what it holds has got exactly these
+    ensures exact { IfSome result (λ r. GotPiece F.contents path.now (take r.0 bytes.now) created.old.items created.new.items) }
+    ensures none { IfNone result (created.new.items ≡ created.old.items) }
 {
     let place = place_of(created, path)?;
     let other = created.get_mut(place)?;
@@ -127,6 +132,8 @@ fn append_file<F: Write>(
 }
 
 impl<R: rt::Files + AllocGlobal> Files for RealFiles<'_, R> {
+    ghost use Rattle.bar_outside.specs.Disk.{Appends};
+
     ghost disk = { λ files was. disk_by files.log.events files.faults was };
 
     fn read(&mut self, path: &str) -> Result<Vec<u8>, FileFault> {
@@ -149,7 +156,13 @@ impl<R: rt::Files + AllocGlobal> Files for RealFiles<'_, R> {
         }
     }
 
-    fn append(&mut self, path: &str, bytes: &[u8]) -> Result<(), FileFault> {
+    fn append(&mut self, path: &str, bytes: &[u8]) -> Result<(), FileFault>
+        ensures appends { (was : Content) → Appends path.now bytes.now (disk_by self.old.log.events self.old.faults was)
+            (disk_by self.new.log.events self.new.faults was) result }
+        // what is told is what a file got that says what it holds
+        ensures hands_on { AddsTo R.File.contents path.now self.old.created.items self.new.created.items
+            self.old.log.events self.new.log.events }
+    {
         match append_file(&mut self.created, path, bytes) {
             Some((took, written)) => {
                 self.log = self.log.then(&Note::Added(path, &bytes[..took]));
@@ -217,7 +230,7 @@ fn write_bytes<W: Write>(stream: &mut W, bytes: &[u8]) -> (usize, io::Result<()>
     ensures few { result.0 ≤ length bytes.now }
     ensures all { OnOk result.1 (result.0 ≡ length bytes.now) }
     // a stream that says what it holds has got exactly these
-    ensures exact { Appends (W.contents stream.old) (W.contents stream.new) (take result.0 bytes.now) }
+    ensures exact { GetsBytes (W.contents stream.old) (W.contents stream.new) (take result.0 bytes.now) }
 {
     let mut took = 0;
     for _ in 0..u64::MAX {
