@@ -8,6 +8,8 @@ ghost use Rattle.bar_cli.specs.Printing.{session_may_print};
 ghost use Rattle.bar_cli.specs.Session.{SessionEnds};
 ghost use Rattle.bar_cli.specs.Status.{code_of_run, said_by_run};
 
+pub mod laws;
+
 use crate::status::Status;
 use bar_child_processes::{SessionNames, run_children};
 use bar_outside::{Fault, Files, Sink, Spawner, read_file};
