@@ -23,6 +23,7 @@ pub mod WrittenOut
 pub mod RunLemmas
 pub mod WordLemmas
 pub mod SessionLemmas
+mod SessionFiles
 pub mod SimulateLemmas
 pub mod HeadlineLemmas
 pub mod FinishedLemmas

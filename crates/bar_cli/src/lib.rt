@@ -44,6 +44,7 @@ pub use replay::laws::{
     refusals_change_nothing, session_refused_exactly,
 };
 pub use run::bar_run;
+pub use session::laws::peers_have_files_of_their_own;
 pub use verify::laws::{
     a_bad_proof_is_refused, a_bad_session_is_not_verified,
     a_front_of_the_proofs_verdict_is_printed, the_proof_is_judged,

@@ -1,0 +1,6 @@
+pub mod Refusal
+pub mod History
+pub mod RealSink
+pub mod RealLink
+pub mod Fitting
+pub mod RealFiles

@@ -1,0 +1,13 @@
+//! The system as the program's outside: its files, streams, child programs and the loopback network, each with a history of what was read,
+//! taken and handed on.
+#![tactic(auto)]
+
+mod laws;
+mod link;
+mod outside;
+mod spawner;
+
+pub use laws::some_content_fits;
+pub use link::RealLink;
+pub use outside::{RealFiles, RealSink, Standard};
+pub use spawner::RealSpawner;

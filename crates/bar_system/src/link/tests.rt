@@ -1,0 +1,77 @@
+//! Real links over the loopback network, and their counts.
+use super::{RealLink, unix_ms};
+use bar_outside::{LARGEST_PACKET, Link, LinkFault, Taken};
+use std::test::Fail;
+
+/// A port of party 0, by the time. Tests that run at once have parties of their own.
+fn port_now(rt: &HostRuntime) -> Result<u16, Fail> {
+    let port = 20_000 + unix_ms(rt)? % 20_000;
+    Ok(u16::try_from(port).unwrap_or(20_000))
+}
+
+/// A time far in the future, in milliseconds: no tick is due.
+const NEVER: u64 = 1 << 60;
+
+#[test]
+fn a_datagram_arrives(rt: HostRuntime) -> Result<(), Fail> {
+    let port = port_now(&rt)?;
+    let mut buf = vec![in rt.alloc(); 0; LARGEST_PACKET]?;
+    let mut one = RealLink::new(&rt);
+    let mut two = RealLink::new(&rt);
+    assert_eq!(rt; one.bind(1, port, NEVER, 1_000), Ok(()));
+    assert_eq!(rt; two.bind(2, port, NEVER, 1_000), Ok(()));
+    assert_eq!(rt; one.send(2, b"hello"), Ok(()));
+    assert_eq!(rt; two.next(&mut buf), Ok(Taken::Datagram(5)));
+    assert!(rt; buf.starts_with(b"hello"));
+    // each goes to its receiver alone
+    assert_eq!(rt; two.send(2, b"own"), Ok(()));
+    assert_eq!(rt; two.send(1, b"back"), Ok(()));
+    assert_eq!(rt; two.next(&mut buf), Ok(Taken::Datagram(3)));
+    assert!(rt; buf.starts_with(b"own"));
+    assert_eq!(rt; one.next(&mut buf), Ok(Taken::Datagram(4)));
+    assert!(rt; buf.starts_with(b"back"));
+    Ok(())
+}
+
+#[test]
+fn the_largest_datagram_arrives_whole(rt: HostRuntime) -> Result<(), Fail> {
+    let port = port_now(&rt)?;
+    let mut buf = vec![in rt.alloc(); 0; LARGEST_PACKET]?;
+    let mut one = RealLink::new(&rt);
+    let mut two = RealLink::new(&rt);
+    assert_eq!(rt; one.bind(6, port, NEVER, 1_000), Ok(()));
+    assert_eq!(rt; two.bind(7, port, NEVER, 1_000), Ok(()));
+    // a datagram to a port where nobody listens fails nothing
+    assert_eq!(rt; two.send(8, b"lost"), Ok(()));
+    assert_eq!(rt; two.send(6, &buf), Ok(()));
+    assert_eq!(rt; one.next(&mut buf), Ok(Taken::Datagram(LARGEST_PACKET)));
+    assert_eq!(rt; two.faults, 0);
+    Ok(())
+}
+
+#[test]
+fn overdue_ticks_come_one_a_call(rt: HostRuntime) -> Result<(), Fail> {
+    let port = port_now(&rt)?;
+    let mut buf = vec![in rt.alloc(); 0; LARGEST_PACKET]?;
+    let mut one = RealLink::new(&rt);
+    assert_eq!(rt; one.bind(4, port, 0, 1_000), Ok(()));
+    assert_eq!(rt; one.next(&mut buf), Ok(Taken::Tick));
+    assert_eq!(rt; one.next(&mut buf), Ok(Taken::Tick));
+    assert_eq!(rt; one.faults, 0);
+    Ok(())
+}
+
+#[test]
+fn a_link_that_fails_is_counted(rt: HostRuntime) -> Result<(), Fail> {
+    let port = port_now(&rt)?;
+    let mut buf = vec![in rt.alloc(); 0; LARGEST_PACKET]?;
+    let mut link = RealLink::new(&rt);
+    assert_eq!(rt; link.next(&mut buf), Err(LinkFault::Failed));
+    assert_eq!(rt; link.send(1, b"x"), Err(LinkFault::Failed));
+    assert_eq!(rt; link.faults, 2);
+    let mut first = RealLink::new(&rt);
+    assert_eq!(rt; first.bind(5, port, NEVER, 1_000), Ok(()));
+    assert_eq!(rt; link.bind(5, port, NEVER, 1_000), Err(LinkFault::Failed));
+    assert_eq!(rt; link.faults, 3);
+    Ok(())
+}

@@ -1,0 +1,41 @@
+//! Real child programs, their statuses and their faults.
+use super::RealSpawner;
+use bar_outside::{ChildFault, Spawner};
+use std::alloc::{AllocError, Global};
+use std::test::Fail;
+
+fn shell(alloc: Global, script: &str) -> Result<Vec<String>, AllocError> {
+    let mut words = Vec::new(alloc);
+    for word in ["/bin/sh", "-c", script] {
+        words.push(String::from_str(alloc, word)?)?;
+    }
+    Ok(words)
+}
+
+#[test]
+fn children_end_with_their_statuses(rt: HostRuntime) -> Result<(), Fail> {
+    let alloc = rt.alloc();
+    let mut spawner = RealSpawner::new(&rt);
+    // a status, another one, and a signal
+    for (script, status) in [("exit 0", 0), ("exit 6", 6), ("kill -9 $$", 137)] {
+        let words = shell(alloc, script)?;
+        assert!(rt; 0 < words.len());
+        let Ok(child) = spawner.start(&words) else {
+            return Err(Fail::from(AllocError));
+        };
+        assert_eq!(rt; spawner.wait(child), Ok(status), "{script}");
+    }
+    assert_eq!(rt; spawner.faults, 0);
+    Ok(())
+}
+
+#[test]
+fn a_program_that_is_not_there_is_counted(rt: HostRuntime) -> Result<(), Fail> {
+    let alloc = rt.alloc();
+    let mut words = Vec::new(alloc);
+    words.push(String::from_str(alloc, "/no/such/program")?)?;
+    let mut spawner = RealSpawner::new(&rt);
+    assert_eq!(rt; spawner.start(&words), Err(ChildFault::Failed));
+    assert_eq!(rt; spawner.faults, 1);
+    Ok(())
+}
