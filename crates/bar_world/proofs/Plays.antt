@@ -9,7 +9,7 @@ use Rattle.bar_world.specs.Network.{Game, Play, lie_of, other_key, lie_by, lie_i
 use Rattle.bar_world.specs.Network.{decided, lost_one, delivered_once, delivered_twice, drew, served_by, served, drained}
 use Rattle.bar_world.specs.Network.{ticked, tick_played, played_on}
 use Rattle.bar_world.proofs.KeyReads.{key-reads}
-use Rattle.bar_world.proofs.Worlds.{run-append}
+use Rattle.bar_laws.proofs.Worlds.{run-on}
 use Rattle.std.proofs.Common.{◌≡◌, ℕ, zero, suc, Bool, true, false, List, [], ◌∷◌, ◌++◌, ◌+◌, ◌%◌, ◌^◌, ◌<◌, eqb, cond}
 use Rattle.std.proofs.Common.{refl, sym, ap, ◌∙◌, subst}
 use Rattle.std.proofs.lemmas.Bool.{eqb-true, both_ways}
@@ -68,7 +68,7 @@ module _ (game : Game) (small : game.liar < 2 ^ 16) where
   moved-runs : (play : Play) (m : Move) → IsLie game.setup.session game.liar m → IsRun game play → IsRun game (moved game play m)
   unfolding moved
   moved-runs play m lie is = record {
-    world = ap (λ w. happens game.setup w m) is.world ∙ sym (run-append game.setup (initial game.setup) play.moves (m ∷ []));
+    world = ap (λ w. happens game.setup w m) is.world ∙ sym (run-on game.setup (initial game.setup) play.moves (m ∷ []));
     moves = lies-append game.setup.session game.liar play.moves (m ∷ []) is.moves (lie, tt);
     queue = lies-append game.setup.session game.liar play.queue _ is.queue (deliveries-are game _ _ small);
   }

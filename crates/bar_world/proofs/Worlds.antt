@@ -8,11 +8,12 @@ use Rattle.bar_rules.specs.Peer.Log.{Log}
 use Rattle.bar_rules.specs.Runs.{Outcome, state_after}
 use Rattle.bar_rules.specs.World.World.{Setup, World, Move, TickOf, Deliver, Hostile, party_step, spelled, takes, takes_by, delivered, happens, run, initial}
 use Rattle.bar_laws.specs.Parties.{after}
-use Rattle.bar_laws.specs.OwnRuns.{inputs_from, inputs_of, input_at, IsOwnRun}
+use Rattle.bar_laws.specs.OwnRuns.{inputs_of, input_at, IsOwnRun}
+use Rattle.bar_laws.proofs.Worlds.{inputs-on, run-on}
 use Rattle.bar_world.specs.Cores.{IsCoreOf}
 use Rattle.bar_world.specs.Given.{Gives}
 use Rattle.bar_world.specs.Texts.{texts}
-use Rattle.std.proofs.Common.{◌≡◌, ◌≤◌, ◌∙◌, ℕ, zero, suc, false, List, [], ◌∷◌, ◌++◌, eqb, cond, length, map, refl, sym, ap, subst, append-nil, append_assoc, arith}
+use Rattle.std.proofs.Common.{◌≡◌, ◌≤◌, ◌∙◌, ℕ, zero, suc, false, List, [], ◌∷◌, ◌++◌, eqb, cond, length, map, refl, sym, ap, subst, append-nil, arith}
 use Rattle.std.specs.Prelude.{Vec, Option, Some, None, slice_get, slice_set, unwrap_or, option_map}
 use Rattle.std.specs.List.{concat}
 use Rattle.std.proofs.lemmas.List.{length-map}
@@ -34,25 +35,13 @@ past (x ∷ xs) (suc p) h = past xs p (omega (arith, h))
 
 -- ---- one move more
 
-pub run-append : (setup : Setup) (w : World) (xs ys : List Move) → run setup w (xs ++ ys) ≡ run setup (run setup w xs) ys
-run-append setup w [] ys = refl
-run-append setup w (x ∷ xs) ys = run-append setup (happens setup w x) xs ys
-
-inputs-append : (setup : Setup) (w : World) (p : ℕ) (xs ys : List Move)
-    → inputs_from setup w p (xs ++ ys) ≡ inputs_from setup w p xs ++ inputs_from setup (run setup w xs) p ys
-inputs-append setup w p [] ys = refl
-inputs-append setup w p (x ∷ xs) ys =
-    ap (λ rest. input_at w p x ++ rest) (inputs-append setup (happens setup w x) p xs ys)
-    ∙ sym (append_assoc (input_at w p x) (inputs_from setup (happens setup w x) p xs)
-    (inputs_from setup (run setup (happens setup w x) xs) p ys))
-
 pub after-more : (setup : Setup) (moves : List Move) (m : Move) → after setup (moves ++ m ∷ []) ≡ happens setup (after setup moves) m
-after-more setup moves m = run-append setup (initial setup) moves (m ∷ [])
+after-more setup moves m = run-on setup (initial setup) moves (m ∷ [])
 
 pub inputs-more : (setup : Setup) (moves : List Move) (m : Move) (p : ℕ)
     → inputs_of setup (moves ++ m ∷ []) p ≡ inputs_of setup moves p ++ input_at (after setup moves) p m
 inputs-more setup moves m p =
-    inputs-append setup (initial setup) p moves (m ∷ [])
+    inputs-on setup (initial setup) p moves (m ∷ [])
     ∙ ap (λ rest. inputs_of setup moves p ++ rest) (append-nil (input_at (after setup moves) p m))
 
 -- ---- how many logs there are
