@@ -35,7 +35,7 @@ done names peers out_old out_new old new ran =
       parties = parties;
       calls = ran.calls;
       ended = ended;
-      lines = λ told. lines-shown ran.family out_old out_new ran.shows shown told
+      lines = lines-shown ran.family out_old out_new ran.shows shown
           ∙ ap (λ lines. out_old.bytes ++ lines)
           (lines-well ran.family shown ended ∙ ap (flat_map (λ party. status_line party (pos 0))) parties);
     }

@@ -97,9 +97,9 @@ broken-then : (old mid new first part : List ℕ) → mid ≡ old ++ (first ++ p
 broken-then old mid new first part h k = k ∙ (append-nil mid ∙ (h ∙ ap (λ b. old ++ (b ++ part)) (sym (append-nil first))))
 
 module _ (xs ys : List Child) (old mid new : Stream) (first : ShowsLines xs old mid) (second : ShowsLines ys mid new) where
-  bytes-append : (prints : Bool) → IsTrue (is_in_order (prints_after prints xs) ys) → IsTrue old.told →
+  bytes-append : (prints : Bool) → IsTrue (is_in_order (prints_after prints xs) ys) →
       (k : ℕ) × (new.bytes ≡ old.bytes ++ (whole_lines (xs ++ ys) ++ take k (broken_lines (xs ++ ys))))
-  bytes-append prints in_order told = by-prints (prints_after prints xs) refl (first.bytes told) (second.bytes (first.told ∙ told))
+  bytes-append prints in_order = by-prints (prints_after prints xs) refl first.bytes second.bytes
     where
       by-prints : (after : Bool) → prints_after prints xs ≡ after →
           (k : ℕ) × (mid.bytes ≡ old.bytes ++ (whole_lines xs ++ take k (broken_lines xs))) →
@@ -128,7 +128,6 @@ module _ (xs ys : List Child) (old mid new : Stream) (first : ShowsLines xs old 
   shows-append prints in_order =
       let refusals = list_any-append (λ child. is_refused child.shown) xs ys in
       record {
-        told = second.told ∙ first.told;
         reliable = second.reliable ∙ first.reliable;
         later = let h = first.later in let k = second.later in omega arith;
         rose = λ e. elim (or_cases _ (list_any (λ child. is_refused child.shown) ys) (sym refusals ∙ e)) [
@@ -146,7 +145,6 @@ waits-append : (xs ys : List Child) (old mid new : Children) → WaitsForEach xs
 waits-append xs ys old mid new first second =
     let refusals = list_any-append (λ child. is_refused_wait child.ended) xs ys in
     record {
-      told = second.told ∙ first.told;
       reliable = second.reliable ∙ first.reliable;
       later = let h = first.later in let k = second.later in omega arith;
       rose = λ e. elim (or_cases _ (list_any (λ child. is_refused_wait child.ended) ys) (sym refusals ∙ e)) [
@@ -154,8 +152,8 @@ waits-append xs ys old mid new first second =
         | inr late ↦ rose-behind old.faults mid.faults new.faults first.later (second.rose late)
       ];
       refused = λ reliable. refusals ∙ or_from _ _ (first.refused reliable) (second.refused (first.reliable ∙ reliable));
-      calls = λ told. second.calls (first.told ∙ told)
-          ∙ (ap (λ calls. calls ++ map wait_of ys) (first.calls told)
+      calls = second.calls
+          ∙ (ap (λ calls. calls ++ map wait_of ys) first.calls
           ∙ (append_assoc old.calls (map wait_of xs) (map wait_of ys) ∙ ap (λ calls. old.calls ++ calls) (sym (map-append wait_of xs ys))));
     }
 
@@ -167,20 +165,18 @@ reports-none was out children = record {
   family = [];
   are = refl;
   waits = record {
-    told = refl;
     reliable = refl;
     later = omega arith;
     rose = λ e. absurd (true≢false (sym e));
     refused = λ reliable. refl;
-    calls = λ told. sym (append-nil children.calls);
+    calls = sym (append-nil children.calls);
   };
   shows = record {
-    told = refl;
     reliable = refl;
     later = omega arith;
     rose = λ e. absurd (true≢false (sym e));
     refused = λ reliable. refl;
-    bytes = λ told. (0, sym (append-nil out.bytes));
+    bytes = (0, sym (append-nil out.bytes));
   };
   in_order = refl;
   prints = refl;

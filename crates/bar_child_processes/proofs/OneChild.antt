@@ -13,7 +13,6 @@ use Rattle.bar_child_processes.proofs.Codes.{joined-none}
 waits-one : (party number : ℕ) (ended : Result ℤ ChildFault) (shown : Shown) (old new : Children) → Waits number old new ended →
     WaitsForEach (record { party = party; number = number; ended = ended; shown = shown } ∷ []) old new
 waits-one party number (Ok status) shown old new w = record {
-  told = w.call.told;
   reliable = w.call.reliable;
   later = w.call.cause.later;
   rose = λ e. absurd (true≢false (sym e));
@@ -21,7 +20,6 @@ waits-one party number (Ok status) shown old new w = record {
   calls = w.added;
 }
 waits-one party number (Err fault.Failed) shown old new w = record {
-  told = w.call.told;
   reliable = w.call.reliable;
   later = w.call.cause.later;
   rose = λ e. w.call.cause.rose refl;
@@ -29,7 +27,6 @@ waits-one party number (Err fault.Failed) shown old new w = record {
   calls = w.refused;
 }
 waits-one party number (Err fault.NoMemory) shown old new w = record {
-  told = w.call.told;
   reliable = w.call.reliable;
   later = w.call.cause.later;
   rose = λ e. absurd (true≢false (sym e));
@@ -41,12 +38,11 @@ waits-one party number (Err fault.NoMemory) shown old new w = record {
 shows-none : (party number : ℕ) (ended : Result ℤ ChildFault) (out : Stream) →
     ShowsLines (record { party = party; number = number; ended = ended; shown = Untried } ∷ []) out out
 shows-none party number ended out = record {
-  told = refl;
   reliable = refl;
   later = omega arith;
   rose = λ e. absurd (true≢false (sym e));
   refused = λ reliable. refl;
-  bytes = λ told. (0, sym (append-nil out.bytes));
+  bytes = (0, sym (append-nil out.bytes));
 }
 
 in-order-tried : (party number : ℕ) (prints : Bool) (status : ℤ) (shown : Shown) → IsTrue prints → is_tried shown ≡ true →

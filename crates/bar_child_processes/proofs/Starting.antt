@@ -14,20 +14,18 @@ start_in names key = Started (words_of names key.0) key.1
 -- the first parties were started, as children of these numbers
 pub record Starting (names : SessionNames) (peers : ℕ) (started : List (ℕ × ℕ)) (old new : Children) : Type 0 where
   pub parties : map (λ key. key.0) started ≡ first_parties peers (length started)
-  pub told : new.told ≡ old.told
   pub reliable : new.reliable ≡ old.reliable
   pub later : old.faults ≤ new.faults
-  pub calls : IsTrue old.told → new.calls ≡ old.calls ++ map (start_in names) started
-  pub running : IsTrue old.told → AreRunning new.calls (map (λ key. key.1) started)
+  pub calls : new.calls ≡ old.calls ++ map (start_in names) started
+  pub running : AreRunning new.calls (map (λ key. key.1) started)
 
 pub starting-none : (names : SessionNames) (peers : ℕ) (children : Children) → Starting names peers [] children children
 starting-none names peers children = record {
   parties = refl;
-  told = refl;
   reliable = refl;
   later = omega arith;
-  calls = λ told. sym (append-nil children.calls);
-  running = λ told. tt;
+  calls = sym (append-nil children.calls);
+  running = tt;
 }
 
 -- one more
@@ -41,15 +39,14 @@ starting-more names peers started old mid new party number s one here =
       parties = map-append (λ (k : ℕ × ℕ). k.0) started (key ∷ [])
           ∙ (ap (λ parties. parties ++ party ∷ []) s.parties
           ∙ (ap (λ p. first_parties peers (length started) ++ p ∷ []) here ∙ ap (first_parties peers) (sym longer)));
-      told = one.call.told ∙ s.told;
       reliable = one.call.reliable ∙ s.reliable;
       later = let h = s.later in let k = one.call.cause.later in omega arith;
-      calls = λ told. one.added (s.told ∙ told)
-          ∙ (ap (λ calls. calls ++ start_in names key ∷ []) (s.calls told)
+      calls = one.added
+          ∙ (ap (λ calls. calls ++ start_in names key ∷ []) s.calls
           ∙ (append_assoc old.calls (map (start_in names) started) (start_in names key ∷ [])
           ∙ ap (λ calls. old.calls ++ calls) (sym (map-append (start_in names) started (key ∷ [])))));
-      running = λ told.
-          rw (one.added (s.told ∙ told), map-append (λ (k : ℕ × ℕ). k.1) started (key ∷ []))
-          (running-started mid.calls (words_of names party) number (map (λ (k : ℕ × ℕ). k.1) started) (one.new_child (s.told ∙ told))
-          (s.running told));
+      running =
+          rw (one.added, map-append (λ (k : ℕ × ℕ). k.1) started (key ∷ []))
+          (running-started mid.calls (words_of names party) number (map (λ (k : ℕ × ℕ). k.1) started) one.new_child
+          s.running);
     }

@@ -106,10 +106,10 @@ none-broken (child ∷ family) shown =
     ap (λ s. (if is_broken s then line_of child else []) ++ broken_lines family) here.2
     ∙ none-broken family (All-tail IsShown child family shown)
 
-pub lines-shown : (family : List Child) (old new : Stream) → ShowsLines family old new → All IsShown family → IsTrue old.told →
+pub lines-shown : (family : List Child) (old new : Stream) → ShowsLines family old new → All IsShown family →
     new.bytes ≡ old.bytes ++ whole_lines family
-lines-shown family old new shows shown told =
-    let b = shows.bytes told in
+lines-shown family old new shows shown =
+    let b = shows.bytes in
     b.1 ∙ ap (λ rest. old.bytes ++ rest)
     (ap (λ rest. whole_lines family ++ rest) (take-nil b.0 (broken_lines family) (none-broken family shown)) ∙ append-nil (whole_lines family))
 
@@ -218,8 +218,8 @@ has-failed family old new shows f = record {
   status = f.status;
   ended = f.ended;
   other = λ e. true≢false (sym (ap is_zero e) ∙ f.other);
-  printed = λ told.
-      let b = shows.bytes told in
+  printed =
+      let b = shows.bytes in
       let line = ap₂ (λ s e. (if is_whole s then line_at f.child.party e else []) ++ whole_lines f.back) f.shown f.ended in
       let whole = ap whole_lines f.is
       ∙ (whole_lines-append f.front (f.child ∷ f.back) ∙ ap (λ rest. whole_lines f.front ++ rest) line) in

@@ -33,12 +33,11 @@ session-ran names peers keys stop now out_old out_new old mid new s r =
           ∙ (ap (map (λ (key : ℕ × ℕ). key.0)) r.are ∙ (s.parties ∙ ap (first_parties peers) count));
       stop = stop;
       all = subst (λ (n : ℕ). AreAllStarted peers n stop) count s.all;
-      calls = λ told. r.waits.calls (s.told ∙ told)
+      calls = r.waits.calls
           ∙ (ap (λ calls. calls ++ map wait_of r.family)
-          (s.calls told ∙ ap (λ calls. old.calls ++ calls)
+          (s.calls ∙ ap (λ calls. old.calls ++ calls)
           (ap (map (start_in names)) (sym r.are) ∙ map-map (start_in names) key_of r.family))
           ∙ append_assoc old.calls (map (start_of names) r.family) (map wait_of r.family));
-      told = r.waits.told ∙ s.told;
       reliable = r.waits.reliable ∙ s.reliable;
       later = let h = s.later in let k = r.waits.later in omega arith;
       rose = λ e. elim (or_cases (stop == 9) (list_any (λ child. is_refused_wait child.ended) r.family) e) [

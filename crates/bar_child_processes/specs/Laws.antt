@@ -26,22 +26,21 @@ pub record HasFailed (family : List Child) (out_old out_new : Stream) : Type 0 w
   pub status : ℤ
   pub ended : child.ended ≡ Ok status
   pub other : status ≢ pos 0
-  pub printed : IsTrue out_old.told →
-      (front back : List ℕ) × (out_new.bytes ≡ out_old.bytes ++ (front ++ (status_line child.party status ++ back)))
+  pub printed : (front back : List ℕ) × (out_new.bytes ≡ out_old.bytes ++ (front ++ (status_line child.party status ++ back)))
 
 -- these children are all the parties, each was started and waited for and ended with 0, and this was printed of each
 pub record AllEndedWell (names : SessionNames) (peers : ℕ) (family : List Child) (out_old out_new : Stream) (old new : Children) :
     Type 0 where
   pub parties : map (λ child. child.party) family ≡ all_parties peers
-  pub calls : IsTrue old.told → new.calls ≡ old.calls ++ calls_of names family
+  pub calls : new.calls ≡ old.calls ++ calls_of names family
   pub ended : All HasEndedWell family
-  pub lines : IsTrue out_old.told → out_new.bytes ≡ out_old.bytes ++ flat_map (λ party. status_line party (pos 0)) (all_parties peers)
+  pub lines : out_new.bytes ≡ out_old.bytes ++ flat_map (λ party. status_line party (pos 0)) (all_parties peers)
 
 -- these children are all the parties, the status of each was printed, and their statuses tell the session's
 pub record IsToldByChildren (peers : ℕ) (family : List Child) (out_old out_new : Stream) (status : ℕ) : Type 0 where
   pub parties : map (λ child. child.party) family ≡ all_parties peers
   pub shown : All IsShown family
-  pub lines : IsTrue out_old.told → out_new.bytes ≡ out_old.bytes ++ whole_lines family
+  pub lines : out_new.bytes ≡ out_old.bytes ++ whole_lines family
   pub told : ((status ≡ 0) × All HasEndedWell family) ⊎ ((status ≡ 9) × HasFailed family out_old out_new)
 
 -- ---- the laws

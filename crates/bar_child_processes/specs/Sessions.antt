@@ -15,12 +15,11 @@ key_of child = (child.party, child.number)
 
 -- the lines of these children were printed, whole or in part
 pub record ShowsLines (family : List Child) (old new : Stream) : Type 0 where
-  pub told : new.told ≡ old.told
   pub reliable : new.reliable ≡ old.reliable
   pub later : old.faults ≤ new.faults
   pub rose : list_any (λ child. is_refused child.shown) family ≡ true → Rose old.faults new.faults
   pub refused : IsTrue old.reliable → list_any (λ child. is_refused child.shown) family ≡ false
-  pub bytes : IsTrue old.told → (k : ℕ) × (new.bytes ≡ old.bytes ++ (whole_lines family ++ take k (broken_lines family)))
+  pub bytes : (k : ℕ) × (new.bytes ≡ old.bytes ++ (whole_lines family ++ take k (broken_lines family)))
 
 -- the status of a child was printed, or its line was refused
 pub record ShowsStatus (party number : ℕ) (status : ℤ) (was now : ReportData) (old new : Stream) : Type 0 where
@@ -32,12 +31,11 @@ pub record ShowsStatus (party number : ℕ) (status : ℤ) (was now : ReportData
 
 -- these children were waited for, each once and in order
 pub record WaitsForEach (family : List Child) (old new : Children) : Type 0 where
-  pub told : new.told ≡ old.told
   pub reliable : new.reliable ≡ old.reliable
   pub later : old.faults ≤ new.faults
   pub rose : list_any (λ child. is_refused_wait child.ended) family ≡ true → Rose old.faults new.faults
   pub refused : IsTrue old.reliable → list_any (λ child. is_refused_wait child.ended) family ≡ false
-  pub calls : IsTrue old.told → new.calls ≡ old.calls ++ map wait_of family
+  pub calls : new.calls ≡ old.calls ++ map wait_of family
 
 -- The children of these parties and numbers were waited for, and their statuses printed.
 pub record Reports (started : List (ℕ × ℕ)) (was now : ReportData) (out_old out_new : Stream) (old new : Children) : Type 0 where
@@ -63,13 +61,12 @@ AreAllStarted peers started stop =
 pub record StartsAll (names : SessionNames) (peers : ℕ) (started : List (ℕ × ℕ)) (old new : Children) (stop : ℕ) : Type 0 where
   pub parties : map (λ key. key.0) started ≡ first_parties peers (length started)
   pub all : AreAllStarted peers (length started) stop
-  pub told : new.told ≡ old.told
   pub reliable : new.reliable ≡ old.reliable
   pub later : old.faults ≤ new.faults
   pub rose : stop ≡ 9 → Rose old.faults new.faults
   pub refused : IsTrue old.reliable → stop ≢ 9
-  pub calls : IsTrue old.told → new.calls ≡ old.calls ++ map (λ key. Started (words_of names key.0) key.1) started
-  pub running : IsTrue old.told → AreRunning new.calls (map (λ key. key.1) started)
+  pub calls : new.calls ≡ old.calls ++ map (λ key. Started (words_of names key.0) key.1) started
+  pub running : AreRunning new.calls (map (λ key. key.1) started)
 
 -- A session of so many peers started its children, waited for them and printed their statuses, and ended with this status.
 pub record SessionRan (names : SessionNames) (peers : ℕ) (out_old out_new : Stream) (old new : Children) (status : ℕ) : Type 0 where
@@ -79,8 +76,7 @@ pub record SessionRan (names : SessionNames) (peers : ℕ) (out_old out_new : St
   -- 0 where all were started, or the status of the start that was refused
   pub stop : ℕ
   pub all : AreAllStarted peers (length family) stop
-  pub calls : IsTrue old.told → new.calls ≡ old.calls ++ calls_of names family
-  pub told : new.told ≡ old.told
+  pub calls : new.calls ≡ old.calls ++ calls_of names family
   pub reliable : new.reliable ≡ old.reliable
   pub later : old.faults ≤ new.faults
   pub rose : (stop == 9) || list_any (λ child. is_refused_wait child.ended) family ≡ true → Rose old.faults new.faults

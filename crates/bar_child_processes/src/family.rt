@@ -75,7 +75,7 @@ fn wait_for_all<K: Sink, S: Spawner>(
     out: &mut K,
     spawn: &mut S,
 )
-    requires { IsTrue (S.children spawn.old).told → AreRunning (S.children spawn.old).calls (map (λ c. c.number) children.now) }
+    requires { AreRunning (S.children spawn.old).calls (map (λ c. c.number) children.now) }
     ensures { Reports (map key_in children.now) (report_view report.old) (report_view report.new)
         (K.stream out.old) (K.stream out.new) (S.children spawn.old) (S.children spawn.new) }
 {

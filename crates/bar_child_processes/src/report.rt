@@ -79,7 +79,7 @@ impl Report {
         out: &mut K,
         spawn: &mut S,
     )
-        requires { IsTrue (S.children spawn.old).told → IsRunning child.now.number (S.children spawn.old).calls }
+        requires { IsRunning child.now.number (S.children spawn.old).calls }
         ensures { Reports ((child.now.party, child.now.number) ∷ []) (report_view self.old) (report_view self.new)
             (K.stream out.old) (K.stream out.new) (S.children spawn.old) (S.children spawn.new) }
     {

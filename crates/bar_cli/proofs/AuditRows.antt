@@ -157,7 +157,7 @@ module _ (names : AuditFiles) (old new : Outside) where
   record Told (status : ℕ) : Type 0 where
     accepted : AuditAccepted names old.files.content
     is : status ≡ status_of_balance (balance_in names old.files.content accepted)
-    printed : IsTrue old.out.told → new.out.bytes ≡ old.out.bytes ++ audit_text accepted.session accepted.recordings
+    printed : new.out.bytes ≡ old.out.bytes ++ audit_text accepted.session accepted.recordings
     files : SameFiles old new
 
   told-so : (status : ℕ) → is_stop status ≡ false → (IsRefused names old.files.content status → ⊥) → Outcome names old new status →

@@ -151,7 +151,7 @@ same-inputs names content a b =
 
 -- What a replay of this peer over these inputs leaves.
 record HasReplayed (names : ReplayFiles) (s : SessionData) (k : Secrets) (inputs : List Input) (old new : Outside) : Type 0 where
-  shown : IsTrue old.out.told → new.out.bytes ≡ old.out.bytes ++ transcript s (sends_of (member_by s k) inputs)
+  shown : new.out.bytes ≡ old.out.bytes ++ transcript s (sends_of (member_by s k) inputs)
   played : HasOwnNames names → new.files.content names.played ≡ Some (played_by (member_by s k) inputs)
   table : new.files.content (table_name names.found) ≡ Some (table_bytes (in_order (manifest_of (member_by s k) inputs) s.shape.rounds))
   evidence : (party : ℕ) → 1 ≤ party → party ≤ s.shape.peers →

@@ -110,7 +110,7 @@ module _ (names : ReplayFiles) (old new : Outside) (status : ℕ) (keeps : OfEac
         later = p.after;
         place = p.is;
         count = count;
-        shown = λ tells. up.shown tells
+        shown = up.shown
             ∙ ap (λ bytes. old.out.bytes ++ bytes)
             (front-of (shown_bytes up.earlier) (concat up.this.lines) [] up.shown_count ∙ ap (take count) (sym all-is));
         fewest = λ earlier last is.
@@ -124,7 +124,7 @@ module _ (names : ReplayFiles) (old new : Outside) (status : ℕ) (keeps : OfEac
 
   -- all of it
   spoke-all : (a : Accepted names old.files.content) →
-      (IsTrue old.out.told → new.out.bytes ≡ old.out.bytes ++ transcript_of names old.files.content a) → ReplaySpoke names old new status
+      new.out.bytes ≡ old.out.bytes ++ transcript_of names old.files.content a → ReplaySpoke names old new status
   spoke-all a sent =
       let all : List ℕ = transcript_of names old.files.content a in
       record {
@@ -133,7 +133,7 @@ module _ (names : ReplayFiles) (old new : Outside) (status : ℕ) (keeps : OfEac
         later = [];
         place = sym (append-nil a.inputs);
         count = length all;
-        shown = λ tells. sent tells ∙ ap (λ bytes. old.out.bytes ++ bytes) (sym (take-length all));
+        shown = sent ∙ ap (λ bytes. old.out.bytes ++ bytes) (sym (take-length all));
         fewest = λ earlier last is. shorter (peer_of names old.files.content a) a.inputs earlier (last ∷ []) is;
         whole = λ zero. (refl, sent);
         kept = of-each_moment held ranged KeepsTheRules keeps names old.files.content a;

@@ -40,14 +40,14 @@ unwritten path text lines content other differs =
 -- the file has the text, the lines were printed, and no other file was changed
 pub record IsMade (path text lines : List ℕ) (old new : Outside) : Type 0 where
   pub written : new.files.content path ≡ Some text
-  pub printed : IsTrue old.out.told → new.out.bytes ≡ old.out.bytes ++ lines
+  pub printed : new.out.bytes ≡ old.out.bytes ++ lines
   pub others : (other : List ℕ) → other ≢ path → new.files.content other ≡ old.files.content other
 
 pub made : (path text lines : List ℕ) (old new : Outside) → IsTrue new.files.told → Ran (making path text lines) old new →
     IsMade path text lines old new
 made path text lines old new told ran = record {
   written = ap (λ (holds : Content). holds path) ran.files ∙ written path text lines old.files.content;
-  printed = λ tells. ran.out tells ∙ ap (λ xs. old.out.bytes ++ xs) (append-nil lines);
+  printed = ran.out ∙ ap (λ xs. old.out.bytes ++ xs) (append-nil lines);
   others = λ other differs. ap (λ (holds : Content). holds other) ran.files
       ∙ unwritten path text lines old.files.content other differs;
 }
@@ -114,7 +114,7 @@ pub record IsBegun (path text lines : List ℕ) (status : ℕ) (old new : Outsid
   pub written_count : ℕ
   pub printed_count : ℕ
   pub written : new.files.content path ≡ Some (take written_count text)
-  pub printed : IsTrue old.out.told → new.out.bytes ≡ old.out.bytes ++ take printed_count lines
+  pub printed : new.out.bytes ≡ old.out.bytes ++ take printed_count lines
   pub order : (printed_count ≡ 0) ⊎ (new.files.content path ≡ Some text)
   pub at_output : status ≡ 7 → new.files.content path ≡ Some text
 
@@ -128,7 +128,7 @@ module _ (path text lines : List ℕ) (old new : Outside) (status : ℕ) (told :
         written_count = m.count;
         printed_count = m.many;
         written = file;
-        printed = λ tells. d.ran.out tells ∙ ap (λ xs. old.out.bytes ++ xs) m.out;
+        printed = d.ran.out ∙ ap (λ xs. old.out.bytes ++ xs) m.out;
         order = elim m.order [ inl none ↦ inl none | inr all ↦ inr (file ∙ ap Some all) ];
         at_output = λ e. file ∙ ap Some (m.at_output (d.at_output e));
       }

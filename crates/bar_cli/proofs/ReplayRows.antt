@@ -193,7 +193,7 @@ module _ (names : ReplayFiles) (old new : Outside) where
         played = λ own. ap (λ (holds : Content). holds names.played) ran.files
             ∙ final-played names turns findings old.files.content (own-names names me a.inputs own)
             ∙ ap Some (played-turns me 1 [] a.inputs);
-        sent = λ tells. ran.out tells
+        sent = ran.out
             ∙ ap (λ bytes. old.out.bytes ++ bytes) (shown-replay names turns findings ∙ shown-turns_from me 1 [] a.inputs);
         table = table-there names.found (manifest_of me a.inputs) a.session.shape.rounds (evidence_of me a.inputs) a.session.shape.peers
             new.files.content whole;
@@ -311,7 +311,7 @@ stopped-playing names old new status told a d (inr (inl made)) =
       a,
       record {
         played = ap (λ (holds : Content). holds names.played) d.ran.files ∙ made.made;
-        out = λ tells. d.ran.out tells ∙ ap (λ bytes. old.out.bytes ++ bytes) made.out ∙ append-nil old.out.bytes;
+        out = d.ran.out ∙ ap (λ bytes. old.out.bytes ++ bytes) made.out ∙ append-nil old.out.bytes;
         others = others-same names (turns_in names old.files.content a) status old new told d;
       },
       λ e. made.silent (d.at_output e),
@@ -326,7 +326,7 @@ stopped-playing names old new status told a d (inr (inr up)) =
       shown_count = up.shown_count;
       turns = up.is;
       played = ap (λ (holds : Content). holds names.played) d.ran.files ∙ up.played;
-      shown = λ tells. d.ran.out tells ∙ ap (λ bytes. old.out.bytes ++ bytes) up.printed;
+      shown = d.ran.out ∙ ap (λ bytes. old.out.bytes ++ bytes) up.printed;
       order = up.order;
       at_file = λ e. up.at_file (d.at_file e);
       at_output = λ e. up.at_output (d.at_output e);
@@ -357,7 +357,7 @@ found-so_far ranged names old new status told a d more is m next =
       played = λ own. ap (λ (c : Content). c names.played) after
           ∙ begun-others findings mid more names.played m (own-names names me a.inputs own)
           ∙ all-played names.played turns old.files.content ∙ ap Some (played-turns me 1 [] a.inputs);
-      sent = λ tells. d.ran.out tells ∙ ap (λ bytes. old.out.bytes ++ bytes) (printed ∙ shown-turns_from me 1 [] a.inputs);
+      sent = d.ran.out ∙ ap (λ bytes. old.out.bytes ++ bytes) (printed ∙ shown-turns_from me 1 [] a.inputs);
       found = λ own.
           written-since findings old.files.content mid new.files.content
           (all-map (λ f. f.name ≢ names.played) (λ f. mid f.name ≡ old.files.content f.name) findings
@@ -411,7 +411,7 @@ front-up_to names old new status up =
       played_count = played.0;
       shown_count = printed.0;
       played = λ own. up.played ∙ ap Some (played.1 ∙ ap (take played.0) (played-turns me 1 [] up.accepted.inputs));
-      shown = λ tells. up.shown tells
+      shown = up.shown
           ∙ ap (λ bytes. old.out.bytes ++ bytes) (printed.1 ∙ ap (take printed.0) (shown-turns_from me 1 [] up.accepted.inputs));
     }
 
@@ -425,7 +425,7 @@ front-found names old new status up =
       played_count = length all;
       shown_count = length lines;
       played = λ own. up.played own ∙ ap Some (sym (take-length all));
-      shown = λ tells. up.sent tells ∙ ap (λ bytes. old.out.bytes ++ bytes) (sym (take-length lines));
+      shown = up.sent ∙ ap (λ bytes. old.out.bytes ++ bytes) (sym (take-length lines));
     }
 
 -- whatever the status, all is as it was, or a front was played and a front shown
@@ -441,7 +441,7 @@ a_front ranged names old new status told o =
               played_count = 0;
               shown_count = 0;
               played = λ own. made.1.played;
-              shown = λ tells. made.1.out tells ∙ sym (append-nil old.out.bytes);
+              shown = made.1.out ∙ sym (append-nil old.out.bytes);
             })
         | inr more ↦ elim more [
           | inl up ↦ inr (front-up_to names old new status up)

@@ -150,11 +150,11 @@ line-same p q status e = ap (λ line. line_at (record { actions = []; status = 0
 says-same : (p q : Plan) (status : ℕ) (old new : Stream) → p.line ≡ q.line → Says p status old new → Says q status old new
 says-same p q status old new e h = record {
   later = h.later;
-  whole = λ told other none. h.whole told other none ∙ ap (λ line. old.bytes ++ line) (line-same p q status e);
-  front = λ told other.
-      let f = h.front told other in (f.0, f.1 ∙ ap (λ line. old.bytes ++ take f.0 line) (line-same p q status e));
-  no_memory = λ told is.
-      let f = h.no_memory told is in (f.0, f.1, f.2 ∙ ap (λ line. old.bytes ++ take f.0 line) (line-same p q f.1 e));
+  whole = λ other none. h.whole other none ∙ ap (λ line. old.bytes ++ line) (line-same p q status e);
+  front = λ other.
+      let f = h.front other in (f.0, f.1 ∙ ap (λ line. old.bytes ++ take f.0 line) (line-same p q status e));
+  no_memory = λ is.
+      let f = h.no_memory is in (f.0, f.1, f.2 ∙ ap (λ line. old.bytes ++ take f.0 line) (line-same p q f.1 e));
 }
 
 -- the line that words have that are no line

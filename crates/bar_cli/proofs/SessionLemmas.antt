@@ -90,9 +90,9 @@ module _ (names : SessionNames) (old new : Outside) (kids kids_new : Children) (
       ended-line ends known ∙ ap (session_line names old.files.content) (sym same) in
       record {
         later = prints.later;
-        whole = λ told other none. prints.whole told other none ∙ ap (λ xs. err.bytes ++ xs) is;
-        front = λ told other. let p = prints.front told in (p.0, p.1 ∙ ap (λ xs. err.bytes ++ take p.0 xs) is);
-        no_memory = λ told other. let p = prints.front told in (p.0, result, p.1 ∙ ap (λ xs. err.bytes ++ take p.0 xs) is);
+        whole = λ other none. prints.whole other none ∙ ap (λ xs. err.bytes ++ xs) is;
+        front = λ other. let p = prints.front in (p.0, p.1 ∙ ap (λ xs. err.bytes ++ take p.0 xs) is);
+        no_memory = λ other. let p = prints.front in (p.0, result, p.1 ∙ ap (λ xs. err.bytes ++ take p.0 xs) is);
       }
   session-said result err err_new ends prints (inr seventy) either =
       let known : new.files.told ≡ true = elim (either-of new.files.told (is_plain_end result) either) [
@@ -101,8 +101,8 @@ module _ (names : SessionNames) (old new : Outside) (kids kids_new : Children) (
       ] in
       record {
         later = prints.later;
-        whole = λ told other. absurd (other seventy);
-        front = λ told other. absurd (other seventy);
-        no_memory = λ told is.
-            let p = prints.front told in (p.0, status, p.1 ∙ ap (λ xs. err.bytes ++ take p.0 xs) (ended-line ends (inl known)));
+        whole = λ other. absurd (other seventy);
+        front = λ other. absurd (other seventy);
+        no_memory = λ is.
+            let p = prints.front in (p.0, status, p.1 ∙ ap (λ xs. err.bytes ++ take p.0 xs) (ended-line ends (inl known)));
       }

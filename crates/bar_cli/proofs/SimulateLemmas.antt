@@ -42,7 +42,7 @@ has-shown seed old new status same ends =
     record {
       files = same;
       wire = same-traffic (show text ∷ []) status old new tt d;
-      front = λ tells. (b.0, d.ran.out tells ∙ ap (λ bytes. old.out.bytes ++ bytes) (b.1 ∙ ap (take b.0) (append-nil text)));
-      whole = λ go tells. (ends.fixed is go).ran.out tells ∙ ap (λ bytes. old.out.bytes ++ bytes) (append-nil text);
+      front = (b.0, d.ran.out ∙ ap (λ bytes. old.out.bytes ++ bytes) (b.1 ∙ ap (take b.0) (append-nil text)));
+      whole = λ go. (ends.fixed is go).ran.out ∙ ap (λ bytes. old.out.bytes ++ bytes) (append-nil text);
       ended = elim (cases_Bool (is_stop status)) [ inl stop ↦ inr stop | inr go ↦ inl (ends.fixed is go).is ];
     }

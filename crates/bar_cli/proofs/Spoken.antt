@@ -121,7 +121,10 @@ module _ (held : AreHeld) (ranged : AreInRange) (keeps : OfEachPeer KeepsTheRule
       elim (cases_Bool (status == 0)) [
         | inl zero ↦ inr (spoke-done (done (eqb-true status 0 zero)))
         | inr other ↦ elim stands [
-          | inl same ↦ inl same.wire
-          | inr two ↦ elim two [ inl begun ↦ inl begun.begun.wire | inr stopped ↦ inr (spoke-stopped (differ status 0 other) stopped) ]
+          | inl same ↦ inl (inl same, differ status 0 other)
+          | inr two ↦ elim two [
+            | inl begun ↦ inl (inr begun, differ status 0 other)
+            | inr stopped ↦ inr (spoke-stopped (differ status 0 other) stopped)
+          ]
         ]
       ]

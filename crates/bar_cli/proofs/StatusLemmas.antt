@@ -34,8 +34,8 @@ use Rattle.bar_cli.specs.Keygen.Plan.{Keygen}
 abbrev pub quiet : Outside
 quiet = record {
   files = record { told = false; reliable = false; content = λ path. None; created_here = λ path. false; failed = None; faults = 0 };
-  out = record { told = false; reliable = false; bytes = []; faults = 0 };
-  wire = record { told = false; reliable = false; traffic = no_traffic; faults = 0 };
+  out = record { reliable = false; bytes = []; faults = 0 };
+  wire = record { reliable = false; traffic = no_traffic; faults = 0 };
 }
 
 -- what holds over any files doesn't fail by them

@@ -219,7 +219,7 @@ pub unchanged-by : (plan : List Action) (status : ℕ) (old new : Outside) → I
     IsQuietAt old.files.content (content_after d.done old.files.content) (shown d.done) d.begun.rest → IsUnchanged status old new
 unchanged-by plan status old new told unlinked d quiet = record {
   files = d.ran.files ∙ quiet.files;
-  out = λ tells. d.ran.out tells ∙ ap (λ bytes. old.out.bytes ++ bytes) quiet.out ∙ append-nil old.out.bytes;
+  out = d.ran.out ∙ ap (λ bytes. old.out.bytes ++ bytes) quiet.out ∙ append-nil old.out.bytes;
   wire = same-traffic plan status old new unlinked d;
   no_link = no-link plan status old new unlinked d;
   no_output = λ e. quiet.silent (d.at_output e);

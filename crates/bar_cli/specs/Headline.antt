@@ -3,7 +3,7 @@
 use Rattle.std.specs.Prelude.{◌≡◌, ◌≢◌, ◌⊎◌, ◌≤◌, ℕ, List, [], ◌∷◌, ◌++◌, Some, IsTrue, length, take}
 use Rattle.std.specs.List.{AllByRecursion}
 use Rattle.bar_outside.specs.Disk.{Content}
-use Rattle.bar_outside.specs.Ends.{NothingPrinted, SameTraffic}
+use Rattle.bar_outside.specs.Ends.{NothingPrinted}
 use Rattle.bar_outside.specs.Plan.{Outside}
 use Rattle.bar_outside.specs.Wire.{Arrival}
 use Rattle.bar_window.specs.declared.exchange.Exchange.{Exchange}
@@ -27,7 +27,7 @@ use Rattle.bar_core.specs.Rules.{Send}
 use Rattle.bar_node.specs.Runs.{heard, taken_of}
 use Rattle.bar_node.specs.Stops.{IsFront}
 use Rattle.bar_party_commands.specs.PeerPlan.{PeerNames, rules_by}
-use Rattle.bar_party_commands.specs.PeerStands.{IsPeerOf}
+use Rattle.bar_party_commands.specs.PeerStands.{IsPeerOf, IsUnused}
 use Rattle.bar_party_commands.specs.Stands.{packets}
 use Rattle.bar_cli.specs.Replay.Plan.{ReplayFiles, Accepted, peer_of, transcript_of}
 use Rattle.bar_cli.specs.Replay.Transcript.{transcript}
@@ -72,7 +72,7 @@ pub record PeerSpoke (names : PeerNames) (old new : Outside) (status : ℕ) : Ty
   pub secrets : Secrets
   pub is_of : IsPeerOf names old.files.content session secrets
   pub given : List Arrival
-  pub taken : IsTrue old.wire.told → new.wire.traffic.taken ≡ old.wire.traffic.taken ++ heard given
+  pub taken : new.wire.traffic.taken ≡ old.wire.traffic.taken ++ heard given
   pub inputs : List Input
   pub later : List Input
   pub place : taken_of (rules_by session secrets) given ≡ inputs ++ later
@@ -80,14 +80,14 @@ pub record PeerSpoke (names : PeerNames) (old new : Outside) (status : ℕ) : Ty
   pub sends : IsFront sent (packets session (sends_of (member_by session secrets) inputs))
   pub fewest : (earlier : List Input) (last : Input) → inputs ≡ earlier ++ last ∷ [] →
       IsFront (packets session (sends_of (member_by session secrets) earlier)) sent
-  pub sent_is : IsTrue old.wire.told → new.wire.traffic.sent ≡ old.wire.traffic.sent ++ sent
+  pub sent_is : new.wire.traffic.sent ≡ old.wire.traffic.sent ++ sent
   pub most : length later ≤ 1
   pub whole : status ≡ 0 → (later ≡ []) × (sent ≡ packets session (sends_of (member_by session secrets) inputs))
   pub kept : AtEachMoment KeepsTheRules (member_by session secrets) (taken_of (rules_by session secrets) given)
 
--- Nothing was done over the link, or the peer spoke so.
+-- Nothing was changed, or it was stopped before its link was bound, and its status isn't 0; or the peer spoke so.
 abbrev pub PeerHeadline : PeerNames → Outside → Outside → ℕ → Type 0
-PeerHeadline names old new status = SameTraffic old new ⊎ PeerSpoke names old new status
+PeerHeadline names old new status = IsUnused names old new status ⊎ PeerSpoke names old new status
 
 -- ---- of a replay
 
@@ -95,7 +95,7 @@ PeerHeadline names old new status = SameTraffic old new ⊎ PeerSpoke names old 
 abbrev pub SendsByTheRules : ReplayFiles → Outside → Outside → Type 0
 SendsByTheRules names old new =
     (accepted : Accepted names old.files.content)
-    × (IsTrue old.out.told → new.out.bytes ≡ old.out.bytes ++ transcript_of names old.files.content accepted)
+    × (new.out.bytes ≡ old.out.bytes ++ transcript_of names old.files.content accepted)
 
 -- the transcript of the peer of the key over these inputs
 abbrev pub transcript_up_to : (names : ReplayFiles) (content : Content) → Accepted names content → List Input → List ℕ
@@ -110,12 +110,11 @@ pub record ReplaySpoke (names : ReplayFiles) (old new : Outside) (status : ℕ) 
   pub later : List Input
   pub place : accepted.inputs ≡ inputs ++ later
   pub count : ℕ
-  pub shown : IsTrue old.out.told →
-      new.out.bytes ≡ old.out.bytes ++ take count (transcript_up_to names old.files.content accepted inputs)
+  pub shown : new.out.bytes ≡ old.out.bytes ++ take count (transcript_up_to names old.files.content accepted inputs)
   pub fewest : (earlier : List Input) (last : Input) → inputs ≡ earlier ++ last ∷ [] →
       length (transcript_up_to names old.files.content accepted earlier) ≤ count
-  pub whole : status ≡ 0 → (later ≡ []) × (IsTrue old.out.told →
-      new.out.bytes ≡ old.out.bytes ++ transcript_of names old.files.content accepted)
+  pub whole : status ≡ 0 →
+      (later ≡ []) × (new.out.bytes ≡ old.out.bytes ++ transcript_of names old.files.content accepted)
   pub kept : AtEachMoment KeepsTheRules (peer_of names old.files.content accepted) accepted.inputs
 
 -- Nothing was printed, and it was stopped or refused; or it spoke so far.

@@ -123,7 +123,7 @@ pub record Packed (names : PackFiles) (old new : Outside) : Type 0 where
   pub party_is : packed.party ≡ one.party
   pub fault_is : packed.fault ≡ one.fault
   pub written : new.files.content names.proof ≡ Some (file_of names old.files.content one)
-  pub printed : IsTrue old.out.told → new.out.bytes ≡ old.out.bytes ++ packed_line (file_of names old.files.content one)
+  pub printed : new.out.bytes ≡ old.out.bytes ++ packed_line (file_of names old.files.content one)
   pub others : (path : List ℕ) → path ≢ names.proof → new.files.content path ≡ old.files.content path
 
 -- all were accepted, the rules show nothing for this reason, its line was printed, and nothing else was done
@@ -131,7 +131,7 @@ pub record NotPacked (names : PackFiles) (old new : Outside) : Type 0 where
   pub accepted : PackAccepted names old.files.content
   pub why : Why
   pub is : verdict_in names old.files.content accepted ≡ NotShown why
-  pub printed : IsTrue old.out.told → new.out.bytes ≡ old.out.bytes ++ verdict_line (NotShown why)
+  pub printed : new.out.bytes ≡ old.out.bytes ++ verdict_line (NotShown why)
   pub files : SameFiles old new
 
 -- all were accepted, the rules show nothing for this reason, a front of its line was printed, and nothing else was done
@@ -139,7 +139,7 @@ pub record NotPackedFront (names : PackFiles) (old new : Outside) : Type 0 where
   pub accepted : PackAccepted names old.files.content
   pub why : Why
   pub is : verdict_in names old.files.content accepted ≡ NotShown why
-  pub printed : IsTrue old.out.told → (k : ℕ) × (new.out.bytes ≡ old.out.bytes ++ take k (verdict_line (NotShown why)))
+  pub printed : (k : ℕ) × (new.out.bytes ≡ old.out.bytes ++ take k (verdict_line (NotShown why)))
   pub files : SameFiles old new
 
 -- a fault is shown, the proof file has exactly what is packed of it, and a front of its line was printed
@@ -147,8 +147,7 @@ pub record ProofWritten (names : PackFiles) (old new : Outside) : Type 0 where
   pub one : HasShownOne names old.files.content
   pub printed_count : ℕ
   pub written : new.files.content names.proof ≡ Some (file_of names old.files.content one)
-  pub printed : IsTrue old.out.told →
-      new.out.bytes ≡ old.out.bytes ++ take printed_count (packed_line (file_of names old.files.content one))
+  pub printed : new.out.bytes ≡ old.out.bytes ++ take printed_count (packed_line (file_of names old.files.content one))
 
 -- a fault is shown, the proof file has a front of what is packed of it, and behind all of it a front of its line was printed
 pub record ProofBegun (names : PackFiles) (old new : Outside) : Type 0 where
@@ -156,8 +155,7 @@ pub record ProofBegun (names : PackFiles) (old new : Outside) : Type 0 where
   pub written_count : ℕ
   pub printed_count : ℕ
   pub written : new.files.content names.proof ≡ Some (take written_count (file_of names old.files.content one))
-  pub printed : IsTrue old.out.told →
-      new.out.bytes ≡ old.out.bytes ++ take printed_count (packed_line (file_of names old.files.content one))
+  pub printed : new.out.bytes ≡ old.out.bytes ++ take printed_count (packed_line (file_of names old.files.content one))
   pub order : (printed_count ≡ 0) ⊎ (new.files.content names.proof ≡ Some (file_of names old.files.content one))
 
 -- a call that `pack` makes: it reads its three files, and creates and writes the proof file

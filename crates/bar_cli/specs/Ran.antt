@@ -50,14 +50,14 @@ pub record WasDone (wanted : Option Line) (old new : Outside) (kids kids_new : C
   pub unread : reads_nothing wanted ≡ true → new.files ≡ old.files
   -- only `peer` and `broadcaster` use the link
   pub unlinked : uses_link wanted ≡ false → new.wire ≡ old.wire
-  -- the link of a peer is as it was, or bound to the key's party, and then the key is spent
-  pub peer_bound : (names : PeerNames) → wanted ≡ Some (line.peer names) → IsTrue new.files.told → peer.IsBoundOrUnused names old new
+  -- the link of a peer is as it was, and the status isn't 0; or it is bound to the key's party, and the key is spent
+  pub peer_bound : (names : PeerNames) → wanted ≡ Some (line.peer names) → IsTrue new.files.told → peer.IsBoundOrUnused names old new status
   -- and no file is changed but its own
   pub peer_files : (names : PeerNames) → wanted ≡ Some (line.peer names) → IsTrue new.files.told → (path : List ℕ) →
       (peer.IsPeerFile names path → ⊥) → new.files.content path ≡ old.files.content path
-  -- the link of a broadcaster is as it was, or bound to party 0, and then the key is spent
+  -- the link of a broadcaster is as it was, and the status isn't 0; or it is bound to party 0, and the key is spent
   pub broadcaster_bound : (names : CasterNames) → wanted ≡ Some (line.broadcaster names) → IsTrue new.files.told →
-      caster.IsBoundOrUnused names old new
+      caster.IsBoundOrUnused names old new status
   -- and no file is changed but its own
   pub broadcaster_files : (names : CasterNames) → wanted ≡ Some (line.broadcaster names) → IsTrue new.files.told → (path : List ℕ) →
       (caster.IsCasterFile names path → ⊥) → new.files.content path ≡ old.files.content path
@@ -73,9 +73,9 @@ pub record ByTheRules (wanted : Option Line) (old new : Outside) (status : ℕ) 
   pub peer_done : (names : PeerNames) → wanted ≡ Some (line.peer names) → IsTrue new.files.told → status ≡ 0 → peer.PeerDone names old new
   -- whatever its status, a peer stands so far: nothing was changed, or its files are begun, or its run was done up to an input
   pub peer_stands : (names : PeerNames) → wanted ≡ Some (line.peer names) → IsTrue new.files.told → peer.PeerStands names old new
-  -- whatever its status, a peer did nothing over the link, or what it sent is a front of what the rules send over the inputs that it took,
-  -- all of it at 0; and at each moment over them each datagram is signed by rule, its exchanges balance, its keys go to partners, bad keys
-  -- leave evidence, all evidence that it keeps is shown, nobody frames it, and no leaf signs twice
+  -- whatever its status, a peer did nothing over the link, and the status isn't 0; or what it sent is a front of what the rules send over
+  -- the inputs that it took, all of it at 0; and at each moment over them each datagram is signed by rule, its exchanges balance, its keys
+  -- go to partners, bad keys leave evidence, all evidence that it keeps is shown, nobody frames it, and no leaf signs twice
   pub peer_headline : (names : PeerNames) → wanted ≡ Some (line.peer names) → IsTrue new.files.told → PeerHeadline names old new status
   -- a broadcaster that ends with 0 took what the link gave up to its end or to the last tick, has sent exactly what the rules have it
   -- over these inputs, paced, and has written and printed what it found

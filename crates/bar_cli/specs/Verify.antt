@@ -57,7 +57,7 @@ pub record HasBadProof (names : VerifyFiles) (content : Content) (fault : ProofF
 -- both were accepted, this is the verdict of the rules, and its line was printed and nothing else done
 pub record Verified (names : VerifyFiles) (verdict : Verdict) (old new : Outside) : Type 0 where
   pub accepted : VerifyAccepted names old.files.content verdict
-  pub printed : IsTrue old.out.told → new.out.bytes ≡ old.out.bytes ++ verdict_line verdict
+  pub printed : new.out.bytes ≡ old.out.bytes ++ verdict_line verdict
   pub files : SameFiles old new
 
 -- so it was with the verdict that has this status
@@ -68,7 +68,7 @@ HasVerified names status old new = (verdict : Verdict) × (status ≡ status_of_
 pub record VerifiedFront (names : VerifyFiles) (old new : Outside) : Type 0 where
   pub verdict : Verdict
   pub accepted : VerifyAccepted names old.files.content verdict
-  pub printed : IsTrue old.out.told → (k : ℕ) × (new.out.bytes ≡ old.out.bytes ++ take k (verdict_line verdict))
+  pub printed : (k : ℕ) × (new.out.bytes ≡ old.out.bytes ++ take k (verdict_line verdict))
 
 -- a call that `verify` makes: it reads its files alone
 abbrev pub IsVerifyCall : VerifyFiles → Failure → Type 0

@@ -22,9 +22,9 @@ use Rattle.bar_node.proofs.Yields.{cons-nil}
 use Rattle.bar_node.proofs.Arriving.{due_next, node-next}
 use Rattle.bar_node.proofs.Receiving.{AreQuiet, quiet-begun, quiet-both, quiet-kept, quiet-turns, received-quiet, shown-quiet}
 
--- files and a link beside an output that tells nothing
+-- files and a link beside an output that has nothing
 abbrev pub silent_out : Stream
-silent_out = record { told = false; reliable = true; bytes = []; faults = 0 }
+silent_out = record { reliable = true; bytes = []; faults = 0 }
 
 abbrev pub beside : Disk → Wire → Outside
 beside files wire = outside files silent_out wire
@@ -105,7 +105,7 @@ module _ (given : List Arrival) (files files_new : Disk) (wire wire_new : Wire) 
         ∙ append-nil (received_in front) ∙ received;
     ran = λ w. record {
       files = ran.files;
-      out = λ told. sym (ap (λ bytes. w.out.bytes ++ bytes) silent_is ∙ append-nil w.out.bytes);
+      out = sym (ap (λ bytes. w.out.bytes ++ bytes) silent_is ∙ append-nil w.out.bytes);
       wire = ran.wire;
     };
   }

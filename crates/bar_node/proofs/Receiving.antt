@@ -126,16 +126,16 @@ same-after (a ∷ acts) t h =
     let rest = same-after acts (traffic_by a t) h.1 in
     record { taken = rest.taken ∙ one.taken; ended = rest.ended ∙ one.ended }
 
-same-ran : (done : List Action) (old new : Outside) → AreQuiet done → IsTrue old.wire.told → Ran done old new →
+same-ran : (done : List Action) (old new : Outside) → AreQuiet done → Ran done old new →
     SameTaken old.wire.traffic new.wire.traffic
-same-ran done old new h told ran = subst (SameTaken old.wire.traffic) (sym (ran.wire told)) (same-after done old.wire.traffic h)
+same-ran done old new h ran = subst (SameTaken old.wire.traffic) (sym ran.wire) (same-after done old.wire.traffic h)
 
 -- so it does under a plan that takes nothing, wherever it was stopped
-pub same-taken : {T : Type 0} (plan : List Action) (old new : Outside) (q : Result T Fault) → AreQuiet plan → IsTrue old.wire.told →
+pub same-taken : {T : Type 0} (plan : List Action) (old new : Outside) (q : Result T Fault) → AreQuiet plan →
     Follows plan old new q → SameTaken old.wire.traffic new.wire.traffic
-same-taken plan old new (Ok y) h told f = same-ran plan old new h told f.done
-same-taken plan old new (Err fault) h told f =
-    same-ran f.part.done old new (quiet-begun plan f.part.done h f.part.begun) told f.part.ran
+same-taken plan old new (Ok y) h f = same-ran plan old new h f.done
+same-taken plan old new (Err fault) h f =
+    same-ran f.part.done old new (quiet-begun plan f.part.done h f.part.begun) f.part.ran
 
 -- ---- the turns of a node take nothing
 
@@ -206,17 +206,17 @@ ended-gave (Datagram bytes) t = sym (or-false t.ended)
 ended-gave End t = or-true t.ended
 
 -- it gave one more
-pub heard-more : {S : Type 0} (a : Arrival) (given : List Arrival) (before : Wire) (old new : Outside) (y : S) → IsTrue old.wire.told →
+pub heard-more : {S : Type 0} (a : Arrival) (given : List Arrival) (before : Wire) (old new : Outside) (y : S) →
     Heard given before old.wire → Follows (link (receive (Some a)) ∷ []) old new (Ok y) → Heard (given ++ a ∷ []) before new.wire
-heard-more a given before old new y told h f = record {
+heard-more a given before old new y h f = record {
   taken =
-      ap (λ (t : Traffic). t.taken) (f.done.wire told)
+      ap (λ (t : Traffic). t.taken) f.done.wire
       ∙ taken-gave a old.wire.traffic
       ∙ ap (λ xs. xs ++ heard (a ∷ [])) h.taken
       ∙ append_assoc before.traffic.taken (heard given) (heard (a ∷ []))
       ∙ ap (λ xs. before.traffic.taken ++ xs) (sym (heard-append given (a ∷ [])));
   ended =
-      ap (λ (t : Traffic). t.ended) (f.done.wire told)
+      ap (λ (t : Traffic). t.ended) f.done.wire
       ∙ ended-gave a old.wire.traffic
       ∙ ap (λ b. b || has_end (a ∷ [])) h.ended
       ∙ or_assoc before.traffic.ended (has_end given) (has_end (a ∷ []))

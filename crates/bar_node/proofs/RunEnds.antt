@@ -46,8 +46,8 @@ module _ (recording played : Option (List ℕ)) (found : List ℕ) (r : Rules) (
     is_given = given-none r;
     follows = λ w. no_memory _ _;
     did = record { done = []; begun = Begun-nothing _; received = refl; ran = λ w. Ran-nothing _ };
-    taken = λ told. (heard-none wire).taken;
-    told_end = λ told. (heard-none wire).ended;
+    taken = (heard-none wire).taken;
+    told_end = (heard-none wire).ended;
     stands = tt;
     ended = tt;
     summary = tt;

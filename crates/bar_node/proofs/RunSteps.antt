@@ -40,7 +40,7 @@ pub record Arrived (lay : Layout) (now : List Input → Type 0) (r : Rules) (at 
   pub row : run ≤ 65536
   pub follows : (w : Outside) → Follows {T = Unit {0}} (node_from lay r [] 0 given)
       (with_wire (with_files w files) wire) (with_wire (with_files w files_at) wire_at) (Ok tt)
-  pub gave : IsTrue wire.told → Heard given wire wire_at
+  pub gave : Heard given wire wire_at
 
 -- ---- the count of what was taken, which is exact
 
@@ -85,9 +85,6 @@ module _ (lay : Layout) (now : List Input → Type 0) (r : Rules) (at : Face) (r
   last-is : at.rules.last ≡ r.last
   last-is = ap (λ (rules : Rules). rules.last) i.rules
 
-  told-at : IsTrue wire.told → IsTrue wire_at.told
-  told-at told = subst IsTrue (sym (i.follows (beside files wire)).later.wire_told) told
-
   -- where the time isn't over, the run isn't at its end
   goes-on : false ≡ nat_le at.rules.last at.ticks → is_ended r i.given ≡ false
   goes-on goes = or_from _ _ i.goes_on (ticks-early (taken_of r i.given) _ _ _ timed last-is goes)
@@ -108,8 +105,8 @@ module _ (lay : Layout) (now : List Input → Type 0) (r : Rules) (at : Face) (r
     follows = λ w.
         before-its-end _ _ _ _ (is_ended r i.given) (Err fault) (goes-on goes)
         (followed _ _ _ _ _ (tt {0}) (i.follows w) (Err fault) (handed _ _ _ fault (f (with_files w files_at))));
-    taken = λ told. (gave_new told).taken;
-    told_end = λ told. (gave_new told).ended;
+    taken = gave_new.taken;
+    told_end = gave_new.ended;
     did = subst (λ b. HasDone (node_from lay r [] 0 i.given ++ cond b [] (link (receive None) ∷ [])) i.given files files_at wire wire_new)
         (sym (goes-on goes))
         (did-behind i.given files files_at wire wire_new (node_from lay r [] 0 i.given) (link (receive None) ∷ []) asking.done
@@ -122,10 +119,10 @@ module _ (lay : Layout) (now : List Input → Type 0) (r : Rules) (at : Face) (r
       asking : Reached (link (receive None) ∷ []) (code_of_fault fault) (beside files_at wire_at) (beside files_at wire_new)
       asking = (f (beside files_at wire_at)).part
 
-      gave_new : IsTrue wire.told → Heard i.given wire wire_new
-      gave_new told =
-          heard-still i.given wire wire_at wire_new (i.gave told)
-          (same-taken (link (receive None) ∷ []) (beside files_at wire_at) (beside files_at wire_new) (Err fault) (tt, tt) (told-at told)
+      gave_new : Heard i.given wire wire_new
+      gave_new =
+          heard-still i.given wire wire_at wire_new i.gave
+          (same-taken (link (receive None) ∷ []) (beside files_at wire_at) (beside files_at wire_new) (Err fault) (tt, tt)
           (f (beside files_at wire_at)))
 
   -- the last tick was taken
@@ -137,20 +134,17 @@ module _ (lay : Layout) (now : List Input → Type 0) (r : Rules) (at : Face) (r
         is_given = i.is_given;
         follows = λ w. at-its-end _ _ _ _ (is_ended r i.given) (Ok counts) ended (answered _ _ _ (tt {0}) counts (i.follows w));
         did = did-all lay silent r i.given files files_at wire wire_at ended first.done;
-        taken = λ told. (i.gave told).taken;
-        told_end = λ told. (i.gave told).ended;
+        taken = i.gave.taken;
+        told_end = i.gave.ended;
         took = i.took;
         ended = ended;
       }
 
   module _ (wire_mid : Wire) (a : Arrival) {S : Type 0} (y : S)
       (f : (w : Outside) → Follows (link (receive (Some a)) ∷ []) (with_wire w wire_at) (with_wire w wire_mid) (Ok y)) where
-    told-mid : IsTrue wire.told → IsTrue wire_mid.told
-    told-mid told = subst IsTrue (sym (f (beside files_at wire_at)).later.wire_told) (told-at told)
-
-    gave-mid : IsTrue wire.told → Heard (i.given ++ a ∷ []) wire wire_mid
-    gave-mid told =
-        heard-more a i.given wire (beside files_at wire_at) (beside files_at wire_mid) y (told-at told) (i.gave told)
+    gave-mid : Heard (i.given ++ a ∷ []) wire wire_mid
+    gave-mid =
+        heard-more a i.given wire (beside files_at wire_at) (beside files_at wire_mid) y i.gave
         (f (beside files_at wire_at))
 
     -- the end was given
@@ -169,8 +163,8 @@ module _ (lay : Layout) (now : List Input → Type 0) (r : Rules) (at : Face) (r
           is_given = given-more r i.given a i.is_given (goes-on goes) (subst (λ o. IfSome o IsInRange) e tt);
           follows = λ w. at-its-end _ _ _ _ (is_ended r (i.given ++ a ∷ [])) (Ok counts) ended (arrived w);
           did = did-all lay silent r (i.given ++ a ∷ []) files files_at wire wire_mid ended (arrived (beside files wire)).done;
-          taken = λ told. (gave-mid told).taken;
-          told_end = λ told. (gave-mid told).ended;
+          taken = gave-mid.taken;
+          told_end = gave-mid.ended;
           took =
               took-along _ _ _ _ _ _
               (taken-next lay r i.given a ∙ ap (λ ds. taken_of r i.given ++ ds) none ∙ append-nil (taken_of r i.given)) i.took;
@@ -205,11 +199,11 @@ module _ (lay : Layout) (now : List Input → Type 0) (r : Rules) (at : Face) (r
         gave-new : {T : Type 0} (q : Result T Fault) →
             ((w : Outside) → Follows (turns lay at.rules (taken_of r i.given) (due at.rules.last at.ticks run input))
             (with_wire (with_files w files_at) wire_mid) (with_wire (with_files w files_new) wire_new) q) →
-            IsTrue wire.told → Heard (i.given ++ a ∷ []) wire wire_new
-        gave-new q h told =
-            heard-still (i.given ++ a ∷ []) wire wire_mid wire_new (gave-mid told)
+            Heard (i.given ++ a ∷ []) wire wire_new
+        gave-new q h =
+            heard-still (i.given ++ a ∷ []) wire wire_mid wire_new gave-mid
             (same-taken (turns lay at.rules (taken_of r i.given) (due at.rules.last at.ticks run input))
-            (beside files_at wire_mid) (beside files_new wire_new) q (silent at.rules _ _) (told-mid told) (h (beside files_at wire_at)))
+            (beside files_at wire_mid) (beside files_new wire_new) q (silent at.rules _ _) (h (beside files_at wire_at)))
 
         -- a turn was stopped
         pub failed-taking : (later : List Input → Type 0) (fault : Fault) →
@@ -223,8 +217,8 @@ module _ (lay : Layout) (now : List Input → Type 0) (r : Rules) (at : Face) (r
               stopped _ (cond (is_ended r (i.given ++ a ∷ [])) [] (link (receive None) ∷ [])) _ _ fault
               (arrive lay r i.given a _ _ _ _ (tt {0}) y (Err fault) (i.follows w) (f (with_files w files_at))
               (same-turns _ _ (Err fault) (h w)));
-          taken = λ told. (gave-new (Err fault) h told).taken;
-          told_end = λ told. (gave-new (Err fault) h told).ended;
+          taken = (gave-new (Err fault) h).taken;
+          told_end = (gave-new (Err fault) h).ended;
           did = did-longer (i.given ++ a ∷ []) files files_new wire wire_new (node_from lay r [] 0 (i.given ++ a ∷ [])) _
               (did-turns lay silent r i.given files files_new wire wire_new a taking.done taking.begun
               (Ran-append (node_from lay r [] 0 i.given ++ link (receive (Some a)) ∷ []) taking.done _ _ _ received.later received.done

@@ -93,7 +93,7 @@ sent-behind recording found r given =
 pub record SentUntil (r : Rules) (whole last : List Input) (wire wire_new : Wire) : Type 0 where
   pub sent : List Send
   pub front : IsFront sent (sends_over r whole last)
-  pub is : IsTrue wire.told → wire_new.traffic.sent ≡ wire.traffic.sent ++ (sends_over r [] whole ++ sent)
+  pub is : wire_new.traffic.sent ≡ wire.traffic.sent ++ (sends_over r [] whole ++ sent)
 
 module _ (recording played : Option (List ℕ)) (found : List ℕ) (r : Rules) (given : List Arrival) (old new : Outside) where
   abbrev lay : Layout
@@ -103,10 +103,10 @@ module _ (recording played : Option (List ℕ)) (found : List ℕ) (r : Rules) (
   tail = behind recording found r given
 
   -- a run that is done
-  pub sent-whole : Ran (node_plan recording played found r given) old new → IsTrue old.wire.told →
+  pub sent-whole : Ran (node_plan recording played found r given) old new →
       new.wire.traffic.sent ≡ old.wire.traffic.sent ++ sends_over r [] (taken_of r given)
-  sent-whole ran told =
-      ap (λ (t : Traffic). t.sent) (ran.wire told)
+  sent-whole ran =
+      ap (λ (t : Traffic). t.sent) ran.wire
       ∙ sent-after (node_plan recording played found r given) old.wire.traffic
       ∙ ap (λ ys. old.wire.traffic.sent ++ ys)
       (run-gives lay r sent_by r.sends (yields-sent recording played r) given tail
@@ -123,8 +123,8 @@ module _ (recording played : Option (List ℕ)) (found : List ℕ) (r : Rules) (
         sent = sent_in s.part;
         front = subst (IsFront (sent_in s.part)) (append-nil _ ∙ over-sends r s.cut.whole s.cut.last)
             (given-part lay r sent_by r.sends y given tail done s [] (sent-behind recording found r given));
-        is = λ told.
-            ap (λ (t : Traffic). t.sent) (ran.wire told)
+        is =
+            ap (λ (t : Traffic). t.sent) ran.wire
             ∙ sent-after done old.wire.traffic
             ∙ ap (λ ys. old.wire.traffic.sent ++ ys)
             (given-whole lay r sent_by r.sends y given tail done s

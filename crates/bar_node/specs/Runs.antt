@@ -141,9 +141,9 @@ pub record RanInputs (lay : Layout) (now : List Input → Type 0) (r : Rules) (f
       (with_wire (with_files w files) wire) (with_wire (with_files w files_new) wire_new) result
   -- whatever the result, what was done received exactly these arrivals
   pub did : HasDone (inputs_plan lay r given) given files files_new wire wire_new
-  pub taken : IsTrue wire.told → wire_new.traffic.taken ≡ wire.traffic.taken ++ heard given
+  pub taken : wire_new.traffic.taken ≡ wire.traffic.taken ++ heard given
   -- the link tells whether it gave its end
-  pub told_end : IsTrue wire.told → wire_new.traffic.ended ≡ (wire.traffic.ended || has_end given)
+  pub told_end : wire_new.traffic.ended ≡ (wire.traffic.ended || has_end given)
   pub took : IfOk result (Took [] now r (taken_of r given))
   pub ended : OnOk result (IsTrue (is_ended r given))
 
@@ -156,9 +156,9 @@ pub record RanNode (recording played : Option (List ℕ)) (found : List ℕ) (r 
       (with_wire (with_files w files) wire) (with_wire (with_files w files_new) wire_new) result
   -- whatever the result, what was done received exactly these arrivals
   pub did : HasDone (node_plan recording played found r given) given files files_new wire wire_new
-  pub taken : IsTrue wire.told → wire_new.traffic.taken ≡ wire.traffic.taken ++ heard given
+  pub taken : wire_new.traffic.taken ≡ wire.traffic.taken ++ heard given
   -- the link tells whether it gave its end
-  pub told_end : IsTrue wire.told → wire_new.traffic.ended ≡ (wire.traffic.ended || has_end given)
+  pub told_end : wire_new.traffic.ended ≡ (wire.traffic.ended || has_end given)
   pub stands : OnOk result (now (taken_of r given))
   pub ended : OnOk result (IsTrue (is_ended r given))
   pub summary : IfOk result (λ summary. summary ≡ summary_of r (taken_of r given))

@@ -48,14 +48,14 @@ pub record StoppedSending (r : Rules) (given : List Arrival) (wire wire_new : Wi
   pub cut : Cut (taken_of r given)
   pub sent : List Send
   pub front : IsFront sent (sends_over r cut.whole cut.last)
-  pub is : IsTrue wire.told → wire_new.traffic.sent ≡ wire.traffic.sent ++ (sends_over r [] cut.whole ++ sent)
+  pub is : wire_new.traffic.sent ≡ wire.traffic.sent ++ (sends_over r [] cut.whole ++ sent)
 
 -- the recording's end, where it comes
 abbrev pub end_of : Rules → List Arrival → List ℕ
 end_of r given = if is_ended r given then 0 ∷ [] else []
 
--- A peer that was stopped: it sent, played and recorded all of the inputs begun but the last one, and a front of the last one's. What it
--- sent is told where the link tells, and what the files have where their names differ.
+-- A peer that was stopped: it sent, played and recorded all of the inputs begun but the last one, and a front of the last one's. What the
+-- files have is said where their names differ.
 pub record StoppedPeer (recording played found : List ℕ) (r : Rules) (given : List Arrival) (files files_new : Disk)
     (wire wire_new : Wire) : Type 0 where
   pub cut : Cut (taken_of r given)
@@ -65,14 +65,14 @@ pub record StoppedPeer (recording played found : List ℕ) (r : Rules) (given : 
   pub sent_front : IsFront sent (sends_over r cut.whole cut.last)
   pub bytes_front : IsFront bytes (concat (contents_over r cut.whole cut.last))
   pub entries_front : IsFront entries (flat_map entry_bytes cut.last ++ end_of r given)
-  pub sent_is : IsTrue wire.told → wire_new.traffic.sent ≡ wire.traffic.sent ++ (sends_over r [] cut.whole ++ sent)
+  pub sent_is : wire_new.traffic.sent ≡ wire.traffic.sent ++ (sends_over r [] cut.whole ++ sent)
   pub played_is : AreApart recording played found → IsAddedTo played files files_new (concat (contents_over r [] cut.whole) ++ bytes)
   pub recorded_is : AreApart recording played found → IsAddedTo recording files files_new (flat_map entry_bytes cut.whole ++ entries)
 
 -- A peer that was done: it sent all, its played file has all that is played, and its recording is that of the list taken, with its end.
 pub record DonePeer (recording played : List ℕ) (r : Rules) (given : List Arrival) (files files_new : Disk)
     (wire wire_new : Wire) : Type 0 where
-  pub sent_is : IsTrue wire.told → wire_new.traffic.sent ≡ wire.traffic.sent ++ sends_over r [] (taken_of r given)
+  pub sent_is : wire_new.traffic.sent ≡ wire.traffic.sent ++ sends_over r [] (taken_of r given)
   pub played_is : IsAddedTo played files files_new (concat (contents_over r [] (taken_of r given)))
   pub recorded_is : IsAddedTo recording files files_new (flat_map entry_bytes (taken_of r given) ++ 0 ∷ [])
 

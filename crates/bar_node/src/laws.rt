@@ -16,7 +16,7 @@ use bar_core::Core;
 pub fn a_run_sends<C: Core>()
     ensures { (recording played : Option (List ℕ)) (found : List ℕ) (r : Rules) (core : C) (files files_new : Disk)
         (wire wire_new : Wire) (summary : Summary) →
-        (ran : RanNode recording played found r (C.stands core) files files_new wire wire_new (Ok summary)) → IsTrue wire.told →
+        (ran : RanNode recording played found r (C.stands core) files files_new wire wire_new (Ok summary)) →
         wire_new.traffic.sent ≡ wire.traffic.sent ++ sends_over r [] (taken_of r ran.given) }
 {}
 
@@ -38,7 +38,7 @@ pub fn a_peer_keeps<C: Core>()
 {}
 
 /// A peer that is stopped has sent, played and recorded all of the inputs begun but the last one, and a front of the last one's. What it
-/// sent is told where the link tells, and what its files have where they tell and their names differ.
+/// sent is said whatever its files are, and what they have where their names differ.
 pub fn a_stopped_peer_kept<C: Core>()
     ensures { (recording played found : List ℕ) (r : Rules) (core : C) (files files_new : Disk) (wire wire_new : Wire)
         (fault : Fault) →
@@ -68,7 +68,7 @@ pub fn a_run_changes_its_files<C: Core>()
 /// A run that was done has sent exactly what the list taken sends.
 pub fn a_whole_run_sent()
     ensures { (recording played : Option (List ℕ)) (found : List ℕ) (r : Rules) (given : List Arrival) (old new : Outside) →
-        Ran (node_plan recording played found r given) old new → IsTrue old.wire.told →
+        Ran (node_plan recording played found r given) old new →
         new.wire.traffic.sent ≡ old.wire.traffic.sent ++ sends_over r [] (taken_of r given) }
 {}
 

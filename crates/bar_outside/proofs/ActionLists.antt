@@ -28,14 +28,14 @@ Ran-append xs ys old mid new later first second = record {
       second.files
       ∙ ap (content_after ys) first.files
       ∙ sym (content_after-append xs ys old.files.content);
-  out = λ tells.
-      second.out (subst IsTrue (sym later.out_told) tells)
-      ∙ ap (λ bytes. bytes ++ shown ys) (first.out tells)
+  out =
+      second.out
+      ∙ ap (λ bytes. bytes ++ shown ys) first.out
       ∙ append_assoc old.out.bytes (shown xs) (shown ys)
       ∙ ap (λ bytes. old.out.bytes ++ bytes) (sym (shown-append xs ys));
-  wire = λ tells.
-      second.wire (subst IsTrue (sym later.wire_told) tells)
-      ∙ ap (traffic_after ys) (first.wire tells)
+  wire =
+      second.wire
+      ∙ ap (traffic_after ys) first.wire
       ∙ sym (traffic_after-append xs ys old.wire.traffic);
 }
 

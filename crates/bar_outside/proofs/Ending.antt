@@ -131,7 +131,7 @@ module _ (path : List ℕ) (others : List ℕ → Content → Plan) (old mid : D
   told-mid = ends.later.told
 
   first : Ran (read path ∷ []) (with_files w old) (with_files w mid)
-  first = record { files = reads.same; out = λ tells. sym (append-nil w.out.bytes); wire = λ tells. refl }
+  first = record { files = reads.same; out = sym (append-nil w.out.bytes); wire = refl }
 
   later-mid : IsLater (with_files w old) (with_files w mid)
   later-mid = later-files old mid w reads.call.told reads.call.reliable reads.same_here reads.call.cause.later
@@ -181,7 +181,7 @@ module _ (path : List ℕ) (others : List ℕ → Content → Plan) (old mid : D
       Reached (reading path others old.content).actions status (with_files w old) (with_files w mid)
   unread-part status no_link no_output same =
       Reached-nothing (reading path others old.content).actions status _ _ (λ e. unread-next) (λ e. absurd (no_link e))
-      (λ e. absurd (no_output e)) (record { files = same; out = λ tells. sym (append-nil w.out.bytes); wire = λ tells. refl })
+      (λ e. absurd (no_output e)) (record { files = same; out = sym (append-nil w.out.bytes); wire = refl })
 
   unread-named : (call : Failure) → call ≡ record { kind = Read; path = path } → Names (reading path others old.content).actions call
   unread-named call e = let b = begun-read path others old.content (readable old.content path) in subst (λ xs. Names xs call) (sym b.1) (inl e)
@@ -386,18 +386,18 @@ module _ (plan : Content → Plan) (old new : Outside) (status result : ℕ) (li
   said-same : result ≡ status → line ≡ line_at (plan old.files.content) result → Says (plan old.files.content) result before_err after_err
   said-same e line_is = record {
     later = prints.later;
-    whole = λ told other none. prints.whole told other none ∙ ap (λ xs. before_err.bytes ++ xs) line_is;
-    front = λ told other. let p = prints.front told in (p.0, p.1 ∙ ap (λ xs. before_err.bytes ++ take p.0 xs) line_is);
-    no_memory = λ told other. let p = prints.front told in (p.0, result, p.1 ∙ ap (λ xs. before_err.bytes ++ take p.0 xs) line_is);
+    whole = λ other none. prints.whole other none ∙ ap (λ xs. before_err.bytes ++ xs) line_is;
+    front = λ other. let p = prints.front in (p.0, p.1 ∙ ap (λ xs. before_err.bytes ++ take p.0 xs) line_is);
+    no_memory = λ other. let p = prints.front in (p.0, result, p.1 ∙ ap (λ xs. before_err.bytes ++ take p.0 xs) line_is);
   }
 
   said-memory : result ≡ 70 → line ≡ line_at (plan old.files.content) status → Says (plan old.files.content) result before_err after_err
   said-memory e line_is = record {
     later = prints.later;
-    whole = λ told other. absurd (other e);
-    front = λ told other. absurd (other e);
-    no_memory = λ told other.
-        let p = prints.front told in
+    whole = λ other. absurd (other e);
+    front = λ other. absurd (other e);
+    no_memory = λ other.
+        let p = prints.front in
         (p.0, status, p.1 ∙ ap (λ xs. before_err.bytes ++ take p.0 xs) line_is);
   }
 

@@ -22,9 +22,7 @@ pub IsLater-trans : (old mid new : Outside) → IsLater old mid → IsLater mid 
 IsLater-trans old mid new p q = record {
   told = λ told. p.told (q.told told);
   reliable = q.reliable ∙ p.reliable;
-  out_told = q.out_told ∙ p.out_told;
   out_reliable = q.out_reliable ∙ p.out_reliable;
-  wire_told = q.wire_told ∙ p.wire_told;
   wire_reliable = q.wire_reliable ∙ p.wire_reliable;
   created = λ path h. q.created path (p.created path h);
   faults = omega arith;
@@ -112,15 +110,13 @@ nothing_shown : (out : Stream) → out.bytes ≡ out.bytes ++ []
 nothing_shown out = sym (append-nil out.bytes)
 
 pub Ran-nothing : (old : Outside) → Ran [] old old
-Ran-nothing old = record { files = refl; out = λ tells. nothing_shown old.out; wire = λ told. refl }
+Ran-nothing old = record { files = refl; out = nothing_shown old.out; wire = refl }
 
 pub later-same : (old : Outside) → IsLater old old
 later-same old = record {
   told = λ told. told;
   reliable = refl;
-  out_told = refl;
   out_reliable = refl;
-  wire_told = refl;
   wire_reliable = refl;
   created = λ path h. h;
   faults = omega arith;
@@ -133,9 +129,7 @@ pub later-files : (old new : Disk) (w : Outside) → (IsTrue new.told → IsTrue
 later-files old new w told reliable here faults = record {
   told = told;
   reliable = reliable;
-  out_told = refl;
   out_reliable = refl;
-  wire_told = refl;
   wire_reliable = refl;
   created = λ path h. subst (λ (c : CreatedFiles). IsTrue (c path)) (sym here) h;
   faults = faults;
@@ -143,14 +137,12 @@ later-files old new w told reliable here faults = record {
   wire_faults = omega arith;
 }
 
-later-out : (w : Outside) (old new : Stream) → new.told ≡ old.told → new.reliable ≡ old.reliable → old.faults ≤ new.faults →
+later-out : (w : Outside) (old new : Stream) → new.reliable ≡ old.reliable → old.faults ≤ new.faults →
     IsLater (with_out w old) (with_out w new)
-later-out w old new told reliable faults = record {
+later-out w old new reliable faults = record {
   told = λ tells. tells;
   reliable = refl;
-  out_told = told;
   out_reliable = reliable;
-  wire_told = refl;
   wire_reliable = refl;
   created = λ path h. h;
   faults = omega arith;
@@ -158,14 +150,12 @@ later-out w old new told reliable faults = record {
   wire_faults = omega arith;
 }
 
-later-wire : (w : Outside) (old new : Wire) → new.told ≡ old.told → new.reliable ≡ old.reliable → old.faults ≤ new.faults →
+later-wire : (w : Outside) (old new : Wire) → new.reliable ≡ old.reliable → old.faults ≤ new.faults →
     IsLater (with_wire w old) (with_wire w new)
-later-wire w old new told reliable faults = record {
+later-wire w old new reliable faults = record {
   told = λ tells. tells;
   reliable = refl;
-  out_told = refl;
   out_reliable = refl;
-  wire_told = told;
   wire_reliable = reliable;
   created = λ path h. h;
   faults = omega arith;
@@ -255,7 +245,7 @@ reached-append path bytes status old new w no_link no_output q = record {
     done_is = refl;
     part_is = (refl, (q.0, refl));
   };
-  ran = record { files = q.1; out = λ tells. nothing_shown w.out; wire = λ tells. refl };
+  ran = record { files = q.1; out = nothing_shown w.out; wire = refl };
   at_file = λ e. tt;
   at_link = λ e. absurd (no_link e);
   at_output = λ e. absurd (no_output e);
@@ -291,11 +281,11 @@ reached-create : (path : List ℕ) (status : ℕ) (old new : Disk) (w : Outside)
     Reached (create path ∷ []) status (with_files w old) (with_files w new)
 reached-create path status old new w no_link no_output (inl same) =
     Reached-nothing (create path ∷ []) status _ _ (λ e. tt) (λ e. absurd (no_link e)) (λ e. absurd (no_output e))
-    (record { files = same; out = λ tells. nothing_shown w.out; wire = λ tells. refl })
+    (record { files = same; out = nothing_shown w.out; wire = refl })
 reached-create path status old new w no_link no_output (inr made) = record {
   done = create path ∷ [];
   begun = record { front = []; part = create path ∷ []; rest = create path ∷ []; plan_is = refl; done_is = refl; part_is = refl };
-  ran = record { files = made; out = λ tells. nothing_shown w.out; wire = λ tells. refl };
+  ran = record { files = made; out = nothing_shown w.out; wire = refl };
   at_file = λ e. tt;
   at_link = λ e. absurd (no_link e);
   at_output = λ e. absurd (no_output e);
@@ -326,45 +316,42 @@ failed_create path old new w file.NoMemory a = record {
 }
 
 reached-write : (piece : List ℕ) (status : ℕ) (w : Outside) (old new : Stream) → (status ≡ 3 → ⊥) → (status ≡ 6 → ⊥) →
-    (IsTrue old.told → (k : ℕ) × (new.bytes ≡ old.bytes ++ take k piece)) → (b : Bool) → old.told ≡ b →
+    (k : ℕ) × (new.bytes ≡ old.bytes ++ take k piece) →
     Reached (show piece ∷ []) status (with_out w old) (with_out w new)
-reached-write piece status w old new no_file no_link p true told = let q = p told in record {
+reached-write piece status w old new no_file no_link q = record {
   done = show (take q.0 piece) ∷ [];
   begun = record { front = []; part = show (take q.0 piece) ∷ []; rest = show piece ∷ []; plan_is = refl; done_is = refl; part_is = (q.0, refl) };
   ran = record {
     files = refl;
-    out = λ tells. q.1 ∙ ap (λ bytes. old.bytes ++ bytes) (sym (append-nil (take q.0 piece)));
-    wire = λ tells. refl;
+    out = q.1 ∙ ap (λ bytes. old.bytes ++ bytes) (sym (append-nil (take q.0 piece)));
+    wire = refl;
   };
   at_file = λ e. absurd (no_file e);
   at_link = λ e. absurd (no_link e);
   at_output = λ e. tt;
 }
-reached-write piece status w old new no_file no_link p false untold =
-    Reached-nothing (show piece ∷ []) status _ _ (λ e. absurd (no_file e)) (λ e. absurd (no_link e)) (λ e. tt)
-    (record { files = refl; out = λ tells. absurd (true-not_false (sym tells ∙ untold)); wire = λ tells. refl })
 
 -- a write that failed
 pub failed_write : {S T : Type 0} (piece : List ℕ) (w : Outside) (old new : Stream) (e : SinkFault) →
     Writes {T = S} piece old new (Err e) → Follows {T = T} (show piece ∷ []) (with_out w old) (with_out w new) (Err (fault_of_sink e))
 failed_write piece w old new sink.Failed a = record {
-  later = later-out w old new a.told a.reliable a.cause.later;
+  later = later-out w old new a.reliable a.cause.later;
   file = λ e. cc;
   link = λ e. cc;
   output = λ e. a.cause.rose refl;
   done = tt;
   created = tt;
-  part = reached-write piece 7 w old new (λ e. absurd (omega arith)) (λ e. absurd (omega arith)) a.fault old.told refl;
+  part = reached-write piece 7 w old new (λ e. absurd (omega arith)) (λ e. absurd (omega arith)) a.fault;
   complete = λ reliable can. absurd (a.refused reliable.out refl);
 }
 failed_write piece w old new sink.NoMemory a = record {
-  later = later-out w old new a.told a.reliable a.cause.later;
+  later = later-out w old new a.reliable a.cause.later;
   file = λ e. cc;
   link = λ e. cc;
   output = λ e. cc;
   done = tt;
   created = tt;
-  part = reached-write piece 70 w old new (λ e. absurd (omega arith)) (λ e. absurd (omega arith)) a.fault old.told refl;
+  part = reached-write piece 70 w old new (λ e. absurd (omega arith)) (λ e. absurd (omega arith)) a.fault;
   complete = λ reliable can. refl;
 }
 
@@ -372,7 +359,7 @@ failed_write piece w old new sink.NoMemory a = record {
 pub failed_call : {S T : Type 0} (call : LinkCall) (change : Traffic → Traffic) (w : Outside) (old new : Wire) (e : LinkFault) →
     Acts {T = S} change old new (Err e) → Follows {T = T} (link call ∷ []) (with_wire w old) (with_wire w new) (Err (fault_of_link e))
 failed_call call change w old new wire.Failed a = record {
-  later = later-wire w old new a.told a.reliable a.cause.later;
+  later = later-wire w old new a.reliable a.cause.later;
   file = λ e. cc;
   link = λ e. a.cause.rose refl;
   output = λ e. cc;
@@ -380,11 +367,11 @@ failed_call call change w old new wire.Failed a = record {
   created = tt;
   part =
       Reached-nothing (link call ∷ []) 6 _ _ (λ e. absurd (omega arith)) (λ e. tt) (λ e. absurd (omega arith))
-      (record { files = refl; out = λ tells. nothing_shown w.out; wire = a.fault });
+      (record { files = refl; out = nothing_shown w.out; wire = a.fault });
   complete = λ reliable can. absurd (a.refused reliable.wire refl);
 }
 failed_call call change w old new wire.NoMemory a = record {
-  later = later-wire w old new a.told a.reliable a.cause.later;
+  later = later-wire w old new a.reliable a.cause.later;
   file = λ e. cc;
   link = λ e. cc;
   output = λ e. cc;
@@ -392,6 +379,6 @@ failed_call call change w old new wire.NoMemory a = record {
   created = tt;
   part =
       Reached-nothing (link call ∷ []) 70 _ _ (λ e. absurd (omega arith)) (λ e. tt) (λ e. absurd (omega arith))
-      (record { files = refl; out = λ tells. nothing_shown w.out; wire = a.fault });
+      (record { files = refl; out = nothing_shown w.out; wire = a.fault });
   complete = λ reliable can. refl;
 }

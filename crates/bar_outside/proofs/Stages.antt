@@ -18,8 +18,8 @@ undone : (status : ℕ) (old new : Outside) (plan : List Action) (r : Reached pl
     (status ≡ 7 → ⊥) → IsUnchanged status old new
 undone status old new plan r told none unlinked quiet = record {
   files = r.ran.files ∙ ap (λ xs. content_after xs old.files.content) none;
-  out = λ tells. r.ran.out tells ∙ ap (λ xs. old.out.bytes ++ shown xs) none ∙ append-nil old.out.bytes;
-  wire = λ tells. r.ran.wire tells ∙ ap (λ xs. traffic_after xs old.wire.traffic) none;
+  out = r.ran.out ∙ ap (λ xs. old.out.bytes ++ shown xs) none ∙ append-nil old.out.bytes;
+  wire = r.ran.wire ∙ ap (λ xs. traffic_after xs old.wire.traffic) none;
   no_link = unlinked;
   no_output = quiet;
 }
@@ -134,8 +134,8 @@ shows_there line final said old new status told w =
     record {
       files = w.part.ran.files ∙ b.2 old.files.content;
       wire = same-traffic (show line ∷ []) status old new tt w.part;
-      front = λ tells. (b.0, w.part.ran.out tells ∙ ap (λ xs. old.out.bytes ++ xs) b.1);
-      whole = λ go tells. (w.carried go).ran.out tells ∙ ap (λ xs. old.out.bytes ++ xs) (append-nil line);
+      front = (b.0, w.part.ran.out ∙ ap (λ xs. old.out.bytes ++ xs) b.1);
+      whole = λ go. (w.carried go).ran.out ∙ ap (λ xs. old.out.bytes ++ xs) (append-nil line);
       ended = unless_stopped (doing (show line ∷ []) final said old.files.content) old new status w;
     }
 

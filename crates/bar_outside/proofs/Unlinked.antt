@@ -110,8 +110,8 @@ no-call (link call ∷ others) h next = h
 -- the link did nothing
 pub same-traffic : (plan : List Action) (status : ℕ) (old new : Outside) → IsUnlinked plan → Reached plan status old new →
     SameTraffic old new
-same-traffic plan status old new h r = λ tells.
-    r.ran.wire tells ∙ traffic-same r.done old.wire.traffic (begun-unlinked plan r.done r.begun h)
+same-traffic plan status old new h r =
+    r.ran.wire ∙ traffic-same r.done old.wire.traffic (begun-unlinked plan r.done r.begun h)
 
 -- and no fault of it came
 pub no-link : (plan : List Action) (status : ℕ) (old new : Outside) → IsUnlinked plan → Reached plan status old new → status ≡ 6 → ⊥

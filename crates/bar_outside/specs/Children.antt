@@ -11,10 +11,8 @@ pub data ChildCall : Type 0 where
   Started : (words : List (List ℕ)) → (child : ℕ) → ChildCall
   Waited : (child : ℕ) → (status : Option ℤ) → ChildCall
 
--- child programs, as far as they are told
+-- child programs
 pub record Children : Type 0 where
-  -- calls is told
-  pub told : Bool
   -- no call fails
   pub reliable : Bool
   -- the calls in order; a refused start is none
@@ -54,7 +52,6 @@ pub record IsRunning (child : ℕ) (calls : List ChildCall) : Type 0 where
 
 -- what every call says of faults
 pub record Calls {T : Type 0} (old new : Children) (result : Result T ChildFault) : Type 0 where
-  pub told : new.told ≡ old.told
   pub reliable : new.reliable ≡ old.reliable
   pub cause : HasCause Failed old.faults new.faults result
   pub refused : IsTrue old.reliable → result ≢ Err Failed
@@ -62,12 +59,12 @@ pub record Calls {T : Type 0} (old new : Children) (result : Result T ChildFault
 -- a start; its child is new, and a refused start is no call
 pub record Starts (words : List (List ℕ)) (old new : Children) (result : Result ℕ ChildFault) : Type 0 where
   pub call : Calls old new result
-  pub added : IsTrue old.told → IfOk result (λ child. new.calls ≡ old.calls ++ Started words child ∷ [])
-  pub new_child : IsTrue old.told → IfOk result (λ child. is_named child old.calls ≡ false)
-  pub left : IsTrue old.told → OnErr result (new.calls ≡ old.calls)
+  pub added : IfOk result (λ child. new.calls ≡ old.calls ++ Started words child ∷ [])
+  pub new_child : IfOk result (λ child. is_named child old.calls ≡ false)
+  pub left : OnErr result (new.calls ≡ old.calls)
 
 -- a wait; a refused one is a call, too
 pub record Waits (child : ℕ) (old new : Children) (result : Result ℤ ChildFault) : Type 0 where
   pub call : Calls old new result
-  pub added : IsTrue old.told → IfOk result (λ status. new.calls ≡ old.calls ++ Waited child (Some status) ∷ [])
-  pub refused : IsTrue old.told → OnErr result (new.calls ≡ old.calls ++ Waited child None ∷ [])
+  pub added : IfOk result (λ status. new.calls ≡ old.calls ++ Waited child (Some status) ∷ [])
+  pub refused : OnErr result (new.calls ≡ old.calls ++ Waited child None ∷ [])

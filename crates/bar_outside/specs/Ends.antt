@@ -46,16 +46,16 @@ pub record EndsWith (plan : Content → Plan) (old new : Outside) (status : ℕ)
 -- a line was printed, or a front of it where the count rose or memory was wanting
 pub record Prints (line : List ℕ) (status : ℕ) (old new : Stream) : Type 0 where
   pub later : old.faults ≤ new.faults
-  pub whole : IsTrue old.told → status ≢ 70 → (Rose old.faults new.faults → ⊥) → new.bytes ≡ old.bytes ++ line
-  pub front : IsTrue old.told → (k : ℕ) × (new.bytes ≡ old.bytes ++ take k line)
+  pub whole : status ≢ 70 → (Rose old.faults new.faults → ⊥) → new.bytes ≡ old.bytes ++ line
+  pub front : (k : ℕ) × (new.bytes ≡ old.bytes ++ take k line)
 
 -- what stands on standard error after a command whose statuses have these lines: the line of its status, or a front of it where
 -- the count rose; at 70 a front of the line of some status
 pub record SaysBy (line : ℕ → List ℕ) (status : ℕ) (old new : Stream) : Type 0 where
   pub later : old.faults ≤ new.faults
-  pub whole : IsTrue old.told → status ≢ 70 → (Rose old.faults new.faults → ⊥) → new.bytes ≡ old.bytes ++ line status
-  pub front : IsTrue old.told → status ≢ 70 → (k : ℕ) × (new.bytes ≡ old.bytes ++ take k (line status))
-  pub no_memory : IsTrue old.told → status ≡ 70 → (k some : ℕ) × (new.bytes ≡ old.bytes ++ take k (line some))
+  pub whole : status ≢ 70 → (Rose old.faults new.faults → ⊥) → new.bytes ≡ old.bytes ++ line status
+  pub front : status ≢ 70 → (k : ℕ) × (new.bytes ≡ old.bytes ++ take k (line status))
+  pub no_memory : status ≡ 70 → (k some : ℕ) × (new.bytes ≡ old.bytes ++ take k (line some))
 
 -- so it is after a command with this plan
 abbrev pub Says : Plan → ℕ → Stream → Stream → Type 0
@@ -83,10 +83,10 @@ UnlessStopped expected status = (status ≡ expected) ⊎ (is_stop status ≡ tr
 abbrev pub SameFiles : Outside → Outside → Type 0
 SameFiles old new = new.files.content ≡ old.files.content
 
--- nothing was done over the link, where it tells
+-- nothing was done over the link
 abbrev pub SameTraffic : Outside → Outside → Type 0
-SameTraffic old new = IsTrue old.wire.told → new.wire.traffic ≡ old.wire.traffic
+SameTraffic old new = new.wire.traffic ≡ old.wire.traffic
 
--- nothing was printed, where the output tells
+-- nothing was printed
 abbrev pub NothingPrinted : Outside → Outside → Type 0
-NothingPrinted old new = IsTrue old.out.told → new.out.bytes ≡ old.out.bytes
+NothingPrinted old new = new.out.bytes ≡ old.out.bytes

@@ -18,9 +18,7 @@ HasCreated plan old new =
 pub record IsLater (old new : Outside) : Type 0 where
   pub told : IsTrue new.files.told → IsTrue old.files.told
   pub reliable : new.files.reliable ≡ old.files.reliable
-  pub out_told : new.out.told ≡ old.out.told
   pub out_reliable : new.out.reliable ≡ old.out.reliable
-  pub wire_told : new.wire.told ≡ old.wire.told
   pub wire_reliable : new.wire.reliable ≡ old.wire.reliable
   pub created : HasCreated [] old new
   pub faults : old.files.faults ≤ new.files.faults

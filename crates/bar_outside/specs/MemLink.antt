@@ -1,5 +1,5 @@
 -- What a link in memory tells.
-use Rattle.std.specs.Prelude.{true, map, take, slice_get, Option, None, Some}
+use Rattle.std.specs.Prelude.{map, take, slice_get, Option, None, Some}
 use Rattle.std.specs.Option.{option_map}
 use Rattle.bar_outside.specs.Wire.{Wire, Arrival, End}
 use Rattle.bar_outside.specs.Schedule.{fails_never}
@@ -12,11 +12,10 @@ use Rattle.bar_outside.specs.declared.mem_taken.MemTaken.{MemTaken}
 abbrev pub schedule_of : MemLink → Schedule
 schedule_of link = link.schedule
 
--- what it did; it tells, and is reliable where no call is to fail
+-- what it did; it is reliable where no call is to fail
 abbrev pub wire_of : MemLink → Wire
 wire_of link =
     record {
-      told = true;
       reliable = fails_never link.schedule;
       traffic = record {
         bound = option_map bound_in link.place;

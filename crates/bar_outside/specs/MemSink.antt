@@ -9,6 +9,6 @@ use Rattle.bar_outside.specs.declared.mem_sink.MemSink.{MemSink}
 abbrev pub schedule_of : MemSink → Schedule
 schedule_of sink = sink.schedule
 
--- what it holds; it tells, and is reliable where no write is to fail
+-- what it holds; it is reliable where no write is to fail
 abbrev pub stream_of : MemSink → Stream
-stream_of sink = record { told = true; reliable = fails_never sink.schedule; bytes = sink.bytes.items; faults = sink.faults }
+stream_of sink = record { reliable = fails_never sink.schedule; bytes = sink.bytes.items; faults = sink.faults }

@@ -1,5 +1,5 @@
 -- What a spawner in memory tells.
-use Rattle.std.specs.Prelude.{ℕ, ℤ, pos, true, map, slice_get, unwrap_or}
+use Rattle.std.specs.Prelude.{ℕ, ℤ, pos, map, slice_get, unwrap_or}
 use Rattle.bar_outside.specs.Children.{Children}
 use Rattle.bar_outside.specs.MemCalls.{call_in}
 use Rattle.bar_outside.specs.Schedule.{fails_never}
@@ -10,11 +10,10 @@ use Rattle.bar_outside.specs.declared.mem_spawner.MemSpawner.{MemSpawner}
 abbrev pub schedule_of : MemSpawner → Schedule
 schedule_of spawner = spawner.schedule
 
--- what it did; it tells, and is reliable where no call is to fail
+-- what it did; it is reliable where no call is to fail
 abbrev pub children_of : MemSpawner → Children
 children_of spawner =
     record {
-      told = true;
       reliable = fails_never spawner.schedule;
       calls = map call_in spawner.calls.items;
       faults = spawner.faults;

@@ -95,8 +95,8 @@ traffic_after (a ∷ others) traffic = traffic_after others (traffic_by a traffi
 -- these actions, and nothing else, were done between old and new
 pub record Ran (done : List Action) (old new : Outside) : Type 0 where
   pub files : new.files.content ≡ content_after done old.files.content
-  pub out : IsTrue old.out.told → new.out.bytes ≡ old.out.bytes ++ shown done
-  pub wire : IsTrue old.wire.told → new.wire.traffic ≡ traffic_after done old.wire.traffic
+  pub out : new.out.bytes ≡ old.out.bytes ++ shown done
+  pub wire : new.wire.traffic ≡ traffic_after done old.wire.traffic
 
 -- the action was done in part: a front of its bytes stands, or the file that it makes
 abbrev pub IsPartOf : Action → Action → Type 0

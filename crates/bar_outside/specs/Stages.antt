@@ -42,8 +42,8 @@ EndsThere =
 pub record HasShown (line : List ℕ) (final : ℕ) (old new : Outside) (status : ℕ) : Type 0 where
   pub files : SameFiles old new
   pub wire : SameTraffic old new
-  pub front : IsTrue old.out.told → (k : ℕ) × (new.out.bytes ≡ old.out.bytes ++ take k line)
-  pub whole : is_stop status ≡ false → IsTrue old.out.told → new.out.bytes ≡ old.out.bytes ++ line
+  pub front : (k : ℕ) × (new.out.bytes ≡ old.out.bytes ++ take k line)
+  pub whole : is_stop status ≡ false → new.out.bytes ≡ old.out.bytes ++ line
   pub ended : UnlessStopped final status
 
 -- Where a line is to be printed, a front of it is.

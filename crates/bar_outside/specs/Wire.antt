@@ -32,10 +32,8 @@ pub record Traffic : Type 0 where
   -- the datagrams that it sent, in order, each with its receiver
   pub sent : List (ℕ × List ℕ)
 
--- a link, as far as it is told
+-- a link
 pub record Wire : Type 0 where
-  -- traffic is told
-  pub told : Bool
   -- no call fails
   pub reliable : Bool
   pub traffic : Traffic
@@ -87,11 +85,10 @@ largest_packet = 65507
 
 -- a call with this effect, which has none after a fault
 pub record Acts {T : Type 0} (change : Traffic → Traffic) (old new : Wire) (result : Result T LinkFault) : Type 0 where
-  pub told : new.told ≡ old.told
   pub reliable : new.reliable ≡ old.reliable
   pub cause : HasCause Failed old.faults new.faults result
-  pub done : IsTrue old.told → OnOk result (new.traffic ≡ change old.traffic)
-  pub fault : IsTrue old.told → OnErr result (new.traffic ≡ old.traffic)
+  pub done : OnOk result (new.traffic ≡ change old.traffic)
+  pub fault : OnErr result (new.traffic ≡ old.traffic)
   pub refused : IsTrue old.reliable → result ≢ Err Failed
 
 -- the taking of what comes next

@@ -21,7 +21,7 @@ pub enum Taken {
     End,
 }
 
-/// A link. What it is bound to, gave and sent is told where `wire` says so.
+/// A link. `wire` tells what it is bound to, gave and sent.
 pub trait Link {
     ghost use Rattle.std.specs.Prelude.{◌≤◌, length};
     ghost use Rattle.bar_outside.specs.Wire.{Wire, Acts, Takes, bound_by, bound_to, largest_packet, sent_to};

@@ -34,7 +34,7 @@ impl MemLink {
     pub fn make(alloc: Global, list: Vec<MemTaken>, fail: Vec<u64>) -> MemLink
         requires { are_small list.items ≡ true }
         ensures wire { wire_of result ≡
-            record { told = true; reliable = fails_never (failing fail); traffic = no_traffic; faults = 0 } }
+            record { reliable = fails_never (failing fail); traffic = no_traffic; faults = 0 } }
         ensures schedule { schedule_of result ≡ failing fail }
     {
         MemLink {

@@ -19,7 +19,7 @@ impl MemSink {
 
     /// An empty sink. `fail` has the numbers of the writes that are to fail.
     pub fn make(alloc: Global, fail: Vec<u64>) -> MemSink
-        ensures stream { stream_of result ≡ record { told = true; reliable = fails_never (failing fail); bytes = []; faults = 0 } }
+        ensures stream { stream_of result ≡ record { reliable = fails_never (failing fail); bytes = []; faults = 0 } }
         ensures schedule { schedule_of result ≡ failing fail }
     {
         MemSink {

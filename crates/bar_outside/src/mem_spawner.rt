@@ -32,7 +32,7 @@ impl MemSpawner {
     /// to fail.
     pub fn make(alloc: Global, statuses: Vec<i32>, fail: Vec<u64>) -> MemSpawner
         ensures children { children_of result ≡
-            record { told = true; reliable = fails_never (failing fail); calls = []; faults = 0 } }
+            record { reliable = fails_never (failing fail); calls = []; faults = 0 } }
         ensures schedule { schedule_of result ≡ failing fail }
     {
         MemSpawner {
@@ -108,7 +108,7 @@ impl Spawner for MemSpawner {
     }
 
     fn wait(&mut self, child: usize) -> Result<i32, ChildFault>
-        requires { IsTrue (children_of self.old).told → IsRunning child (children_of self.old).calls }
+        requires { IsRunning child (children_of self.old).calls }
         ensures waits { Waits child (children_of self.old) (children_of self.new) result }
         // the statuses in the order of the starts
         ensures ends { IfOk result (λ status. status ≡ status_of self.old child) }

@@ -8,7 +8,7 @@ pub enum SinkFault {
     NoMemory,
 }
 
-/// A sink of bytes. What it holds is told where `stream` says so.
+/// A sink of bytes. `stream` tells what it holds.
 pub trait Sink {
     ghost use Rattle.bar_outside.specs.Stream.{Stream, Writes};
 

@@ -8,7 +8,7 @@ pub enum ChildFault {
     NoMemory,
 }
 
-/// Starts child programs and waits for them. What it did is told where `children` says so.
+/// Starts child programs and waits for them. `children` tells what it did.
 pub trait Spawner {
     ghost use Rattle.std.specs.Prelude.{◌<◌, length, map, string_bytes, IsTrue};
     ghost use Rattle.bar_outside.specs.Children.{Children, IsRunning, Starts, Waits};
@@ -22,6 +22,6 @@ pub trait Spawner {
 
     /// Waits for a child and answers the status that it ended with. Each child is waited for once, also where the wait is refused.
     fn wait(&mut self, child: usize) -> Result<i32, ChildFault>
-        requires { IsTrue (children self.old).told → IsRunning child (children self.old).calls }
+        requires { IsRunning child (children self.old).calls }
         ensures { Waits child (children self.old) (children self.new) result };
 }

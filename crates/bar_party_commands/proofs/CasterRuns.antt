@@ -35,7 +35,7 @@ module _ (held : AreHeld) (few : IsFew) (names : CasterNames) (given : List Arri
     (asked : AsksNoFurther (λ front. caster_plan names front old.files.content) given) where
   -- the outside at the binding
   abbrev bound : SessionData → Secrets → Outside
-  bound s k = outside-at (spending names.key s k) (place_of names.begin_ms s k) old
+  bound s k = outside-at (spending names.key s k) (place_of names.begin_ms s k) old new
 
   module _ (s : SessionData) (k : Secrets) (stream : List ℕ) where
     abbrev r : Rules
@@ -54,8 +54,8 @@ module _ (held : AreHeld) (few : IsFew) (names : CasterNames) (given : List Arri
       received-more : received_in b.more ≡ given
       received-more = received-behind (caster-kinds names s k stream given) ran b ∙ received
 
-      told-end : IsTrue old.wire.told → new.wire.traffic.ended ≡ has_end given
-      told-end tells = ended-behind (caster-kinds names s k stream given) ran b tells ∙ ap has_end received-more
+      told-end : new.wire.traffic.ended ≡ has_end given
+      told-end = ended-behind (caster-kinds names s k stream given) ran b ∙ ap has_end received-more
 
       part-sent : PartSent → StoppedSending r given old.wire new.wire
       part-sent sent =
@@ -126,13 +126,13 @@ module _ (held : AreHeld) (few : IsFew) (names : CasterNames) (given : List Arri
         given = given;
         is_given = is-given s k stream b.accepted;
         taken = heard.taken;
-        told_end = λ tells. ended-behind kinds c.ran all tells ∙ ap has_end (received-run None None names.found (r s k stream) given);
+        told_end = ended-behind kinds c.ran all ∙ ap has_end (received-run None None names.found (r s k stream) given);
         ended = ended;
-        sent = λ tells.
-            all_sent None None names.found (r s k stream) given (bound s k) new whole tells
+        sent =
+            all_sent None None names.found (r s k stream) given (bound s k) new whole
             ∙ ap (λ xs. old.wire.traffic.sent ++ xs) (sends (member_by s k) stream (taken_of (r s k stream) given));
         found = found-at finds None None names.found (r s k stream) given (bound s k) new whole ended few_others;
-        printed = λ tells.
-            printed-behind kinds c.ran all tells
+        printed =
+            printed-behind kinds c.ran all
             ∙ ap (λ b. old.out.bytes ++ shown (cond b (caster_summary (r s k stream) (taken_of (r s k stream) given)) [])) ended;
       }

@@ -1,8 +1,11 @@
 -- What the status of a run tells, and what an unchanged outside is.
-use Rattle.std.proofs.Common.{◌≡◌, ◌⊎◌, ℕ, Bool, true, false, cond, refl, inl, inr, arith}
+use Rattle.std.proofs.Common.{◌≡◌, ◌⊎◌, ◌==◌, ◌∙◌, ℕ, Bool, true, false, true≢false, cond, refl, sym, ap, inl, inr, arith}
 use Rattle.bar_outside.specs.Plan.{Outside}
 use Rattle.bar_outside.specs.Stages.{IsUnchanged}
 use Rattle.bar_party_commands.specs.Stands.{IsUntouched}
+
+pub not-zero : (status : ℕ) → (status == 0) ≡ false → status ≡ 0 → ⊥
+not-zero status test zero = true≢false (sym (ap (λ (n : ℕ). n == 0) zero) ∙ test)
 
 -- a run that is done and has not the status of the link was at its end
 pub ended-at : (ended : Bool) (status : ℕ) → (status ≡ 6 → ⊥) → status ≡ cond ended 0 6 → ended ≡ true

@@ -1,5 +1,6 @@
 -- What stands behind the binding of a peer's link, and before it.
-use Rattle.std.proofs.Common.{◌≡◌, ◌⊎◌, ℕ, List, [], false, Some, ◌∙◌, inl, inr, IsTrue}
+use Rattle.std.proofs.Common.{◌≡◌, ◌⊎◌, ◌==◌, ℕ, List, [], false, Some, ◌∙◌, inl, inr, IsTrue, refl, sym, subst, arith, true≢false}
+use Rattle.std.proofs.lemmas.Bool.{cases_Bool, eqb-true}
 use Rattle.bar_outside.specs.Disk.{Content, appended, created}
 use Rattle.bar_outside.specs.Wire.{Arrival}
 use Rattle.bar_outside.specs.Plan.{Action, Begun, Outside, Ran, content_after}
@@ -10,6 +11,7 @@ use Rattle.bar_record.specs.Recording.{head_bytes}
 use Rattle.bar_party_commands.specs.PeerPlan.{PeerAccepted, PeerNames, before_binding, peer_actions, peer_run}
 use Rattle.bar_party_commands.specs.PeerStands.{HasOwnNames, IsBound, IsBoundOrUnused, IsPeerOf}
 use Rattle.bar_party_commands.specs.Running.{place_of, spent_text}
+use Rattle.bar_party_commands.proofs.Endings.{as-untouched, not-zero}
 use Rattle.bar_session_files.proofs.Accepted.{AreHeld, fits-here}
 use Rattle.bar_party_commands.proofs.PeerRows.{IsRunFile, Outcome, peer-kinds, peer_last}
 use Rattle.bar_party_commands.proofs.RunSplits.{IsBehind, all-behind, begun-first, bound-behind, kept-behind, split-binding}
@@ -88,15 +90,43 @@ module _ (names : PeerNames) (s : SessionData) (k : Secrets) (given : List Arriv
         spent = λ own. kept-behind kinds ran b names.key (key-apart names own) ∙ key-at names own s k old.files.content;
       }
 
--- whatever the status, nothing was done over the link, or it is bound and the key is spent
-pub bound-or_not : AreHeld → (names : PeerNames) (given : List Arrival) (old new : Outside) (status : ℕ) → IsTrue new.files.told →
-    Outcome names given old new status → IsBoundOrUnused names old new
-bound-or_not held names given old new status told (inl r) = inl r.0.wire
-bound-or_not held names given old new status told (inr b) =
-    let s : SessionData = b.session in
-    let k : Secrets = b.secrets in
-    let d = b.went.part in
-    elim (split-peer names s k given d.begun) [
-      | inl front ↦ inl (begun-first (peer-kinds names s k given) d.ran front).wire
-      | inr behind ↦ inr (s, k, is-of held names old.files.content s k b.accepted, is-bound names s k given d.ran told behind)
-    ]
+module _ (held : AreHeld) (names : PeerNames) (given : List Arrival) (old new : Outside) (told : IsTrue new.files.told) where
+  abbrev IsSpent : Type 0
+  IsSpent = (s : SessionData) × (k : Secrets) × IsPeerOf names old.files.content s k × IsBound names s k old new
+
+  -- at 0 it is bound and the key is spent
+  bound-at_zero : Outcome names given old new 0 → IsSpent
+  bound-at_zero (inl stayed) = absurd (elim stayed.1 [
+    | inl stop ↦ true≢false (sym stop)
+    | inr why ↦ elim why [ inl k ↦ let e = k.0 in omega arith | inr k ↦ let e = k.0 in omega arith ]
+  ])
+  bound-at_zero (inr b) =
+      let s : SessionData = b.session in
+      let k : Secrets = b.secrets in (
+        s,
+        k,
+        is-of held names old.files.content s k b.accepted,
+        is-bound names s k given (b.went.carried refl).ran told (all-peer names s k given),
+      )
+
+  bound-at_other : (status : ℕ) → (status ≡ 0 → ⊥) → Outcome names given old new status → IsBoundOrUnused names old new status
+  bound-at_other status other (inl r) = inl (inl (as-untouched status old new r.0), other)
+  bound-at_other status other (inr b) =
+      let s : SessionData = b.session in
+      let k : Secrets = b.secrets in
+      let d = b.went.part in
+      let of = is-of held names old.files.content s k b.accepted in
+      elim (split-peer names s k given d.begun) [
+        | inl front ↦ inl (
+          inr (record { session = s; secrets = k; is_of = of; begun = begun-first (peer-kinds names s k given) d.ran front }),
+          other,
+        )
+        | inr behind ↦ inr (s, k, of, is-bound names s k given d.ran told behind)
+      ]
+
+  -- whatever the status, the link wasn't used, or it is bound and the key is spent
+  pub bound-or_not : (status : ℕ) → Outcome names given old new status → IsBoundOrUnused names old new status
+  bound-or_not status o = elim (cases_Bool (status == 0)) [
+    | inl zero ↦ inr (bound-at_zero (subst (Outcome names given old new) (eqb-true status 0 zero) o))
+    | inr other ↦ bound-at_other status (not-zero status other) o
+  ]

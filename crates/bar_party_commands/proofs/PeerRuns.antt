@@ -51,7 +51,7 @@ module _ (names : PeerNames) (s : SessionData) (k : Secrets) (given : List Arriv
 
   -- the outside at the binding
   abbrev bound : Outside
-  bound = outside-at (before_binding names s k) (place_of names.begin_ms s k) old
+  bound = outside-at (before_binding names s k) (place_of names.begin_ms s k) old new
 
   -- ---- stopped behind the binding
 
@@ -71,8 +71,8 @@ module _ (names : PeerNames) (s : SessionData) (k : Secrets) (given : List Arriv
       ran = ran-behind (peer-kinds names s k given) ran b;
     }
 
-    told-end : IsTrue old.wire.told → new.wire.traffic.ended ≡ has_end given
-    told-end tells = ended-behind (peer-kinds names s k given) ran b tells ∙ ap has_end received-more
+    told-end : new.wire.traffic.ended ≡ has_end given
+    told-end = ended-behind (peer-kinds names s k given) ran b ∙ ap has_end received-more
 
     has-stopped : PeerPartKept → HasStopped names s k given old new
     has-stopped keeps =
@@ -108,14 +108,14 @@ module _ (names : PeerNames) (s : SessionData) (k : Secrets) (given : List Arriv
 
     has-done : HasRun names s k inputs old new
     has-done = record {
-      sent = λ tells.
-          all_sent (Some names.recording) (Some names.played) names.found r given bound new ran-all tells
+      sent =
+          all_sent (Some names.recording) (Some names.played) names.found r given bound new ran-all
           ∙ ap (λ xs. old.wire.traffic.sent ++ xs) (sends me inputs);
       played = λ own. (done-peer own).played_is [] (played-at names own s k old.files.content) ∙ ap Some (plays me inputs);
       recorded = λ own. (done-peer own).recorded_is head (recorded-at names own s k old.files.content);
       found = found-at finds (Some names.recording) (Some names.played) names.found r given bound new ran-all ended few;
-      printed = λ tells.
-          printed-behind (peer-kinds names s k given) ran (all-peer names s k given) tells
+      printed =
+          printed-behind (peer-kinds names s k given) ran (all-peer names s k given)
           ∙ ap (λ b. old.out.bytes ++ shown (cond b (peer_summary r inputs) [])) ended;
     }
 
@@ -179,8 +179,8 @@ module _ (held : AreHeld) (few : IsFew) (names : PeerNames) (given : List Arriva
         given = given;
         is_given = is-given s k b.accepted;
         taken = heard.taken;
-        told_end = λ tells.
-            ended-behind kinds c.ran (all-peer names s k given) tells
+        told_end =
+            ended-behind kinds c.ran (all-peer names s k given)
             ∙ ap has_end (received-run (Some names.recording) (Some names.played) names.found (rules_by s k) given);
         ended = ended;
         run = has-done names s k given old new told sends plays keeps all_sent finds few_others c.ran ended;

@@ -49,4 +49,4 @@ front-at_end summary r given old new front = by_test (is_ended r given) front
     by_test : (b : Bool) → IsFrontPrinted (cond b (summary r (taken_of r given)) []) old new →
         IsFrontPrinted (summary r (taken_of r given)) old new
     by_test true front = front
-    by_test false front = λ tells. let n = front tells in (0, n.1 ∙ ap (λ bytes. old.out.bytes ++ bytes) (take-none n.0))
+    by_test false front = let n = front in (0, n.1 ∙ ap (λ bytes. old.out.bytes ++ bytes) (take-none n.0))

@@ -34,11 +34,11 @@ unbegun : (plan : List Arrival → Content → Plan) (old mid : Disk) (out : Str
     RunEndsWith plan (outside old out wire) (outside mid out wire) status line
 unbegun plan old mid out wire status line same other h = record {
   given = [];
-  heard = heard-nothing (outside old out wire) (outside mid out wire) (λ told. refl);
+  heard = heard-nothing (outside old out wire) (outside mid out wire) refl;
   ends = h;
   reached = λ told.
       nothing-reached (plan [] old.content).actions _ _
-      (record { files = same; out = λ tells. sym (append-nil out.bytes); wire = λ tells. refl });
+      (record { files = same; out = sym (append-nil out.bytes); wire = refl });
   asked = λ told front next rest e. absurd (none-more front next rest e);
   answers = λ reliable. other;
 }
@@ -102,7 +102,7 @@ module _ {A E : Type 0} (path : List ℕ) (meaning : List ℕ → Result A E) (o
         ∙ ap (λ c. before (read path) (others given meant c)) (sym reads.same)
 
     read-first : Ran (read path ∷ []) (outside old out wire) was
-    read-first = record { files = reads.same; out = λ tells. sym (append-nil out.bytes); wire = λ tells. refl }
+    read-first = record { files = reads.same; out = sym (append-nil out.bytes); wire = refl }
 
     -- it is accepted
     pub accepted-so : (meant : A) (new : Outside) (status : ℕ) (line : List ℕ) → meaning bytes.items ≡ Ok meant →

@@ -28,10 +28,10 @@ use Rattle.bar_party_commands.proofs.Reaching.{AnyName, nothing-reached, reached
 use Rattle.bar_party_commands.specs.Summaries.{at_end}
 
 -- nothing was taken over the link
-pub heard-nothing : (old new : Outside) → (IsTrue old.wire.told → new.wire.traffic.taken ≡ old.wire.traffic.taken) → HasHeard [] old new
+pub heard-nothing : (old new : Outside) → new.wire.traffic.taken ≡ old.wire.traffic.taken → HasHeard [] old new
 heard-nothing old new same = record {
-  taken = λ told. same told ∙ sym (append-nil old.wire.traffic.taken);
-  told_end = λ told ended. absurd (false≢true ended);
+  taken = same ∙ sym (append-nil old.wire.traffic.taken);
+  told_end = λ ended. absurd (false≢true ended);
   within = tt;
 }
 
@@ -40,7 +40,7 @@ pub run-memory : {T : Type 0} (actions : List Arrival → List Action) (r : Rule
     RunFollows {T = T} actions r old old (Err NoMemory)
 run-memory actions r old = record {
   given = [];
-  heard = heard-nothing old old (λ told. refl);
+  heard = heard-nothing old old refl;
   follows = no_memory (actions []) old;
   reached = nothing-reached (actions []) old old (Ran-nothing old);
   asked = (given-none r).asked;
@@ -92,13 +92,13 @@ binding-received bound done b =
     ]
 
 unbound-taken : {T : Type 0} (bound : Bound) (old new : Outside) (fault : Fault) →
-    Follows {T = T} (link (bind bound) ∷ []) old new (Err fault) → IsTrue old.wire.told → new.wire.traffic.taken ≡ old.wire.traffic.taken
-unbound-taken bound old new fault f told =
-    ap (λ (t : Traffic). t.taken) (f.part.ran.wire told) ∙ begun-binding bound f.part.done old.wire.traffic f.part.begun
+    Follows {T = T} (link (bind bound) ∷ []) old new (Err fault) → new.wire.traffic.taken ≡ old.wire.traffic.taken
+unbound-taken bound old new fault f =
+    ap (λ (t : Traffic). t.taken) f.part.ran.wire ∙ begun-binding bound f.part.done old.wire.traffic f.part.begun
 
 bound-taken : {T : Type 0} (bound : Bound) (old new : Outside) (x : T) → Follows {T = T} (link (bind bound) ∷ []) old new (Ok x) →
-    IsTrue old.wire.told → new.wire.traffic.taken ≡ old.wire.traffic.taken
-bound-taken bound old new x f told = ap (λ (t : Traffic). t.taken) (f.done.wire told)
+    new.wire.traffic.taken ≡ old.wire.traffic.taken
+bound-taken bound old new x f = ap (λ (t : Traffic). t.taken) f.done.wire
 
 -- ---- some actions at the files, the binding, the run and its summary
 
@@ -143,7 +143,7 @@ module _ (front : List Action) (bound : Bound) (recording played : Option (List 
         RunFollows {T = T} acts r (outside files out wire) (outside mid out wire) (Err fault)
     before-binding mid fault first = record {
       given = [];
-      heard = heard-nothing (outside files out wire) (outside mid out wire) (λ told. refl);
+      heard = heard-nothing (outside files out wire) (outside mid out wire) refl;
       follows = stopped front (link (bind bound) ∷ behind []) _ _ fault (handed front _ _ fault (first (outside files out wire)));
       reached =
           reached-longer front (link (bind bound) ∷ behind []) [] _ _
@@ -203,15 +203,15 @@ module _ (front : List Action) (bound : Bound) (recording played : Option (List 
             (reached-behind (link (bind bound) ∷ []) (behind given) [] given _ _ _ at_second.later at_second.done refl rest)
 
         heard-by : (given : List Arrival) (out_new : Stream) → AllByRecursion IsInRange (inputs_of given) →
-            (IsTrue late.told → wire_new.traffic.taken ≡ late.traffic.taken ++ heard given) →
-            (IsTrue late.told → wire_new.traffic.ended ≡ (late.traffic.ended || has_end given)) →
+            wire_new.traffic.taken ≡ late.traffic.taken ++ heard given →
+            wire_new.traffic.ended ≡ (late.traffic.ended || has_end given) →
             HasHeard given (outside files out wire) (outside files_new out_new wire_new)
         heard-by given out_new within taken told_end = record {
-          taken = λ told.
-              taken (subst IsTrue (sym at_second.later.wire_told) told)
-              ∙ ap (λ xs. xs ++ heard given) (bound-taken bound (outside mid out wire) (outside mid out late) y at_second told);
-          told_end = λ told ended.
-              told_end (subst IsTrue (sym at_second.later.wire_told) told) ∙ or_right late.traffic.ended (has_end given) ended;
+          taken =
+              taken
+              ∙ ap (λ xs. xs ++ heard given) (bound-taken bound (outside mid out wire) (outside mid out late) y at_second);
+          told_end = λ ended.
+              told_end ∙ or_right late.traffic.ended (has_end given) ended;
           within = within;
         }
 

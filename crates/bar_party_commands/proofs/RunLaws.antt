@@ -12,7 +12,7 @@ use Rattle.bar_party_commands.specs.Stands.{AreFound}
 abbrev pub WholeSent : Type 0
 WholeSent =
     (recording played : Option (List ℕ)) (found : List ℕ) (r : Rules) (given : List Arrival) (old new : Outside) →
-    Ran (node_plan recording played found r given) old new → IsTrue old.wire.told →
+    Ran (node_plan recording played found r given) old new →
     new.wire.traffic.sent ≡ old.wire.traffic.sent ++ sends_over r [] (taken_of r given)
 
 -- it has written what was found

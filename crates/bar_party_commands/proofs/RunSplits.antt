@@ -10,7 +10,6 @@ use Rattle.bar_outside.proofs.ActionLists.{Begun-both, Begun-first, Begun-nothin
 use Rattle.bar_outside.proofs.Untouched.{Touches-split, content-untouched}
 use Rattle.bar_node.specs.Effects.{received_by, received_in}
 use Rattle.bar_node.specs.Runs.{has_end}
-use Rattle.bar_node.proofs.Doing.{silent_out}
 use Rattle.bar_party_commands.specs.Stands.{IsBegun, IsFrontPrinted}
 use Rattle.bar_node.proofs.ActionKinds.{AreAmong, IsUnbinding, NoCall, NoName, among-begun, among-bound, among-ended, among-silent, among-touches, among-unlinked, among-unreceived, among-unwritten, shown-front}
 use Rattle.bar_node.proofs.Cutting.{no-part-link}
@@ -79,9 +78,9 @@ pub record AreOfKinds (P Q : List ℕ → Type 0) (first run last : List Action)
   pub runs : AreAmong Q IsUnbinding ⊥ run
   pub lasts : AreAmong NoName NoCall (Unit {0}) last
 
--- the outside when the link was bound; its output tells nothing
-abbrev pub outside-at : List Action → Bound → Outside → Outside
-outside-at first to old =
+-- the outside when the link was bound, with the output that it has at the end
+abbrev pub outside-at : List Action → Bound → Outside → Outside → Outside
+outside-at first to old new =
     outside
     (record {
       told = old.files.told;
@@ -91,9 +90,8 @@ outside-at first to old =
       failed = old.files.failed;
       faults = old.files.faults;
     })
-    silent_out
+    new.out
     (record {
-      told = old.wire.told;
       reliable = old.wire.reliable;
       traffic = bound_to to old.wire.traffic;
       faults = old.wire.faults;
@@ -120,9 +118,9 @@ module _ {P Q : List ℕ → Type 0} {first run last : List Action} (kinds : Are
           done = done;
           begun = b;
           ran = ran;
-          out = λ tells.
-              ran.out tells ∙ ap (λ bytes. old.out.bytes ++ bytes) (among-silent P NoCall done of_kinds) ∙ append-nil old.out.bytes;
-          wire = λ tells. ran.wire tells ∙ among-unlinked P ⊥ done old.wire.traffic of_kinds;
+          out =
+              ran.out ∙ ap (λ bytes. old.out.bytes ++ bytes) (among-silent P NoCall done of_kinds) ∙ append-nil old.out.bytes;
+          wire = ran.wire ∙ among-unlinked P ⊥ done old.wire.traffic of_kinds;
         }
 
     -- behind it
@@ -148,23 +146,28 @@ module _ {P Q : List ℕ → Type 0} {first run last : List Action} (kinds : Are
           ∙ content_after-append b.more b.prints start
           ∙ among-unwritten NoCall (Unit {0}) b.prints (content_after b.more start) print-kinds
 
-      traffic-behind : IsTrue old.wire.told → new.wire.traffic ≡ traffic_after b.more (bound_to to old.wire.traffic)
-      traffic-behind tells =
-          ran.wire tells
+      traffic-behind : new.wire.traffic ≡ traffic_after b.more (bound_to to old.wire.traffic)
+      traffic-behind =
+          ran.wire
           ∙ ap (λ xs. traffic_after xs old.wire.traffic) b.is
           ∙ traffic_after-append first rest old.wire.traffic
           ∙ ap (traffic_after rest) (among-unlinked P ⊥ first old.wire.traffic kinds.firsts)
           ∙ traffic_after-append b.more b.prints (bound_to to old.wire.traffic)
           ∙ among-unlinked NoName (Unit {0}) b.prints (traffic_after b.more (bound_to to old.wire.traffic)) print-kinds
 
-      pub ran-behind : Ran b.more (outside-at first to old) new
-      ran-behind = record { files = content-behind; out = λ tells. absurd (true≢false (sym tells)); wire = traffic-behind }
+      pub ran-behind : Ran b.more (outside-at first to old new) new
+      ran-behind = record {
+        files = content-behind;
+        out =
+            sym (ap (λ bytes. new.out.bytes ++ bytes) (among-silent Q IsUnbinding b.more more-kinds) ∙ append-nil new.out.bytes);
+        wire = traffic-behind;
+      }
 
-      pub bound-behind : IsTrue old.wire.told → new.wire.traffic.bound ≡ Some to
-      bound-behind tells =
-          ap (λ (t : Traffic). t.bound) (traffic-behind tells) ∙ among-bound Q ⊥ b.more (bound_to to old.wire.traffic) more-kinds
+      pub bound-behind : new.wire.traffic.bound ≡ Some to
+      bound-behind =
+          ap (λ (t : Traffic). t.bound) traffic-behind ∙ among-bound Q ⊥ b.more (bound_to to old.wire.traffic) more-kinds
 
-      -- what was received was received by the run, and the link told its end exactly where it came
+      -- what was received was received by the run, and the link gave its end exactly where it came
 
       pub received-behind : received_in b.more ≡ received_in done
       received-behind =
@@ -175,9 +178,9 @@ module _ {P Q : List ℕ → Type 0} {first run last : List Action} (kinds : Are
           ∙ ap (λ xs. received_in b.more ++ xs) (among-unreceived NoName (Unit {0}) b.prints print-kinds)
           ∙ append-nil (received_in b.more))
 
-      pub ended-behind : IsTrue old.wire.told → new.wire.traffic.ended ≡ has_end (received_in b.more)
-      ended-behind tells =
-          ap (λ (t : Traffic). t.ended) (traffic-behind tells) ∙ among-ended Q ⊥ b.more (bound_to to old.wire.traffic) more-kinds
+      pub ended-behind : new.wire.traffic.ended ≡ has_end (received_in b.more)
+      ended-behind =
+          ap (λ (t : Traffic). t.ended) traffic-behind ∙ among-ended Q ⊥ b.more (bound_to to old.wire.traffic) more-kinds
 
       -- a file that the run doesn't write is as it was at the binding
       pub kept-behind : (path : List ℕ) → (Q path → ⊥) →
@@ -188,9 +191,9 @@ module _ {P Q : List ℕ → Type 0} {first run last : List Action} (kinds : Are
           (λ t. none (among-touches Q IsUnbinding ⊥ b.more path more-kinds t))
 
       -- nothing but what comes last is printed
-      pub printed-behind : IsTrue old.out.told → new.out.bytes ≡ old.out.bytes ++ shown b.prints
-      printed-behind tells =
-          ran.out tells
+      pub printed-behind : new.out.bytes ≡ old.out.bytes ++ shown b.prints
+      printed-behind =
+          ran.out
           ∙ ap (λ bytes. old.out.bytes ++ bytes)
           (ap shown b.is ∙ shown-append first rest
           ∙ ap (λ bytes. bytes ++ shown (b.more ++ b.prints)) (among-silent P NoCall first kinds.firsts)
@@ -198,5 +201,5 @@ module _ {P Q : List ℕ → Type 0} {first run last : List Action} (kinds : Are
           ∙ ap (λ bytes. bytes ++ shown b.prints) (among-silent Q IsUnbinding b.more more-kinds))
 
       pub front-behind : IsFrontPrinted last old new
-      front-behind tells =
-          let n = shown-front last b.prints b.last_begun in (n.0, printed-behind tells ∙ ap (λ bytes. old.out.bytes ++ bytes) n.1)
+      front-behind =
+          let n = shown-front last b.prints b.last_begun in (n.0, printed-behind ∙ ap (λ bytes. old.out.bytes ++ bytes) n.1)

@@ -14,8 +14,8 @@ use Rattle.bar_party_commands.proofs.RunFollowing.{AtOutput}
 abbrev quiet : Outside
 quiet = record {
   files = record { told = false; reliable = false; content = λ path. None; created_here = λ path. false; failed = None; faults = 0 };
-  out = record { told = false; reliable = false; bytes = []; faults = 0 };
-  wire = record { told = false; reliable = false; traffic = no_traffic; faults = 0 };
+  out = record { reliable = false; bytes = []; faults = 0 };
+  wire = record { reliable = false; traffic = no_traffic; faults = 0 };
 }
 
 -- what is done at the output alone fails neither by the files nor by the link

@@ -1,7 +1,6 @@
 -- What stands after `broadcaster`.
-use Rattle.std.specs.Prelude.{◌≡◌, ◌⊎◌, ◌<◌, ℕ, List, [], ◌++◌, Some, Ok, Err, IsTrue, length, true}
+use Rattle.std.specs.Prelude.{◌≡◌, ◌≢◌, ◌⊎◌, ◌<◌, ℕ, List, [], ◌++◌, Some, Ok, Err, IsTrue, length, true}
 use Rattle.bar_outside.specs.Disk.{Content, readable}
-use Rattle.bar_outside.specs.Ends.{SameTraffic}
 use Rattle.bar_outside.specs.Plan.{Outside, shown}
 use Rattle.bar_outside.specs.Wire.{Arrival}
 use Rattle.bar_findings.specs.Findings.{IsFindingName}
@@ -29,7 +28,7 @@ pub record IsCasterOf (names : CasterNames) (content : Content) (s : SessionData
 
 -- The link is bound to the key's party, and the key file is spent.
 pub record IsBound (names : CasterNames) (s : SessionData) (k : Secrets) (old new : Outside) : Type 0 where
-  pub bound : IsTrue old.wire.told → new.wire.traffic.bound ≡ Some (place_of names.begin_ms s k)
+  pub bound : new.wire.traffic.bound ≡ Some (place_of names.begin_ms s k)
   pub spent : IsApart names.key names.found → new.files.content names.key ≡ Some (spent_text s k)
 
 -- A broadcaster that ended with 0: what the link gave was taken, and over these inputs, paced, all that its rules send was sent. The run was
@@ -42,16 +41,16 @@ pub record CasterDone (names : CasterNames) (old new : Outside) : Type 0 where
   pub bound : IsBound names session secrets old new
   pub given : List Arrival
   pub is_given : IsGiven (rules_by session secrets stream) given
-  pub taken : IsTrue old.wire.told → new.wire.traffic.taken ≡ old.wire.traffic.taken ++ heard given
+  pub taken : new.wire.traffic.taken ≡ old.wire.traffic.taken ++ heard given
   -- the link told its end exactly where it gave it
-  pub told_end : IsTrue old.wire.told → new.wire.traffic.ended ≡ has_end given
+  pub told_end : new.wire.traffic.ended ≡ has_end given
   pub ended : IsTrue (is_ended (rules_by session secrets stream) given)
-  pub sent : IsTrue old.wire.told → new.wire.traffic.sent
+  pub sent : new.wire.traffic.sent
       ≡ old.wire.traffic.sent
       ++ packets session
       (sends_from (caster_step (member_by session secrets) stream) [] 1 (taken_of (rules_by session secrets stream) given))
   pub found : AreFound names.found (rules_by session secrets stream) (taken_of (rules_by session secrets stream) given) new.files.content
-  pub printed : IsTrue old.out.told → new.out.bytes
+  pub printed : new.out.bytes
       ≡ old.out.bytes
       ++ shown (caster_summary (rules_by session secrets stream) (taken_of (rules_by session secrets stream) given))
 
@@ -64,13 +63,12 @@ pub record CasterStopped (names : CasterNames) (old new : Outside) : Type 0 wher
   pub bound : IsBound names session secrets old new
   pub given : List Arrival
   pub is_given : IsGiven (rules_by session secrets stream) given
-  pub taken : IsTrue old.wire.told → new.wire.traffic.taken ≡ old.wire.traffic.taken ++ heard given
+  pub taken : new.wire.traffic.taken ≡ old.wire.traffic.taken ++ heard given
   -- the link told its end exactly where it gave it
-  pub told_end : IsTrue old.wire.told → new.wire.traffic.ended ≡ has_end given
+  pub told_end : new.wire.traffic.ended ≡ has_end given
   pub run : StoppedSending (rules_by session secrets stream) given old.wire new.wire
   -- a front of the summary may be printed, where the run was at its end
-  pub printed :
-      IsFrontPrinted (caster_summary (rules_by session secrets stream) (taken_of (rules_by session secrets stream) given)) old new
+  pub printed : IsFrontPrinted (caster_summary (rules_by session secrets stream) (taken_of (rules_by session secrets stream) given)) old new
 
 -- The files were accepted, and it was stopped before the link was bound: the key file is spent so far.
 pub record CasterBegun (names : CasterNames) (old new : Outside) : Type 0 where
@@ -116,10 +114,14 @@ StreamRefused names content =
     × (readable content names.stream ≡ Some stream)
     × (room_of s < length stream)
 
--- Nothing was done over the link; or the files were accepted, the link is bound to party 0, and the key is spent.
-abbrev pub IsBoundOrUnused : CasterNames → Outside → Outside → Type 0
-IsBoundOrUnused names old new =
-    SameTraffic old new
+-- Nothing was changed, or it was stopped before the link was bound; its status isn't 0.
+abbrev pub IsUnused : CasterNames → Outside → Outside → ℕ → Type 0
+IsUnused names old new status = (IsUntouched old new ⊎ CasterBegun names old new) × (status ≢ 0)
+
+-- The link wasn't used; or the files were accepted, the link is bound to party 0, and the key is spent.
+abbrev pub IsBoundOrUnused : CasterNames → Outside → Outside → ℕ → Type 0
+IsBoundOrUnused names old new status =
+    IsUnused names old new status
     ⊎ ((s : SessionData)
     × (k : Secrets)
     × (stream : List ℕ)

@@ -2,7 +2,6 @@
 use Rattle.std.specs.Prelude.{◌≡◌, ◌≢◌, ◌⊎◌, ℕ, List, [], ◌++◌, Some, Err, IsTrue, false}
 use Rattle.std.specs.List.{concat, flat_map}
 use Rattle.bar_outside.specs.Disk.{Content, readable}
-use Rattle.bar_outside.specs.Ends.{SameTraffic}
 use Rattle.bar_outside.specs.Plan.{Outside, shown}
 use Rattle.bar_outside.specs.Wire.{Arrival}
 use Rattle.bar_findings.specs.Findings.{IsFindingName}
@@ -39,17 +38,17 @@ pub record IsPeerOf (names : PeerNames) (content : Content) (s : SessionData) (k
 
 -- The link is bound to the key's party, and the key file is spent.
 pub record IsBound (names : PeerNames) (s : SessionData) (k : Secrets) (old new : Outside) : Type 0 where
-  pub bound : IsTrue old.wire.told → new.wire.traffic.bound ≡ Some (place_of names.begin_ms s k)
+  pub bound : new.wire.traffic.bound ≡ Some (place_of names.begin_ms s k)
   pub spent : HasOwnNames names → new.files.content names.key ≡ Some (spent_text s k)
 
 -- What the link gave was taken, and over these inputs, paced, all that the rules of the peer send was sent, the played file has exactly what
 -- they play, and the recording is theirs, with its end. The run was at its end. What was found is written, and the summary printed.
 pub record HasRun (names : PeerNames) (s : SessionData) (k : Secrets) (inputs : List Input) (old new : Outside) : Type 0 where
-  pub sent : IsTrue old.wire.told → new.wire.traffic.sent ≡ old.wire.traffic.sent ++ packets s (sends_of (member_by s k) inputs)
+  pub sent : new.wire.traffic.sent ≡ old.wire.traffic.sent ++ packets s (sends_of (member_by s k) inputs)
   pub played : HasOwnNames names → new.files.content names.played ≡ Some (played_by (member_by s k) inputs)
   pub recorded : HasOwnNames names → new.files.content names.recording ≡ Some (recording_bytes s.shape.id k.party inputs)
   pub found : AreFound names.found (rules_by s k) inputs new.files.content
-  pub printed : IsTrue old.out.told → new.out.bytes ≡ old.out.bytes ++ shown (peer_summary (rules_by s k) inputs)
+  pub printed : new.out.bytes ≡ old.out.bytes ++ shown (peer_summary (rules_by s k) inputs)
 
 -- A peer that ended with 0.
 pub record PeerDone (names : PeerNames) (old new : Outside) : Type 0 where
@@ -59,14 +58,14 @@ pub record PeerDone (names : PeerNames) (old new : Outside) : Type 0 where
   pub bound : IsBound names session secrets old new
   pub given : List Arrival
   pub is_given : IsGiven (rules_by session secrets) given
-  pub taken : IsTrue old.wire.told → new.wire.traffic.taken ≡ old.wire.traffic.taken ++ heard given
+  pub taken : new.wire.traffic.taken ≡ old.wire.traffic.taken ++ heard given
   -- the link told its end exactly where it gave it
-  pub told_end : IsTrue old.wire.told → new.wire.traffic.ended ≡ has_end given
+  pub told_end : new.wire.traffic.ended ≡ has_end given
   pub ended : IsTrue (is_ended (rules_by session secrets) given)
   pub run : HasRun names session secrets (taken_of (rules_by session secrets) given) old new
 
--- A run that was stopped: it sent, played and recorded all of the inputs begun but the last one, and a front of the last one's. What it sent
--- is told where the link tells, and what its files have where their names differ.
+-- A run that was stopped: it sent, played and recorded all of the inputs begun but the last one, and a front of the last one's. What its
+-- files have is said where their names differ.
 pub record HasStopped (names : PeerNames) (s : SessionData) (k : Secrets) (given : List Arrival) (old new : Outside) : Type 0 where
   pub cut : Cut (taken_of (rules_by s k) given)
   pub sent : List Send
@@ -75,7 +74,7 @@ pub record HasStopped (names : PeerNames) (s : SessionData) (k : Secrets) (given
   pub sent_front : IsFront sent (sends_over (rules_by s k) cut.whole cut.last)
   pub bytes_front : IsFront bytes (concat (contents_over (rules_by s k) cut.whole cut.last))
   pub entries_front : IsFront entries (flat_map entry_bytes cut.last ++ end_of (rules_by s k) given)
-  pub sent_is : IsTrue old.wire.told → new.wire.traffic.sent ≡ old.wire.traffic.sent ++ (sends_over (rules_by s k) [] cut.whole ++ sent)
+  pub sent_is : new.wire.traffic.sent ≡ old.wire.traffic.sent ++ (sends_over (rules_by s k) [] cut.whole ++ sent)
   pub played_is : HasOwnNames names → new.files.content names.played ≡ Some (concat (contents_over (rules_by s k) [] cut.whole) ++ bytes)
   pub recorded_is : HasOwnNames names →
       new.files.content names.recording ≡ Some (head_bytes s.shape.id k.party ++ (flat_map entry_bytes cut.whole ++ entries))
@@ -88,9 +87,9 @@ pub record PeerStopped (names : PeerNames) (old new : Outside) : Type 0 where
   pub bound : IsBound names session secrets old new
   pub given : List Arrival
   pub is_given : IsGiven (rules_by session secrets) given
-  pub taken : IsTrue old.wire.told → new.wire.traffic.taken ≡ old.wire.traffic.taken ++ heard given
+  pub taken : new.wire.traffic.taken ≡ old.wire.traffic.taken ++ heard given
   -- the link told its end exactly where it gave it
-  pub told_end : IsTrue old.wire.told → new.wire.traffic.ended ≡ has_end given
+  pub told_end : new.wire.traffic.ended ≡ has_end given
   pub run : HasStopped names session secrets given old new
   -- a front of the summary may be printed, where the run was at its end
   pub printed : IsFrontPrinted (peer_summary (rules_by session secrets) (taken_of (rules_by session secrets) given)) old new
@@ -126,7 +125,12 @@ KeyRefused names content =
     × (readable content names.key ≡ Some bytes)
     × (fresh_key_of false s bytes ≡ Err fault)
 
--- Nothing was done over the link; or the files were accepted, the link is bound to the key's party, and the key is spent.
-abbrev pub IsBoundOrUnused : PeerNames → Outside → Outside → Type 0
-IsBoundOrUnused names old new =
-    SameTraffic old new ⊎ ((s : SessionData) × (k : Secrets) × IsPeerOf names old.files.content s k × IsBound names s k old new)
+-- Nothing was changed, or it was stopped before the link was bound; its status isn't 0.
+abbrev pub IsUnused : PeerNames → Outside → Outside → ℕ → Type 0
+IsUnused names old new status = (IsUntouched old new ⊎ PeerBegun names old new) × (status ≢ 0)
+
+-- The link wasn't used; or the files were accepted, the link is bound to the key's party, and the key is spent.
+abbrev pub IsBoundOrUnused : PeerNames → Outside → Outside → ℕ → Type 0
+IsBoundOrUnused names old new status =
+    IsUnused names old new status
+    ⊎ ((s : SessionData) × (k : Secrets) × IsPeerOf names old.files.content s k × IsBound names s k old new)

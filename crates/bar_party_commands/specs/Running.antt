@@ -17,10 +17,10 @@ use Rattle.bar_core.specs.Rules.{Rules}
 use Rattle.bar_node.specs.Effects.{received_in}
 use Rattle.bar_node.specs.Runs.{AsksToTheEnd, has_end, heard, inputs_of, is_ended}
 
--- This is what the link gave: it tells it as taken, and tells its end where it gave it. No datagram is larger than one can be.
+-- This is what the link gave: it tells it as taken, and its end where it gave it. No datagram is larger than one can be.
 pub record HasHeard (given : List Arrival) (old new : Outside) : Type 0 where
-  pub taken : IsTrue old.wire.told → new.wire.traffic.taken ≡ old.wire.traffic.taken ++ heard given
-  pub told_end : IsTrue old.wire.told → has_end given ≡ true → new.wire.traffic.ended ≡ true
+  pub taken : new.wire.traffic.taken ≡ old.wire.traffic.taken ++ heard given
+  pub told_end : has_end given ≡ true → new.wire.traffic.ended ≡ true
   pub within : AllByRecursion IsInRange (inputs_of given)
 
 -- So much was done of some actions: a front of them, and maybe a part of the one behind it. What it received is exactly what the link gave.

@@ -34,7 +34,7 @@ pub record AreFound (found : List ℕ) (r : Rules) (taken : List Input) (content
 
 -- a front of what some actions print was printed
 abbrev pub IsFrontPrinted : List Action → Outside → Outside → Type 0
-IsFrontPrinted actions old new = IsTrue old.out.told → (k : ℕ) × (new.out.bytes ≡ old.out.bytes ++ take k (shown actions))
+IsFrontPrinted actions old new = (k : ℕ) × (new.out.bytes ≡ old.out.bytes ++ take k (shown actions))
 
 -- the receiver and the bytes of each datagram that is sent
 abbrev pub packets : Session → List (ℕ × ℕ × Datagram) → List Send

@@ -41,9 +41,9 @@ pub fn a_broadcaster_stands()
     plans_go_in_order();
 }
 
-/// Whatever the status, nothing was done over the link, or the link is bound to the broadcaster, and the key is spent.
+/// Whatever the status, the link wasn't used, and the status isn't 0; or the link is bound to the broadcaster, and the key is spent.
 pub fn a_bound_broadcaster_has_spent_its_key()
-    ensures { (names : CasterNames) → OfEachRun (caster_plan names) (λ old new status. IsBoundOrUnused names old new) }
+    ensures { (names : CasterNames) → OfEachRun (caster_plan names) (λ old new status. IsBoundOrUnused names old new status) }
 {
     accepted_secrets_are_held();
     plans_go_in_order();

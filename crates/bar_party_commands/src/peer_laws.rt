@@ -42,9 +42,9 @@ pub fn a_peer_stands()
     plans_go_in_order();
 }
 
-/// Whatever the status, nothing was done over the link, or the link is bound to the key's party, and the key is spent.
+/// Whatever the status, the link wasn't used, and the status isn't 0; or the link is bound to the key's party, and the key is spent.
 pub fn a_bound_peer_has_spent_its_key()
-    ensures { (names : PeerNames) → OfEachRun (peer_plan names) (λ old new status. IsBoundOrUnused names old new) }
+    ensures { (names : PeerNames) → OfEachRun (peer_plan names) (λ old new status. IsBoundOrUnused names old new status) }
 {
     accepted_secrets_are_held();
     plans_go_in_order();

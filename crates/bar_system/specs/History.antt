@@ -86,13 +86,13 @@ failed_of (event ∷ before) = failed_by event (failed_of before)
 -- ---- an object with this history and so many faults; any call of it may fail
 
 abbrev pub stream_by : List Event → ℕ → Stream
-stream_by events faults = record { told = true; reliable = false; bytes = bytes_of events; faults = faults }
+stream_by events faults = record { reliable = false; bytes = bytes_of events; faults = faults }
 
 abbrev pub wire_by : List Event → ℕ → Wire
-wire_by events faults = record { told = true; reliable = false; traffic = traffic_of events; faults = faults }
+wire_by events faults = record { reliable = false; traffic = traffic_of events; faults = faults }
 
 abbrev pub children_by : List Event → ℕ → Children
-children_by events faults = record { told = true; reliable = false; calls = calls_of events; faults = faults }
+children_by events faults = record { reliable = false; calls = calls_of events; faults = faults }
 
 abbrev pub disk_by : List Event → ℕ → Content → Disk
 disk_by events faults was =

@@ -28,7 +28,7 @@ pub record Audited (names : AuditFiles) (balance : Option Exchange) (old new : O
   pub exchanges : List Exchange
   pub are : AreRecorded accepted.session accepted.recordings exchanges
   pub is : unbalanced accepted.session accepted.recordings exchanges ≡ balance
-  pub printed : IsTrue old.out.told → new.out.bytes ≡ old.out.bytes ++ text_for accepted.session accepted.recordings exchanges
+  pub printed : new.out.bytes ≡ old.out.bytes ++ text_for accepted.session accepted.recordings exchanges
   pub paid : balance ≡ None → KeysPaid accepted.session accepted.recordings
   pub files : SameFiles old new
 
@@ -43,9 +43,7 @@ balance_in names content accepted = balance_of accepted.session accepted.recordi
 -- all were accepted, and a front of what is told was printed
 pub record AuditedFront (names : AuditFiles) (old new : Outside) : Type 0 where
   pub accepted : AuditAccepted names old.files.content
-  pub printed :
-      IsTrue old.out.told →
-      (k : ℕ) × (new.out.bytes ≡ old.out.bytes ++ take k (audit_text accepted.session accepted.recordings))
+  pub printed : (k : ℕ) × (new.out.bytes ≡ old.out.bytes ++ take k (audit_text accepted.session accepted.recordings))
 
 -- Whatever the status, no file was changed; and none is called unbalanced where each recording lists the inputs of a run of its party, and
 -- what stands in the recordings as signed by these parties is what they signed.

@@ -101,7 +101,7 @@ verdict_in names content accepted = verdict_of accepted.session accepted.lists a
 pub record Judged (names : JudgeFiles) (verdict : Verdict) (old new : Outside) : Type 0 where
   pub accepted : JudgeAccepted names old.files.content
   pub is : verdict_in names old.files.content accepted ≡ verdict
-  pub printed : IsTrue old.out.told → new.out.bytes ≡ old.out.bytes ++ verdict_line verdict
+  pub printed : new.out.bytes ≡ old.out.bytes ++ verdict_line verdict
   pub files : SameFiles old new
 
 -- so it was with the verdict that has this status
@@ -111,9 +111,7 @@ HasJudged names status old new = (verdict : Verdict) × (status ≡ status_of_ve
 -- all were accepted, and a front of the verdict's line was printed
 pub record JudgedFront (names : JudgeFiles) (old new : Outside) : Type 0 where
   pub accepted : JudgeAccepted names old.files.content
-  pub printed :
-      IsTrue old.out.told →
-      (k : ℕ) × (new.out.bytes ≡ old.out.bytes ++ take k (verdict_line (verdict_in names old.files.content accepted)))
+  pub printed : (k : ℕ) × (new.out.bytes ≡ old.out.bytes ++ take k (verdict_line (verdict_in names old.files.content accepted)))
 
 -- a call that `judge` makes: it reads its files alone
 abbrev pub IsJudgeCall : JudgeFiles → Failure → Type 0

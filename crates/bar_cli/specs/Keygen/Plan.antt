@@ -85,7 +85,7 @@ pub record KeygenAccepted (asked : Keygen) (content : Content) : Type 0 where
 pub record KeyMade (asked : Keygen) (old new : Outside) : Type 0 where
   pub accepted : KeygenAccepted asked old.files.content
   pub written : new.files.content asked.key ≡ Some (key_text_of (key_made asked accepted.secret))
-  pub printed : IsTrue old.out.told → new.out.bytes ≡ old.out.bytes ++ lines_of asked accepted.secret
+  pub printed : new.out.bytes ≡ old.out.bytes ++ lines_of asked accepted.secret
   pub others : (path : List ℕ) → path ≢ asked.key → new.files.content path ≡ old.files.content path
 
 -- there are enough leaves
@@ -107,7 +107,7 @@ pub record KeyWritten (asked : Keygen) (old new : Outside) : Type 0 where
   pub accepted : KeygenAccepted asked old.files.content
   pub printed_count : ℕ
   pub written : new.files.content asked.key ≡ Some (key_text_of (key_made asked accepted.secret))
-  pub printed : IsTrue old.out.told → new.out.bytes ≡ old.out.bytes ++ take printed_count (lines_of asked accepted.secret)
+  pub printed : new.out.bytes ≡ old.out.bytes ++ take printed_count (lines_of asked accepted.secret)
 
 -- both were accepted, the key file has a front of the text, and behind the whole text a front of the lines was printed
 pub record KeyBegun (asked : Keygen) (old new : Outside) : Type 0 where
@@ -115,7 +115,7 @@ pub record KeyBegun (asked : Keygen) (old new : Outside) : Type 0 where
   pub written_count : ℕ
   pub printed_count : ℕ
   pub written : new.files.content asked.key ≡ Some (take written_count (key_text_of (key_made asked accepted.secret)))
-  pub printed : IsTrue old.out.told → new.out.bytes ≡ old.out.bytes ++ take printed_count (lines_of asked accepted.secret)
+  pub printed : new.out.bytes ≡ old.out.bytes ++ take printed_count (lines_of asked accepted.secret)
   pub order : (printed_count ≡ 0) ⊎ (new.files.content asked.key ≡ Some (key_text_of (key_made asked accepted.secret)))
 
 -- a call that `keygen` makes: the read of the secret, or a create or an append of the key file

@@ -32,10 +32,8 @@ pub record ShowsWhatWasSent (peer : PeerNames) (names : ReplayFiles) (before aft
   pub secrets : Secrets
   pub inputs : List Input
   pub accepted : PeerAccepted peer before.files.content session secrets
-  pub sent : IsTrue before.wire.told →
-      after.wire.traffic.sent ≡ before.wire.traffic.sent ++ packets session (sends_of (member_by session secrets) inputs)
-  pub shown : IsTrue old.out.told →
-      new.out.bytes ≡ old.out.bytes ++ transcript session (sends_of (member_by session secrets) inputs)
+  pub sent : after.wire.traffic.sent ≡ before.wire.traffic.sent ++ packets session (sends_of (member_by session secrets) inputs)
+  pub shown : new.out.bytes ≡ old.out.bytes ++ transcript session (sends_of (member_by session secrets) inputs)
   pub played : HasOwnNames names → new.files.content names.played ≡ after.files.content peer.played
   pub table : new.files.content (table_name names.found) ≡ after.files.content (table_name peer.found)
   pub evidence : (party : ℕ) → 1 ≤ party → party ≤ session.shape.peers →

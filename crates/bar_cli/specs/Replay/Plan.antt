@@ -138,7 +138,7 @@ pub record Replayed (names : ReplayFiles) (old new : Outside) : Type 0 where
   pub fits : Fits accepted.session accepted.secrets.party accepted.secrets.secret
   pub played : HasOwnNames names →
       new.files.content names.played ≡ Some (played_by (peer_of names old.files.content accepted) accepted.inputs)
-  pub sent : IsTrue old.out.told → new.out.bytes ≡ old.out.bytes ++ transcript_of names old.files.content accepted
+  pub sent : new.out.bytes ≡ old.out.bytes ++ transcript_of names old.files.content accepted
   pub table : new.files.content (table_name names.found) ≡
       Some (table_bytes (in_order (manifest_of (peer_of names old.files.content accepted) accepted.inputs) accepted.session.shape.rounds))
   pub evidence : (party : ℕ) → 1 ≤ party → party ≤ accepted.session.shape.peers →
@@ -154,7 +154,7 @@ pub record PlayedFront (names : ReplayFiles) (old new : Outside) : Type 0 where
   pub shown_count : ℕ
   pub played : HasOwnNames names →
       new.files.content names.played ≡ Some (take played_count (played_by (peer_of names old.files.content accepted) accepted.inputs))
-  pub shown : IsTrue old.out.told → new.out.bytes ≡ old.out.bytes ++ take shown_count (transcript_of names old.files.content accepted)
+  pub shown : new.out.bytes ≡ old.out.bytes ++ take shown_count (transcript_of names old.files.content accepted)
 
 -- no file holds anything else than before, and nothing was printed
 pub record IsUntouched (old new : Outside) : Type 0 where
@@ -184,7 +184,7 @@ pub record PlayedUpTo (names : ReplayFiles) (status : ℕ) (old new : Outside) :
   pub shown_count : ℕ
   pub turns : turns_in names old.files.content accepted ≡ earlier ++ this ∷ later
   pub played : new.files.content names.played ≡ Some (played_bytes earlier ++ take played_count (concat this.contents))
-  pub shown : IsTrue old.out.told → new.out.bytes ≡ old.out.bytes ++ (shown_bytes earlier ++ take shown_count (concat this.lines))
+  pub shown : new.out.bytes ≡ old.out.bytes ++ (shown_bytes earlier ++ take shown_count (concat this.lines))
   pub order : (shown_count ≡ 0) ⊎ (take played_count (concat this.contents) ≡ concat this.contents)
   pub at_file : status ≡ 3 → shown_count ≡ 0
   pub at_output : status ≡ 7 → take played_count (concat this.contents) ≡ concat this.contents
@@ -196,7 +196,7 @@ pub record FoundUpTo (names : ReplayFiles) (status : ℕ) (old new : Outside) : 
   pub accepted : Accepted names old.files.content
   pub played : HasOwnNames names →
       new.files.content names.played ≡ Some (played_by (peer_of names old.files.content accepted) accepted.inputs)
-  pub sent : IsTrue old.out.told → new.out.bytes ≡ old.out.bytes ++ transcript_of names old.files.content accepted
+  pub sent : new.out.bytes ≡ old.out.bytes ++ transcript_of names old.files.content accepted
   pub found : HasOwnNames names → IsWrittenUpTo (found_in names old.files.content accepted) old.files.content new.files.content
   pub no_output : status ≢ 7
 

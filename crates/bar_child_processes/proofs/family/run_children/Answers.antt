@@ -7,11 +7,11 @@ use Rattle.bar_child_processes.proofs.Whole.{session-ran}
 use Rattle.bar_child_processes.proofs.family.run_children.Goals as goal
 
 pub wait_for_all-requires : goal.wait_for_all-requires
-wait_for_all-requires g c = λ told.
+wait_for_all-requires g c =
     let started = c.start_all-outcome in
     let numbers = map-map (λ (key : ℕ × ℕ). key.1) key_in started.new.children.items in
     rw c.deref.ensures.value
-    (subst (AreRunning (g.S.Spawner.children started.new.spawn).calls) numbers (started.ensures.running (sym started.ensures.told ∙ told)))
+    (subst (AreRunning (g.S.Spawner.children started.new.spawn).calls) numbers started.ensures.running)
 
 pub returns : goal.returns
 returns g c =

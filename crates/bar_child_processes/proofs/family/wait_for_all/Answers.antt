@@ -35,14 +35,13 @@ loop-child-preserved g c =
           (g.K.Sink.stream c.args.out.now) (g.K.Sink.stream c.loop-child.out) (g.K.Sink.stream c.wait_for.new.out)
           (g.S.Spawner.children c.args.spawn.now) old (g.S.Spawner.children c.wait_for.new.spawn)
           c.loop-child.invariant.reported c.wait_for.ensures);
-      running = λ told.
-          let earlier = sym c.wait_for.ensures.waits.told ∙ told in
-          let running = subst (AreRunning old.calls) here (c.loop-child.invariant.running earlier) in
-          rw (c.wait_for.ensures.waits.calls earlier)
+      running =
+          let running = subst (AreRunning old.calls) here c.loop-child.invariant.running in
+          rw c.wait_for.ensures.waits.calls
           (running-waited old.calls c.wait_for.ensures.family child.party child.number _ c.wait_for.ensures.are running);
     }
 
 pub wait_for-requires : goal.wait_for-requires
-wait_for-requires g c = λ told.
+wait_for-requires g c =
     let here = numbers-at c.args.children.now c.loop-child.child-index c.loop-child-test.true in
-    (subst (AreRunning (g.S.Spawner.children c.loop-child.spawn).calls) here (c.loop-child.invariant.running told)).0
+    (subst (AreRunning (g.S.Spawner.children c.loop-child.spawn).calls) here c.loop-child.invariant.running).0

@@ -8,6 +8,5 @@ abbrev pub invariant-loop-child : goal.invariant-loop-child
 invariant-loop-child g l = record {
   reported : Reports (map key_in (take l.child-index l.children)) (report_view l.initial.report) (report_view l.report)
       (g.K.Sink.stream l.initial.out) (g.K.Sink.stream l.out) (g.S.Spawner.children l.initial.spawn) (g.S.Spawner.children l.spawn);
-  running : IsTrue (g.S.Spawner.children l.spawn).told →
-      AreRunning (g.S.Spawner.children l.spawn).calls (map (λ c. c.number) (drop l.child-index l.children));
+  running : AreRunning (g.S.Spawner.children l.spawn).calls (map (λ c. c.number) (drop l.child-index l.children));
 }

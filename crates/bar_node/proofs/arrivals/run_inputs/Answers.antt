@@ -23,7 +23,7 @@ arrivals-init g c = λ was. record {
   run_is = c.new-paced.ensures;
   row = rw c.new-paced.ensures (omega arith);
   follows = λ w. nothing_done _;
-  gave = λ told. heard-none _;
+  gave = heard-none _;
 }
 
 pub returns-in_err-taken-clause-ran : goal.returns-in_err-taken-clause-ran

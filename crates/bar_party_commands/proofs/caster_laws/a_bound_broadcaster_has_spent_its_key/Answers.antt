@@ -6,5 +6,5 @@ use Rattle.bar_party_commands.proofs.caster_laws.a_bound_broadcaster_has_spent_i
 pub returns : goal.returns
 returns c = λ names old new status run told.
     let law = c.plans_go_in_order.ensures in
-    bound-or_not c.accepted_secrets_are_held.ensures names run.given old new status told
+    bound-or_not c.accepted_secrets_are_held.ensures names run.given old new told status
     (outcome law.reads law.ends names run.given old new status told (law.went (caster_plan names run.given) old new status run.ends told))

@@ -29,8 +29,8 @@ returns-clause-starts c =
     let grown : c.push.new.self.items ≡ old.calls.items ++ raw.Started c.in-Ok.words old.started ∷ [] = search rules in
     record {
       call = search rules;
-      added = λ _. ap (map call_in) grown ∙ (map-append call_in old.calls.items (raw.Started c.in-Ok.words old.started ∷ [])
+      added = ap (map call_in) grown ∙ (map-append call_in old.calls.items (raw.Started c.in-Ok.words old.started ∷ [])
           ∙ ap (λ words. map call_in old.calls.items ++ Started words old.started ∷ []) c.in-Ok.ensures);
-      new_child = λ _. next-new old.started (map call_in old.calls.items) old.below;
-      left = λ _. tt;
+      new_child = next-new old.started (map call_in old.calls.items) old.below;
+      left = tt;
     }

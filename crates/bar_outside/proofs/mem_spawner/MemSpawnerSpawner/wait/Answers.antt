@@ -11,7 +11,7 @@ use Rattle.bar_outside.proofs.mem_spawner.MemSpawnerSpawner.wait.Goals as goal
 pub returns-then-is_err-clause-waits : goal.returns-then-is_err-clause-waits
 returns-then-is_err-clause-waits c =
     let old = c.args.self.now in
-    let running = c.requires refl in
+    let running = c.requires in
     let below = started-below old.started (map call_in old.calls.items) c.args.child old.below running.started in
     let one = open-waited old.started (map call_in old.calls.items) c.args.child None below running.unwaited in
     let full : vec_capacity old.calls ≤ vec_len old.calls = search rules in
@@ -20,7 +20,7 @@ returns-then-is_err-clause-waits c =
 pub returns-then-is_err-clause-listed : goal.returns-then-is_err-clause-listed
 returns-then-is_err-clause-listed c =
     let old = c.args.self.now in
-    let running = c.requires refl in
+    let running = c.requires in
     let below = started-below old.started (map call_in old.calls.items) c.args.child old.below running.started in
     let one = open-waited old.started (map call_in old.calls.items) c.args.child None below running.unwaited in
     let full : vec_capacity old.calls ≤ vec_len old.calls = search rules in
@@ -29,7 +29,7 @@ returns-then-is_err-clause-listed c =
 pub invariant_of-self-then-fails-2 : goal.invariant_of-self-then-fails-2
 invariant_of-self-then-fails-2 c =
     let old = c.args.self.now in
-    let running = c.requires refl in
+    let running = c.requires in
     let below = started-below old.started (map call_in old.calls.items) c.args.child old.below running.started in
     let grown : c.push.new.self.items ≡ old.calls.items ++ raw.Waited c.args.child c.if-fails.status ∷ [] = search rules in
     let calls = ap (map call_in) grown ∙ map-append call_in old.calls.items (raw.Waited c.args.child c.if-fails.status ∷ []) in
@@ -44,7 +44,7 @@ invariant_of-self-then-fails-2 c =
 pub invariant_of-self-else-fails-2 : goal.invariant_of-self-else-fails-2
 invariant_of-self-else-fails-2 c =
     let old = c.args.self.now in
-    let running = c.requires refl in
+    let running = c.requires in
     let below = started-below old.started (map call_in old.calls.items) c.args.child old.below running.started in
     let grown : c.push.new.self.items ≡ old.calls.items ++ raw.Waited c.args.child c.if-fails.status ∷ [] = search rules in
     let calls = ap (map call_in) grown ∙ map-append call_in old.calls.items (raw.Waited c.args.child c.if-fails.status ∷ []) in

@@ -28,7 +28,7 @@ returns-in-Ok g c =
     let number : c.len-number.result ≡ length old.children.items = search rules in
     record {
       call = search rules;
-      added = λ _. ap calls_of c.then-self.ensures;
-      new_child = λ _. rw number (next-new (length old.children.items) (calls_of old.log.events) old.below);
-      left = λ _. tt;
+      added = ap calls_of c.then-self.ensures;
+      new_child = rw number (next-new (length old.children.items) (calls_of old.log.events) old.below);
+      left = tt;
     }

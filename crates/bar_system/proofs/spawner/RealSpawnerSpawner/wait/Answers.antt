@@ -6,7 +6,7 @@ use Rattle.bar_system.proofs.spawner.RealSpawnerSpawner.wait.Goals as goal
 pub invariant_of-self : goal.invariant_of-self
 invariant_of-self g c =
     let old = c.args.self.now in
-    let running = c.requires refl in
+    let running = c.requires in
     let below = started-below (length old.children.items) (calls_of old.log.events) c.args.child old.below running.started in
     let calls = ap calls_of c.then-self.ensures in
     record {
@@ -17,7 +17,7 @@ invariant_of-self g c =
 pub invariant_of-self-in-Err : goal.invariant_of-self-in-Err
 invariant_of-self-in-Err g c =
     let old = c.args.self.now in
-    let running = c.requires refl in
+    let running = c.requires in
     let below = started-below (length old.children.items) (calls_of old.log.events) c.args.child old.below running.started in
     let calls = ap calls_of c.then-self-in-Err.ensures in
     record {
