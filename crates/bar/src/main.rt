@@ -9,8 +9,6 @@ ghost use Rattle.bar_cli.specs.Ran.{WasDone, ByTheRules, WasSaid};
 ghost use Rattle.bar.specs.Words.{IsUntouched};
 
 mod streams;
-#[cfg(test)]
-mod tests;
 
 use bar_cli::bar_run;
 use bar_outside::{Files, Link, Sink, Spawner};
