@@ -1,7 +1,7 @@
 """Programs of the tools that are written in Rattle: each is built in a copy of the crates, and kept beside the program.
 
 A folder of the tools has the sources of such a program, and in its folder `proofs` its proofs, each with the ending `.in`. Either it is a
-crate of its own, or its sources take the places of those of the crate `bar`, so that it is over the same files, link and streams. What is
+crate of its own, or its sources take the places of those of the crate `bar`, so that it holds the standard streams as the program does. What is
 built is kept under the crate's `out`, by the checksum of all that it was made of, so it is built again only where a source has changed.
 """
 import dataclasses
@@ -49,7 +49,7 @@ class Build:
 
 
 # a party over a link of the tools, or one that lies; one over a link in memory; and what changes datagrams for a core and for readers
-PARTY = Build("party", "bar")
+PARTY = Build("party", "bar", needed=("bar_system", "bar_told"))
 NODE = Build("node", "node")
 FUZZ = Build("fuzz", "fuzz", "bar_party_tests", ("hex",), ("bar_party_tests/src/hostile_tests/texts.rt",))
 

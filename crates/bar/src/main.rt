@@ -1,18 +1,20 @@
 //! The program: the commands over the real files, the loopback network, child programs and the standard streams.
 #![tactic(auto)]
 
-mod link;
-mod outside;
-mod spawner;
+ghost use Rattle.std.specs.Prelude.{◌≡◌, ◌⊎◌, IfOk, IfErr, map, string_bytes};
+ghost use Rattle.bar_outside.specs.Disk.{Content};
+ghost use Rattle.bar_outside.specs.Plan.{outside};
+ghost use Rattle.bar_cli.specs.Line.{line_of};
+ghost use Rattle.bar_cli.specs.Ran.{WasDone, ByTheRules, WasSaid};
+ghost use Rattle.bar.specs.Words.{IsUntouched};
+
 mod streams;
 #[cfg(test)]
 mod tests;
 
 use bar_cli::bar_run;
 use bar_outside::{Files, Link, Sink, Spawner};
-use link::RealLink;
-use outside::{RealFiles, RealSink, Standard};
-use spawner::RealSpawner;
+use bar_system::{RealFiles, RealLink, RealSink, RealSpawner, Standard};
 use std::alloc::Global;
 use std::env::Env;
 use std::io::ErrorKind;
@@ -44,7 +46,27 @@ fn run_words<F: Files, L: Link, K: Sink, S: Spawner>(
     out: &mut K,
     err: &mut K,
     spawn: &mut S,
-) -> u8 {
+) -> u8
+    // what was done of what the words ask for
+    ensures done { (was : Content) → IfOk words (λ given. WasDone (line_of (map string_bytes given.items))
+        (outside (F.disk files.old was) (K.stream out.old) (L.wire link.old))
+        (outside (F.disk files.new was) (K.stream out.new) (L.wire link.new)) (S.children spawn.old) (S.children spawn.new) result) }
+
+    // what stands by the rules over these inputs
+    ensures ruled { (was : Content) → IfOk words (λ given. ByTheRules (line_of (map string_bytes given.items))
+        (outside (F.disk files.old was) (K.stream out.old) (L.wire link.old))
+        (outside (F.disk files.new was) (K.stream out.new) (L.wire link.new)) result) }
+
+    // what standard error has of it
+    ensures said { (was : Content) → IfOk words (λ given. WasSaid (line_of (map string_bytes given.items)) (F.disk files.old was)
+        (F.disk files.new was) (K.stream err.old) (K.stream err.new) result) }
+
+    // words that aren't text are no line
+    ensures no_text { IfErr words (λ _. (result ≡ 2) ⊎ (result ≡ 70)) }
+    ensures untouched { (was : Content) → IfErr words (λ _. IsUntouched
+        (outside (F.disk files.old was) (K.stream out.old) (L.wire link.old))
+        (outside (F.disk files.new was) (K.stream out.new) (L.wire link.new)) (S.children spawn.old) (S.children spawn.new)) }
+{
     let words = match words {
         Ok(words) => words,
         Err(error) => {

@@ -1,10 +1,11 @@
 -- Children that are running, while others are started and waited for.
 use Rattle.std.proofs.Common.{◌≡◌, ◌∷◌, ◌++◌, ◌==◌, [], ℕ, ℤ, List, Bool, true, false, true≢false, Option, map, refl, sym, ap, ◌∙◌, subst, arith}
 use Rattle.std.specs.List.{list_any}
-use Rattle.std.proofs.lemmas.Bool.{or_from, or_left, or_parts, or_right}
+use Rattle.std.proofs.lemmas.Bool.{or_from, or_left, or_parts}
 use Rattle.std.proofs.lemmas.Bool.Decides.{nat_tests}
 use Rattle.std.proofs.lemmas.List.Folds.{list_any-append}
-use Rattle.bar_outside.specs.Children.{ChildCall, IsRunning, Started, Waited, is_named, is_started, is_waited, starts, waits}
+use Rattle.bar_outside.specs.Children.{ChildCall, IsRunning, Started, Waited, is_named, is_started, starts, waits}
+use Rattle.bar_outside.proofs.OpenLemmas.{new-running}
 use Rattle.bar_child_processes.specs.Family.{Child, wait_of, status_in}
 use Rattle.bar_child_processes.specs.Sessions.{AreRunning, key_of}
 
@@ -12,9 +13,6 @@ use Rattle.bar_child_processes.specs.Sessions.{AreRunning, key_of}
 
 same-reversed : (a b : ℕ) → (a == b) ≡ false → (b == a) ≡ false
 same-reversed a b h = grind (arith, nat_tests)
-
-is-same : (a : ℕ) → (a == a) ≡ true
-is-same a = grind (arith, nat_tests)
 
 -- another child is waited for
 still-waited : (calls : List ChildCall) (child other : ℕ) (status : Option ℤ) → (child == other) ≡ false → IsRunning child calls →
@@ -34,13 +32,6 @@ still-started calls child other words running = record {
 }
 
 -- ---- children that aren't named
-
-not-waited : (calls : List ChildCall) (child : ℕ) → is_named child calls ≡ false → is_waited child calls ≡ false
-not-waited [] child h = refl
-not-waited (Started words other ∷ calls) child h =
-    let parts = or_parts (other == child) (is_named child calls) h in not-waited calls child parts.1
-not-waited (Waited other status ∷ calls) child h =
-    let parts = or_parts (other == child) (is_named child calls) h in or_from _ _ parts.0 (not-waited calls child parts.1)
 
 not-started : (calls : List ChildCall) (child : ℕ) → is_named child calls ≡ false → is_started child calls ≡ false
 not-started [] child h = refl
@@ -86,11 +77,7 @@ running-waited calls (child ∷ next ∷ family) party n ns are running = absurd
 pub running-started : (calls : List ChildCall) (words : List (List ℕ)) (n : ℕ) (ns : List ℕ) → is_named n calls ≡ false →
     AreRunning calls ns → AreRunning (calls ++ Started words n ∷ []) (ns ++ n ∷ [])
 running-started calls words n [] unnamed running = (
-  record {
-    started = list_any-append (starts n) calls (Started words n ∷ [])
-        ∙ or_right (is_started n calls) _ (or_left (n == n) false (is-same n));
-    unwaited = list_any-append (waits n) calls (Started words n ∷ []) ∙ or_from _ _ (not-waited calls n unnamed) refl;
-  },
+  new-running calls words n unnamed,
   (refl, tt),
 )
 running-started calls words n (m ∷ ns) unnamed running = (

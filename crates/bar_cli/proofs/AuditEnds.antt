@@ -139,7 +139,7 @@ module _ (names : AuditFiles) (content : Content) where
 
 -- it is the plan's, unless something stops it
 pub comes : (plan : Content → Plan) (old new : Outside) (status final : ℕ) (line : List ℕ) → Ends plan old new status →
-    IsTrue old.files.told → HasEnd (plan old.files.content) final line → UnlessStopped final status
+    IsTrue new.files.told → HasEnd (plan old.files.content) final line → UnlessStopped final status
 comes plan old new status final line ends told h =
     elim (cases_Bool (is_stop status)) [ inl stop ↦ inr stop | inr go ↦ inl ((ends.carried told go).is ∙ h.is) ]
 
@@ -149,7 +149,7 @@ so-or_memory e (inl same) = inl (same ∙ e)
 so-or_memory e (inr memory) = inr memory
 
 -- a file that isn't there stops it
-pub stops : (plan : Content → Plan) (old new : Outside) (status : ℕ) → Ends plan old new status → IsTrue old.files.told →
+pub stops : (plan : Content → Plan) (old new : Outside) (status : ℕ) → Ends plan old new status → IsTrue new.files.told →
     HasEnd (plan old.files.content) 3 file_failed → is_stop status ≡ true
 stops plan old new status ends told h =
     elim (comes plan old new status 3 file_failed ends told h) [ inl three ↦ ap is_stop three | inr stop ↦ stop ]

@@ -67,7 +67,7 @@ Outcome names old new status =
     × HasShown (audit_text a.session a.recordings) (status_of_balance (balance_in names old.files.content a)) old new status)
 
 module _ (reads : ReadsFirst) (ends : EndsThere) (shows : ShowsThere) (names : AuditFiles) (old new : Outside) (status : ℕ)
-    (told : IsTrue old.files.told) where
+    (told : IsTrue new.files.told) where
   refused : (final : ℕ) (line : List ℕ) → Went (ending final line old.files.content) old new status →
       (status ≡ final → IsRefused names old.files.content status) → Outcome names old new status
   refused final line w why =

@@ -140,7 +140,7 @@ module _ (names : ReplayFiles) (old new : Outside) (status : ℕ) (keeps : OfEac
       }
 
   -- whatever its status
-  pub spoke : IsTrue old.files.told → Outcome names old new status → ReplayHeadline names old new status
+  pub spoke : IsTrue new.files.told → Outcome names old new status → ReplayHeadline names old new status
   spoke told o = by_status (status == 0) refl
     where
       by_status : (b : Bool) → (status == 0) ≡ b → ReplayHeadline names old new status

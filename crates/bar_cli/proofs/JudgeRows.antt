@@ -76,7 +76,7 @@ Outcome names old new status =
     (status_of_verdict (verdict_in names old.files.content a)) old new status)
 
 module _ (reads : ReadsFirst) (ends : EndsThere) (shows : ShowsThere) (names : JudgeFiles) (old new : Outside) (status : ℕ)
-    (told : IsTrue old.files.told) where
+    (told : IsTrue new.files.told) where
   refused : (final : ℕ) (line : List ℕ) → Went (ending final line old.files.content) old new status →
       (status ≡ final → IsRefused names old.files.content status) → Outcome names old new status
   refused final line w why =

@@ -15,7 +15,7 @@ KeyStopped asked status old new =
     ⊎ ((a : KeygenAccepted asked old.files.content)
     × IsBegun asked.key (key_text_of (key_made asked a.secret)) (lines_of asked a.secret) status old new)
 
-module _ (asked : Keygen) (old new : Outside) (status : ℕ) (told : IsTrue old.files.told) where
+module _ (asked : Keygen) (old new : Outside) (status : ℕ) (told : IsTrue new.files.told) where
   stopped-at : Outcome asked old new status → KeyStopped asked status old new
   stopped-at (inl r) = inl r.0
   stopped-at (inr p) =
@@ -38,7 +38,7 @@ module _ (asked : Keygen) (old new : Outside) (status : ℕ) (told : IsTrue old.
       ]
 
 -- what stands where the output failed
-pub written-key : (asked : Keygen) (old new : Outside) → IsTrue old.files.told → Outcome asked old new 7 → KeyWritten asked old new
+pub written-key : (asked : Keygen) (old new : Outside) → IsTrue new.files.told → Outcome asked old new 7 → KeyWritten asked old new
 written-key asked old new told o =
     elim (stopped-at asked old new 7 told o) [
       | inl same ↦ absurd (same.no_output refl)

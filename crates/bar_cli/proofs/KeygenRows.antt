@@ -63,7 +63,7 @@ Outcome asked old new status =
     (IsUnchanged status old new × ((is_stop status ≡ true) ⊎ IsRefused asked old.files.content status))
     ⊎ ((a : KeygenAccepted asked old.files.content) × Went (making_plan asked a.secret old.files.content) old new status)
 
-module _ (reads : ReadsFirst) (ends : EndsThere) (asked : Keygen) (old new : Outside) (status : ℕ) (told : IsTrue old.files.told) where
+module _ (reads : ReadsFirst) (ends : EndsThere) (asked : Keygen) (old new : Outside) (status : ℕ) (told : IsTrue new.files.told) where
   refused : (final : ℕ) (line : List ℕ) → Went (ending final line old.files.content) old new status →
       (status ≡ final → IsRefused asked old.files.content status) → Outcome asked old new status
   refused final line w why =
@@ -100,7 +100,7 @@ module _ (reads : ReadsFirst) (ends : EndsThere) (asked : Keygen) (old new : Out
 
 module _ (asked : Keygen) (old new : Outside) where
   -- at 0 the key was made
-  pub made : IsTrue old.files.told → Outcome asked old new 0 → KeyMade asked old new
+  pub made : IsTrue new.files.told → Outcome asked old new 0 → KeyMade asked old new
   made told (inl r) = absurd (elim r.1 [
     | inl stop ↦ go-on 0 refl stop
     | inr why ↦ elim why [ inl k ↦ differ 0 4 refl k.0 | inr k ↦ differ 0 8 refl k.0 ]
@@ -123,7 +123,7 @@ module _ (asked : Keygen) (old new : Outside) where
   refused-secret o = elim (refused_so 8 refl refl o).1 [ inl k ↦ absurd (differ 8 4 refl k.0) | inr k ↦ k.1 ]
 
 -- whatever the status, no file but the key file was changed
-pub other-untouched : (asked : Keygen) (old new : Outside) (status : ℕ) (path : List ℕ) → IsTrue old.files.told → (path ≡ asked.key → ⊥) →
+pub other-untouched : (asked : Keygen) (old new : Outside) (status : ℕ) (path : List ℕ) → IsTrue new.files.told → (path ≡ asked.key → ⊥) →
     Outcome asked old new status →
     new.files.content path ≡ old.files.content path
 other-untouched asked old new status path told differs (inl r) = ap (λ (holds : Content). holds path) r.0.files

@@ -43,12 +43,12 @@ pub record IsMade (path text lines : List ℕ) (old new : Outside) : Type 0 wher
   pub printed : IsTrue old.out.told → new.out.bytes ≡ old.out.bytes ++ lines
   pub others : (other : List ℕ) → other ≢ path → new.files.content other ≡ old.files.content other
 
-pub made : (path text lines : List ℕ) (old new : Outside) → IsTrue old.files.told → Ran (making path text lines) old new →
+pub made : (path text lines : List ℕ) (old new : Outside) → IsTrue new.files.told → Ran (making path text lines) old new →
     IsMade path text lines old new
 made path text lines old new told ran = record {
-  written = ap (λ (holds : Content). holds path) (ran.files told) ∙ written path text lines old.files.content;
+  written = ap (λ (holds : Content). holds path) ran.files ∙ written path text lines old.files.content;
   printed = λ tells. ran.out tells ∙ ap (λ xs. old.out.bytes ++ xs) (append-nil lines);
-  others = λ other differs. ap (λ (holds : Content). holds other) (ran.files told)
+  others = λ other differs. ap (λ (holds : Content). holds other) ran.files
       ∙ unwritten path text lines old.files.content other differs;
 }
 
@@ -60,7 +60,7 @@ touched-all path text lines other (inr (inl e)) = e
 touched-all path text lines other (inr (inr h)) = absurd h
 
 -- however far it came, no other file was changed
-pub others-untouched : (path text lines : List ℕ) (old new : Outside) (status : ℕ) (other : List ℕ) → IsTrue old.files.told →
+pub others-untouched : (path text lines : List ℕ) (old new : Outside) (status : ℕ) (other : List ℕ) → IsTrue new.files.told →
     (other ≡ path → ⊥) → Reached (making path text lines) status old new → new.files.content other ≡ old.files.content other
 others-untouched path text lines old new status other told differs r =
     untouched-reached (making path text lines) other old new status r told (λ h. differs (touched-all path text lines other h))
@@ -118,12 +118,12 @@ pub record IsBegun (path text lines : List ℕ) (status : ℕ) (old new : Outsid
   pub order : (printed_count ≡ 0) ⊎ (new.files.content path ≡ Some text)
   pub at_output : status ≡ 7 → new.files.content path ≡ Some text
 
-module _ (path text lines : List ℕ) (old new : Outside) (status : ℕ) (told : IsTrue old.files.told)
+module _ (path text lines : List ℕ) (old new : Outside) (status : ℕ) (told : IsTrue new.files.told)
     (d : Reached (making path text lines) status old new) where
   begun : IsMaking text lines (content_after d.done old.files.content path) (shown d.done) d.begun.rest →
       IsBegun path text lines status old new
   begun m =
-      let file = ap (λ (holds : Content). holds path) (d.ran.files told) ∙ m.file_is in
+      let file = ap (λ (holds : Content). holds path) d.ran.files ∙ m.file_is in
       record {
         written_count = m.count;
         printed_count = m.many;

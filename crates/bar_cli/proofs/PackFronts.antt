@@ -9,7 +9,7 @@ use Rattle.bar_session_files.proofs.Accepted.{AreInRange}
 use Rattle.bar_cli.proofs.PackRows.{IsMaking, IsTold, Outcome, not-packed, other-untouched, packed}
 
 -- of the reason a front was printed
-told-front : (names : PackFiles) (old new : Outside) (status : ℕ) → IsTrue old.files.told → IsTold names old new status →
+told-front : (names : PackFiles) (old new : Outside) (status : ℕ) → IsTrue new.files.told → IsTold names old new status →
     NotPackedFront names old new
 told-front names old new status told t = record {
   accepted = t.accepted;
@@ -26,13 +26,13 @@ ProofSoFar names status old new =
     ⊎ ((one : HasShownOne names old.files.content)
     × IsBegun names.proof (file_of names old.files.content one) (packed_line (file_of names old.files.content one)) status old new)
 
-so-far : (names : PackFiles) (old new : Outside) (status : ℕ) → IsTrue old.files.told → IsMaking names old new status →
+so-far : (names : PackFiles) (old new : Outside) (status : ℕ) → IsTrue new.files.told → IsMaking names old new status →
     ProofSoFar names status old new
 so-far names old new status told p =
     let file : List ℕ = file_of names old.files.content p.one in
     elim (made-so-far names.proof file (packed_line file) old new status told p.went.part) [ inl same ↦ inl same | inr b ↦ inr (p.one, b) ]
 
-module _ (names : PackFiles) (old new : Outside) (status : ℕ) (told : IsTrue old.files.told) where
+module _ (names : PackFiles) (old new : Outside) (status : ℕ) (told : IsTrue new.files.told) where
   -- whatever the status, nothing was changed and printed, or a front of the reason was printed, or the proof file was begun
   pub a_front : Outcome names old new status → PackFront names old new
   a_front (inl r) = inl (r.0.files, r.0.out)
@@ -51,7 +51,7 @@ module _ (names : PackFiles) (old new : Outside) (status : ℕ) (told : IsTrue o
       ]
 
 -- what stands where the output failed
-pub at-output : (names : PackFiles) (old new : Outside) → IsTrue old.files.told → Outcome names old new 7 →
+pub at-output : (names : PackFiles) (old new : Outside) → IsTrue new.files.told → Outcome names old new 7 →
     ProofWritten names old new ⊎ NotPackedFront names old new
 at-output names old new told (inl r) = absurd (r.0.no_output refl)
 at-output names old new told (inr (inl t)) = inr (told-front names old new 7 told t)
@@ -63,7 +63,7 @@ at-output names old new told (inr (inr p)) =
     ]
 
 -- all that stands
-pub stands : ShownIsPacked → AreInRange → (names : PackFiles) (old new : Outside) (status : ℕ) → IsTrue old.files.told →
+pub stands : ShownIsPacked → AreInRange → (names : PackFiles) (old new : Outside) (status : ℕ) → IsTrue new.files.told →
     Outcome names old new status → PackStands names old new status
 stands law ranged names old new status told o = record {
   packed = λ zero. packed names old new law ranged told (subst (Outcome names old new) zero o);

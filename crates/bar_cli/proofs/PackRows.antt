@@ -79,7 +79,7 @@ Outcome names old new status =
     ⊎ (IsTold names old new status ⊎ IsMaking names old new status)
 
 module _ (reads : ReadsFirst) (ends : EndsThere) (shows : ShowsThere) (names : PackFiles) (old new : Outside) (status : ℕ)
-    (told : IsTrue old.files.told) where
+    (told : IsTrue new.files.told) where
   refused : (final : ℕ) (line : List ℕ) → Went (ending final line old.files.content) old new status →
       (status ≡ final → IsRefused names old.files.content status) → Outcome names old new status
   refused final line w why =
@@ -179,7 +179,7 @@ same-shown s table evidence file lists ds party fault t e v p =
 
 module _ (names : PackFiles) (old new : Outside) where
   -- at 0 the proof was packed
-  pub packed : ShownIsPacked → AreInRange → IsTrue old.files.told → Outcome names old new 0 → Packed names old new
+  pub packed : ShownIsPacked → AreInRange → IsTrue new.files.told → Outcome names old new 0 → Packed names old new
   packed law ranged told (inl r) = absurd (elim r.1 [
     | inl stop ↦ go-on 0 refl stop
     | inr why ↦ elim why [ inl k ↦ differ 0 4 refl k.0 | inr k ↦ differ 0 8 refl k.0 ]
@@ -233,7 +233,7 @@ module _ (names : PackFiles) (old new : Outside) where
   bad_input o = elim (refused_so 8 refl refl refl o).1 [ inl k ↦ absurd (differ 8 4 refl k.0) | inr k ↦ k.1 ]
 
 -- whatever the status, no file but the proof file was changed
-pub other-untouched : (names : PackFiles) (old new : Outside) (status : ℕ) (path : List ℕ) → IsTrue old.files.told →
+pub other-untouched : (names : PackFiles) (old new : Outside) (status : ℕ) (path : List ℕ) → IsTrue new.files.told →
     (path ≡ names.proof → ⊥) → Outcome names old new status → new.files.content path ≡ old.files.content path
 other-untouched names old new status path told differs (inl r) = ap (λ (holds : Content). holds path) r.0.files
 other-untouched names old new status path told differs (inr (inl t)) = ap (λ (holds : Content). holds path) t.told.files

@@ -85,7 +85,7 @@ Outcome names old new status =
     (IsUnchanged status old new × ((is_stop status ≡ true) ⊎ IsRefused names old.files.content status))
     ⊎ ((a : Accepted names old.files.content) × Went (run_plan names a.session a.secrets a.inputs old.files.content) old new status)
 
-module _ (reads : ReadsFirst) (ends : EndsThere) (names : ReplayFiles) (old new : Outside) (status : ℕ) (told : IsTrue old.files.told) where
+module _ (reads : ReadsFirst) (ends : EndsThere) (names : ReplayFiles) (old new : Outside) (status : ℕ) (told : IsTrue new.files.told) where
   refused : (final : ℕ) (line : List ℕ) → Went (ending final line old.files.content) old new status →
       (status ≡ final → IsRefused names old.files.content status) → Outcome names old new status
   refused final line w why =
@@ -173,7 +173,7 @@ written-some names me inputs content done distinct b =
 
 module _ (names : ReplayFiles) (old new : Outside) where
   -- at 0 the turns went to their end
-  pub replayed : AreHeld → AreInRange → IsTrue old.files.told → Outcome names old new 0 → Replayed names old new
+  pub replayed : AreHeld → AreInRange → IsTrue new.files.told → Outcome names old new 0 → Replayed names old new
   replayed held ranged told (inl r) = absurd (elim r.1 [
     | inl stop ↦ go-on 0 refl stop
     | inr why ↦ elim why [ inl k ↦ differ 0 4 refl k.0 | inr two ↦ elim two [ inl k ↦ differ 0 5 refl k.0 | inr k ↦ differ 0 8 refl k.0 ] ]
@@ -185,12 +185,12 @@ module _ (names : ReplayFiles) (old new : Outside) where
       let turns : List Turn = turns_in names old.files.content a in
       let findings : List Finding = found_in names old.files.content a in
       let whole : AreWritten findings new.files.content =
-      subst (AreWritten findings) (sym (ran.files told))
+      subst (AreWritten findings) (sym ran.files)
       (final-found names turns findings old.files.content (distinct-in ranged names old.files.content a)) in
       record {
         accepted = a;
         fits = (held-here held a.session a.by_key.bytes a.secrets a.by_key.is).fits;
-        played = λ own. ap (λ (holds : Content). holds names.played) (ran.files told)
+        played = λ own. ap (λ (holds : Content). holds names.played) ran.files
             ∙ final-played names turns findings old.files.content (own-names names me a.inputs own)
             ∙ ap Some (played-turns me 1 [] a.inputs);
         sent = λ tells. ran.out tells
@@ -199,7 +199,7 @@ module _ (names : ReplayFiles) (old new : Outside) where
             new.files.content whole;
         evidence = evidence-there names.found (manifest_of me a.inputs) a.session.shape.rounds (evidence_of me a.inputs)
             a.session.shape.peers new.files.content whole;
-        others = λ q differs differ. ap (λ (holds : Content). holds q) (ran.files told)
+        others = λ q differs differ. ap (λ (holds : Content). holds q) ran.files
             ∙ final-other names turns findings old.files.content q differs differ;
       }
 
@@ -271,7 +271,7 @@ touched-run names turns me inputs path h =
     ]
 
 -- whatever the status, no other file was changed
-pub other-untouched : (names : ReplayFiles) (old new : Outside) (status : ℕ) (path : List ℕ) → IsTrue old.files.told →
+pub other-untouched : (names : ReplayFiles) (old new : Outside) (status : ℕ) (path : List ℕ) → IsTrue new.files.told →
     (path ≡ names.played → ⊥) →
     (IsFindingName names.found path → ⊥) → Outcome names old new status → new.files.content path ≡ old.files.content path
 other-untouched names old new status path told differs differ (inl r) = ap (λ (holds : Content). holds path) r.0.files
@@ -292,13 +292,13 @@ StoppedAt names status old new =
     ⊎ (PlayedUpTo names status old new ⊎ FoundUpTo names status old new))
 
 -- as far as the turns came, only the played file is changed
-others-same : (names : ReplayFiles) (turns : List Turn) (status : ℕ) (old new : Outside) → IsTrue old.files.told →
+others-same : (names : ReplayFiles) (turns : List Turn) (status : ℕ) (old new : Outside) → IsTrue new.files.told →
     Reached (playing_actions names.played turns) status old new → OthersAreSame names old new
 others-same names turns status old new told d = λ path differs.
     untouched-reached (playing_actions names.played turns) path old new status d told
     (λ h. differs (touched-playing names.played turns path h))
 
-stopped-playing : (names : ReplayFiles) (old new : Outside) (status : ℕ) → IsTrue old.files.told → (a : Accepted names old.files.content)
+stopped-playing : (names : ReplayFiles) (old new : Outside) (status : ℕ) → IsTrue new.files.told → (a : Accepted names old.files.content)
     (d : Reached (playing_actions names.played (turns_in names old.files.content a)) status old new) →
     IsStopped names.played (turns_in names old.files.content a) old.files.content (content_after d.done old.files.content)
     (shown d.done) d.begun.rest → StoppedAt names status old new
@@ -310,7 +310,7 @@ stopped-playing names old new status told a d (inr (inl made)) =
     inr (inl (
       a,
       record {
-        played = ap (λ (holds : Content). holds names.played) (d.ran.files told) ∙ made.made;
+        played = ap (λ (holds : Content). holds names.played) d.ran.files ∙ made.made;
         out = λ tells. d.ran.out tells ∙ ap (λ bytes. old.out.bytes ++ bytes) made.out ∙ append-nil old.out.bytes;
         others = others-same names (turns_in names old.files.content a) status old new told d;
       },
@@ -325,7 +325,7 @@ stopped-playing names old new status told a d (inr (inr up)) =
       played_count = up.played_count;
       shown_count = up.shown_count;
       turns = up.is;
-      played = ap (λ (holds : Content). holds names.played) (d.ran.files told) ∙ up.played;
+      played = ap (λ (holds : Content). holds names.played) d.ran.files ∙ up.played;
       shown = λ tells. d.ran.out tells ∙ ap (λ bytes. old.out.bytes ++ bytes) up.printed;
       order = up.order;
       at_file = λ e. up.at_file (d.at_file e);
@@ -334,7 +334,7 @@ stopped-playing names old new status told a d (inr (inr up)) =
     })))
 
 -- all turns were done, and some of what is written then
-found-so_far : AreInRange → (names : ReplayFiles) (old new : Outside) (status : ℕ) → IsTrue old.files.told →
+found-so_far : AreInRange → (names : ReplayFiles) (old new : Outside) (status : ℕ) → IsTrue new.files.told →
     (a : Accepted names old.files.content)
     (d : Reached (replay_actions names (turns_in names old.files.content a) (found_in names old.files.content a)) status old new)
     (more : List Action) → d.done ≡ playing_actions names.played (turns_in names old.files.content a) ++ more →
@@ -345,7 +345,7 @@ found-so_far ranged names old new status told a d more is m next =
     let findings : List Finding = found_in names old.files.content a in
     let mid : Content = content_after (playing_actions names.played turns) old.files.content in
     let after : new.files.content ≡ content_after more mid =
-    d.ran.files told ∙ ap (λ xs. content_after xs old.files.content) is
+    d.ran.files ∙ ap (λ xs. content_after xs old.files.content) is
     ∙ content_after-append (playing_actions names.played turns) more old.files.content in
     let written = written-some names me a.inputs mid more (distinct-in ranged names old.files.content a) m in
     let printed : shown d.done ≡ shown_bytes turns =
@@ -366,7 +366,7 @@ found-so_far ranged names old new status told a d more is m next =
       no_output = λ e. silent-findings findings more m (subst IsShowNext (sym next) (d.at_output e));
     }
 
-stopped-at : AreInRange → (names : ReplayFiles) (old new : Outside) (status : ℕ) → IsTrue old.files.told → Outcome names old new status →
+stopped-at : AreInRange → (names : ReplayFiles) (old new : Outside) (status : ℕ) → IsTrue new.files.told → Outcome names old new status →
     StoppedAt names status old new
 stopped-at ranged names old new status told (inl r) = inl r.0
 stopped-at ranged names old new status told (inr p) =
@@ -379,7 +379,7 @@ stopped-at ranged names old new status told (inr p) =
     ]
 
 -- how far a replay came
-pub stopped-replay : AreInRange → (names : ReplayFiles) (old new : Outside) (status : ℕ) → IsTrue old.files.told →
+pub stopped-replay : AreInRange → (names : ReplayFiles) (old new : Outside) (status : ℕ) → IsTrue new.files.told →
     Outcome names old new status →
     IsUntouched old new ⊎ (IsMade names old new ⊎ (PlayedUpTo names status old new ⊎ FoundUpTo names status old new))
 stopped-replay ranged names old new status told o =
@@ -389,7 +389,7 @@ stopped-replay ranged names old new status told o =
     ]
 
 -- a write fails behind all that an input plays
-pub failed-output : AreInRange → (names : ReplayFiles) (old new : Outside) → IsTrue old.files.told → Outcome names old new 7 →
+pub failed-output : AreInRange → (names : ReplayFiles) (old new : Outside) → IsTrue new.files.told → Outcome names old new 7 →
     PlayedUpTo names 7 old new
 failed-output ranged names old new told o =
     elim (stopped-at ranged names old new 7 told o) [
@@ -429,7 +429,7 @@ front-found names old new status up =
     }
 
 -- whatever the status, all is as it was, or a front was played and a front shown
-pub a_front : AreInRange → (names : ReplayFiles) (old new : Outside) (status : ℕ) → IsTrue old.files.told → Outcome names old new status →
+pub a_front : AreInRange → (names : ReplayFiles) (old new : Outside) (status : ℕ) → IsTrue new.files.told → Outcome names old new status →
     IsUntouched old new ⊎ PlayedFront names old new
 a_front ranged names old new status told o =
     elim (stopped-at ranged names old new status told o) [

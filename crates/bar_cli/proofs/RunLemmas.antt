@@ -192,10 +192,10 @@ few-leaves (Err fault) h = (fault, refl)
 -- what err has of it, where the files tell, or the line is the same whatever they hold
 pub run-said : (words : Option Line) (old new : Outside) (status result : ℕ) (text : List ℕ) (err err_new : Stream) →
     RunEndsWith (plan_of words) old new status text → Prints text result err err_new → (status ≡ 2 → words ≡ None) →
-    (status ≡ 2 → text ≡ usage) → (result ≡ status) ⊎ (result ≡ 70) → IsTrue (old.files.told || is_plain result || reads_nothing words) →
+    (status ≡ 2 → text ≡ usage) → (result ≡ status) ⊎ (result ≡ 70) → IsTrue (new.files.told || is_plain result || reads_nothing words) →
     Says (plan_of words [] old.files.content) result err err_new
 run-said words old new status result text err err_new r prints none is code =
-    by_tests (old.files.told || is_plain result) (reads_nothing words) refl refl
+    by_tests (new.files.told || is_plain result) (reads_nothing words) refl refl
   where
     plan : Content → Plan
     plan = plan_of words r.given
@@ -207,7 +207,7 @@ run-said words old new status result text err err_new r prints none is code =
     as-first = says-same (plan old.files.content) (plan_of words [] old.files.content) result err err_new
         (plan-line words r.given old.files.content)
 
-    by_tests : (either alone : Bool) → (old.files.told || is_plain result) ≡ either → reads_nothing words ≡ alone →
+    by_tests : (either alone : Bool) → (new.files.told || is_plain result) ≡ either → reads_nothing words ≡ alone →
         IsTrue (either || alone) → Says (plan_of words [] old.files.content) result err err_new
     by_tests true alone e f h = as-first (said plan old new status result text err err_new r.ends prints usage-is code e)
     by_tests false true e f h =

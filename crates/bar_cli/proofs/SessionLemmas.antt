@@ -59,18 +59,18 @@ line-late : (names : SessionNames) (content : Content) (status : ℕ) → (statu
 line-late names content status late = rw late refl
 
 module _ (names : SessionNames) (old new : Outside) (kids kids_new : Children) (status : ℕ) (line : List ℕ) where
-  stopped-line : SessionStopped names old new kids kids_new status line → (old.files.told ≡ true) ⊎ ((status ≡ 4) → ⊥) →
+  stopped-line : SessionStopped names old new kids kids_new status line → (new.files.told ≡ true) ⊎ ((status ≡ 4) → ⊥) →
       line ≡ session_line names old.files.content status
   stopped-line s known = elim s.early [
-    | inl three ↦ s.ends.line_is (or-stop old.files.told (is_stop status) (ap is_stop three)) ∙ rw three refl
+    | inl three ↦ s.ends.line_is (or-stop new.files.told (is_stop status) (ap is_stop three)) ∙ rw three refl
     | inr (inl four) ↦ elim known [
-      | inl told ↦ s.ends.line_is (or-told old.files.told (is_stop status) told) ∙ rw four refl
+      | inl told ↦ s.ends.line_is (or-told new.files.told (is_stop status) told) ∙ rw four refl
       | inr other ↦ absurd (other four)
     ]
-    | inr (inr seventy) ↦ s.ends.line_is (or-stop old.files.told (is_stop status) (ap is_stop seventy)) ∙ rw seventy refl
+    | inr (inr seventy) ↦ s.ends.line_is (or-stop new.files.told (is_stop status) (ap is_stop seventy)) ∙ rw seventy refl
   ]
 
-  ended-line : SessionEnds names old new kids kids_new status line → (old.files.told ≡ true) ⊎ ((status ≡ 4) → ⊥) →
+  ended-line : SessionEnds names old new kids kids_new status line → (new.files.told ≡ true) ⊎ ((status ≡ 4) → ⊥) →
       line ≡ session_line names old.files.content status
   ended-line ends known = elim ends.ended [
     | inl stopped ↦ stopped-line stopped known
@@ -79,10 +79,10 @@ module _ (names : SessionNames) (old new : Outside) (kids kids_new : Children) (
 
   -- what err has of it
   pub session-said : (result : ℕ) (err err_new : Stream) → SessionEnds names old new kids kids_new status line →
-      Prints line result err err_new → (result ≡ status) ⊎ (result ≡ 70) → IsTrue (old.files.told || is_plain_end result) →
+      Prints line result err err_new → (result ≡ status) ⊎ (result ≡ 70) → IsTrue (new.files.told || is_plain_end result) →
       SaysBy (session_line names old.files.content) result err err_new
   session-said result err err_new ends prints (inl same) either =
-      let known : (old.files.told ≡ true) ⊎ ((status ≡ 4) → ⊥) = elim (either-of old.files.told (is_plain_end result) either) [
+      let known : (new.files.told ≡ true) ⊎ ((status ≡ 4) → ⊥) = elim (either-of new.files.told (is_plain_end result) either) [
         | inl told ↦ inl told
         | inr plain ↦ inr (λ four. plain-four result plain (same ∙ four))
       ] in
@@ -95,7 +95,7 @@ module _ (names : SessionNames) (old new : Outside) (kids kids_new : Children) (
         no_memory = λ told other. let p = prints.front told in (p.0, result, p.1 ∙ ap (λ xs. err.bytes ++ take p.0 xs) is);
       }
   session-said result err err_new ends prints (inr seventy) either =
-      let known : old.files.told ≡ true = elim (either-of old.files.told (is_plain_end result) either) [
+      let known : new.files.told ≡ true = elim (either-of new.files.told (is_plain_end result) either) [
         | inl told ↦ told
         | inr plain ↦ absurd (plain-memory result plain seventy)
       ] in

@@ -214,11 +214,11 @@ pub quiet-none : (content : Content) (done next : List Action) → done ≡ [] �
 quiet-none content done next e none = record { files = ap (λ xs. content_after xs content) e; out = ap shown e; silent = none }
 
 -- so nothing was changed or printed
-pub unchanged-by : (plan : List Action) (status : ℕ) (old new : Outside) → IsTrue old.files.told → IsUnlinked plan →
+pub unchanged-by : (plan : List Action) (status : ℕ) (old new : Outside) → IsTrue new.files.told → IsUnlinked plan →
     (d : Reached plan status old new) →
     IsQuietAt old.files.content (content_after d.done old.files.content) (shown d.done) d.begun.rest → IsUnchanged status old new
 unchanged-by plan status old new told unlinked d quiet = record {
-  files = d.ran.files told ∙ quiet.files;
+  files = d.ran.files ∙ quiet.files;
   out = λ tells. d.ran.out tells ∙ ap (λ bytes. old.out.bytes ++ bytes) quiet.out ∙ append-nil old.out.bytes;
   wire = same-traffic plan status old new unlinked d;
   no_link = no-link plan status old new unlinked d;

@@ -48,7 +48,7 @@ Outcome names old new status =
     ⊎ ((v : Verdict) × VerifyAccepted names old.files.content v × HasShown (verdict_line v) (status_of_verdict v) old new status)
 
 module _ (reads : ReadsFirst) (ends : EndsThere) (shows : ShowsThere) (names : VerifyFiles) (old new : Outside) (status : ℕ)
-    (told : IsTrue old.files.told) where
+    (told : IsTrue new.files.told) where
   refused : (final : ℕ) (line : List ℕ) → Went (ending final line old.files.content) old new status →
       (status ≡ final → IsRefused names old.files.content status) → Outcome names old new status
   refused final line w why =

@@ -51,79 +51,79 @@ pub record WasDone (wanted : Option Line) (old new : Outside) (kids kids_new : C
   -- only `peer` and `broadcaster` use the link
   pub unlinked : uses_link wanted ≡ false → new.wire ≡ old.wire
   -- the link of a peer is as it was, or bound to the key's party, and then the key is spent
-  pub peer_bound : (names : PeerNames) → wanted ≡ Some (line.peer names) → IsTrue old.files.told → peer.IsBoundOrUnused names old new
+  pub peer_bound : (names : PeerNames) → wanted ≡ Some (line.peer names) → IsTrue new.files.told → peer.IsBoundOrUnused names old new
   -- and no file is changed but its own
-  pub peer_files : (names : PeerNames) → wanted ≡ Some (line.peer names) → IsTrue old.files.told → (path : List ℕ) →
+  pub peer_files : (names : PeerNames) → wanted ≡ Some (line.peer names) → IsTrue new.files.told → (path : List ℕ) →
       (peer.IsPeerFile names path → ⊥) → new.files.content path ≡ old.files.content path
   -- the link of a broadcaster is as it was, or bound to party 0, and then the key is spent
-  pub broadcaster_bound : (names : CasterNames) → wanted ≡ Some (line.broadcaster names) → IsTrue old.files.told →
+  pub broadcaster_bound : (names : CasterNames) → wanted ≡ Some (line.broadcaster names) → IsTrue new.files.told →
       caster.IsBoundOrUnused names old new
   -- and no file is changed but its own
-  pub broadcaster_files : (names : CasterNames) → wanted ≡ Some (line.broadcaster names) → IsTrue old.files.told → (path : List ℕ) →
+  pub broadcaster_files : (names : CasterNames) → wanted ≡ Some (line.broadcaster names) → IsTrue new.files.told → (path : List ℕ) →
       (caster.IsCasterFile names path → ⊥) → new.files.content path ≡ old.files.content path
   -- a key that was made has its file and its lines
-  pub key_made : (asked : Keygen) → wanted ≡ Some (line.keygen asked) → IsTrue old.files.told → status ≡ 0 → KeyMade asked old new
+  pub key_made : (asked : Keygen) → wanted ≡ Some (line.keygen asked) → IsTrue new.files.told → status ≡ 0 → KeyMade asked old new
   -- whatever its status, a judge changes no file
-  pub only_reads : (names : JudgeFiles) → wanted ≡ Some (line.judge names) → IsTrue old.files.told → new.files.content ≡ old.files.content
+  pub only_reads : (names : JudgeFiles) → wanted ≡ Some (line.judge names) → IsTrue new.files.told → new.files.content ≡ old.files.content
 
 -- What stands by the rules over these inputs, for the same words and the same status.
 pub record ByTheRules (wanted : Option Line) (old new : Outside) (status : ℕ) : Type 0 where
   -- a peer that ends with 0 took what the link gave up to its end or to the last tick, has sent, played and recorded exactly what the
   -- rules have it over these inputs, paced, and has written and printed what it found
-  pub peer_done : (names : PeerNames) → wanted ≡ Some (line.peer names) → IsTrue old.files.told → status ≡ 0 → peer.PeerDone names old new
+  pub peer_done : (names : PeerNames) → wanted ≡ Some (line.peer names) → IsTrue new.files.told → status ≡ 0 → peer.PeerDone names old new
   -- whatever its status, a peer stands so far: nothing was changed, or its files are begun, or its run was done up to an input
-  pub peer_stands : (names : PeerNames) → wanted ≡ Some (line.peer names) → IsTrue old.files.told → peer.PeerStands names old new
+  pub peer_stands : (names : PeerNames) → wanted ≡ Some (line.peer names) → IsTrue new.files.told → peer.PeerStands names old new
   -- whatever its status, a peer did nothing over the link, or what it sent is a front of what the rules send over the inputs that it took,
   -- all of it at 0; and at each moment over them each datagram is signed by rule, its exchanges balance, its keys go to partners, bad keys
   -- leave evidence, all evidence that it keeps is shown, nobody frames it, and no leaf signs twice
-  pub peer_headline : (names : PeerNames) → wanted ≡ Some (line.peer names) → IsTrue old.files.told → PeerHeadline names old new status
+  pub peer_headline : (names : PeerNames) → wanted ≡ Some (line.peer names) → IsTrue new.files.told → PeerHeadline names old new status
   -- a broadcaster that ends with 0 took what the link gave up to its end or to the last tick, has sent exactly what the rules have it
   -- over these inputs, paced, and has written and printed what it found
-  pub broadcaster_done : (names : CasterNames) → wanted ≡ Some (line.broadcaster names) → IsTrue old.files.told → status ≡ 0 →
+  pub broadcaster_done : (names : CasterNames) → wanted ≡ Some (line.broadcaster names) → IsTrue new.files.told → status ≡ 0 →
       caster.CasterDone names old new
   -- whatever its status, a broadcaster stands so far
-  pub broadcaster_stands : (names : CasterNames) → wanted ≡ Some (line.broadcaster names) → IsTrue old.files.told →
+  pub broadcaster_stands : (names : CasterNames) → wanted ≡ Some (line.broadcaster names) → IsTrue new.files.told →
       caster.CasterStands names old new
   -- a replay that ends with 0 has played and shown exactly what the rules of its peer play and send over the recording's inputs, paced,
   -- and written what the peer found
-  pub headline : (names : ReplayFiles) → wanted ≡ Some (line.replay names) → IsTrue old.files.told → status ≡ 0 → Replayed names old new
+  pub headline : (names : ReplayFiles) → wanted ≡ Some (line.replay names) → IsTrue new.files.told → status ≡ 0 → Replayed names old new
   -- so it sends exactly the datagrams of the rules
-  pub sends : (names : ReplayFiles) → wanted ≡ Some (line.replay names) → IsTrue old.files.told → status ≡ 0 → SendsByTheRules names old new
+  pub sends : (names : ReplayFiles) → wanted ≡ Some (line.replay names) → IsTrue new.files.told → status ≡ 0 → SendsByTheRules names old new
   -- whatever its status, a replay printed nothing, or a front of the transcript up to one place of its recording; and whatever the
   -- recording's inputs are, at each moment, each datagram is signed by rule, exchanges balance, keys go to partners, bad keys leave
   -- evidence, all evidence is shown, nobody frames the peer, and no leaf signs twice
-  pub replay_headline : (names : ReplayFiles) → wanted ≡ Some (line.replay names) → IsTrue old.files.told →
+  pub replay_headline : (names : ReplayFiles) → wanted ≡ Some (line.replay names) → IsTrue new.files.told →
       ReplayHeadline names old new status
   -- an audit that ends with 0 or 1 has printed a line for each exchange that its recordings record, in order, and then that all are
   -- balanced, at 0, or the first that isn't, at 1; at 0 each party whose key was received holds its partner's briefcase, by whose terms
   -- both sides promise equally many items
-  pub audited : (names : AuditFiles) → wanted ≡ Some (line.audit names) → IsTrue old.files.told → (status ≡ 0) ⊎ (status ≡ 1) →
+  pub audited : (names : AuditFiles) → wanted ≡ Some (line.audit names) → IsTrue new.files.told → (status ≡ 0) ⊎ (status ≡ 1) →
       HasAudited names status old new
   -- whatever its status, an audit changes no file, and it calls no exchange of obedient parties unbalanced
-  pub audit_stays : (names : AuditFiles) → wanted ≡ Some (line.audit names) → IsTrue old.files.told → AuditStays names old new status
+  pub audit_stays : (names : AuditFiles) → wanted ≡ Some (line.audit names) → IsTrue new.files.told → AuditStays names old new status
   -- a judge that ends with 0 or 1 has printed the line of the rules' verdict on its files, which says a fault at 0 and none at 1
-  pub judged : (names : JudgeFiles) → wanted ≡ Some (line.judge names) → IsTrue old.files.told → (status ≡ 0) ⊎ (status ≡ 1) →
+  pub judged : (names : JudgeFiles) → wanted ≡ Some (line.judge names) → IsTrue new.files.told → (status ≡ 0) ⊎ (status ≡ 1) →
       HasJudged names status old new
   -- whatever its status, `pack` stands so: at 0 the proof file has exactly what is packed and its length was printed, at 1 the reason was
   -- printed why nothing is shown, and no file but the proof file is changed, and it only where a fault is shown
-  pub packed : (names : PackFiles) → wanted ≡ Some (line.pack names) → IsTrue old.files.told → PackStands names old new status
+  pub packed : (names : PackFiles) → wanted ≡ Some (line.pack names) → IsTrue new.files.told → PackStands names old new status
   -- whatever its status, `verify` stands so: at 0 and at 1 it has printed the line of the rules' verdict on the proof file under its own
   -- table, which says a fault at 0 and none at 1, and no file is changed
-  pub verified : (names : VerifyFiles) → wanted ≡ Some (line.verify names) → IsTrue old.files.told → VerifyStands names old new status
+  pub verified : (names : VerifyFiles) → wanted ≡ Some (line.verify names) → IsTrue new.files.told → VerifyStands names old new status
   -- a simulation prints how the simulation of its seed ends, all of it where it ends with 0, and nothing else is done
   pub simulated : (seed : ℕ) → wanted ≡ Some (line.simulate seed) → HasShown (simulation_text seed) 0 old new status
   -- in which, whatever the seed, none of the peers that keep the rules is evicted
   pub spared : (seed peer : ℕ) → 1 ≤ peer → peer ≤ 4 → Contains (sim_end seed).evicted peer → ⊥
 
 -- What standard error has of it.
-pub record WasSaid (wanted : Option Line) (files : Disk) (err err_new : Stream) (status : ℕ) : Type 0 where
+pub record WasSaid (wanted : Option Line) (files files_new : Disk) (err err_new : Stream) (status : ℕ) : Type 0 where
   -- the line of a status is the same whatever the link gives
-  pub said : has_plan wanted ≡ true → IsTrue (files.told || is_plain status || reads_nothing wanted) →
+  pub said : has_plan wanted ≡ true → IsTrue (files_new.told || is_plain status || reads_nothing wanted) →
       Says (plan_of wanted [] files.content) status err err_new
   -- nothing is said at 0 and at 1
   pub silent : (status ≡ 0) ⊎ (status ≡ 1) → err_new ≡ err
   -- what it has of a session
-  pub session_said : (names : SessionNames) → wanted ≡ Some (line.session_run names) → IsTrue (files.told || is_plain_end status) →
+  pub session_said : (names : SessionNames) → wanted ≡ Some (line.session_run names) → IsTrue (files_new.told || is_plain_end status) →
       SaysBy (session_line names files.content) status err err_new
 
 -- What was done before the line of a status is said, which may yet end for want of memory.

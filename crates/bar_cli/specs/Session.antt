@@ -46,14 +46,14 @@ pub record SessionStopped (names : SessionNames) (old new : Outside) (kids kids_
 pub record SessionGoes (names : SessionNames) (old new : Outside) (kids kids_new : Children) (status : ℕ) (line : List ℕ) : Type 0 where
   pub session : SessionData
   pub read : EndsWith (session_plan names) old (with_out new old.out) 0 []
-  pub accepted : IsTrue old.files.told → HasSession names.session old.files.content session
+  pub accepted : IsTrue new.files.told → HasSession names.session old.files.content session
   pub ran : SessionRan names session.shape.peers old.out new.out kids kids_new status
   pub late : (status == 4) ≡ false
   pub line_is : line ≡ line_of_end status
 
 -- A session ended with this status, and no file was changed.
 pub record SessionEnds (names : SessionNames) (old new : Outside) (kids kids_new : Children) (status : ℕ) (line : List ℕ) : Type 0 where
-  pub files : IsTrue old.files.told → SameFiles old new
+  pub files : IsTrue new.files.told → SameFiles old new
   pub ended : SessionStopped names old new kids kids_new status line ⊎ SessionGoes names old new kids kids_new status line
 
 -- So it ended, but that want of memory for the line of its status makes this 70.

@@ -1,5 +1,6 @@
 //! The command `audit`.
 ghost use Rattle.std.specs.Prelude.{◌≡◌, List, [], false, IfOk, IsTrue};
+ghost use Rattle.bar_outside.specs.Disk.{Content};
 ghost use Rattle.bar_outside.specs.Plan.{Outside, with_files, with_out};
 ghost use Rattle.bar_outside.specs.Ends.{EndsWith};
 ghost use Rattle.bar_rules.specs.Member.{Session as RulesSession};
@@ -35,8 +36,8 @@ pub fn audit<F: Files, K: Sink>(
     files: &mut F,
     out: &mut K,
 ) -> Result<Status, Fault>
-    ensures ends { (w : Outside) → EndsWith (audit_plan (audit_view names.now))
-        (with_out (with_files w (F.disk files.old)) (K.stream out.old)) (with_out (with_files w (F.disk files.new)) (K.stream out.new))
+    ensures ends { (w : Outside) (was : Content) → EndsWith (audit_plan (audit_view names.now))
+        (with_out (with_files w (F.disk files.old was)) (K.stream out.old)) (with_out (with_files w (F.disk files.new was)) (K.stream out.new))
         (code_of_run result) (said_by_run result) }
     ensures answers { IfOk result (λ status. IsTrue (is_audit_end status)) }
     ensures unprinted { audit_may_print (code_of_run result) ≡ false → K.stream out.new ≡ K.stream out.old }
@@ -64,8 +65,8 @@ fn audit_session<F: Files, K: Sink>(
     files: &mut F,
     out: &mut K,
 ) -> Result<Status, Fault>
-    ensures ends { (w : Outside) → EndsWith (parties_plan (audit_view names.now) session.now)
-        (with_out (with_files w (F.disk files.old)) (K.stream out.old)) (with_out (with_files w (F.disk files.new)) (K.stream out.new))
+    ensures ends { (w : Outside) (was : Content) → EndsWith (parties_plan (audit_view names.now) session.now)
+        (with_out (with_files w (F.disk files.old was)) (K.stream out.old)) (with_out (with_files w (F.disk files.new was)) (K.stream out.new))
         (code_of_run result) (said_by_run result) }
     ensures answers { IfOk result (λ status. IsTrue (is_audit_end status)) }
     ensures unprinted { audit_may_print (code_of_run result) ≡ false → K.stream out.new ≡ K.stream out.old }

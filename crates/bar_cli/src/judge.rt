@@ -1,5 +1,6 @@
 //! The command `judge`.
 ghost use Rattle.std.specs.Prelude.{◌≡◌, [], false, IfOk, IsTrue, string_bytes};
+ghost use Rattle.bar_outside.specs.Disk.{Content};
 ghost use Rattle.bar_outside.specs.Plan.{Outside, with_files, with_out};
 ghost use Rattle.bar_outside.specs.Ends.{EndsWith};
 ghost use Rattle.bar_terms.specs.Table.{Lists, digests_of};
@@ -32,8 +33,8 @@ pub fn judge<F: Files, K: Sink>(
     files: &mut F,
     out: &mut K,
 ) -> Result<Status, Fault>
-    ensures ends { (w : Outside) → EndsWith (judge_plan (judge_view names.now))
-        (with_out (with_files w (F.disk files.old)) (K.stream out.old)) (with_out (with_files w (F.disk files.new)) (K.stream out.new))
+    ensures ends { (w : Outside) (was : Content) → EndsWith (judge_plan (judge_view names.now))
+        (with_out (with_files w (F.disk files.old was)) (K.stream out.old)) (with_out (with_files w (F.disk files.new was)) (K.stream out.new))
         (code_of_run result) (said_by_run result) }
     ensures answers { IfOk result (λ status. IsTrue (is_judge_end status)) }
     ensures unprinted { judge_may_print (code_of_run result) ≡ false → K.stream out.new ≡ K.stream out.old }
@@ -54,8 +55,8 @@ fn judge_session<F: Files, K: Sink>(
     files: &mut F,
     out: &mut K,
 ) -> Result<Status, Fault>
-    ensures ends { (w : Outside) → EndsWith (table_plan (judge_view names.now) session.now)
-        (with_out (with_files w (F.disk files.old)) (K.stream out.old)) (with_out (with_files w (F.disk files.new)) (K.stream out.new))
+    ensures ends { (w : Outside) (was : Content) → EndsWith (table_plan (judge_view names.now) session.now)
+        (with_out (with_files w (F.disk files.old was)) (K.stream out.old)) (with_out (with_files w (F.disk files.new was)) (K.stream out.new))
         (code_of_run result) (said_by_run result) }
     ensures answers { IfOk result (λ status. IsTrue (is_judge_end status)) }
     ensures unprinted { judge_may_print (code_of_run result) ≡ false → K.stream out.new ≡ K.stream out.old }
@@ -77,9 +78,9 @@ fn judge_table<F: Files, K: Sink>(
     files: &mut F,
     out: &mut K,
 ) -> Result<Status, Fault>
-    ensures ends { (w : Outside) (lists : Lists) → digests_of table.now.lists ≡ digests_of lists →
+    ensures ends { (w : Outside) (was : Content) (lists : Lists) → digests_of table.now.lists ≡ digests_of lists →
         EndsWith (evidence_plan (judge_view names.now) session.now lists)
-        (with_out (with_files w (F.disk files.old)) (K.stream out.old)) (with_out (with_files w (F.disk files.new)) (K.stream out.new))
+        (with_out (with_files w (F.disk files.old was)) (K.stream out.old)) (with_out (with_files w (F.disk files.new was)) (K.stream out.new))
         (code_of_run result) (said_by_run result) }
     ensures answers { IfOk result (λ status. IsTrue (is_judge_end status)) }
     ensures unprinted { judge_may_print (code_of_run result) ≡ false → K.stream out.new ≡ K.stream out.old }

@@ -1,5 +1,6 @@
 //! The commands `keygen` and `hsskeygen`.
 ghost use Rattle.std.specs.Prelude.{◌≡◌, ◌≢◌, ◌↔◌, Ok, Err, Some, None, false, length, IfOk, IfSome, IsTrue, option_map, string_bytes};
+ghost use Rattle.bar_outside.specs.Disk.{Content};
 ghost use Rattle.bar_outside.specs.Plan.{Outside, with_files, with_out};
 ghost use Rattle.bar_outside.specs.Ends.{EndsWith};
 ghost use Rattle.bar_lms.specs.Params.{lms_type};
@@ -31,12 +32,12 @@ pub fn keygen<F: Files, K: Sink>(
     files: &mut F,
     out: &mut K,
 ) -> Result<Status, Fault>
-    ensures ends { (w : Outside) → EndsWith (keygen_plan (keygen_view asked.now))
-        (with_out (with_files w (F.disk files.old)) (K.stream out.old))
-        (with_out (with_files w (F.disk files.new)) (K.stream out.new)) (code_of_run result) (said_by_run result) }
+    ensures ends { (w : Outside) (was : Content) → EndsWith (keygen_plan (keygen_view asked.now))
+        (with_out (with_files w (F.disk files.old was)) (K.stream out.old))
+        (with_out (with_files w (F.disk files.new was)) (K.stream out.new)) (code_of_run result) (said_by_run result) }
     ensures answers { IfOk result (λ status. IsTrue (is_keygen_end status)) }
     ensures leaves { (code_of_run result ≡ 4) ↔ HasFewLeaves (keygen_view asked.now) }
-    ensures unread { HasFewLeaves (keygen_view asked.now) → F.disk files.new ≡ F.disk files.old }
+    ensures unread { (was : Content) → HasFewLeaves (keygen_view asked.now) → F.disk files.new was ≡ F.disk files.old was }
     ensures unprinted { keygen_may_print (code_of_run result) ≡ false → K.stream out.new ≡ K.stream out.old }
 {
     match enough_leaves(asked) {
@@ -60,9 +61,9 @@ fn keygen_by_secret<F: Files, K: Sink>(
     files: &mut F,
     out: &mut K,
 ) -> Result<Status, Fault>
-    ensures ends { (w : Outside) → EndsWith (secret_plan (keygen_view asked.now))
-        (with_out (with_files w (F.disk files.old)) (K.stream out.old))
-        (with_out (with_files w (F.disk files.new)) (K.stream out.new)) (code_of_run result) (said_by_run result) }
+    ensures ends { (w : Outside) (was : Content) → EndsWith (secret_plan (keygen_view asked.now))
+        (with_out (with_files w (F.disk files.old was)) (K.stream out.old))
+        (with_out (with_files w (F.disk files.new was)) (K.stream out.new)) (code_of_run result) (said_by_run result) }
     ensures answers { IfOk result (λ status. IsTrue (is_keygen_end status)) }
     ensures enough { code_of_run result ≢ 4 }
     ensures unprinted { keygen_may_print (code_of_run result) ≡ false → K.stream out.new ≡ K.stream out.old }

@@ -1,5 +1,6 @@
 //! Making a file and then printing of it.
 ghost use Rattle.std.specs.Prelude.{◌≡◌, ◌∷◌, Err, [], string_bytes};
+ghost use Rattle.bar_outside.specs.Disk.{Content};
 ghost use Rattle.bar_outside.specs.Plan.{Outside, with_files, with_out};
 ghost use Rattle.bar_outside.specs.Plan.Action.{create, append, show};
 ghost use Rattle.bar_outside.specs.Follows.{Follows};
@@ -21,10 +22,10 @@ pub(crate) fn make_file<F: Files, K: Sink>(
     out: &mut K,
 ) -> Result<(), Fault>
     ensures unprinted { result ≡ Err Fault.File → K.stream out.new ≡ K.stream out.old }
-    ensures follows { (w : Outside) →
+    ensures follows { (w : Outside) (was : Content) →
         Follows (create path.now ∷ append path.now made.now.bytes.items ∷ show (string_bytes made.now.lines) ∷ [])
-        (with_out (with_files w (F.disk files.old)) (K.stream out.old))
-        (with_out (with_files w (F.disk files.new)) (K.stream out.new)) result }
+        (with_out (with_files w (F.disk files.old was)) (K.stream out.old))
+        (with_out (with_files w (F.disk files.new was)) (K.stream out.new)) result }
 {
     create_file(files, path)?;
     append_file(files, path, &made.bytes)?;

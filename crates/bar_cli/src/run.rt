@@ -1,5 +1,6 @@
 //! The top call.
 ghost use Rattle.std.specs.Prelude.{◌≡◌, ◌⊎◌, ◌↔◌, None, Some, map, string_bytes};
+ghost use Rattle.bar_outside.specs.Disk.{Content};
 ghost use Rattle.bar_outside.specs.Plan.{outside};
 ghost use Rattle.bar_cli.specs.Keygen.Plan.{HasFewLeaves, Keygen};
 ghost use Rattle.bar_cli.specs.Line.{line_of};
@@ -49,17 +50,18 @@ pub fn bar_run<F: Files, L: Link, K: Sink, S: Spawner>(
     spawn: &mut S,
 ) -> u8
     // what was done: which status comes when, and what was read, written, printed, given over the link and started
-    ensures done { WasDone (line_of (map string_bytes words.now))
-        (outside (F.disk files.old) (K.stream out.old) (L.wire link.old))
-        (outside (F.disk files.new) (K.stream out.new) (L.wire link.new)) (S.children spawn.old) (S.children spawn.new) result }
+    ensures done { (was : Content) → WasDone (line_of (map string_bytes words.now))
+        (outside (F.disk files.old was) (K.stream out.old) (L.wire link.old))
+        (outside (F.disk files.new was) (K.stream out.new) (L.wire link.new)) (S.children spawn.old) (S.children spawn.new) result }
 
     // what stands by the rules over these inputs
-    ensures ruled { ByTheRules (line_of (map string_bytes words.now))
-        (outside (F.disk files.old) (K.stream out.old) (L.wire link.old))
-        (outside (F.disk files.new) (K.stream out.new) (L.wire link.new)) result }
+    ensures ruled { (was : Content) → ByTheRules (line_of (map string_bytes words.now))
+        (outside (F.disk files.old was) (K.stream out.old) (L.wire link.old))
+        (outside (F.disk files.new was) (K.stream out.new) (L.wire link.new)) result }
 
     // what standard error has of it
-    ensures said { WasSaid (line_of (map string_bytes words.now)) (F.disk files.old) (K.stream err.old) (K.stream err.new) result }
+    ensures said { (was : Content) → WasSaid (line_of (map string_bytes words.now)) (F.disk files.old was) (F.disk files.new was)
+        (K.stream err.old) (K.stream err.new) result }
 {
     a_bound_broadcaster_has_spent_its_key();
     a_bound_peer_has_spent_its_key();
@@ -97,9 +99,9 @@ fn run_words<F: Files, L: Link, K: Sink, S: Spawner>(
     out: &mut K,
     spawn: &mut S,
 ) -> Status
-    ensures ran { CommandRan (line_of (map string_bytes words.now))
-        (outside (F.disk files.old) (K.stream out.old) (L.wire link.old))
-        (outside (F.disk files.new) (K.stream out.new) (L.wire link.new)) (S.children spawn.old) (S.children spawn.new)
+    ensures ran { (was : Content) → CommandRan (line_of (map string_bytes words.now))
+        (outside (F.disk files.old was) (K.stream out.old) (L.wire link.old))
+        (outside (F.disk files.new was) (K.stream out.new) (L.wire link.new)) (S.children spawn.old) (S.children spawn.new)
         (code_of result) (said_at result) }
     ensures usage { code_of result ≡ 2 → line_of (map string_bytes words.now) ≡ None }
     ensures few_leaves { (asked : Keygen) → line_of (map string_bytes words.now) ≡ Some (line.keygen asked) →
@@ -123,9 +125,9 @@ fn run_command<F: Files, L: Link, K: Sink, S: Spawner>(
     out: &mut K,
     spawn: &mut S,
 ) -> Status
-    ensures ran { CommandRan (Some (command_view command.now))
-        (outside (F.disk files.old) (K.stream out.old) (L.wire link.old))
-        (outside (F.disk files.new) (K.stream out.new) (L.wire link.new)) (S.children spawn.old) (S.children spawn.new)
+    ensures ran { (was : Content) → CommandRan (Some (command_view command.now))
+        (outside (F.disk files.old was) (K.stream out.old) (L.wire link.old))
+        (outside (F.disk files.new was) (K.stream out.new) (L.wire link.new)) (S.children spawn.old) (S.children spawn.new)
         (code_of result) (said_at result) }
     ensures leaves { (asked : Keygen) → command_view command.now ≡ line.keygen asked → (code_of result ≡ 4) ↔ HasFewLeaves asked }
 {

@@ -1,5 +1,6 @@
 //! The command `session`.
 ghost use Rattle.std.specs.Prelude.{◌≡◌, false, Some, IsTrue};
+ghost use Rattle.bar_outside.specs.Disk.{Content};
 ghost use Rattle.bar_outside.specs.Plan.{Outside, with_files, with_out};
 ghost use Rattle.bar_child_processes.specs.Views.{names_view};
 ghost use Rattle.bar_cli.specs.Line.{is_status_of, session_run};
@@ -22,8 +23,8 @@ pub fn session<F: Files, K: Sink, S: Spawner>(
     out: &mut K,
     spawn: &mut S,
 ) -> Result<Status, Fault>
-    ensures ends { (w : Outside) → SessionEnds (names_view names.now)
-        (with_out (with_files w (F.disk files.old)) (K.stream out.old)) (with_out (with_files w (F.disk files.new)) (K.stream out.new))
+    ensures ends { (w : Outside) (was : Content) → SessionEnds (names_view names.now)
+        (with_out (with_files w (F.disk files.old was)) (K.stream out.old)) (with_out (with_files w (F.disk files.new was)) (K.stream out.new))
         (S.children spawn.old) (S.children spawn.new) (code_of_run result) (said_by_run result) }
     ensures statuses { IsTrue (is_status_of (Some (session_run (names_view names.now))) (code_of_run result)) }
     ensures unprinted { session_may_print (code_of_run result) ≡ false → K.stream out.new ≡ K.stream out.old }

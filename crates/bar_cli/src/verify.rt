@@ -1,5 +1,6 @@
 //! The command `verify`.
 ghost use Rattle.std.specs.Prelude.{◌≡◌, false, IfOk, IsTrue};
+ghost use Rattle.bar_outside.specs.Disk.{Content};
 ghost use Rattle.bar_outside.specs.Plan.{Outside, with_files, with_out};
 ghost use Rattle.bar_outside.specs.Ends.{EndsWith};
 ghost use Rattle.bar_cli.specs.Verify.{proof_plan, verify_plan};
@@ -28,8 +29,8 @@ pub fn verify<F: Files, K: Sink>(
     files: &mut F,
     out: &mut K,
 ) -> Result<Status, Fault>
-    ensures ends { (w : Outside) → EndsWith (verify_plan (verify_view names.now))
-        (with_out (with_files w (F.disk files.old)) (K.stream out.old)) (with_out (with_files w (F.disk files.new)) (K.stream out.new))
+    ensures ends { (w : Outside) (was : Content) → EndsWith (verify_plan (verify_view names.now))
+        (with_out (with_files w (F.disk files.old was)) (K.stream out.old)) (with_out (with_files w (F.disk files.new was)) (K.stream out.new))
         (code_of_run result) (said_by_run result) }
     ensures answers { IfOk result (λ status. IsTrue (is_proof_end (code_of status))) }
     ensures unprinted { judge_may_print (code_of_run result) ≡ false → K.stream out.new ≡ K.stream out.old }
@@ -50,8 +51,8 @@ fn verify_session<F: Files, K: Sink>(
     files: &mut F,
     out: &mut K,
 ) -> Result<Status, Fault>
-    ensures ends { (w : Outside) → EndsWith (proof_plan (verify_view names.now) session.now)
-        (with_out (with_files w (F.disk files.old)) (K.stream out.old)) (with_out (with_files w (F.disk files.new)) (K.stream out.new))
+    ensures ends { (w : Outside) (was : Content) → EndsWith (proof_plan (verify_view names.now) session.now)
+        (with_out (with_files w (F.disk files.old was)) (K.stream out.old)) (with_out (with_files w (F.disk files.new was)) (K.stream out.new))
         (code_of_run result) (said_by_run result) }
     ensures answers { IfOk result (λ status. IsTrue (is_proof_end (code_of status))) }
     ensures unprinted { judge_may_print (code_of_run result) ≡ false → K.stream out.new ≡ K.stream out.old }

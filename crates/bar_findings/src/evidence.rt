@@ -1,6 +1,7 @@
 //! The files of the evidence.
 ghost use Rattle.std.specs.Prelude.{◌≡◌, ◌∷◌, [], IfOk, string_bytes};
 ghost use Rattle.bar_bytes.specs.Rooms.{kept_in};
+ghost use Rattle.bar_outside.specs.Disk.{Content};
 ghost use Rattle.bar_outside.specs.Plan.{Outside, with_files};
 ghost use Rattle.bar_outside.specs.Follows.{Follows};
 ghost use Rattle.bar_findings.specs.Findings.{evidence_name, file_of, files_of, finding_actions, findings_actions};
@@ -17,8 +18,8 @@ pub fn write_evidence<F: Files>(
     found: &str,
     files: &mut F,
 ) -> Result<(), Fault>
-    ensures { (w : Outside) → Follows (findings_actions (files_of found.now (kept_in evidence.now) parties))
-        (with_files w (F.disk files.old)) (with_files w (F.disk files.new)) result }
+    ensures { (w : Outside) (was : Content) → Follows (findings_actions (files_of found.now (kept_in evidence.now) parties))
+        (with_files w (F.disk files.old was)) (with_files w (F.disk files.new was)) result }
 {
     for before in 0..parties {
         write_party(alloc, evidence, before + 1, found, files)?;
@@ -34,8 +35,8 @@ fn write_party<F: Files>(
     found: &str,
     files: &mut F,
 ) -> Result<(), Fault>
-    ensures { (w : Outside) → Follows (findings_actions (file_of (evidence_name found.now party) (kept_in evidence.now party)))
-        (with_files w (F.disk files.old)) (with_files w (F.disk files.new)) result }
+    ensures { (w : Outside) (was : Content) → Follows (findings_actions (file_of (evidence_name found.now party) (kept_in evidence.now party)))
+        (with_files w (F.disk files.old was)) (with_files w (F.disk files.new was)) result }
 {
     match evidence.get(usize::from(party)) {
         Some(bytes) => write_file(files, evidence_name(alloc, found, party)?.as_str(), bytes),
@@ -52,8 +53,8 @@ fn evidence_name(alloc: Global, found: &str, party: u16) -> Result<String, Alloc
 
 /// Creates a file with these bytes.
 fn write_file<F: Files>(files: &mut F, name: &str, bytes: &[u8]) -> Result<(), Fault>
-    ensures { (w : Outside) → Follows (finding_actions (record { name = name.now; pieces = bytes.now ∷ [] }))
-        (with_files w (F.disk files.old)) (with_files w (F.disk files.new)) result }
+    ensures { (w : Outside) (was : Content) → Follows (finding_actions (record { name = name.now; pieces = bytes.now ∷ [] }))
+        (with_files w (F.disk files.old was)) (with_files w (F.disk files.new was)) result }
 {
     create_file(files, name)?;
     append_file(files, name, bytes)

@@ -1,5 +1,6 @@
 //! All that a party found.
 ghost use Rattle.bar_bytes.specs.Rooms.{kept_in};
+ghost use Rattle.bar_outside.specs.Disk.{Content};
 ghost use Rattle.bar_outside.specs.Plan.{Outside, with_files};
 ghost use Rattle.bar_outside.specs.Follows.{Follows};
 ghost use Rattle.bar_findings.specs.Findings.{AreShort, findings_actions, findings_of};
@@ -21,9 +22,9 @@ pub fn write_findings<F: Files>(
     found: &str,
     files: &mut F,
 ) -> Result<(), Fault>
-    ensures { (w : Outside) → AreShort (kept_in manifests.now)
+    ensures { (w : Outside) (was : Content) → AreShort (kept_in manifests.now)
         → Follows (findings_actions (findings_of found.now (kept_in manifests.now) rounds (kept_in evidence.now) parties))
-        (with_files w (F.disk files.old)) (with_files w (F.disk files.new)) result }
+        (with_files w (F.disk files.old was)) (with_files w (F.disk files.new was)) result }
 {
     write_table(alloc, manifests, rounds, found, files)?;
     write_evidence(alloc, evidence, parties, found, files)

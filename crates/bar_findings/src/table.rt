@@ -2,6 +2,7 @@
 ghost use Rattle.std.specs.Prelude.{◌≡◌, ◌∷◌, ◌^◌, ◌<◌, [], IfOk, length, map, string_bytes};
 ghost use Rattle.std.specs.Option.{option_to_list};
 ghost use Rattle.bar_bytes.specs.Rooms.{kept_in};
+ghost use Rattle.bar_outside.specs.Disk.{Content};
 ghost use Rattle.bar_outside.specs.Plan.{Outside, with_files};
 ghost use Rattle.bar_outside.specs.Plan.Action.{append};
 ghost use Rattle.bar_outside.specs.Follows.{Follows};
@@ -28,9 +29,9 @@ pub fn write_table<F: Files>(
     found: &str,
     files: &mut F,
 ) -> Result<(), Fault>
-    ensures { (w : Outside) → AreShort (kept_in manifests.now)
+    ensures { (w : Outside) (was : Content) → AreShort (kept_in manifests.now)
         → Follows (finding_actions (table_of found.now (kept_in manifests.now) rounds))
-        (with_files w (F.disk files.old)) (with_files w (F.disk files.new)) result }
+        (with_files w (F.disk files.old was)) (with_files w (F.disk files.new was)) result }
 {
     let name = table_name(alloc, found)?;
     create_file(files, name.as_str())?;
@@ -45,9 +46,9 @@ fn append_entries<F: Files>(
     name: &str,
     files: &mut F,
 ) -> Result<(), Fault>
-    ensures { (w : Outside) → AreShort (kept_in manifests.now)
+    ensures { (w : Outside) (was : Content) → AreShort (kept_in manifests.now)
         → Follows (map (append name.now) (map entry_bytes (in_order (kept_in manifests.now) rounds)))
-        (with_files w (F.disk files.old)) (with_files w (F.disk files.new)) result }
+        (with_files w (F.disk files.old was)) (with_files w (F.disk files.new was)) result }
 {
     for before in 0..rounds {
         append_entry(alloc, manifests, before as usize + 1, name, files)?;
@@ -63,9 +64,9 @@ fn append_entry<F: Files>(
     name: &str,
     files: &mut F,
 ) -> Result<(), Fault>
-    ensures { (w : Outside) → AreShort (kept_in manifests.now)
+    ensures { (w : Outside) (was : Content) → AreShort (kept_in manifests.now)
         → Follows (map (append name.now) (map entry_bytes (option_to_list (kept_in manifests.now round))))
-        (with_files w (F.disk files.old)) (with_files w (F.disk files.new)) result }
+        (with_files w (F.disk files.old was)) (with_files w (F.disk files.new was)) result }
 {
     match manifests.get(round) {
         Some(manifest) => append_manifest(alloc, manifest, name, files),
@@ -80,8 +81,8 @@ fn append_manifest<F: Files>(
     name: &str,
     files: &mut F,
 ) -> Result<(), Fault>
-    ensures { (w : Outside) → length manifest.now < 2 ^ 16 → Follows (append name.now (entry_bytes manifest.now) ∷ [])
-        (with_files w (F.disk files.old)) (with_files w (F.disk files.new)) result }
+    ensures { (w : Outside) (was : Content) → length manifest.now < 2 ^ 16 → Follows (append name.now (entry_bytes manifest.now) ∷ [])
+        (with_files w (F.disk files.old was)) (with_files w (F.disk files.new was)) result }
 {
     // No manifest is longer than the two bytes of its length can say.
     let len = manifest.len().min(usize::from(u16::MAX));

@@ -12,7 +12,7 @@ use Rattle.bar_outside.specs.Plan.{Action, Outside, Ran, Touches, content_after}
 use Rattle.bar_outside.specs.Plan.Action.{link}
 use Rattle.bar_outside.specs.Plan.LinkCall.{receive}
 use Rattle.bar_outside.proofs.ActionLists.{content_after-append}
-use Rattle.bar_outside.proofs.Untouched.{Touches-split, content-untouched, untouched-reached}
+use Rattle.bar_outside.proofs.Untouched.{Touches-begun, Touches-split, content-untouched}
 use Rattle.bar_findings.specs.Findings.{Finding, findings_actions}
 use Rattle.bar_findings.proofs.Holding.{AreWritten, all-written, evidence-there, table-there, touched-findings}
 use Rattle.bar_findings.proofs.Names.{findings-distinct}
@@ -97,14 +97,16 @@ module _ (recording played : Option (List ℕ)) (found : List ℕ) (r : Rules) w
       ]
 
   pub run-unchanged : (now : List Input → Type 0) (files files_new : Disk) (wire wire_new : Wire) (result : Result Summary Fault)
-      (ran : RanNode recording played found r now files files_new wire wire_new result) → IsTrue files.told → (path : List ℕ) →
+      (ran : RanNode recording played found r now files files_new wire wire_new result) → (path : List ℕ) →
       IsOther recording played (found_after found r (taken_of r ran.given)) path → files_new.content path ≡ files.content path
-  run-unchanged now files files_new wire wire_new (Ok summary) ran told path other =
-      ap (λ (holds : Content). holds path) ((ran.follows (beside files wire)).done.files told)
+  run-unchanged now files files_new wire wire_new (Ok summary) ran path other =
+      ap (λ (holds : Content). holds path) ((ran.follows (beside files wire)).done.files)
       ∙ content-untouched (node_plan recording played found r ran.given) files.content path (touched-plan ran.given path other)
-  run-unchanged now files files_new wire wire_new (Err fault) ran told path other =
-      untouched-reached (node_plan recording played found r ran.given) path (beside files wire) (beside files_new wire_new)
-      (code_of_fault fault) (ran.follows (beside files wire)).part told (touched-plan ran.given path other)
+  run-unchanged now files files_new wire wire_new (Err fault) ran path other =
+      let part = (ran.follows (beside files wire)).part in
+      ap (λ (holds : Content). holds path) part.ran.files
+      ∙ content-untouched part.done files.content path
+      (λ t. touched-plan ran.given path other (Touches-begun (node_plan recording played found r ran.given) part.done path part.begun t))
 
   -- ---- what was found
 
@@ -123,26 +125,26 @@ module _ (recording played : Option (List ℕ)) (found : List ℕ) (r : Rules) w
     abbrev asked : List Action
     asked = link (receive None) ∷ []
 
-    found-last : IsTrue (is_ended r given) → IsTrue old.files.told →
+    found-last : IsTrue (is_ended r given) →
         new.files.content ≡ content_after (findings_actions findings) (content_after front old.files.content)
-    found-last ended told =
-        ran.files told
+    found-last ended =
+        ran.files
         ∙ ap (λ b. content_after (node_from lay r [] 0 given ++ cond b (closing recording found r taken) asked) old.files.content) ended
         ∙ ap (λ acts. content_after acts old.files.content)
         (sym (append_assoc (node_from lay r [] 0 given) (kept recording (0 ∷ [])) (findings_actions findings)))
         ∙ content_after-append front (findings_actions findings) old.files.content
 
-    pub found-whole : IsTrue (is_ended r given) → IsTrue old.files.told → r.peers < 2 ^ 64 →
+    pub found-whole : IsTrue (is_ended r given) → r.peers < 2 ^ 64 →
         FoundBy recording played found r taken old.files.content new.files.content
-    found-whole ended told few =
+    found-whole ended few =
         let written : AreWritten findings new.files.content =
-        subst (AreWritten findings) (sym (found-last ended told))
+        subst (AreWritten findings) (sym (found-last ended))
         (all-written findings (content_after front old.files.content)
         (findings-distinct found (r.manifest taken) r.rounds (r.evidence taken) r.peers few)) in
         record {
           table = table-there found (r.manifest taken) r.rounds (r.evidence taken) r.peers new.files.content written;
           evidence = evidence-there found (r.manifest taken) r.rounds (r.evidence taken) r.peers new.files.content written;
           others = λ path other.
-              ap (λ (holds : Content). holds path) (ran.files told)
+              ap (λ (holds : Content). holds path) ran.files
               ∙ content-untouched (node_plan recording played found r given) old.files.content path (touched-plan given path other);
         }

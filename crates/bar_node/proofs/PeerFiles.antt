@@ -201,11 +201,11 @@ module _ (recording played found : List ℕ) (r : Rules) where
     file-until : (path : List ℕ) (one : List Input → Input → List ℕ) → Yields the_lay r (added_by path) one → IsApart path found →
         (done : List Action) → Begun the_plan done → Ran done old new → (s : StopAt the_lay r given (the_tail given) done) →
         AddedTo path (over one [] s.cut.whole ++ added_in path s.part)
-    file-until path one y apart done begun ran s told held there =
+    file-until path one y apart done begun ran s held there =
         let made_is : flat_map (made_by path) done ≡ [] =
         front-of-none _ _ (front-gives the_lay r (made_by path) makes_none (yields-made recording played path r) the_plan done begun)
         (made-plan path apart) in
-        ap (λ (holds : Content). holds path) (ran.files told)
+        ap (λ (holds : Content). holds path) ran.files
         ∙ content-added path held done old.files.content made_is there
         ∙ ap (λ ys. Some (held ++ ys)) (given-whole the_lay r (added_by path) one y given (the_tail given) done s)
 
@@ -249,8 +249,8 @@ module _ (recording played found : List ℕ) (r : Rules) where
 
     file-whole : (path : List ℕ) (one : List Input → Input → List ℕ) → Yields the_lay r (added_by path) one → IsApart path found →
         Ran the_plan old new → AddedTo path (over one [] (taken_of r given) ++ added_in path (the_tail given))
-    file-whole path one y apart ran told held there =
-        ap (λ (holds : Content). holds path) (ran.files told)
+    file-whole path one y apart ran held there =
+        ap (λ (holds : Content). holds path) ran.files
         ∙ content-added path held the_plan old.files.content (made-plan path apart) there
         ∙ ap (λ ys. Some (held ++ ys)) (run-gives the_lay r (added_by path) one y given (the_tail given))
 

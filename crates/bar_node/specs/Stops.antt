@@ -38,10 +38,10 @@ pub record AreApart (recording played found : List ℕ) : Type 0 where
   pub played_apart : IsApart played found
   pub recording_apart : IsApart recording found
 
--- Bytes were added to a file that was there, where the files tell.
+-- Bytes were added to a file that was there.
 abbrev pub IsAddedTo : List ℕ → Disk → Disk → List ℕ → Type 0
 IsAddedTo path files files_new bytes =
-    IsTrue files.told → (held : List ℕ) → files.content path ≡ Some held → files_new.content path ≡ Some (held ++ bytes)
+    (held : List ℕ) → files.content path ≡ Some held → files_new.content path ≡ Some (held ++ bytes)
 
 -- What a node sent when it was stopped: all that the inputs begun but the last one send, and a front of what the last one sends.
 pub record StoppedSending (r : Rules) (given : List Arrival) (wire wire_new : Wire) : Type 0 where
@@ -55,7 +55,7 @@ abbrev pub end_of : Rules → List Arrival → List ℕ
 end_of r given = if is_ended r given then 0 ∷ [] else []
 
 -- A peer that was stopped: it sent, played and recorded all of the inputs begun but the last one, and a front of the last one's. What it
--- sent is told where the link tells, and what the files have where their names differ and the files tell.
+-- sent is told where the link tells, and what the files have where their names differ.
 pub record StoppedPeer (recording played found : List ℕ) (r : Rules) (given : List Arrival) (files files_new : Disk)
     (wire wire_new : Wire) : Type 0 where
   pub cut : Cut (taken_of r given)

@@ -3,6 +3,7 @@ ghost use Rattle.std.specs.Prelude.{◌≡◌, ◌≤◌, [], length, IfSome, On
 ghost use Rattle.std.specs.Option.{option_map};
 ghost use Rattle.bar_wire.specs.Inputs as plain;
 ghost use Rattle.bar_wire.specs.Limits.{largest_datagram};
+ghost use Rattle.bar_outside.specs.Disk.{Content};
 ghost use Rattle.bar_outside.specs.Wire.{arrival_of, largest_packet, len_of};
 ghost use Rattle.bar_record.specs.Recording.{IsInRange, largest_entry};
 ghost use Rattle.bar_core.specs.Face.{IsIdle};
@@ -47,8 +48,8 @@ pub fn run_inputs<C: Core, L: Link, F: Files>(
     requires idle { IsIdle (C.face core.old) }
     requires inbox { largest_datagram ≤ length inbox.old }
     requires outbox { largest_entry ≤ length outbox.old }
-    ensures ran { RanInputs (layout_of kept.now sent) (C.stands core.new) (C.face core.old).rules
-        (F.disk files.old) (F.disk files.new) (L.wire link.old) (L.wire link.new) result }
+    ensures ran { (was : Content) → RanInputs (layout_of kept.now sent) (C.stands core.new) (C.face core.old).rules
+        (F.disk files.old was) (F.disk files.new was) (L.wire link.old) (L.wire link.new) result }
     ensures rules { OnOk result ((C.face core.new).rules ≡ (C.face core.old).rules) }
 {
     let mut paced = Paced::new();

@@ -1,6 +1,7 @@
 //! What a core found, written to files.
 ghost use Rattle.std.specs.Prelude.{List};
 ghost use Rattle.bar_wire.specs.Inputs as plain;
+ghost use Rattle.bar_outside.specs.Disk.{Content};
 ghost use Rattle.bar_outside.specs.Plan.{Outside, with_files};
 ghost use Rattle.bar_outside.specs.Follows.{Follows};
 ghost use Rattle.bar_findings.specs.Findings.{findings_actions};
@@ -18,9 +19,9 @@ pub fn write_found<C: Core, F: Files>(
     found: &str,
     files: &mut F,
 ) -> Result<(), Fault>
-    ensures { (taken : List plain.Input) → C.stands core.now taken → (w : Outside) →
+    ensures { (taken : List plain.Input) → C.stands core.now taken → (w : Outside) (was : Content) →
         Follows (findings_actions (found_after found.now (C.face core.now).rules taken))
-        (with_files w (F.disk files.old)) (with_files w (F.disk files.new)) result }
+        (with_files w (F.disk files.old was)) (with_files w (F.disk files.new was)) result }
 {
     let shape = core.session_shape();
     write_findings(

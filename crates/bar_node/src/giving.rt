@@ -2,6 +2,7 @@
 ghost use Rattle.std.specs.Prelude.{◌≡◌, ◌≤◌, [], List, length, IfOk, OnOk};
 ghost use Rattle.std.specs.List.{concat, flat_map};
 ghost use Rattle.std.specs.Option.{option_copied};
+ghost use Rattle.bar_outside.specs.Disk.{Content};
 ghost use Rattle.bar_outside.specs.Plan.{Outside, with_files};
 ghost use Rattle.bar_outside.specs.Follows.{Follows};
 ghost use Rattle.bar_wire.specs.Inputs as plain;
@@ -17,8 +18,8 @@ use bar_outside::{Fault, Files, append_file};
 
 /// Adds bytes to a file, where one is kept.
 pub fn keep_bytes<F: Files>(files: &mut F, path: Option<&str>, bytes: &[u8]) -> Result<(), Fault>
-    ensures { (w : Outside) → Follows (kept (option_copied path.entry) bytes.now)
-        (with_files w (F.disk files.old)) (with_files w (F.disk files.new)) result }
+    ensures { (w : Outside) (was : Content) → Follows (kept (option_copied path.entry) bytes.now)
+        (with_files w (F.disk files.old was)) (with_files w (F.disk files.new was)) result }
 {
     match path {
         Some(path) => append_file(files, path, bytes),
@@ -34,8 +35,8 @@ pub fn play_all<C: Core, F: Files>(
     buf: &mut [u8],
 ) -> Result<u64, Fault>
     requires { largest_content ≤ length buf.old }
-    ensures follows { (w : Outside) → Follows (flat_map (kept (option_copied played.entry)) (C.face core.old).plays)
-        (with_files w (F.disk files.old)) (with_files w (F.disk files.new)) result }
+    ensures follows { (w : Outside) (was : Content) → Follows (flat_map (kept (option_copied played.entry)) (C.face core.old).plays)
+        (with_files w (F.disk files.old was)) (with_files w (F.disk files.new was)) result }
     ensures count { IfOk result (λ count. count ≡ capped (length (concat (C.face core.old).plays))) }
     ensures keeps { OnOk result (Keeps (C.stands core.old) (C.stands core.new) (C.face core.old) (C.face core.new)) }
     ensures played { OnOk result ((C.face core.new).plays ≡ []) }

@@ -50,7 +50,7 @@ pub fn a_stopped_peer_kept<C: Core>()
 pub fn a_run_writes_its_findings<C: Core>()
     ensures { (recording played : Option (List ℕ)) (found : List ℕ) (r : Rules) (core : C) (files files_new : Disk) (wire wire_new : Wire)
         (summary : Summary) →
-        (ran : RanNode recording played found r (C.stands core) files files_new wire wire_new (Ok summary)) → IsTrue files.told →
+        (ran : RanNode recording played found r (C.stands core) files files_new wire wire_new (Ok summary)) →
         r.peers < 2 ^ 64 → FoundBy recording played found r (taken_of r ran.given) files.content files_new.content }
 {}
 
@@ -58,7 +58,7 @@ pub fn a_run_writes_its_findings<C: Core>()
 pub fn a_run_changes_its_files<C: Core>()
     ensures { (recording played : Option (List ℕ)) (found : List ℕ) (r : Rules) (core : C) (files files_new : Disk) (wire wire_new : Wire)
         (result : Result Summary Fault) →
-        (ran : RanNode recording played found r (C.stands core) files files_new wire wire_new result) → IsTrue files.told →
+        (ran : RanNode recording played found r (C.stands core) files files_new wire wire_new result) →
         (path : List ℕ) → IsOther recording played (found_after found r (taken_of r ran.given)) path →
         files_new.content path ≡ files.content path }
 {}
@@ -83,7 +83,7 @@ pub fn a_whole_peer_kept()
 /// played file.
 pub fn a_run_finds()
     ensures { (recording played : Option (List ℕ)) (found : List ℕ) (r : Rules) (given : List Arrival) (old new : Outside) →
-        Ran (node_plan recording played found r given) old new → IsTrue (is_ended r given) → IsTrue old.files.told → r.peers < 2 ^ 64 →
+        Ran (node_plan recording played found r given) old new → IsTrue (is_ended r given) → r.peers < 2 ^ 64 →
         FoundBy recording played found r (taken_of r given) old.files.content new.files.content }
 {}
 

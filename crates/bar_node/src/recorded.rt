@@ -1,5 +1,6 @@
 //! Runs over a recording.
 ghost use Rattle.std.specs.Prelude.{◌≡◌, ◌≤◌, [], length, IfOk, OnOk};
+ghost use Rattle.bar_outside.specs.Disk.{Content};
 ghost use Rattle.bar_outside.specs.Plan.{Outside, with_files, with_out};
 ghost use Rattle.bar_outside.specs.Follows.{Follows};
 ghost use Rattle.bar_record.specs.Inputs.{inputs_left};
@@ -35,10 +36,10 @@ fn show_inputs<C: Core, F: Files, K: Sink>(
     requires stands { C.stands core.old [] }
     requires idle { IsIdle (C.face core.old) }
     requires room { largest_entry ≤ length buf.old }
-    ensures follows { (w : Outside) → Follows (turns (replay_layout played.now) (C.face core.old).rules []
+    ensures follows { (w : Outside) (was : Content) → Follows (turns (replay_layout played.now) (C.face core.old).rules []
         (paced (C.face core.old).rules.last (inputs_left items.entry)))
-        (with_out (with_files w (F.disk files.old)) (K.stream out.old))
-        (with_out (with_files w (F.disk files.new)) (K.stream out.new)) result }
+        (with_out (with_files w (F.disk files.old was)) (K.stream out.old))
+        (with_out (with_files w (F.disk files.new was)) (K.stream out.new)) result }
     ensures took { IfOk result (Took [] (C.stands core.new) (C.face core.old).rules
         (paced (C.face core.old).rules.last (inputs_left items.entry))) }
     ensures rules { OnOk result ((C.face core.new).rules ≡ (C.face core.old).rules) }
@@ -86,9 +87,9 @@ pub fn replay<C: Core, F: Files, K: Sink>(
 ) -> Result<Summary, Fault>
     requires stands { C.stands core.old [] }
     requires idle { IsIdle (C.face core.old) }
-    ensures follows { (w : Outside) → Follows (replay_plan played.now found.now (C.face core.old).rules (inputs_left items.entry))
-        (with_out (with_files w (F.disk files.old)) (K.stream out.old))
-        (with_out (with_files w (F.disk files.new)) (K.stream out.new)) result }
+    ensures follows { (w : Outside) (was : Content) → Follows (replay_plan played.now found.now (C.face core.old).rules (inputs_left items.entry))
+        (with_out (with_files w (F.disk files.old was)) (K.stream out.old))
+        (with_out (with_files w (F.disk files.new was)) (K.stream out.new)) result }
     ensures summary { IfOk result (λ summary. summary ≡
         summary_of (C.face core.old).rules (paced (C.face core.old).rules.last (inputs_left items.entry))) }
     ensures stands { OnOk result (C.stands core.new (paced (C.face core.old).rules.last (inputs_left items.entry))) }

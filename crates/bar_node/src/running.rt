@@ -2,6 +2,7 @@
 ghost use Rattle.std.specs.Prelude.{◌≡◌, [], List, Some, None, OnOk};
 ghost use Rattle.std.specs.Option.{option_copied};
 ghost use Rattle.bar_wire.specs.Inputs as plain;
+ghost use Rattle.bar_outside.specs.Disk.{Content};
 ghost use Rattle.bar_outside.specs.Plan.{Outside, with_files};
 ghost use Rattle.bar_outside.specs.Follows.{Follows};
 ghost use Rattle.bar_core.specs.Face.{IsIdle};
@@ -28,9 +29,9 @@ fn close<C: Core, F: Files>(
     recording: Option<&str>,
     found: &str,
 ) -> Result<(), Fault>
-    ensures { (taken : List plain.Input) → C.stands core.now taken → (w : Outside) →
+    ensures { (taken : List plain.Input) → C.stands core.now taken → (w : Outside) (was : Content) →
         Follows (closing (option_copied recording.entry) found.now (C.face core.now).rules taken)
-        (with_files w (F.disk files.old)) (with_files w (F.disk files.new)) result }
+        (with_files w (F.disk files.old was)) (with_files w (F.disk files.new was)) result }
 {
     keep_bytes(files, recording, &[0])?;
     write_found(alloc, core, found, files)
@@ -47,8 +48,8 @@ fn run_node<C: Core, L: Link, F: Files>(
 ) -> Result<Summary, Fault>
     requires stands { C.stands core.old [] }
     requires idle { IsIdle (C.face core.old) }
-    ensures ran { RanNode (option_copied kept.now.recording) (option_copied kept.now.played) found.now (C.face core.old).rules
-        (C.stands core.new) (F.disk files.old) (F.disk files.new) (L.wire link.old) (L.wire link.new) result }
+    ensures ran { (was : Content) → RanNode (option_copied kept.now.recording) (option_copied kept.now.played) found.now (C.face core.old).rules
+        (C.stands core.new) (F.disk files.old was) (F.disk files.new was) (L.wire link.old) (L.wire link.new) result }
     ensures rules { OnOk result ((C.face core.new).rules ≡ (C.face core.old).rules) }
 {
     let mut inbox = buffer(alloc, usize::from(LARGEST_DATAGRAM))?;
@@ -78,8 +79,8 @@ pub fn run_peer<C: Core, L: Link, F: Files>(
 ) -> Result<Summary, Fault>
     requires stands { C.stands core.old [] }
     requires idle { IsIdle (C.face core.old) }
-    ensures ran { RanNode (Some paths.now.recording.now) (Some paths.now.played.now) paths.now.found.now (C.face core.old).rules
-        (C.stands core.new) (F.disk files.old) (F.disk files.new) (L.wire link.old) (L.wire link.new) result }
+    ensures ran { (was : Content) → RanNode (Some paths.now.recording.now) (Some paths.now.played.now) paths.now.found.now (C.face core.old).rules
+        (C.stands core.new) (F.disk files.old was) (F.disk files.new was) (L.wire link.old) (L.wire link.new) result }
     ensures rules { OnOk result ((C.face core.new).rules ≡ (C.face core.old).rules) }
 {
     let kept = Kept {
@@ -104,8 +105,8 @@ pub fn run_caster<C: Core, L: Link, F: Files>(
 ) -> Result<Summary, Fault>
     requires stands { C.stands core.old [] }
     requires idle { IsIdle (C.face core.old) }
-    ensures ran { RanNode None None found.now (C.face core.old).rules (C.stands core.new)
-        (F.disk files.old) (F.disk files.new) (L.wire link.old) (L.wire link.new) result }
+    ensures ran { (was : Content) → RanNode None None found.now (C.face core.old).rules (C.stands core.new)
+        (F.disk files.old was) (F.disk files.new was) (L.wire link.old) (L.wire link.new) result }
     ensures rules { OnOk result ((C.face core.new).rules ≡ (C.face core.old).rules) }
 {
     let kept = Kept {

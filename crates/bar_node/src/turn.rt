@@ -2,6 +2,7 @@
 ghost use Rattle.std.specs.Prelude.{◌≡◌, ◌≤◌, ◌<◌, ◌+◌, ◌^◌, ◌∷◌, [], List, length, is_some, true, IfOk, OnOk};
 ghost use Rattle.std.specs.Option.{option_copied};
 ghost use Rattle.bar_wire.specs.Inputs as plain;
+ghost use Rattle.bar_outside.specs.Disk.{Content};
 ghost use Rattle.bar_outside.specs.Plan.{Outside, with_files};
 ghost use Rattle.bar_outside.specs.Follows.{Follows};
 ghost use Rattle.bar_record.specs.Recording.{entry_bytes, IsInRange, largest_entry};
@@ -38,8 +39,8 @@ fn keep_entry<F: Files>(
 ) -> Result<(), Fault>
     requires room { largest_entry ≤ length buf.old }
     requires datagram { is_some recording ≡ true → IsInRange (plain.plain_input input.now) }
-    ensures { (w : Outside) → Follows (kept (option_copied recording.entry) (entry_bytes (plain.plain_input input.now)))
-        (with_files w (F.disk files.old)) (with_files w (F.disk files.new)) result }
+    ensures { (w : Outside) (was : Content) → Follows (kept (option_copied recording.entry) (entry_bytes (plain.plain_input input.now)))
+        (with_files w (F.disk files.old was)) (with_files w (F.disk files.new was)) result }
 {
     match recording {
         Some(path) => {
@@ -64,9 +65,9 @@ fn take_input<C: Core, T, O: Outlet<T>, F: Files>(
     requires idle { IsIdle (C.face core.old) }
     requires room { largest_entry ≤ length buf.old }
     requires datagram { is_some kept.now.recording ≡ true → IsInRange (plain.plain_input input) }
-    ensures follows { (before : List plain.Input) → C.stands core.old before → number ≡ length before + 1 → (w : Outside) →
+    ensures follows { (before : List plain.Input) → C.stands core.old before → number ≡ length before + 1 → (w : Outside) (was : Content) →
         Follows (turns (layout_of kept.now O.given) (C.face core.old).rules before (plain.plain_input input.entry ∷ []))
-        (with_files (O.placed w target.old) (F.disk files.old)) (with_files (O.placed w target.new) (F.disk files.new)) result }
+        (with_files (O.placed w target.old) (F.disk files.old was)) (with_files (O.placed w target.new) (F.disk files.new was)) result }
     ensures took { (before : List plain.Input) → C.stands core.old before →
         IfOk result (Took before (C.stands core.new) (C.face core.old).rules (plain.plain_input input.entry ∷ [])) }
     ensures idle { OnOk result (IsIdle (C.face core.new)) }
@@ -100,10 +101,10 @@ pub fn take_paced<C: Core, T, O: Outlet<T>, F: Files>(
     requires room { largest_entry ≤ length buf.old }
     requires few { taken + 2 < 2 ^ 64 }
     requires datagram { is_some kept.now.recording ≡ true → IsInRange (plain.plain_input input) }
-    ensures follows { (before : List plain.Input) → C.stands core.old before → taken ≡ length before → (w : Outside) →
+    ensures follows { (before : List plain.Input) → C.stands core.old before → taken ≡ length before → (w : Outside) (was : Content) →
         Follows (turns (layout_of kept.now O.given) (C.face core.old).rules before
         (due (C.face core.old).rules.last (C.face core.old).ticks paced.old (plain.plain_input input.entry)))
-        (with_files (O.placed w target.old) (F.disk files.old)) (with_files (O.placed w target.new) (F.disk files.new)) result }
+        (with_files (O.placed w target.old) (F.disk files.old was)) (with_files (O.placed w target.new) (F.disk files.new was)) result }
     ensures took { (before : List plain.Input) → C.stands core.old before →
         IfOk result (Took before (C.stands core.new) (C.face core.old).rules
         (due (C.face core.old).rules.last (C.face core.old).ticks paced.old (plain.plain_input input.entry))) }

@@ -24,9 +24,9 @@ traffic_after-append (x ∷ xs) ys traffic = traffic_after-append xs ys (traffic
 -- one run behind another
 pub Ran-append : (xs ys : List Action) (old mid new : Outside) → IsLater old mid → Ran xs old mid → Ran ys mid new → Ran (xs ++ ys) old new
 Ran-append xs ys old mid new later first second = record {
-  files = λ tells.
-      second.files (subst IsTrue (sym later.told) tells)
-      ∙ ap (content_after ys) (first.files tells)
+  files =
+      second.files
+      ∙ ap (content_after ys) first.files
       ∙ sym (content_after-append xs ys old.files.content);
   out = λ tells.
       second.out (subst IsTrue (sym later.out_told) tells)

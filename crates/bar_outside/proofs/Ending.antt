@@ -43,12 +43,12 @@ Ends-ending status line old go = record {
   fixed = λ is go. record { is = refl; ran = Ran-nothing old };
   fixed_part = λ is.
       Reached-whole [] status old old (no_stop 3 refl status go) (no_stop 6 refl status go) (no_stop 7 refl status go) (Ran-nothing old);
-  complete = λ reliable. inl refl;
+  complete = λ reliable told. inl refl;
 }
 
 -- actions, and then the end
 module _ (actions : List Action) (final : ℕ) (line : List ℕ) (old new : Outside)
-    (can : IsTrue old.files.told → CanRun actions old.files.created_here) (go : is_stop final ≡ false) where
+    (can : CanRun actions old.files.created_here) (go : is_stop final ≡ false) where
   pub Ends-doing : {T : Type 0} (r : Result T Fault) → Follows actions old new r → Ends (doing actions final line) old new (code_after final r)
   Ends-doing (Ok x) f = record {
     later = f.later;
@@ -62,19 +62,19 @@ module _ (actions : List Action) (final : ℕ) (line : List ℕ) (old new : Outs
     fixed = λ is go. record { is = refl; ran = f.done };
     fixed_part = λ is.
         Reached-whole actions final old new (no_stop 3 refl final go) (no_stop 6 refl final go) (no_stop 7 refl final go) f.done;
-    complete = λ reliable. inl refl;
+    complete = λ reliable told. inl refl;
   }
   Ends-doing {T} (Err File) f = record {
     later = f.later;
     file_rose = λ e. (f.file refl).rose;
-    file_named = λ e told. (f.file refl).named told;
+    file_named = λ e told. (f.file refl).named;
     link_rose = λ e. absurd (omega arith);
     output_rose = λ e. absurd (omega arith);
     carried = λ told go. cc;
     part = λ told. f.part;
     fixed = λ is go. cc;
     fixed_part = λ is. f.part;
-    complete = λ reliable. absurd (file-memory {T = T} (f.complete reliable (can reliable.told)));
+    complete = λ reliable told. absurd (file-memory {T = T} (f.complete reliable can));
   }
   Ends-doing {T} (Err Link) f = record {
     later = f.later;
@@ -86,7 +86,7 @@ module _ (actions : List Action) (final : ℕ) (line : List ℕ) (old new : Outs
     part = λ told. f.part;
     fixed = λ is go. cc;
     fixed_part = λ is. f.part;
-    complete = λ reliable. absurd (link-memory {T = T} (f.complete reliable (can reliable.told)));
+    complete = λ reliable told. absurd (link-memory {T = T} (f.complete reliable can));
   }
   Ends-doing {T} (Err Output) f = record {
     later = f.later;
@@ -98,7 +98,7 @@ module _ (actions : List Action) (final : ℕ) (line : List ℕ) (old new : Outs
     part = λ told. f.part;
     fixed = λ is go. cc;
     fixed_part = λ is. f.part;
-    complete = λ reliable. absurd (output-memory {T = T} (f.complete reliable (can reliable.told)));
+    complete = λ reliable told. absurd (output-memory {T = T} (f.complete reliable can));
   }
   Ends-doing (Err NoMemory) f = record {
     later = f.later;
@@ -110,7 +110,7 @@ module _ (actions : List Action) (final : ℕ) (line : List ℕ) (old new : Outs
     part = λ told. f.part;
     fixed = λ is go. cc;
     fixed_part = λ is. f.part;
-    complete = λ reliable. inr refl;
+    complete = λ reliable told. inr refl;
   }
 
 begun-read : (path : List ℕ) (others : List ℕ → Content → Plan) (content : Content) (o : Option (List ℕ)) → (rest : List Action) × ((read_then path others content o).actions ≡ read path ∷ rest)
@@ -124,17 +124,17 @@ never-fixed path others content is = let b = begun-read path others content (rea
 -- a file that was read, and what came after it
 module _ (path : List ℕ) (others : List ℕ → Content → Plan) (old mid : Disk) (w new : Outside) (bytes : Vec ℕ Global) (status : ℕ)
     (reads : Reads path old mid (Ok bytes)) (ends : Ends (others bytes.items) (with_files w mid) new status) where
-  plan-is : IsTrue old.told → reading path others old.content ≡ before (read path) (others bytes.items mid.content)
+  plan-is : IsTrue mid.told → reading path others old.content ≡ before (read path) (others bytes.items mid.content)
   plan-is told = ap (read_then path others old.content) (reads.found told) ∙ ap (λ c. before (read path) (others bytes.items c)) (sym reads.same)
 
-  told-mid : IsTrue old.told → IsTrue mid.told
-  told-mid told = subst IsTrue (sym reads.call.told) told
+  told-mid : IsTrue new.files.told → IsTrue mid.told
+  told-mid = ends.later.told
 
   first : Ran (read path ∷ []) (with_files w old) (with_files w mid)
-  first = record { files = λ tells. reads.same; out = λ tells. sym (append-nil w.out.bytes); wire = λ tells. refl }
+  first = record { files = reads.same; out = λ tells. sym (append-nil w.out.bytes); wire = λ tells. refl }
 
   later-mid : IsLater (with_files w old) (with_files w mid)
-  later-mid = later-files old mid w reads.call.told reads.call.reliable (λ told. reads.same_here) reads.call.cause.later
+  later-mid = later-files old mid w reads.call.told reads.call.reliable reads.same_here reads.call.cause.later
 
   either-same : {a b : ℕ} → a ≡ b → (status ≡ a) ⊎ (status ≡ 70) → (status ≡ b) ⊎ (status ≡ 70)
   either-same e (inl h) = inl (h ∙ e)
@@ -145,32 +145,31 @@ module _ (path : List ℕ) (others : List ℕ → Content → Plan) (old mid : D
     later = IsLater-trans (with_files w old) (with_files w mid) new later-mid ends.later;
     file_rose = λ e. let h = ends.file_rose e in let k = reads.call.cause.later in omega arith;
     file_named = λ e told.
-        subst (λ (p : Plan). IsSomeAnd new.files.failed (Names p.actions)) (sym (plan-is told))
-        (named-behind (read path ∷ []) (others bytes.items mid.content).actions new.files.failed (ends.file_named e (told-mid told)));
+        subst (λ (p : Plan). IsSomeAnd new.files.failed (Names p.actions)) (sym (plan-is (told-mid told)))
+        (named-behind (read path ∷ []) (others bytes.items mid.content).actions new.files.failed (ends.file_named e told));
     link_rose = ends.link_rose;
     output_rose = ends.output_rose;
     carried = λ told go.
-        let c = ends.carried (told-mid told) go in
-        subst (λ (p : Plan). Carried p (with_files w old) new status) (sym (plan-is told))
+        let c = ends.carried told go in
+        subst (λ (p : Plan). Carried p (with_files w old) new status) (sym (plan-is (told-mid told)))
         (record {
           is = c.is;
           ran = Ran-append (read path ∷ []) (others bytes.items mid.content).actions (with_files w old) (with_files w mid) new later-mid
               first c.ran;
         });
     part = λ told.
-        subst (λ (q : Plan). Reached q.actions status (with_files w old) new) (sym (plan-is told))
+        subst (λ (q : Plan). Reached q.actions status (with_files w old) new) (sym (plan-is (told-mid told)))
         (Reached-behind (read path ∷ []) (others bytes.items mid.content).actions status (with_files w old)
-        (with_files w mid) new later-mid first (ends.part (told-mid told)));
+        (with_files w mid) new later-mid first (ends.part told));
     fixed = λ is. absurd (never-fixed path others old.content is);
     fixed_part = λ is. absurd (never-fixed path others old.content is);
-    complete = λ reliable.
-        either-same (sym (ap (λ (q : Plan). q.status) (plan-is reliable.told)))
+    complete = λ reliable told.
+        either-same (sym (ap (λ (q : Plan). q.status) (plan-is (told-mid told))))
         (ends.complete (record {
-          told = told-mid reliable.told;
           files = subst IsTrue (sym reads.call.reliable) reliable.files;
           out = reliable.out;
           wire = reliable.wire;
-        }));
+        }) told);
   }
 
 -- a file that wasn't read
@@ -182,7 +181,7 @@ module _ (path : List ℕ) (others : List ℕ → Content → Plan) (old mid : D
       Reached (reading path others old.content).actions status (with_files w old) (with_files w mid)
   unread-part status no_link no_output same =
       Reached-nothing (reading path others old.content).actions status _ _ (λ e. unread-next) (λ e. absurd (no_link e))
-      (λ e. absurd (no_output e)) (record { files = λ tells. same; out = λ tells. sym (append-nil w.out.bytes); wire = λ tells. refl })
+      (λ e. absurd (no_output e)) (record { files = same; out = λ tells. sym (append-nil w.out.bytes); wire = λ tells. refl })
 
   unread-named : (call : Failure) → call ≡ record { kind = Read; path = path } → Names (reading path others old.content).actions call
   unread-named call e = let b = begun-read path others old.content (readable old.content path) in subst (λ xs. Names xs call) (sym b.1) (inl e)
@@ -190,19 +189,19 @@ module _ (path : List ℕ) (others : List ℕ → Content → Plan) (old mid : D
   pub Ends-unread : (cause : FileFault) → Reads path old mid (Err cause) →
       Ends (reading path others) (with_files w old) (with_files w mid) (code_of_fault (fault_of_file cause))
   Ends-unread file.Failed reads = record {
-    later = later-files old mid w reads.call.told reads.call.reliable (λ told. reads.same_here) reads.call.cause.later;
+    later = later-files old mid w reads.call.told reads.call.reliable reads.same_here reads.call.cause.later;
     file_rose = λ e. reads.call.cause.rose refl;
-    file_named = λ e told. subst (λ o. IsSomeAnd o (Names (reading path others old.content).actions)) (sym (reads.call.failed told refl)) (unread-named _ refl);
+    file_named = λ e told. subst (λ o. IsSomeAnd o (Names (reading path others old.content).actions)) (sym (reads.call.failed refl)) (unread-named _ refl);
     link_rose = λ e. absurd (omega arith);
     output_rose = λ e. absurd (omega arith);
     carried = λ told go. cc;
     part = λ told. unread-part 3 (λ e. absurd (omega arith)) (λ e. absurd (omega arith)) reads.same;
     fixed = λ is. absurd (never-fixed path others old.content is);
     fixed_part = λ is. absurd (never-fixed path others old.content is);
-    complete = λ reliable. inl (sym (ap (λ o. (read_then path others old.content o).status) (reads.refused reliable.told reliable.files refl)));
+    complete = λ reliable told. inl (sym (ap (λ o. (read_then path others old.content o).status) (reads.refused reliable.files refl)));
   }
   Ends-unread file.NoMemory reads = record {
-    later = later-files old mid w reads.call.told reads.call.reliable (λ told. reads.same_here) reads.call.cause.later;
+    later = later-files old mid w reads.call.told reads.call.reliable reads.same_here reads.call.cause.later;
     file_rose = λ e. absurd (omega arith);
     file_named = λ e. absurd (omega arith);
     link_rose = λ e. absurd (omega arith);
@@ -211,7 +210,7 @@ module _ (path : List ℕ) (others : List ℕ → Content → Plan) (old mid : D
     part = λ told. unread-part 70 (λ e. absurd (omega arith)) (λ e. absurd (omega arith)) reads.same;
     fixed = λ is. absurd (never-fixed path others old.content is);
     fixed_part = λ is. absurd (never-fixed path others old.content is);
-    complete = λ reliable. inr refl;
+    complete = λ reliable told. inr refl;
   }
 
 -- want of memory may come in place of any status
@@ -227,7 +226,7 @@ Ends-or_memory plan old new status result (inr e) h = record {
   part = λ told. Reached-memory (plan old.files.content).actions status result old new e (h.part told);
   fixed = λ is go. absurd (no_stop 70 refl result go e);
   fixed_part = λ is. Reached-memory (plan old.files.content).actions status result old new e (h.fixed_part is);
-  complete = λ reliable. inr e;
+  complete = λ reliable told. inr e;
 }
 
 else-cases : (a b c d : Bool) (x y z u p : List ℕ) → (a || b || c || d) ≡ false → cond a x (cond b y (cond c z (cond d u p))) ≡ p
@@ -263,7 +262,7 @@ EndsWith-ending status line old go = record {
 
 -- actions, and then the end
 pub EndsWith-doing : {T : Type 0} (actions : List Action) (final : ℕ) (line : List ℕ) (old new : Outside) →
-    (IsTrue old.files.told → CanRun actions old.files.created_here) → is_stop final ≡ false → (r : Result T Fault) → Follows actions old new r →
+    CanRun actions old.files.created_here → is_stop final ≡ false → (r : Result T Fault) → Follows actions old new r →
     EndsWith (doing actions final line) old new (code_after final r) (line_after line r)
 EndsWith-doing actions final line old new can go (Ok x) f = record {
   ends = Ends-doing actions final line old new can go (Ok x) f;
@@ -310,11 +309,11 @@ pub EndsWith-reading : (path : List ℕ) (others : List ℕ → Content → Plan
 EndsWith-reading path others old mid w new bytes status line reads h = record {
   ends = Ends-reading path others old mid w new bytes status reads h.ends;
   line_is = λ either.
-      elim (told-or old.told (is_stop status) either) [
+      elim (told-or new.files.told (is_stop status) either) [
         | inl told ↦
-            h.line_is (or-told mid.told (is_stop status) (subst IsTrue (sym reads.call.told) told))
-            ∙ ap (λ (p : Plan). line_at p status) (sym (plan-is path others old mid w new bytes status reads h.ends told))
-        | inr stop ↦ h.line_is (or-stop mid.told (is_stop status) stop) ∙ line_at-stop (others bytes.items mid.content) (reading path others old.content) status stop
+            h.line_is (or-told new.files.told (is_stop status) told)
+            ∙ ap (λ (p : Plan). line_at p status) (sym (plan-is path others old mid w new bytes status reads h.ends (h.ends.later.told told)))
+        | inr stop ↦ h.line_is (or-stop new.files.told (is_stop status) stop) ∙ line_at-stop (others bytes.items mid.content) (reading path others old.content) status stop
       ];
   fixed_line = λ is. absurd (never-fixed path others old.content is);
 }
@@ -362,7 +361,7 @@ EndsWith-memory plan old = record {
     fixed_part = λ is.
         Reached-nothing (plan old.files.content).actions 70 old old (λ e. absurd (omega arith)) (λ e. absurd (omega arith))
         (λ e. absurd (omega arith)) (Ran-nothing old);
-    complete = λ reliable. inr refl;
+    complete = λ reliable told. inr refl;
   };
   line_is = λ either. refl;
   fixed_line = λ is. refl;
@@ -402,19 +401,19 @@ module _ (plan : Content → Plan) (old new : Outside) (status result : ℕ) (li
         (p.0, status, p.1 ∙ ap (λ xs. before_err.bytes ++ take p.0 xs) line_is);
   }
 
-  at-same : result ≡ status → IsTrue old.files.told ⊎ (is_plain result ≡ true) → line ≡ line_at (plan old.files.content) result
-  at-same e (inl told) = h.line_is (or-told old.files.told (is_stop status) told) ∙ ap (line_at (plan old.files.content)) (sym e)
+  at-same : result ≡ status → IsTrue new.files.told ⊎ (is_plain result ≡ true) → line ≡ line_at (plan old.files.content) result
+  at-same e (inl told) = h.line_is (or-told new.files.told (is_stop status) told) ∙ ap (line_at (plan old.files.content)) (sym e)
   at-same e (inr plain) =
       elim (plain-cases result plain) [
         | inl two ↦ usage (sym e ∙ two) ∙ rw two refl
-        | inr stop ↦ h.line_is (or-stop old.files.told (is_stop status) (ap is_stop (sym e) ∙ stop)) ∙ ap (line_at (plan old.files.content)) (sym e)
+        | inr stop ↦ h.line_is (or-stop new.files.told (is_stop status) (ap is_stop (sym e) ∙ stop)) ∙ ap (line_at (plan old.files.content)) (sym e)
       ]
 
-  pub said : (result ≡ status) ⊎ (result ≡ 70) → IsTrue (old.files.told || is_plain result) → Says (plan old.files.content) result before_err after_err
-  said (inl e) either = said-same e (at-same e (told-or old.files.told (is_plain result) either))
+  pub said : (result ≡ status) ⊎ (result ≡ 70) → IsTrue (new.files.told || is_plain result) → Says (plan old.files.content) result before_err after_err
+  said (inl e) either = said-same e (at-same e (told-or new.files.told (is_plain result) either))
   said (inr e) either =
-      elim (told-or old.files.told (is_plain result) either) [
-        | inl told ↦ said-memory e (h.line_is (or-told old.files.told (is_stop status) told))
+      elim (told-or new.files.told (is_plain result) either) [
+        | inl told ↦ said-memory e (h.line_is (or-told new.files.told (is_stop status) told))
         | inr plain ↦ absurd (plain-memory result plain e)
       ]
 

@@ -20,13 +20,13 @@ use Rattle.bar_outside.proofs.ActionLists.{Ran-append, Reached-behind, Reached-l
 
 pub IsLater-trans : (old mid new : Outside) → IsLater old mid → IsLater mid new → IsLater old new
 IsLater-trans old mid new p q = record {
-  told = q.told ∙ p.told;
+  told = λ told. p.told (q.told told);
   reliable = q.reliable ∙ p.reliable;
   out_told = q.out_told ∙ p.out_told;
   out_reliable = q.out_reliable ∙ p.out_reliable;
   wire_told = q.wire_told ∙ p.wire_told;
   wire_reliable = q.wire_reliable ∙ p.wire_reliable;
-  created = λ told path h. q.created (subst IsTrue (sym p.told) told) path (p.created told path h);
+  created = λ path h. q.created path (p.created path h);
   faults = omega arith;
   out_faults = omega arith;
   wire_faults = omega arith;
@@ -45,7 +45,7 @@ pub stopped : {T : Type 0} (plan more : List Action) (old new : Outside) (fault 
     Follows {T = T} plan old new (Err fault) → Follows {T = T} (plan ++ more) old new (Err fault)
 stopped plan more old new fault f = record {
   later = f.later;
-  file = λ e. record { rose = (f.file e).rose; named = λ told. named-longer plan more new.files.failed ((f.file e).named told) };
+  file = λ e. record { rose = (f.file e).rose; named = named-longer plan more new.files.failed (f.file e).named };
   link = f.link;
   output = f.output;
   done = tt;
@@ -57,27 +57,26 @@ stopped plan more old new fault f = record {
 module _ {S : Type 0} (front plan : List Action) (old mid new : Outside) (x : S) (first : Follows front old mid (Ok x)) where
   reliable-mid : IsReliable old → IsReliable mid
   reliable-mid r = record {
-    told = subst IsTrue (sym first.later.told) r.told;
     files = subst IsTrue (sym first.later.reliable) r.files;
     out = subst IsTrue (sym first.later.out_reliable) r.out;
     wire = subst IsTrue (sym first.later.wire_reliable) r.wire;
   }
 
-  can-mid : IsTrue old.files.told → CanRun (front ++ plan) old.files.created_here → CanRun plan mid.files.created_here
-  can-mid told can =
-      CanRun-more plan (created_after front old.files.created_here) mid.files.created_here (first.created told)
+  can-mid : CanRun (front ++ plan) old.files.created_here → CanRun plan mid.files.created_here
+  can-mid can =
+      CanRun-more plan (created_after front old.files.created_here) mid.files.created_here first.created
       (CanRun-rest front plan old.files.created_here can)
 
   created-then : HasCreated plan mid new → HasCreated (front ++ plan) old new
-  created-then second told path h =
-      second (subst IsTrue (sym first.later.told) told) path
-      (created_after-more plan (created_after front old.files.created_here) mid.files.created_here (first.created told) path
+  created-then second path h =
+      second path
+      (created_after-more plan (created_after front old.files.created_here) mid.files.created_here first.created path
       (subst (λ (c : CreatedFiles). IsTrue (c path)) (created_after-append front plan old.files.created_here) h))
 
   file-then : {T : Type 0} {r : Result T Fault} → Follows plan mid new r → IsErrOf r File → FilesFailed (front ++ plan) old new
   file-then second e = record {
     rose = let before = first.later.faults in let rose = (second.file e).rose in omega arith;
-    named = λ told. named-behind front plan new.files.failed ((second.file e).named (subst IsTrue (sym first.later.told) told));
+    named = named-behind front plan new.files.failed (second.file e).named;
   }
 
   link-then : {T : Type 0} {r : Result T Fault} → Follows plan mid new r → IsErrOf r Link → Rose old.wire.faults new.wire.faults
@@ -106,31 +105,31 @@ module _ {S : Type 0} (front plan : List Action) (old mid new : Outside) (x : S)
     done = tt;
     created = tt;
     part = Reached-behind front plan (code_of_fault fault) old mid new first.later first.done second.part;
-    complete = λ reliable can. second.complete (reliable-mid reliable) (can-mid reliable.told can);
+    complete = λ reliable can. second.complete (reliable-mid reliable) (can-mid can);
   }
 
 nothing_shown : (out : Stream) → out.bytes ≡ out.bytes ++ []
 nothing_shown out = sym (append-nil out.bytes)
 
 pub Ran-nothing : (old : Outside) → Ran [] old old
-Ran-nothing old = record { files = λ told. refl; out = λ tells. nothing_shown old.out; wire = λ told. refl }
+Ran-nothing old = record { files = refl; out = λ tells. nothing_shown old.out; wire = λ told. refl }
 
 pub later-same : (old : Outside) → IsLater old old
 later-same old = record {
-  told = refl;
+  told = λ told. told;
   reliable = refl;
   out_told = refl;
   out_reliable = refl;
   wire_told = refl;
   wire_reliable = refl;
-  created = λ told path h. h;
+  created = λ path h. h;
   faults = omega arith;
   out_faults = omega arith;
   wire_faults = omega arith;
 }
 
-pub later-files : (old new : Disk) (w : Outside) → new.told ≡ old.told → new.reliable ≡ old.reliable →
-    (IsTrue old.told → new.created_here ≡ old.created_here) → old.faults ≤ new.faults → IsLater (with_files w old) (with_files w new)
+pub later-files : (old new : Disk) (w : Outside) → (IsTrue new.told → IsTrue old.told) → new.reliable ≡ old.reliable →
+    new.created_here ≡ old.created_here → old.faults ≤ new.faults → IsLater (with_files w old) (with_files w new)
 later-files old new w told reliable here faults = record {
   told = told;
   reliable = reliable;
@@ -138,7 +137,7 @@ later-files old new w told reliable here faults = record {
   out_reliable = refl;
   wire_told = refl;
   wire_reliable = refl;
-  created = λ tells path h. subst (λ (c : CreatedFiles). IsTrue (c path)) (sym (here tells)) h;
+  created = λ path h. subst (λ (c : CreatedFiles). IsTrue (c path)) (sym here) h;
   faults = faults;
   out_faults = omega arith;
   wire_faults = omega arith;
@@ -147,13 +146,13 @@ later-files old new w told reliable here faults = record {
 later-out : (w : Outside) (old new : Stream) → new.told ≡ old.told → new.reliable ≡ old.reliable → old.faults ≤ new.faults →
     IsLater (with_out w old) (with_out w new)
 later-out w old new told reliable faults = record {
-  told = refl;
+  told = λ tells. tells;
   reliable = refl;
   out_told = told;
   out_reliable = reliable;
   wire_told = refl;
   wire_reliable = refl;
-  created = λ tells path h. h;
+  created = λ path h. h;
   faults = omega arith;
   out_faults = faults;
   wire_faults = omega arith;
@@ -162,13 +161,13 @@ later-out w old new told reliable faults = record {
 later-wire : (w : Outside) (old new : Wire) → new.told ≡ old.told → new.reliable ≡ old.reliable → old.faults ≤ new.faults →
     IsLater (with_wire w old) (with_wire w new)
 later-wire w old new told reliable faults = record {
-  told = refl;
+  told = λ tells. tells;
   reliable = refl;
   out_told = refl;
   out_reliable = refl;
   wire_told = told;
   wire_reliable = reliable;
-  created = λ tells path h. h;
+  created = λ path h. h;
   faults = omega arith;
   out_faults = omega arith;
   wire_faults = faults;
@@ -182,7 +181,7 @@ nothing_done old = record {
   link = λ e. cc;
   output = λ e. cc;
   done = Ran-nothing old;
-  created = λ told path h. h;
+  created = λ path h. h;
   part = tt;
   complete = λ reliable can. tt;
 }
@@ -244,9 +243,9 @@ pub true-not_false : true ≡ false → ⊥
 true-not_false e = cc
 
 reached-append : (path bytes : List ℕ) (status : ℕ) (old new : Disk) (w : Outside) → (status ≡ 6 → ⊥) → (status ≡ 7 → ⊥) →
-    (IsTrue old.told → (k : ℕ) × (new.content ≡ appended old.content path (take k bytes))) → (b : Bool) → old.told ≡ b →
+    (k : ℕ) × (new.content ≡ appended old.content path (take k bytes)) →
     Reached (append path bytes ∷ []) status (with_files w old) (with_files w new)
-reached-append path bytes status old new w no_link no_output p true told = let q = p told in record {
+reached-append path bytes status old new w no_link no_output q = record {
   done = append path (take q.0 bytes) ∷ [];
   begun = record {
     front = [];
@@ -256,80 +255,64 @@ reached-append path bytes status old new w no_link no_output p true told = let q
     done_is = refl;
     part_is = (refl, (q.0, refl));
   };
-  ran = record { files = λ tells. q.1; out = λ tells. nothing_shown w.out; wire = λ tells. refl };
+  ran = record { files = q.1; out = λ tells. nothing_shown w.out; wire = λ tells. refl };
   at_file = λ e. tt;
   at_link = λ e. absurd (no_link e);
   at_output = λ e. absurd (no_output e);
 }
-reached-append path bytes status old new w no_link no_output p false untold =
-    Reached-nothing (append path bytes ∷ []) status _ _ (λ e. tt) (λ e. absurd (no_link e)) (λ e. absurd (no_output e)) (record {
-      files = λ tells. absurd (true-not_false (sym tells ∙ untold));
-      out = λ tells. nothing_shown w.out;
-      wire = λ tells. refl;
-    })
 
 -- an append that failed
 pub failed_append : {S T : Type 0} (path bytes : List ℕ) (old new : Disk) (w : Outside) (e : FileFault) →
     Appends {T = S} path bytes old new (Err e) → Follows {T = T} (append path bytes ∷ []) (with_files w old) (with_files w new)
     (Err (fault_of_file e))
 failed_append path bytes old new w file.Failed a = record {
-  later = later-files old new w a.call.told a.call.reliable (λ told. a.same_here) a.call.cause.later;
-  file = λ e. record { rose = a.call.cause.rose refl; named = λ told. named-one (append path bytes ∷ []) new.failed _ (a.call.failed told refl) (inl refl) };
+  later = later-files old new w a.call.told a.call.reliable a.same_here a.call.cause.later;
+  file = λ e. record { rose = a.call.cause.rose refl; named = named-one (append path bytes ∷ []) new.failed _ (a.call.failed refl) (inl refl) };
   link = λ e. cc;
   output = λ e. cc;
   done = tt;
   created = tt;
-  part = reached-append path bytes 3 old new w (λ e. absurd (omega arith)) (λ e. absurd (omega arith)) a.fault old.told refl;
-  complete = λ reliable can. absurd (true-not_false (sym can.0 ∙ a.refused reliable.told reliable.files refl));
+  part = reached-append path bytes 3 old new w (λ e. absurd (omega arith)) (λ e. absurd (omega arith)) a.fault;
+  complete = λ reliable can. absurd (true-not_false (sym can.0 ∙ a.refused reliable.files refl));
 }
 failed_append path bytes old new w file.NoMemory a = record {
-  later = later-files old new w a.call.told a.call.reliable (λ told. a.same_here) a.call.cause.later;
+  later = later-files old new w a.call.told a.call.reliable a.same_here a.call.cause.later;
   file = λ e. cc;
   link = λ e. cc;
   output = λ e. cc;
   done = tt;
   created = tt;
-  part = reached-append path bytes 70 old new w (λ e. absurd (omega arith)) (λ e. absurd (omega arith)) a.fault old.told refl;
+  part = reached-append path bytes 70 old new w (λ e. absurd (omega arith)) (λ e. absurd (omega arith)) a.fault;
   complete = λ reliable can. refl;
 }
 
 reached-create : (path : List ℕ) (status : ℕ) (old new : Disk) (w : Outside) → (status ≡ 6 → ⊥) → (status ≡ 7 → ⊥) →
-    (IsTrue old.told → (new.content ≡ old.content) ⊎ (new.content ≡ created old.content path)) → (b : Bool) → old.told ≡ b →
+    (new.content ≡ old.content) ⊎ (new.content ≡ created old.content path) →
     Reached (create path ∷ []) status (with_files w old) (with_files w new)
-reached-create path status old new w no_link no_output p true told =
-    elim (p told) [
-      | inl same ↦
-          Reached-nothing (create path ∷ []) status _ _ (λ e. tt) (λ e. absurd (no_link e)) (λ e. absurd (no_output e))
-          (record { files = λ tells. same; out = λ tells. nothing_shown w.out; wire = λ tells. refl })
-      | inr made ↦
-          record {
-            done = create path ∷ [];
-            begun = record { front = []; part = create path ∷ []; rest = create path ∷ []; plan_is = refl; done_is = refl; part_is = refl };
-            ran = record { files = λ tells. made; out = λ tells. nothing_shown w.out; wire = λ tells. refl };
-            at_file = λ e. tt;
-            at_link = λ e. absurd (no_link e);
-            at_output = λ e. absurd (no_output e);
-          }
-    ]
-reached-create path status old new w no_link no_output p false untold =
-    Reached-nothing (create path ∷ []) status _ _ (λ e. tt) (λ e. absurd (no_link e)) (λ e. absurd (no_output e)) (record {
-      files = λ tells. absurd (true-not_false (sym tells ∙ untold));
-      out = λ tells. nothing_shown w.out;
-      wire = λ tells. refl;
-    })
+reached-create path status old new w no_link no_output (inl same) =
+    Reached-nothing (create path ∷ []) status _ _ (λ e. tt) (λ e. absurd (no_link e)) (λ e. absurd (no_output e))
+    (record { files = same; out = λ tells. nothing_shown w.out; wire = λ tells. refl })
+reached-create path status old new w no_link no_output (inr made) = record {
+  done = create path ∷ [];
+  begun = record { front = []; part = create path ∷ []; rest = create path ∷ []; plan_is = refl; done_is = refl; part_is = refl };
+  ran = record { files = made; out = λ tells. nothing_shown w.out; wire = λ tells. refl };
+  at_file = λ e. tt;
+  at_link = λ e. absurd (no_link e);
+  at_output = λ e. absurd (no_output e);
+}
 
 -- a create that failed
 pub failed_create : {S T : Type 0} (path : List ℕ) (old new : Disk) (w : Outside) (e : FileFault) →
     Creates {T = S} path old new (Err e) → Follows {T = T} (create path ∷ []) (with_files w old) (with_files w new) (Err (fault_of_file e))
 failed_create path old new w file.Failed a = record {
   later = later-files old new w a.call.told a.call.reliable a.fault_here a.call.cause.later;
-  file = λ e. record { rose = a.call.cause.rose refl; named = λ told. named-one (create path ∷ []) new.failed _ (a.call.failed told refl) (inl refl) };
+  file = λ e. record { rose = a.call.cause.rose refl; named = named-one (create path ∷ []) new.failed _ (a.call.failed refl) (inl refl) };
   link = λ e. cc;
   output = λ e. cc;
   done = tt;
   created = tt;
-  part = reached-create path 3 old new w (λ e. absurd (omega arith)) (λ e. absurd (omega arith)) a.fault old.told refl;
-  complete = λ reliable can. absurd (a.refused reliable.told reliable.files refl);
+  part = reached-create path 3 old new w (λ e. absurd (omega arith)) (λ e. absurd (omega arith)) a.fault;
+  complete = λ reliable can. absurd (a.refused reliable.files refl);
 }
 failed_create path old new w file.NoMemory a = record {
   later = later-files old new w a.call.told a.call.reliable a.fault_here a.call.cause.later;
@@ -338,7 +321,7 @@ failed_create path old new w file.NoMemory a = record {
   output = λ e. cc;
   done = tt;
   created = tt;
-  part = reached-create path 70 old new w (λ e. absurd (omega arith)) (λ e. absurd (omega arith)) a.fault old.told refl;
+  part = reached-create path 70 old new w (λ e. absurd (omega arith)) (λ e. absurd (omega arith)) a.fault;
   complete = λ reliable can. refl;
 }
 
@@ -349,7 +332,7 @@ reached-write piece status w old new no_file no_link p true told = let q = p tol
   done = show (take q.0 piece) ∷ [];
   begun = record { front = []; part = show (take q.0 piece) ∷ []; rest = show piece ∷ []; plan_is = refl; done_is = refl; part_is = (q.0, refl) };
   ran = record {
-    files = λ tells. refl;
+    files = refl;
     out = λ tells. q.1 ∙ ap (λ bytes. old.bytes ++ bytes) (sym (append-nil (take q.0 piece)));
     wire = λ tells. refl;
   };
@@ -359,7 +342,7 @@ reached-write piece status w old new no_file no_link p true told = let q = p tol
 }
 reached-write piece status w old new no_file no_link p false untold =
     Reached-nothing (show piece ∷ []) status _ _ (λ e. absurd (no_file e)) (λ e. absurd (no_link e)) (λ e. tt)
-    (record { files = λ tells. refl; out = λ tells. absurd (true-not_false (sym tells ∙ untold)); wire = λ tells. refl })
+    (record { files = refl; out = λ tells. absurd (true-not_false (sym tells ∙ untold)); wire = λ tells. refl })
 
 -- a write that failed
 pub failed_write : {S T : Type 0} (piece : List ℕ) (w : Outside) (old new : Stream) (e : SinkFault) →
@@ -397,7 +380,7 @@ failed_call call change w old new wire.Failed a = record {
   created = tt;
   part =
       Reached-nothing (link call ∷ []) 6 _ _ (λ e. absurd (omega arith)) (λ e. tt) (λ e. absurd (omega arith))
-      (record { files = λ tells. refl; out = λ tells. nothing_shown w.out; wire = a.fault });
+      (record { files = refl; out = λ tells. nothing_shown w.out; wire = a.fault });
   complete = λ reliable can. absurd (a.refused reliable.wire refl);
 }
 failed_call call change w old new wire.NoMemory a = record {
@@ -409,6 +392,6 @@ failed_call call change w old new wire.NoMemory a = record {
   created = tt;
   part =
       Reached-nothing (link call ∷ []) 70 _ _ (λ e. absurd (omega arith)) (λ e. tt) (λ e. absurd (omega arith))
-      (record { files = λ tells. refl; out = λ tells. nothing_shown w.out; wire = a.fault });
+      (record { files = refl; out = λ tells. nothing_shown w.out; wire = a.fault });
   complete = λ reliable can. refl;
 }

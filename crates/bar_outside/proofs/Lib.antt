@@ -1,6 +1,6 @@
 pub mod Contents
 mod MemLists
-mod OpenLemmas
+pub mod OpenLemmas
 pub mod ActionLists
 pub mod Following
 pub mod Ending

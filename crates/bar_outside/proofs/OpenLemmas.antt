@@ -1,9 +1,9 @@
--- Children that a spawner in memory has started, and those that aren't waited for.
+-- Children that a spawner has started, and those that aren't waited for.
 use Rattle.std.proofs.Common.{◌≡◌, ◌≤◌, ◌<◌, ◌+◌, ◌∙◌, ◌++◌, ◌∷◌, ◌==◌, ◌||◌, ◌&&◌, [], ℕ, zero, suc, ℤ, Bool, true, false, List, Option, nat_lt, if◌then◌else◌, refl, sym, ap, subst, inl, inr, arith}
 use Rattle.std.proofs.lemmas.List.Folds.{list_any-append}
-use Rattle.std.proofs.lemmas.Bool.{cases_Bool, and_from, ltb-true}
+use Rattle.std.proofs.lemmas.Bool.{cases_Bool, and_from, ltb-true, or_from, or_left, or_parts, or_right}
 use Rattle.std.proofs.lemmas.Bool.Decides.{nat_tests}
-use Rattle.bar_outside.specs.Children.{ChildCall, Started, Waited, child_of, is_named, is_started, is_waited, waits}
+use Rattle.bar_outside.specs.Children.{ChildCall, IsRunning, Started, Waited, child_of, is_named, is_started, is_waited, starts, waits}
 use Rattle.bar_outside.specs.OpenChildren.{are_below, open_below}
 
 -- ---- tests
@@ -114,7 +114,7 @@ open-waited (suc n) calls child status below unwaited =
 
 -- ---- the children of the calls
 
-below-more : (n m : ℕ) (calls : List ChildCall) → n ≤ m → are_below n calls ≡ true → are_below m calls ≡ true
+pub below-more : (n m : ℕ) (calls : List ChildCall) → n ≤ m → are_below n calls ≡ true → are_below m calls ≡ true
 below-more n m [] h below = refl
 below-more n m (call ∷ calls) h below =
     let first : child_of call < n = ltb-true (child_of call) n (and-left _ (are_below n calls) below) in
@@ -157,3 +157,25 @@ started-below n (Started words other ∷ calls) child below started = elim (case
         true-false : true ≡ false → ⊥
         true-false e = cc
     rest false b h k = k
+
+-- ---- a child that is started
+
+-- a child that no call names isn't waited for
+not-waited : (calls : List ChildCall) (child : ℕ) → is_named child calls ≡ false → is_waited child calls ≡ false
+not-waited [] child h = refl
+not-waited (Started words other ∷ calls) child h =
+    let parts = or_parts (other == child) (is_named child calls) h in not-waited calls child parts.1
+not-waited (Waited other status ∷ calls) child h =
+    let parts = or_parts (other == child) (is_named child calls) h in or_from _ _ parts.0 (not-waited calls child parts.1)
+
+itself : (a : ℕ) → (a == a) ≡ true
+itself a = grind (arith, nat_tests)
+
+-- a new child runs once it is started
+pub new-running : (calls : List ChildCall) (words : List (List ℕ)) (child : ℕ) → is_named child calls ≡ false →
+    IsRunning child (calls ++ Started words child ∷ [])
+new-running calls words child unnamed = record {
+  started = list_any-append (starts child) calls (Started words child ∷ [])
+      ∙ or_right (is_started child calls) _ (or_left (child == child) false (itself child));
+  unwaited = list_any-append (waits child) calls (Started words child ∷ []) ∙ or_from _ _ (not-waited calls child unnamed) refl;
+}

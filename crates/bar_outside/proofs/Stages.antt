@@ -13,11 +13,11 @@ use Rattle.bar_outside.proofs.Ending.{no_stop}
 use Rattle.bar_outside.proofs.Unlinked.{same-traffic}
 
 -- nothing was done
-undone : (status : ℕ) (old new : Outside) (plan : List Action) (r : Reached plan status old new) → IsTrue old.files.told → r.done ≡ [] →
+undone : (status : ℕ) (old new : Outside) (plan : List Action) (r : Reached plan status old new) → IsTrue new.files.told → r.done ≡ [] →
     (status ≡ 6 → ⊥) →
     (status ≡ 7 → ⊥) → IsUnchanged status old new
 undone status old new plan r told none unlinked quiet = record {
-  files = r.ran.files told ∙ ap (λ xs. content_after xs old.files.content) none;
+  files = r.ran.files ∙ ap (λ xs. content_after xs old.files.content) none;
   out = λ tells. r.ran.out tells ∙ ap (λ xs. old.out.bytes ++ shown xs) none ∙ append-nil old.out.bytes;
   wire = λ tells. r.ran.wire tells ∙ ap (λ xs. traffic_after xs old.wire.traffic) none;
   no_link = unlinked;
@@ -25,13 +25,13 @@ undone status old new plan r told none unlinked quiet = record {
 }
 
 -- nothing was to be done
-undone-none : (status : ℕ) (old new : Outside) → IsTrue old.files.told → Reached [] status old new → IsUnchanged status old new
+undone-none : (status : ℕ) (old new : Outside) → IsTrue new.files.told → Reached [] status old new → IsUnchanged status old new
 undone-none status old new told r =
     undone status old new [] r told (Begun-none r.done r.begun) (λ e. subst IsLinkNext (no-next r.done r.begun) (r.at_link e))
     (λ e. subst IsShowNext (no-next r.done r.begun) (r.at_output e))
 
 -- nothing was done, or a read, and then some of the rest
-behind-read : (path : List ℕ) (rest : List Action) (status : ℕ) (old new : Outside) → IsTrue old.files.told →
+behind-read : (path : List ℕ) (rest : List Action) (status : ℕ) (old new : Outside) → IsTrue new.files.told →
     Reached (read path ∷ rest) status old new →
     IsUnchanged status old new ⊎ Reached rest status old new
 behind-read path rest status old new told r =
@@ -132,7 +132,7 @@ pub shows_there : ShowsThere
 shows_there line final said old new status told w =
     let b = begun-shown line w.part.done w.part.begun in
     record {
-      files = w.part.ran.files told ∙ b.2 old.files.content;
+      files = w.part.ran.files ∙ b.2 old.files.content;
       wire = same-traffic (show line ∷ []) status old new tt w.part;
       front = λ tells. (b.0, w.part.ran.out tells ∙ ap (λ xs. old.out.bytes ++ xs) b.1);
       whole = λ go tells. (w.carried go).ran.out tells ∙ ap (λ xs. old.out.bytes ++ xs) (append-nil line);

@@ -132,7 +132,7 @@ stop-cases status h = by_tests (status == 3) (status == 6) (status == 7) (status
     by_tests false false false false p q r s h = absurd (true-not_false (sym h))
 
 -- where no count rose, the plan has its status, but for want of memory
-pub done-unlinked : (plan : Content → Plan) (old new : Outside) (status : ℕ) → Ends plan old new status → IsTrue old.files.told →
+pub done-unlinked : (plan : Content → Plan) (old new : Outside) (status : ℕ) → Ends plan old new status → IsTrue new.files.told →
     IsUnlinked (plan old.files.content).actions → (Rose old.files.faults new.files.faults → ⊥) → (Rose old.out.faults new.out.faults → ⊥) →
     (status ≡ (plan old.files.content).status) ⊎ (status ≡ 70)
 done-unlinked plan old new status ends told unlinked no_file no_output =

@@ -78,13 +78,13 @@ Touches-begun plan done path b t =
 
 -- what the plan doesn't touch is as it was, however far it came
 pub untouched-reached : (plan : List Action) (path : List ℕ) (old new : Outside) (status : ℕ) → Reached plan status old new →
-    IsTrue old.files.told →
+    IsTrue new.files.told →
     (Touches plan path → ⊥) → new.files.content path ≡ old.files.content path
 untouched-reached plan path old new status r told none =
-    ap (λ c. c path) (r.ran.files told) ∙ content-untouched r.done old.files.content path
+    ap (λ c. c path) (r.ran.files) ∙ content-untouched r.done old.files.content path
     (λ t. none (Touches-begun plan r.done path r.begun t))
 
-pub untouched : (plan : Content → Plan) (path : List ℕ) (old new : Outside) (status : ℕ) → Ends plan old new status → IsTrue old.files.told →
+pub untouched : (plan : Content → Plan) (path : List ℕ) (old new : Outside) (status : ℕ) → Ends plan old new status → IsTrue new.files.told →
     (Touches (plan old.files.content).actions path → ⊥) → new.files.content path ≡ old.files.content path
 untouched plan path old new status ends told none =
     untouched-reached (plan old.files.content).actions path old new status (ends.part told) told none

@@ -23,9 +23,9 @@ pub record Failure : Type 0 where
   pub kind : CallKind
   pub path : List ℕ
 
--- the files, as far as they are told
+-- the files, as they are told where they held some content at first
 pub record Disk : Type 0 where
-  -- all but the count of faults is told
+  -- each read so far gave what this content gives
   pub told : Bool
   -- no call fails, but for a file that isn't there or is too large
   pub reliable : Bool
@@ -61,10 +61,11 @@ with_file here path name = bytes_eq path name || here name
 
 -- what every call says of faults
 pub record Calls {T : Type 0} (kind : CallKind) (path : List ℕ) (old new : Disk) (result : Result T FileFault) : Type 0 where
-  pub told : new.told ≡ old.told
+  -- what no longer fits never does again
+  pub told : IsTrue new.told → IsTrue old.told
   pub reliable : new.reliable ≡ old.reliable
   pub cause : HasCause Failed old.faults new.faults result
-  pub failed : IsTrue old.told → IsErrOf result Failed → new.failed ≡ Some (record { kind = kind; path = path })
+  pub failed : IsErrOf result Failed → new.failed ≡ Some (record { kind = kind; path = path })
   pub no_fault : result ≢ Err Failed → new.failed ≡ old.failed
 
 -- a read of a file
@@ -72,27 +73,27 @@ pub record Reads (path : List ℕ) (old new : Disk) (result : Result (Vec ℕ Gl
   pub call : Calls Read path old new result
   pub same : new.content ≡ old.content
   pub same_here : new.created_here ≡ old.created_here
-  pub found : IsTrue old.told → IfOk result (λ bytes. readable old.content path ≡ Some bytes.items)
-  pub refused : IsTrue old.told → IsTrue old.reliable → IsErrOf result Failed → readable old.content path ≡ None
+  pub found : IsTrue new.told → IfOk result (λ bytes. readable old.content path ≡ Some bytes.items)
+  pub refused : IsTrue old.reliable → IsErrOf result Failed → readable old.content path ≡ None
 
 -- the making of an empty file
 pub record Creates {T : Type 0} (path : List ℕ) (old new : Disk) (result : Result T FileFault) : Type 0 where
   pub call : Calls Create path old new result
-  pub made : IsTrue old.told → OnOk result (new.content ≡ created old.content path)
-  pub made_here : IsTrue old.told → OnOk result (new.created_here ≡ with_file old.created_here path)
-  pub fault : IsTrue old.told → OnErr result ((new.content ≡ old.content) ⊎ (new.content ≡ created old.content path))
-  pub fault_here : IsTrue old.told → OnErr result (new.created_here ≡ old.created_here)
-  pub refused : IsTrue old.told → IsTrue old.reliable → result ≢ Err Failed
+  pub made : OnOk result (new.content ≡ created old.content path)
+  pub made_here : OnOk result (new.created_here ≡ with_file old.created_here path)
+  pub fault : OnErr result ((new.content ≡ old.content) ⊎ (new.content ≡ created old.content path))
+  pub fault_here : OnErr result (new.created_here ≡ old.created_here)
+  pub refused : IsTrue old.reliable → result ≢ Err Failed
 
 -- the adding of bytes to a file that was created in this run
 pub record Appends {T : Type 0} (path bytes : List ℕ) (old new : Disk) (result : Result T FileFault) : Type 0 where
   pub call : Calls Append path old new result
   pub same_here : new.created_here ≡ old.created_here
-  pub here : IsTrue old.told → OnOk result (IsTrue (old.created_here path))
-  pub there : IsTrue old.told → OnOk result (IsSome (old.content path))
-  pub added : IsTrue old.told → OnOk result (new.content ≡ appended old.content path bytes)
+  pub here : OnOk result (IsTrue (old.created_here path))
+  pub there : OnOk result (IsSome (old.content path))
+  pub added : OnOk result (new.content ≡ appended old.content path bytes)
   -- a part of them may stand, from the front
-  pub fault : IsTrue old.told → OnErr result ((k : ℕ) × (new.content ≡ appended old.content path (take k bytes)))
+  pub fault : OnErr result ((k : ℕ) × (new.content ≡ appended old.content path (take k bytes)))
   -- nothing is added to any other file
-  pub left : IsTrue old.told → old.created_here path ≡ false → new.content ≡ old.content
-  pub refused : IsTrue old.told → IsTrue old.reliable → IsErrOf result Failed → old.created_here path ≡ false
+  pub left : old.created_here path ≡ false → new.content ≡ old.content
+  pub refused : IsTrue old.reliable → IsErrOf result Failed → old.created_here path ≡ false

@@ -19,27 +19,27 @@ pub record IsFixed (plan : Content → Plan) (content : Content) : Type 0 where
 -- a command with this plan, by what the files held, ended with this status
 pub record Ends (plan : Content → Plan) (old new : Outside) (status : ℕ) : Type 0 where
   pub later : IsLater old new
-  -- 3 only where the files' count rose, and where they tell, by a call of the plan
+  -- 3 only where the files' count rose, and where they fit, by a call of the plan
   pub file_rose : status ≡ 3 → Rose old.files.faults new.files.faults
-  pub file_named : status ≡ 3 → IsTrue old.files.told → IsSomeAnd new.files.failed (Names (plan old.files.content).actions)
+  pub file_named : status ≡ 3 → IsTrue new.files.told → IsSomeAnd new.files.failed (Names (plan old.files.content).actions)
   -- 6 only where the link's count rose
   pub link_rose : status ≡ 6 → Rose old.wire.faults new.wire.faults
   -- 7 only where the count of out rose
   pub output_rose : status ≡ 7 → Rose old.out.faults new.out.faults
   -- any status but 3, 6, 7 and 70 is the plan's, and all of it was done
-  pub carried : IsTrue old.files.told → is_stop status ≡ false → Carried (plan old.files.content) old new status
+  pub carried : IsTrue new.files.told → is_stop status ≡ false → Carried (plan old.files.content) old new status
   -- at every status a front of it was done, and maybe a part of the next action, at which a fault came
-  pub part : IsTrue old.files.told → Reached (plan old.files.content).actions status old new
+  pub part : IsTrue new.files.told → Reached (plan old.files.content).actions status old new
   -- both hold whatever the files tell, where the plan doesn't go by them
   pub fixed : IsFixed plan old.files.content → is_stop status ≡ false → Carried (plan old.files.content) old new status
   pub fixed_part : IsFixed plan old.files.content → Reached (plan old.files.content).actions status old new
   -- where nothing fails by itself, it is the plan's status or 70
-  pub complete : IsReliable old → (status ≡ (plan old.files.content).status) ⊎ (status ≡ 70)
+  pub complete : IsReliable old → IsTrue new.files.told → (status ≡ (plan old.files.content).status) ⊎ (status ≡ 70)
 
 -- it ended so, and this is the line of its end
 pub record EndsWith (plan : Content → Plan) (old new : Outside) (status : ℕ) (line : List ℕ) : Type 0 where
   pub ends : Ends plan old new status
-  pub line_is : IsTrue (old.files.told || is_stop status) → line ≡ line_at (plan old.files.content) status
+  pub line_is : IsTrue (new.files.told || is_stop status) → line ≡ line_at (plan old.files.content) status
   -- so it is, whatever the files tell, where the plan doesn't go by them
   pub fixed_line : IsFixed plan old.files.content → line ≡ line_at (plan old.files.content) status
 
@@ -65,15 +65,15 @@ Says plan = SaysBy (line_at plan)
 abbrev pub is_plain : ℕ → Bool
 is_plain status = status == 2 || status == 3 || status == 6 || status == 7
 
--- ---- words for laws on how a plan ends, where the files tell what they hold
+-- ---- words for laws on how a plan ends, over each content that the reads fit
 
 -- at whatever status it ended
 abbrev pub OfEachEnd : (Content → Plan) → (Outside → Outside → ℕ → Type 0) → Type 0
-OfEachEnd plan P = (old new : Outside) (status : ℕ) → Ends plan old new status → IsTrue old.files.told → P old new status
+OfEachEnd plan P = (old new : Outside) (status : ℕ) → Ends plan old new status → IsTrue new.files.told → P old new status
 
 -- where it ended with this status
 abbrev pub AtEnd : ℕ → (Content → Plan) → (Outside → Outside → Type 0) → Type 0
-AtEnd status plan P = (old new : Outside) → Ends plan old new status → IsTrue old.files.told → P old new
+AtEnd status plan P = (old new : Outside) → Ends plan old new status → IsTrue new.files.told → P old new
 
 -- this status comes, unless a fault or want of memory stops the plan
 abbrev pub UnlessStopped : ℕ → ℕ → Type 0

@@ -9,14 +9,14 @@ use Rattle.bar_outside.specs.declared.fault.Fault.{Fault}
 use Rattle.bar_outside.specs.declared.fault.Fault.TheVariants.{File, Link, Output, NoMemory}
 use Rattle.bar_outside.specs.Plan.{Outside, Action, Ran, Reached, Names, CanRun, created_after}
 
--- what these actions create is created, and what was created before them, where the files tell
+-- what these actions create is created, and what was created before them
 abbrev pub HasCreated : List Action → Outside → Outside → Type 0
 HasCreated plan old new =
-    IsTrue old.files.told → (path : List ℕ) → IsTrue (created_after plan old.files.created_here path) → IsTrue (new.files.created_here path)
+    (path : List ℕ) → IsTrue (created_after plan old.files.created_here path) → IsTrue (new.files.created_here path)
 
--- no count fell, what was created stays created, and the outside tells as much as before
+-- no count fell, what was created stays created, and where the files still fit they did before
 pub record IsLater (old new : Outside) : Type 0 where
-  pub told : new.files.told ≡ old.files.told
+  pub told : IsTrue new.files.told → IsTrue old.files.told
   pub reliable : new.files.reliable ≡ old.files.reliable
   pub out_told : new.out.told ≡ old.out.told
   pub out_reliable : new.out.reliable ≡ old.out.reliable
@@ -27,14 +27,13 @@ pub record IsLater (old new : Outside) : Type 0 where
   pub out_faults : old.out.faults ≤ new.out.faults
   pub wire_faults : old.wire.faults ≤ new.wire.faults
 
--- the files' count rose, and where they tell, their last failed call is one of the plan
+-- the files' count rose, and their last failed call is one of the plan
 pub record FilesFailed (plan : List Action) (old new : Outside) : Type 0 where
   pub rose : Rose old.files.faults new.files.faults
-  pub named : IsTrue old.files.told → IsSomeAnd new.files.failed (Names plan)
+  pub named : IsSomeAnd new.files.failed (Names plan)
 
 -- nothing of the outside fails but for files that aren't there or weren't created
 pub record IsReliable (outside : Outside) : Type 0 where
-  pub told : IsTrue outside.files.told
   pub files : IsTrue outside.files.reliable
   pub out : IsTrue outside.out.reliable
   pub wire : IsTrue outside.wire.reliable

@@ -1,4 +1,4 @@
--- Which children a spawner in memory has started, and how many of them aren't waited for yet.
+-- Which children a spawner has started, and how many of them aren't waited for yet.
 use Rattle.std.specs.Prelude.{ℕ, suc, zero, ◌+◌, Bool, List, nat_lt, if◌then◌else◌}
 use Rattle.std.specs.List.{list_all}
 use Rattle.bar_outside.specs.Children.{ChildCall, child_of, is_waited}

@@ -94,7 +94,7 @@ traffic_after (a ∷ others) traffic = traffic_after others (traffic_by a traffi
 
 -- these actions, and nothing else, were done between old and new
 pub record Ran (done : List Action) (old new : Outside) : Type 0 where
-  pub files : IsTrue old.files.told → new.files.content ≡ content_after done old.files.content
+  pub files : new.files.content ≡ content_after done old.files.content
   pub out : IsTrue old.out.told → new.out.bytes ≡ old.out.bytes ++ shown done
   pub wire : IsTrue old.wire.told → new.wire.traffic ≡ traffic_after done old.wire.traffic
 

@@ -28,14 +28,14 @@ pub record WentOn (path : List ℕ) (others : List ℕ → Content → Plan) (ol
 -- A plan that reads a file was stopped with nothing changed, or the file has some bytes and the rest went by them.
 abbrev pub ReadsFirst : Type 0
 ReadsFirst =
-    (path : List ℕ) (others : List ℕ → Content → Plan) (old new : Outside) (status : ℕ) → IsTrue old.files.told →
+    (path : List ℕ) (others : List ℕ → Content → Plan) (old new : Outside) (status : ℕ) → IsTrue new.files.told →
     Went (reading path others old.files.content) old new status →
     (IsUnchanged status old new × (is_stop status ≡ true)) ⊎ WentOn path others old new status
 
 -- Where nothing is to be done, nothing is.
 abbrev pub EndsThere : Type 0
 EndsThere =
-    (final : ℕ) (line : List ℕ) (old new : Outside) (status : ℕ) → IsTrue old.files.told →
+    (final : ℕ) (line : List ℕ) (old new : Outside) (status : ℕ) → IsTrue new.files.told →
     Went (ending final line old.files.content) old new status → IsUnchanged status old new × UnlessStopped final status
 
 -- no file was changed, and of this line a front was printed, or all of it where nothing stopped the plan
@@ -49,7 +49,7 @@ pub record HasShown (line : List ℕ) (final : ℕ) (old new : Outside) (status 
 -- Where a line is to be printed, a front of it is.
 abbrev pub ShowsThere : Type 0
 ShowsThere =
-    (line : List ℕ) (final : ℕ) (said : List ℕ) (old new : Outside) (status : ℕ) → IsTrue old.files.told →
+    (line : List ℕ) (final : ℕ) (said : List ℕ) (old new : Outside) (status : ℕ) → IsTrue new.files.told →
     Went (doing (show line ∷ []) final said old.files.content) old new status → HasShown line final old new status
 
 -- A call of a plan that reads a file is this read, or the file has some bytes and it is one of the rest.

@@ -5,20 +5,22 @@ ghost use Rattle.bar_outside.specs.Plan.{Outside, with_files, with_out, with_wir
 ghost use Rattle.bar_outside.specs.Plan.Action.{create, append, show, link as call};
 ghost use Rattle.bar_outside.specs.Plan.LinkCall.{bind, receive, send};
 ghost use Rattle.bar_outside.specs.Wire.{arrived, bound_by, largest_packet, len_of};
+ghost use Rattle.bar_outside.specs.Disk.{Content};
 ghost use Rattle.bar_outside.specs.Follows.{Follows, ReadsFile};
 
 use crate::{Fault, Files, Link, Sink, Taken};
 
 /// The bytes of a file.
 pub fn read_file<F: Files>(files: &mut F, path: &str) -> Result<Vec<u8>, Fault>
-    ensures { ReadsFile path.now (F.disk files.old) (F.disk files.new) result }
+    ensures { (was : Content) → ReadsFile path.now (F.disk files.old was) (F.disk files.new was) result }
 {
     Ok(files.read(path)?)
 }
 
 /// Leaves an empty file of this name.
 pub fn create_file<F: Files>(files: &mut F, path: &str) -> Result<(), Fault>
-    ensures { (w : Outside) → Follows (create path.now ∷ []) (with_files w (F.disk files.old)) (with_files w (F.disk files.new)) result }
+    ensures { (w : Outside) (was : Content) →
+        Follows (create path.now ∷ []) (with_files w (F.disk files.old was)) (with_files w (F.disk files.new was)) result }
 {
     files.create(path)?;
     Ok(())
@@ -26,8 +28,8 @@ pub fn create_file<F: Files>(files: &mut F, path: &str) -> Result<(), Fault>
 
 /// Adds bytes to a file.
 pub fn append_file<F: Files>(files: &mut F, path: &str, bytes: &[u8]) -> Result<(), Fault>
-    ensures { (w : Outside) →
-        Follows (append path.now bytes.now ∷ []) (with_files w (F.disk files.old)) (with_files w (F.disk files.new)) result }
+    ensures { (w : Outside) (was : Content) →
+        Follows (append path.now bytes.now ∷ []) (with_files w (F.disk files.old was)) (with_files w (F.disk files.new was)) result }
 {
     files.append(path, bytes)?;
     Ok(())

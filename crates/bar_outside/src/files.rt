@@ -42,21 +42,21 @@ impl<T: Drop> From<AllocFailed<T>> for FileFault {
     }
 }
 
-/// Files by name. What they hold is told where `disk` says so.
+/// Files by name. `disk` tells of them what they hold, and whether each read so far fits, where they held some content at first.
 pub trait Files {
-    ghost use Rattle.bar_outside.specs.Disk.{Disk, Reads, Creates, Appends};
+    ghost use Rattle.bar_outside.specs.Disk.{Content, Disk, Reads, Creates, Appends};
 
-    ghost disk: { Self → Disk };
+    ghost disk: { Self → Content → Disk };
 
     /// All the bytes of a file. A file that isn't there, or that has more than `LARGEST_FILE` bytes, is `Failed`.
     fn read(&mut self, path: &str) -> Result<Vec<u8>, FileFault>
-        ensures { Reads path.now (disk self.old) (disk self.new) result };
+        ensures { (was : Content) → Reads path.now (disk self.old was) (disk self.new was) result };
 
     /// Leaves an empty file of this name. After a fault the file is as it was, or empty, and no more can be added to it than before.
     fn create(&mut self, path: &str) -> Result<(), FileFault>
-        ensures { Creates path.now (disk self.old) (disk self.new) result };
+        ensures { (was : Content) → Creates path.now (disk self.old was) (disk self.new was) result };
 
     /// Adds the bytes to a file that was created in this run; any other is `Failed`. After a fault a part of them, from the front, may stand.
     fn append(&mut self, path: &str, bytes: &[u8]) -> Result<(), FileFault>
-        ensures { Appends path.now bytes.now (disk self.old) (disk self.new) result };
+        ensures { (was : Content) → Appends path.now bytes.now (disk self.old was) (disk self.new was) result };
 }

@@ -100,7 +100,8 @@ impl Files for MemFiles {
     ghost use Rattle.bar_outside.specs.Disk.{Reads, Creates, Appends};
     ghost use Rattle.bar_outside.specs.MemFiles.{disk_of, schedule_of};
 
-    ghost disk = { disk_of };
+    // they hold what they hold, and each read fits that
+    ghost disk = { λ files was. disk_of files };
 
     fn read(&mut self, path: &str) -> Result<Vec<u8>, FileFault>
         ensures reads { Reads path.now (disk_of self.old) (disk_of self.new) result }

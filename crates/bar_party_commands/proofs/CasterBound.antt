@@ -46,17 +46,17 @@ module _ (names : CasterNames) (s : SessionData) (k : Secrets) (stream : List �
       split-binding (spending names.key s k) (place_of names.begin_ms s k) (caster_run names s k stream given) (caster_last s k stream given)
       done b
 
-  pub is-bound : {done : List Action} {old new : Outside} → Ran done old new → IsTrue old.files.told →
+  pub is-bound : {done : List Action} {old new : Outside} → Ran done old new → IsTrue new.files.told →
       IsCasterBehind names s k stream given done → IsBound names s k old new
   is-bound {old} ran told b =
       let kinds = caster-kinds names s k stream given in
       record {
         bound = bound-behind kinds ran b;
-        spent = λ own. kept-behind kinds ran b told names.key (key-apart names own) ∙ key-at names s k old.files.content;
+        spent = λ own. kept-behind kinds ran b names.key (key-apart names own) ∙ key-at names s k old.files.content;
       }
 
 -- whatever the status, nothing was done over the link, or it is bound and the key is spent
-pub bound-or_not : AreHeld → (names : CasterNames) (given : List Arrival) (old new : Outside) (status : ℕ) → IsTrue old.files.told →
+pub bound-or_not : AreHeld → (names : CasterNames) (given : List Arrival) (old new : Outside) (status : ℕ) → IsTrue new.files.told →
     Outcome names given old new status → IsBoundOrUnused names old new
 bound-or_not held names given old new status told (inl r) = inl r.0.wire
 bound-or_not held names given old new status told (inr b) =

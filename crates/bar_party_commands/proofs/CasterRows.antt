@@ -83,7 +83,7 @@ Outcome names given old new status =
     ⊎ HasBegun names given old new status
 
 module _ (reads : ReadsFirst) (ends : EndsThere) (names : CasterNames) (given : List Arrival) (old new : Outside) (status : ℕ)
-    (told : IsTrue old.files.told) where
+    (told : IsTrue new.files.told) where
   refused : (final : ℕ) (line : List ℕ) → Went (ending final line old.files.content) old new status →
       (status ≡ final → IsRefused names old.files.content status) → Outcome names given old new status
   refused final line w why =
@@ -228,7 +228,7 @@ touched : (names : CasterNames) (s : SessionData) (k : Secrets) (stream : List �
 touched names s k stream given path t = touched-binding (caster-kinds names s k stream given) (place_of names.begin_ms s k) path t
 
 pub others-untouched : (names : CasterNames) (given : List Arrival) (path : List ℕ) (old new : Outside) (status : ℕ) →
-    IsTrue old.files.told → (IsCasterFile names path → ⊥) → Outcome names given old new status → new.files.content path ≡ old.files.content path
+    IsTrue new.files.told → (IsCasterFile names path → ⊥) → Outcome names given old new status → new.files.content path ≡ old.files.content path
 others-untouched names given path old new status told none (inl r) = ap (λ (holds : Content). holds path) r.0.files
 others-untouched names given path old new status told none (inr b) =
     untouched-reached (caster_actions names b.session b.secrets b.stream given) path old new status b.went.part told

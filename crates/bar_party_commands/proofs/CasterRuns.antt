@@ -31,7 +31,7 @@ PartSent =
     HasRun recording played found r given old new → StoppedSending r given old.wire new.wire
 
 module _ (held : AreHeld) (few : IsFew) (names : CasterNames) (given : List Arrival) (old new : Outside) (heard : HasHeard given old new)
-    (told : IsTrue old.files.told) (reached : HasReached (caster_plan names given old.files.content).actions given old new)
+    (told : IsTrue new.files.told) (reached : HasReached (caster_plan names given old.files.content).actions given old new)
     (asked : AsksNoFurther (λ front. caster_plan names front old.files.content) given) where
   -- the outside at the binding
   abbrev bound : SessionData → Secrets → Outside
@@ -131,7 +131,7 @@ module _ (held : AreHeld) (few : IsFew) (names : CasterNames) (given : List Arri
         sent = λ tells.
             all_sent None None names.found (r s k stream) given (bound s k) new whole tells
             ∙ ap (λ xs. old.wire.traffic.sent ++ xs) (sends (member_by s k) stream (taken_of (r s k stream) given));
-        found = found-at finds None None names.found (r s k stream) given (bound s k) new whole ended told few_others;
+        found = found-at finds None None names.found (r s k stream) given (bound s k) new whole ended few_others;
         printed = λ tells.
             printed-behind kinds c.ran all tells
             ∙ ap (λ b. old.out.bytes ++ shown (cond b (caster_summary (r s k stream) (taken_of (r s k stream) given)) [])) ended;

@@ -79,17 +79,17 @@ module _ (names : PeerNames) (s : SessionData) (k : Secrets) (given : List Arriv
       split-binding (before_binding names s k) (place_of names.begin_ms s k) (peer_run names s k given) (peer_last s k given)
       done b
 
-  pub is-bound : {done : List Action} {old new : Outside} → Ran done old new → IsTrue old.files.told → IsPeerBehind names s k given done →
+  pub is-bound : {done : List Action} {old new : Outside} → Ran done old new → IsTrue new.files.told → IsPeerBehind names s k given done →
       IsBound names s k old new
   is-bound {old} ran told b =
       let kinds = peer-kinds names s k given in
       record {
         bound = bound-behind kinds ran b;
-        spent = λ own. kept-behind kinds ran b told names.key (key-apart names own) ∙ key-at names own s k old.files.content;
+        spent = λ own. kept-behind kinds ran b names.key (key-apart names own) ∙ key-at names own s k old.files.content;
       }
 
 -- whatever the status, nothing was done over the link, or it is bound and the key is spent
-pub bound-or_not : AreHeld → (names : PeerNames) (given : List Arrival) (old new : Outside) (status : ℕ) → IsTrue old.files.told →
+pub bound-or_not : AreHeld → (names : PeerNames) (given : List Arrival) (old new : Outside) (status : ℕ) → IsTrue new.files.told →
     Outcome names given old new status → IsBoundOrUnused names old new
 bound-or_not held names given old new status told (inl r) = inl r.0.wire
 bound-or_not held names given old new status told (inr b) =

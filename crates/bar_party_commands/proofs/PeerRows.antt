@@ -59,7 +59,7 @@ Outcome names given old new status =
     ⊎ HasBegun names given old new status
 
 module _ (reads : ReadsFirst) (ends : EndsThere) (names : PeerNames) (given : List Arrival) (old new : Outside) (status : ℕ)
-    (told : IsTrue old.files.told) where
+    (told : IsTrue new.files.told) where
   refused : (final : ℕ) (line : List ℕ) → Went (ending final line old.files.content) old new status →
       (status ≡ final → IsRefused names old.files.content status) → Outcome names given old new status
   refused final line w why =
@@ -176,7 +176,7 @@ touched names s k given path t =
       ]
     ]
 
-pub others-untouched : (names : PeerNames) (given : List Arrival) (path : List ℕ) (old new : Outside) (status : ℕ) → IsTrue old.files.told →
+pub others-untouched : (names : PeerNames) (given : List Arrival) (path : List ℕ) (old new : Outside) (status : ℕ) → IsTrue new.files.told →
     (IsPeerFile names path → ⊥) → Outcome names given old new status → new.files.content path ≡ old.files.content path
 others-untouched names given path old new status told none (inl r) = ap (λ (holds : Content). holds path) r.0.files
 others-untouched names given path old new status told none (inr b) =

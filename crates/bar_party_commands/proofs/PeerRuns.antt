@@ -42,7 +42,7 @@ WholePeerKept =
     Ran (node_plan (Some recording) (Some played) found r given) old new → IsTrue (is_ended r given) → AreApart recording played found →
     DonePeer recording played r given old.files new.files old.wire new.wire
 
-module _ (names : PeerNames) (s : SessionData) (k : Secrets) (given : List Arrival) (old new : Outside) (told : IsTrue old.files.told) where
+module _ (names : PeerNames) (s : SessionData) (k : Secrets) (given : List Arrival) (old new : Outside) (told : IsTrue new.files.told) where
   abbrev r : Rules
   r = rules_by s k
 
@@ -86,8 +86,8 @@ module _ (names : PeerNames) (s : SessionData) (k : Secrets) (given : List Arriv
           bytes_front = p.bytes_front;
           entries_front = p.entries_front;
           sent_is = p.sent_is;
-          played_is = λ own. p.played_is own.apart told [] (played-at names own s k old.files.content);
-          recorded_is = λ own. p.recorded_is own.apart told head (recorded-at names own s k old.files.content);
+          played_is = λ own. p.played_is own.apart [] (played-at names own s k old.files.content);
+          recorded_is = λ own. p.recorded_is own.apart head (recorded-at names own s k old.files.content);
         }
 
   -- ---- done
@@ -111,9 +111,9 @@ module _ (names : PeerNames) (s : SessionData) (k : Secrets) (given : List Arriv
       sent = λ tells.
           all_sent (Some names.recording) (Some names.played) names.found r given bound new ran-all tells
           ∙ ap (λ xs. old.wire.traffic.sent ++ xs) (sends me inputs);
-      played = λ own. (done-peer own).played_is told [] (played-at names own s k old.files.content) ∙ ap Some (plays me inputs);
-      recorded = λ own. (done-peer own).recorded_is told head (recorded-at names own s k old.files.content);
-      found = found-at finds (Some names.recording) (Some names.played) names.found r given bound new ran-all ended told few;
+      played = λ own. (done-peer own).played_is [] (played-at names own s k old.files.content) ∙ ap Some (plays me inputs);
+      recorded = λ own. (done-peer own).recorded_is head (recorded-at names own s k old.files.content);
+      found = found-at finds (Some names.recording) (Some names.played) names.found r given bound new ran-all ended few;
       printed = λ tells.
           printed-behind (peer-kinds names s k given) ran (all-peer names s k given) tells
           ∙ ap (λ b. old.out.bytes ++ shown (cond b (peer_summary r inputs) [])) ended;
@@ -122,7 +122,7 @@ module _ (names : PeerNames) (s : SessionData) (k : Secrets) (given : List Arriv
 -- ---- by how it ended
 
 module _ (held : AreHeld) (few : IsFew) (names : PeerNames) (given : List Arrival) (old new : Outside) (heard : HasHeard given old new)
-    (told : IsTrue old.files.told) (reached : HasReached (peer_plan names given old.files.content).actions given old new)
+    (told : IsTrue new.files.told) (reached : HasReached (peer_plan names given old.files.content).actions given old new)
     (asked : AsksNoFurther (λ front. peer_plan names front old.files.content) given) where
   is-given : (s : SessionData) (k : Secrets) → PeerAccepted names old.files.content s k → IsGiven (rules_by s k) given
   is-given s k accepted = record {

@@ -38,7 +38,7 @@ unbegun plan old mid out wire status line same other h = record {
   ends = h;
   reached = λ told.
       nothing-reached (plan [] old.content).actions _ _
-      (record { files = λ tells. same; out = λ tells. sym (append-nil out.bytes); wire = λ tells. refl });
+      (record { files = same; out = λ tells. sym (append-nil out.bytes); wire = λ tells. refl });
   asked = λ told front next rest e. absurd (none-more front next rest e);
   answers = λ reliable. other;
 }
@@ -52,7 +52,6 @@ no-link-read file.NoMemory e = absurd (omega arith)
 still-reliable : (path : List ℕ) (old mid : Disk) (out : Stream) (wire : Wire) (result : Result (Vec ℕ Global) FileFault) →
     Reads path old mid result → IsReliable (outside old out wire) → IsReliable (outside mid out wire)
 still-reliable path old mid out wire result reads r = record {
-  told = subst IsTrue (sym reads.call.told) r.told;
   files = subst IsTrue (sym reads.call.reliable) r.files;
   out = r.out;
   wire = r.wire;
@@ -95,7 +94,7 @@ module _ {A E : Type 0} (path : List ℕ) (meaning : List ℕ → Result A E) (o
         (EndsWith-refused (meaning bytes.items) fault (others []) refused was was status line e h))
 
     -- what comes behind it where it is accepted
-    plan-is : (meant : A) → meaning bytes.items ≡ Ok meant → IsTrue old.told → (given : List Arrival) →
+    plan-is : (meant : A) → meaning bytes.items ≡ Ok meant → IsTrue mid.told → (given : List Arrival) →
         plan given old.content ≡ before (read path) (others given meant mid.content)
     plan-is meant e told given =
         ap (read_then path (λ text. accepting (meaning text) (others given) refused) old.content) (reads.found told)
@@ -103,7 +102,7 @@ module _ {A E : Type 0} (path : List ℕ) (meaning : List ℕ → Result A E) (o
         ∙ ap (λ c. before (read path) (others given meant c)) (sym reads.same)
 
     read-first : Ran (read path ∷ []) (outside old out wire) was
-    read-first = record { files = λ tells. reads.same; out = λ tells. sym (append-nil out.bytes); wire = λ tells. refl }
+    read-first = record { files = reads.same; out = λ tells. sym (append-nil out.bytes); wire = λ tells. refl }
 
     -- it is accepted
     pub accepted-so : (meant : A) (new : Outside) (status : ℕ) (line : List ℕ) → meaning bytes.items ≡ Ok meant →
@@ -115,13 +114,13 @@ module _ {A E : Type 0} (path : List ℕ) (meaning : List ℕ → Result A E) (o
           EndsWith-reading path (λ text. accepting (meaning text) (others h.given) refused) old mid was new bytes status line reads
           (EndsWith-accepted (meaning bytes.items) meant (others h.given) refused was new status line e h.ends);
       reached = λ told.
-          subst (λ (p : Plan). HasReached p.actions h.given (outside old out wire) new) (sym (plan-is meant e told h.given))
+          subst (λ (p : Plan). HasReached p.actions h.given (outside old out wire) new) (sym (plan-is meant e (h.ends.ends.later.told told) h.given))
           (reached-behind (read path ∷ []) (others h.given meant mid.content).actions [] h.given (outside old out wire) was new
-          (later-files old mid was reads.call.told reads.call.reliable (λ told. reads.same_here) reads.call.cause.later) read-first refl
-          (h.reached (subst IsTrue (sym reads.call.told) told)));
+          (later-files old mid was reads.call.told reads.call.reliable reads.same_here reads.call.cause.later) read-first refl
+          (h.reached told));
       asked = λ told front next rest is.
-          ap (λ (p : Plan). p.status) (plan-is meant e told front)
-          ∙ h.asked (subst IsTrue (sym reads.call.told) told) front next rest is;
+          ap (λ (p : Plan). p.status) (plan-is meant e (h.ends.ends.later.told told) front)
+          ∙ h.asked told front next rest is;
       answers = λ reliable. h.answers (still-reliable path old mid out wire (Ok bytes) reads reliable);
     }
 
@@ -142,7 +141,7 @@ at-fault actions first final line old new fault other h = record {
     part = h.ends.part;
     fixed = λ is go. absurd (no-end fault go);
     fixed_part = λ is. h.ends.fixed_part (record { same = λ other. refl; unread = is.unread });
-    complete = λ reliable. elim (h.ends.complete reliable) [ inl e ↦ absurd (other e) | inr e ↦ inr e ];
+    complete = λ reliable told. elim (h.ends.complete reliable told) [ inl e ↦ absurd (other e) | inr e ↦ inr e ];
   };
   line_is = λ either. same-line fault;
   fixed_line = λ is. same-line fault;
@@ -183,7 +182,7 @@ following actions r old new (Ok x) can h = record {
   asked = λ told front next rest e. ap (λ b. if b then 0 else 6) (h.asked front next rest e);
   ends =
       subst (λ b. EndsWith (doing (actions h.given) (if b then 0 else 6) []) old new 0 []) (sym h.ended)
-      (EndsWith-doing (actions h.given) 0 [] old new (λ told. can h.given old.files.created_here) refl (Ok x) h.follows);
+      (EndsWith-doing (actions h.given) 0 [] old new (can h.given old.files.created_here) refl (Ok x) h.follows);
   answers = λ reliable e. absurd (omega arith);
 }
 following {T} actions r old new (Err fault) can h = record {
@@ -193,6 +192,6 @@ following {T} actions r old new (Err fault) can h = record {
   asked = λ told front next rest e. ap (λ b. if b then 0 else 6) (h.asked front next rest e);
   ends =
       at-fault (actions h.given) 0 (status_of r h.given) [] old new fault (no-zero fault)
-      (EndsWith-doing (actions h.given) 0 [] old new (λ told. can h.given old.files.created_here) refl (Err fault) h.follows);
+      (EndsWith-doing (actions h.given) 0 [] old new (can h.given old.files.created_here) refl (Err fault) h.follows);
   answers = λ reliable. no-link-fault {T = T} fault (h.follows.complete reliable (can h.given old.files.created_here));
 }

@@ -19,12 +19,12 @@ WholeSent =
 abbrev pub Finds : Type 0
 Finds =
     (recording played : Option (List ℕ)) (found : List ℕ) (r : Rules) (given : List Arrival) (old new : Outside) →
-    Ran (node_plan recording played found r given) old new → IsTrue (is_ended r given) → IsTrue old.files.told → r.peers < 2 ^ 64 →
+    Ran (node_plan recording played found r given) old new → IsTrue (is_ended r given) → r.peers < 2 ^ 64 →
     FoundBy recording played found r (taken_of r given) old.files.content new.files.content
 
 pub found-at : Finds → (recording played : Option (List ℕ)) (found : List ℕ) (r : Rules) (given : List Arrival) (old new : Outside) →
-    Ran (node_plan recording played found r given) old new → IsTrue (is_ended r given) → IsTrue old.files.told → r.peers < 2 ^ 64 →
+    Ran (node_plan recording played found r given) old new → IsTrue (is_ended r given) → r.peers < 2 ^ 64 →
     AreFound found r (taken_of r given) new.files.content
-found-at finds recording played found r given old new ran ended told few =
-    let f = finds recording played found r given old new ran ended told few in
+found-at finds recording played found r given old new ran ended few =
+    let f = finds recording played found r given old new ran ended few in
     record { table = f.table; evidence = f.evidence }

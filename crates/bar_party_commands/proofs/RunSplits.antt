@@ -139,10 +139,10 @@ module _ {P Q : List ℕ → Type 0} {first run last : List Action} (kinds : Are
 
       -- the run was done so far, from what the files held at the binding, and from a link that was bound
 
-      content-behind : IsTrue old.files.told → new.files.content ≡ content_after b.more (content_after first old.files.content)
-      content-behind tells =
+      content-behind : new.files.content ≡ content_after b.more (content_after first old.files.content)
+      content-behind =
           let start : Content = content_after first old.files.content in
-          ran.files tells
+          ran.files
           ∙ ap (λ xs. content_after xs old.files.content) b.is
           ∙ content_after-append first rest old.files.content
           ∙ content_after-append b.more b.prints start
@@ -180,10 +180,10 @@ module _ {P Q : List ℕ → Type 0} {first run last : List Action} (kinds : Are
           ap (λ (t : Traffic). t.ended) (traffic-behind tells) ∙ among-ended Q ⊥ b.more (bound_to to old.wire.traffic) more-kinds
 
       -- a file that the run doesn't write is as it was at the binding
-      pub kept-behind : IsTrue old.files.told → (path : List ℕ) → (Q path → ⊥) →
+      pub kept-behind : (path : List ℕ) → (Q path → ⊥) →
           new.files.content path ≡ content_after first old.files.content path
-      kept-behind tells path none =
-          ap (λ (holds : Content). holds path) (content-behind tells)
+      kept-behind path none =
+          ap (λ (holds : Content). holds path) content-behind
           ∙ content-untouched b.more (content_after first old.files.content) path
           (λ t. none (among-touches Q IsUnbinding ⊥ b.more path more-kinds t))
 

@@ -40,8 +40,8 @@ pub record RunEnds (plan : List Arrival → Content → Plan) (old new : Outside
   pub given : List Arrival
   pub heard : HasHeard given old new
   pub ends : Ends (plan given) old new status
-  pub reached : IsTrue old.files.told → HasReached (plan given old.files.content).actions given old new
-  pub asked : IsTrue old.files.told → AsksNoFurther (λ front. plan front old.files.content) given
+  pub reached : IsTrue new.files.told → HasReached (plan given old.files.content).actions given old new
+  pub asked : IsTrue new.files.told → AsksNoFurther (λ front. plan front old.files.content) given
   -- where nothing fails by itself, the link is never refused
   pub answers : IsReliable old → status ≢ 6
 
@@ -50,8 +50,8 @@ pub record RunEndsWith (plan : List Arrival → Content → Plan) (old new : Out
   pub given : List Arrival
   pub heard : HasHeard given old new
   pub ends : EndsWith (plan given) old new status line
-  pub reached : IsTrue old.files.told → HasReached (plan given old.files.content).actions given old new
-  pub asked : IsTrue old.files.told → AsksNoFurther (λ front. plan front old.files.content) given
+  pub reached : IsTrue new.files.told → HasReached (plan given old.files.content).actions given old new
+  pub asked : IsTrue new.files.told → AsksNoFurther (λ front. plan front old.files.content) given
   -- where nothing fails by itself, the link is never refused
   pub answers : IsReliable old → status ≢ 6
 
@@ -89,8 +89,8 @@ pub record RunFollows {T : Type 0} (actions : List Arrival → List Action) (r :
 
 -- at whatever status it ended
 abbrev pub OfEachRun : (List Arrival → Content → Plan) → (Outside → Outside → ℕ → Type 0) → Type 0
-OfEachRun plan P = (old new : Outside) (status : ℕ) → RunEnds plan old new status → IsTrue old.files.told → P old new status
+OfEachRun plan P = (old new : Outside) (status : ℕ) → RunEnds plan old new status → IsTrue new.files.told → P old new status
 
 -- where it ended with this status
 abbrev pub AtRunEnd : ℕ → (List Arrival → Content → Plan) → (Outside → Outside → Type 0) → Type 0
-AtRunEnd status plan P = (old new : Outside) → RunEnds plan old new status → IsTrue old.files.told → P old new
+AtRunEnd status plan P = (old new : Outside) → RunEnds plan old new status → IsTrue new.files.told → P old new

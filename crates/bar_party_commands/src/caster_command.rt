@@ -1,5 +1,6 @@
 //! The command `broadcaster`.
 ghost use Rattle.std.specs.Prelude.{◌≡◌, [], List, Err, true, false};
+ghost use Rattle.bar_outside.specs.Disk.{Content};
 ghost use Rattle.bar_outside.specs.Plan.{Outside, outside, with_out};
 ghost use Rattle.bar_outside.specs.Follows.{Follows};
 ghost use Rattle.bar_outside.specs.MemTaken.{bound_in};
@@ -38,9 +39,9 @@ pub fn broadcaster<F: Files, L: Link, K: Sink>(
     link: &mut L,
     out: &mut K,
 ) -> Result<Ended, Fault>
-    ensures ends { RunEndsWith (caster_plan (caster_view names.now))
-        (outside (F.disk files.old) (K.stream out.old) (L.wire link.old))
-        (outside (F.disk files.new) (K.stream out.new) (L.wire link.new)) (code_of_run result) (said_by_run result) }
+    ensures ends { (was : Content) → RunEndsWith (caster_plan (caster_view names.now))
+        (outside (F.disk files.old was) (K.stream out.old) (L.wire link.old))
+        (outside (F.disk files.new was) (K.stream out.new) (L.wire link.new)) (code_of_run result) (said_by_run result) }
     ensures unprinted { may_print (code_of_run result) ≡ false → K.stream out.new ≡ K.stream out.old }
 {
     let text = read_file(files, names.session)?;
@@ -60,9 +61,9 @@ fn cast_in_session<F: Files, L: Link, K: Sink>(
     link: &mut L,
     out: &mut K,
 ) -> Result<Ended, Fault>
-    ensures ends { RunEndsWith (λ given. caster_key_plan (caster_view names.now) given session)
-        (outside (F.disk files.old) (K.stream out.old) (L.wire link.old))
-        (outside (F.disk files.new) (K.stream out.new) (L.wire link.new)) (code_of_run result) (said_by_run result) }
+    ensures ends { (was : Content) → RunEndsWith (λ given. caster_key_plan (caster_view names.now) given session)
+        (outside (F.disk files.old was) (K.stream out.old) (L.wire link.old))
+        (outside (F.disk files.new was) (K.stream out.new) (L.wire link.new)) (code_of_run result) (said_by_run result) }
     ensures unprinted { may_print (code_of_run result) ≡ false → K.stream out.new ≡ K.stream out.old }
 {
     let bytes = read_file(files, names.key)?;
@@ -84,9 +85,9 @@ fn cast_stream<F: Files, L: Link, K: Sink>(
     out: &mut K,
 ) -> Result<Ended, Fault>
     requires { IsPartyKeyOf session true key }
-    ensures ends { RunEndsWith (λ given. caster_stream_plan (caster_view names.now) session given key.secrets)
-        (outside (F.disk files.old) (K.stream out.old) (L.wire link.old))
-        (outside (F.disk files.new) (K.stream out.new) (L.wire link.new)) (code_of_run result) (said_by_run result) }
+    ensures ends { (was : Content) → RunEndsWith (λ given. caster_stream_plan (caster_view names.now) session given key.secrets)
+        (outside (F.disk files.old was) (K.stream out.old) (L.wire link.old))
+        (outside (F.disk files.new was) (K.stream out.new) (L.wire link.new)) (code_of_run result) (said_by_run result) }
     ensures unprinted { may_print (code_of_run result) ≡ false → K.stream out.new ≡ K.stream out.old }
 {
     let stream = read_file(files, names.stream)?;
@@ -120,12 +121,12 @@ fn cast<F: Files, L: Link, K: Sink>(
 ) -> Result<(), Fault>
     requires stands { StandsFor caster.old.memory [] }
     requires sends { left_in caster.old.orders ≡ [] }
-    ensures follows { (session : SessionData) (secrets : Held) → member_of caster.old.memory ≡ member_by session secrets →
+    ensures follows { (was : Content) → (session : SessionData) (secrets : Held) → member_of caster.old.memory ≡ member_by session secrets →
         text.now ≡ spent_text session secrets → bound_in place.now ≡ place_of names.now.begin_ms session secrets →
         RunFollows (caster_actions (caster_view names.now) session secrets (stream_of caster.old.memory))
         (caster_rules (member_by session secrets) (stream_of caster.old.memory))
-        (outside (F.disk files.old) (K.stream out.old) (L.wire link.old))
-        (outside (F.disk files.new) (K.stream out.new) (L.wire link.new)) result }
+        (outside (F.disk files.old was) (K.stream out.old) (L.wire link.old))
+        (outside (F.disk files.new was) (K.stream out.new) (L.wire link.new)) result }
     ensures unprinted { result ≡ Err Fault.File → K.stream out.new ≡ K.stream out.old }
     ensures quiet { result ≡ Err Fault.Link → K.stream out.new ≡ K.stream out.old }
 {

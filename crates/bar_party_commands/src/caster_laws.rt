@@ -1,5 +1,5 @@
 //! What each exit status of `broadcaster` means, and what then stands.
-ghost use Rattle.std.specs.Prelude.{◌≡◌, ◌⊎◌, ℕ, List};
+ghost use Rattle.std.specs.Prelude.{IsTrue, ◌≡◌, ◌⊎◌, ℕ, List};
 ghost use Rattle.bar_outside.specs.Causes.{Rose};
 ghost use Rattle.bar_outside.specs.Ends.{UnlessStopped};
 ghost use Rattle.bar_outside.specs.Follows.{IsReliable};
@@ -83,6 +83,6 @@ pub fn a_broadcaster_is_done_where_all_is_accepted()
         (Rose old.files.faults new.files.faults → ⊥) → (Rose old.out.faults new.out.faults → ⊥) →
         (Rose old.wire.faults new.wire.faults → ⊥) → (status ≡ 0) ⊎ (status ≡ 70)) }
     ensures reliable { (names : CasterNames) (s : SessionData) (k : Secrets) (stream : List ℕ) (old new : Outside) (status : ℕ) →
-        RunEnds (caster_plan names) old new status → IsReliable old → CasterAccepted names old.files.content s k stream →
+        RunEnds (caster_plan names) old new status → IsReliable old → IsTrue new.files.told → CasterAccepted names old.files.content s k stream →
         (status ≡ 0) ⊎ (status ≡ 70) }
 {}

@@ -1,5 +1,6 @@
 //! The command `peer`.
 ghost use Rattle.std.specs.Prelude.{◌≡◌, ◌≢◌, ◌∷◌, [], List, Err, false};
+ghost use Rattle.bar_outside.specs.Disk.{Content};
 ghost use Rattle.bar_outside.specs.Plan.{Outside, outside, with_files, with_out};
 ghost use Rattle.bar_outside.specs.Plan.Action.{append, create};
 ghost use Rattle.bar_outside.specs.Follows.{Follows};
@@ -35,9 +36,9 @@ pub fn peer<F: Files, L: Link, K: Sink>(
     link: &mut L,
     out: &mut K,
 ) -> Result<Ended, Fault>
-    ensures ends { RunEndsWith (peer_plan (peer_view names.now))
-        (outside (F.disk files.old) (K.stream out.old) (L.wire link.old))
-        (outside (F.disk files.new) (K.stream out.new) (L.wire link.new)) (code_of_run result) (said_by_run result) }
+    ensures ends { (was : Content) → RunEndsWith (peer_plan (peer_view names.now))
+        (outside (F.disk files.old was) (K.stream out.old) (L.wire link.old))
+        (outside (F.disk files.new was) (K.stream out.new) (L.wire link.new)) (code_of_run result) (said_by_run result) }
     ensures answers { code_of_run result ≢ 8 }
     ensures unprinted { may_print (code_of_run result) ≡ false → K.stream out.new ≡ K.stream out.old }
 {
@@ -58,9 +59,9 @@ fn peer_of_session<F: Files, L: Link, K: Sink>(
     link: &mut L,
     out: &mut K,
 ) -> Result<Ended, Fault>
-    ensures ends { RunEndsWith (λ given. peer_key_plan (peer_view names.now) given session)
-        (outside (F.disk files.old) (K.stream out.old) (L.wire link.old))
-        (outside (F.disk files.new) (K.stream out.new) (L.wire link.new)) (code_of_run result) (said_by_run result) }
+    ensures ends { (was : Content) → RunEndsWith (λ given. peer_key_plan (peer_view names.now) given session)
+        (outside (F.disk files.old was) (K.stream out.old) (L.wire link.old))
+        (outside (F.disk files.new was) (K.stream out.new) (L.wire link.new)) (code_of_run result) (said_by_run result) }
     ensures answers { code_of_run result ≢ 8 }
     ensures unprinted { may_print (code_of_run result) ≡ false → K.stream out.new ≡ K.stream out.old }
 {
@@ -86,9 +87,9 @@ fn peer_of_key<F: Files, L: Link, K: Sink>(
     out: &mut K,
 ) -> Result<(), Fault>
     requires { IsPartyKeyOf session false key }
-    ensures follows { RunFollows (peer_actions (peer_view names.now) session key.secrets) (rules_by session key.secrets)
-        (outside (F.disk files.old) (K.stream out.old) (L.wire link.old))
-        (outside (F.disk files.new) (K.stream out.new) (L.wire link.new)) result }
+    ensures follows { (was : Content) → RunFollows (peer_actions (peer_view names.now) session key.secrets) (rules_by session key.secrets)
+        (outside (F.disk files.old was) (K.stream out.old) (L.wire link.old))
+        (outside (F.disk files.new was) (K.stream out.new) (L.wire link.new)) result }
     ensures unprinted { result ≡ Err Fault.File → K.stream out.new ≡ K.stream out.old }
     ensures quiet { result ≡ Err Fault.Link → K.stream out.new ≡ K.stream out.old }
 {
@@ -115,9 +116,9 @@ fn peer_of_key<F: Files, L: Link, K: Sink>(
 
 /// Creates the played file, and the recording with its head.
 fn begin_files<F: Files>(names: &PeerNames<'_>, head: &[u8], files: &mut F) -> Result<(), Fault>
-    ensures { (w : Outside) → Follows
+    ensures { (w : Outside) (was : Content) → Follows
         (create names.now.played.now ∷ create names.now.recording.now ∷ append names.now.recording.now head.now ∷ [])
-        (with_files w (F.disk files.old)) (with_files w (F.disk files.new)) result }
+        (with_files w (F.disk files.old was)) (with_files w (F.disk files.new was)) result }
 {
     create_file(files, names.played)?;
     write_anew(files, names.recording, head)

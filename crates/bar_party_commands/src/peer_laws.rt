@@ -1,5 +1,5 @@
 //! What each exit status of `peer` means, and what then stands.
-ghost use Rattle.std.specs.Prelude.{◌≡◌, ◌⊎◌, ℕ, List};
+ghost use Rattle.std.specs.Prelude.{IsTrue, ◌≡◌, ◌⊎◌, ℕ, List};
 ghost use Rattle.bar_outside.specs.Causes.{Rose};
 ghost use Rattle.bar_outside.specs.Ends.{UnlessStopped};
 ghost use Rattle.bar_outside.specs.Follows.{IsReliable};
@@ -79,6 +79,6 @@ pub fn a_peer_is_done_where_all_is_accepted()
         PeerAccepted names old.files.content s k → (Rose old.files.faults new.files.faults → ⊥) →
         (Rose old.out.faults new.out.faults → ⊥) → (Rose old.wire.faults new.wire.faults → ⊥) → (status ≡ 0) ⊎ (status ≡ 70)) }
     ensures reliable { (names : PeerNames) (s : SessionData) (k : Secrets) (old new : Outside) (status : ℕ) →
-        RunEnds (peer_plan names) old new status → IsReliable old → PeerAccepted names old.files.content s k →
+        RunEnds (peer_plan names) old new status → IsReliable old → IsTrue new.files.told → PeerAccepted names old.files.content s k →
         (status ≡ 0) ⊎ (status ≡ 70) }
 {}

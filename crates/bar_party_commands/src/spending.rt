@@ -1,5 +1,6 @@
 //! Spending a key, and binding a link.
 ghost use Rattle.std.specs.Prelude.{◌≡◌, ◌∷◌, [], IfOk};
+ghost use Rattle.bar_outside.specs.Disk.{Content};
 ghost use Rattle.bar_outside.specs.MemTaken.{bound_in};
 ghost use Rattle.bar_outside.specs.Plan.{Outside, with_files, with_wire};
 ghost use Rattle.bar_outside.specs.Plan.Action.{append, create, link as call};
@@ -38,8 +39,8 @@ pub fn spent_text(
 
 /// Writes a file anew.
 pub fn write_anew<F: Files>(files: &mut F, path: &str, bytes: &[u8]) -> Result<(), Fault>
-    ensures { (w : Outside) → Follows (create path.now ∷ append path.now bytes.now ∷ [])
-        (with_files w (F.disk files.old)) (with_files w (F.disk files.new)) result }
+    ensures { (w : Outside) (was : Content) → Follows (create path.now ∷ append path.now bytes.now ∷ [])
+        (with_files w (F.disk files.old was)) (with_files w (F.disk files.new was)) result }
 {
     create_file(files, path)?;
     append_file(files, path, bytes)

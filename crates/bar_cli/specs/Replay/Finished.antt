@@ -48,5 +48,5 @@ abbrev pub IsReplayed : Type 0
 IsReplayed =
     (peer : PeerNames) (names : ReplayFiles) (before after old new : Outside) (status : ℕ) → PeerDone peer before after →
     live.HasOwnNames peer → ReadsWhatAPeerLeft peer names before after old →
-    Ends (replay_plan names) old new status → IsTrue old.files.told →
+    Ends (replay_plan names) old new status → IsTrue new.files.told →
     UnlessStopped 0 status × (status ≡ 0 → ShowsWhatWasSent peer names before after old new)

@@ -1,5 +1,5 @@
 //! What each exit status of `audit` means, and what then stands.
-ghost use Rattle.std.specs.Prelude.{◌≡◌, ◌⊎◌, ℕ, [], None, Some, IsSomeAnd, true};
+ghost use Rattle.std.specs.Prelude.{IsTrue, ◌≡◌, ◌⊎◌, ℕ, [], None, Some, IsSomeAnd, true};
 ghost use Rattle.bar_outside.specs.Causes.{Rose};
 ghost use Rattle.bar_outside.specs.Disk.{Content, readable};
 ghost use Rattle.bar_outside.specs.Follows.{IsReliable};
@@ -40,7 +40,7 @@ pub fn an_audit_is_told_where_all_is_accepted()
         (accepted : AuditAccepted names old.files.content) →
         (Rose old.files.faults new.files.faults → ⊥) → (Rose old.out.faults new.out.faults → ⊥) →
         (status ≡ status_of_balance (balance_in names old.files.content accepted)) ⊎ (status ≡ 70)) }
-    ensures reliable { (names : AuditFiles) (old new : Outside) (status : ℕ) → Ends (audit_plan names) old new status → IsReliable old →
+    ensures reliable { (names : AuditFiles) (old new : Outside) (status : ℕ) → Ends (audit_plan names) old new status → IsReliable old → IsTrue new.files.told →
         (accepted : AuditAccepted names old.files.content) →
         (status ≡ status_of_balance (balance_in names old.files.content accepted)) ⊎ (status ≡ 70) }
 {}

@@ -1,5 +1,6 @@
 //! Reading the recordings of an audit.
 ghost use Rattle.std.specs.Prelude.{◌≡◌, ◌<◌, ◌≤◌, ◌++◌, ◌∷◌, [], List, IfOk, string_bytes};
+ghost use Rattle.bar_outside.specs.Disk.{Content};
 ghost use Rattle.bar_outside.specs.Plan.{Outside, with_files};
 ghost use Rattle.bar_record.specs.Inputs.{inputs_left};
 ghost use Rattle.bar_audit.specs.Audits.{Audits};
@@ -72,8 +73,8 @@ pub fn read_recordings<F: Files>(
 ) -> Result<Result<Audit, RecordFault>, Fault>
     requires some { 1 ≤ names.now.first }
     requires rising { names.now.first ≤ names.now.last }
-    ensures { (w : Outside) → ReadsRecordings (audit_view names.now) session.now result
-        (with_files w (F.disk files.old)) (with_files w (F.disk files.new)) }
+    ensures { (w : Outside) (was : Content) → ReadsRecordings (audit_view names.now) session.now result
+        (with_files w (F.disk files.old was)) (with_files w (F.disk files.new was)) }
 {
     let mut audit = Audit::make(alloc);
     for place in 0..names.last - names.first + 1 {

@@ -1,5 +1,5 @@
 //! What each exit status of `judge` means, and what then stands.
-ghost use Rattle.std.specs.Prelude.{◌≡◌, ◌⊎◌, ℕ, [], None, IsSomeAnd, true};
+ghost use Rattle.std.specs.Prelude.{IsTrue, ◌≡◌, ◌⊎◌, ℕ, [], None, IsSomeAnd, true};
 ghost use Rattle.bar_outside.specs.Causes.{Rose};
 ghost use Rattle.bar_outside.specs.Disk.{Content, readable};
 ghost use Rattle.bar_outside.specs.Follows.{IsReliable};
@@ -37,7 +37,7 @@ pub fn the_verdict_is_printed_where_all_is_accepted()
         (accepted : JudgeAccepted names old.files.content) →
         (Rose old.files.faults new.files.faults → ⊥) → (Rose old.out.faults new.out.faults → ⊥) →
         (status ≡ status_of_verdict (verdict_in names old.files.content accepted)) ⊎ (status ≡ 70)) }
-    ensures reliable { (names : JudgeFiles) (old new : Outside) (status : ℕ) → Ends (judge_plan names) old new status → IsReliable old →
+    ensures reliable { (names : JudgeFiles) (old new : Outside) (status : ℕ) → Ends (judge_plan names) old new status → IsReliable old → IsTrue new.files.told →
         (accepted : JudgeAccepted names old.files.content) →
         (status ≡ status_of_verdict (verdict_in names old.files.content accepted)) ⊎ (status ≡ 70) }
 {}

@@ -1,5 +1,5 @@
 //! What each exit status of `keygen` means, and what then stands.
-ghost use Rattle.std.specs.Prelude.{◌≡◌, ◌≢◌, ◌⊎◌, ℕ, List, [], None, Err, IsSomeAnd, length, true};
+ghost use Rattle.std.specs.Prelude.{IsTrue, ◌≡◌, ◌≢◌, ◌⊎◌, ℕ, List, [], None, Err, IsSomeAnd, length, true};
 ghost use Rattle.bar_outside.specs.Causes.{Rose};
 ghost use Rattle.bar_outside.specs.Disk.{Content, readable};
 ghost use Rattle.bar_outside.specs.Follows.{IsReliable};
@@ -26,7 +26,7 @@ pub fn key_made_where_all_is_accepted()
     ensures without_faults { (asked : Keygen) → OfEachEnd (keygen_plan asked) (λ old new status.
         KeygenAccepted asked old.files.content → (Rose old.files.faults new.files.faults → ⊥) → (Rose old.out.faults new.out.faults → ⊥) →
         (status ≡ 0) ⊎ (status ≡ 70)) }
-    ensures reliable { (asked : Keygen) (old new : Outside) (status : ℕ) → Ends (keygen_plan asked) old new status → IsReliable old →
+    ensures reliable { (asked : Keygen) (old new : Outside) (status : ℕ) → Ends (keygen_plan asked) old new status → IsReliable old → IsTrue new.files.told →
         KeygenAccepted asked old.files.content → (status ≡ 0) ⊎ (status ≡ 70) }
 {}
 

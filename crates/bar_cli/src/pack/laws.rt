@@ -1,5 +1,5 @@
 //! What each exit status of `pack` means, and what then stands.
-ghost use Rattle.std.specs.Prelude.{◌≡◌, ◌≢◌, ◌⊎◌, ℕ, List, [], None, IsSomeAnd, true};
+ghost use Rattle.std.specs.Prelude.{IsTrue, ◌≡◌, ◌≢◌, ◌⊎◌, ℕ, List, [], None, IsSomeAnd, true};
 ghost use Rattle.bar_outside.specs.Causes.{Rose};
 ghost use Rattle.bar_outside.specs.Disk.{Content, readable};
 ghost use Rattle.bar_outside.specs.Follows.{IsReliable};
@@ -41,7 +41,7 @@ pub fn a_proof_is_packed_where_all_is_accepted()
         (accepted : PackAccepted names old.files.content) →
         (Rose old.files.faults new.files.faults → ⊥) → (Rose old.out.faults new.out.faults → ⊥) →
         (status ≡ status_of_verdict (verdict_in names old.files.content accepted)) ⊎ (status ≡ 70)) }
-    ensures reliable { (names : PackFiles) (old new : Outside) (status : ℕ) → Ends (pack_plan names) old new status → IsReliable old →
+    ensures reliable { (names : PackFiles) (old new : Outside) (status : ℕ) → Ends (pack_plan names) old new status → IsReliable old → IsTrue new.files.told →
         (accepted : PackAccepted names old.files.content) →
         (status ≡ status_of_verdict (verdict_in names old.files.content accepted)) ⊎ (status ≡ 70) }
 {}

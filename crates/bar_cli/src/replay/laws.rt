@@ -1,5 +1,5 @@
 //! What each exit status of a replay means, and what then stands.
-ghost use Rattle.std.specs.Prelude.{◌≡◌, ◌≢◌, ◌⊎◌, ℕ, List, [], None, IsSomeAnd, true};
+ghost use Rattle.std.specs.Prelude.{IsTrue, ◌≡◌, ◌≢◌, ◌⊎◌, ℕ, List, [], None, IsSomeAnd, true};
 ghost use Rattle.bar_outside.specs.Causes.{Rose};
 ghost use Rattle.bar_outside.specs.Disk.{Content, readable};
 ghost use Rattle.bar_outside.specs.Follows.{IsReliable};
@@ -46,7 +46,7 @@ pub fn done_where_all_is_accepted()
     ensures without_faults { (names : ReplayFiles) → OfEachEnd (replay_plan names) (λ old new status.
         Accepted names old.files.content → (Rose old.files.faults new.files.faults → ⊥) → (Rose old.out.faults new.out.faults → ⊥) →
         (status ≡ 0) ⊎ (status ≡ 70)) }
-    ensures reliable { (names : ReplayFiles) (old new : Outside) (status : ℕ) → Ends (replay_plan names) old new status → IsReliable old →
+    ensures reliable { (names : ReplayFiles) (old new : Outside) (status : ℕ) → Ends (replay_plan names) old new status → IsReliable old → IsTrue new.files.told →
         Accepted names old.files.content → (status ≡ 0) ⊎ (status ≡ 70) }
 {}
 

@@ -1,5 +1,5 @@
 //! What each exit status of `verify` means, and what then stands.
-ghost use Rattle.std.specs.Prelude.{◌≡◌, ◌⊎◌, ℕ, [], None, IsSomeAnd, true};
+ghost use Rattle.std.specs.Prelude.{IsTrue, ◌≡◌, ◌⊎◌, ℕ, [], None, IsSomeAnd, true};
 ghost use Rattle.bar_outside.specs.Causes.{Rose};
 ghost use Rattle.bar_outside.specs.Disk.{Content, readable};
 ghost use Rattle.bar_outside.specs.Follows.{IsReliable};
@@ -39,7 +39,7 @@ pub fn the_proof_is_judged_where_all_is_accepted()
         (Rose old.files.faults new.files.faults → ⊥) → (Rose old.out.faults new.out.faults → ⊥) →
         (status ≡ status_of_verdict verdict) ⊎ (status ≡ 70)) }
     ensures reliable { (names : VerifyFiles) (verdict : Verdict) (old new : Outside) (status : ℕ) → Ends (verify_plan names) old new status →
-        IsReliable old → VerifyAccepted names old.files.content verdict → (status ≡ status_of_verdict verdict) ⊎ (status ≡ 70) }
+        IsReliable old → IsTrue new.files.told → VerifyAccepted names old.files.content verdict → (status ≡ status_of_verdict verdict) ⊎ (status ≡ 70) }
 {}
 
 /// 3 comes only where the files' count rose, and where they tell, by a read of one of both files; 7 only where the count of the output rose,

@@ -22,7 +22,7 @@ returns-in_err-show_bytes-clause-ends g c =
     let one = c.recorded_exchanges_are_one_list.ensures.one s recordings _ knows.recorded in
     let text : c.as_bytes.result.now ≡ audit_text s recordings =
     text-told s recordings _ _ (c.as_bytes.ensures.value ∙ c.in_ok-text.ensures s recordings knows) one in
-    EndsWith-doing (show (audit_text s recordings) ∷ []) (status_of_balance (balance_of s recordings)) [] _ _ (λ told. tt)
+    EndsWith-doing (show (audit_text s recordings) ∷ []) (status_of_balance (balance_of s recordings)) [] _ _ tt
     (told-on (balance_of s recordings)) (Err c.in_err-show_bytes.field-0.0) (rw text at (c.in_err-show_bytes.ensures w)))
 
 pub returns-in_err-show_bytes-clause-unprinted : goal.returns-in_err-show_bytes-clause-unprinted
@@ -39,5 +39,5 @@ returns-clause-ends g c = λ w s recordings knows.
     let balance : c.unbalanced.result ≡ balance_of s recordings =
     balance-told s recordings _ _ (c.unbalanced.ensures.first s recordings knows) one in
     rw (c.status_of.ensures.code, c.status_of.ensures.line, balance)
-    (EndsWith-doing (show (audit_text s recordings) ∷ []) (status_of_balance (balance_of s recordings)) [] _ _ (λ told. tt)
+    (EndsWith-doing (show (audit_text s recordings) ∷ []) (status_of_balance (balance_of s recordings)) [] _ _ tt
     (told-on (balance_of s recordings)) (Ok tt) (rw text at (c.in_ok-show_bytes.ensures w)))

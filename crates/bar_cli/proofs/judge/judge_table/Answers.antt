@@ -14,29 +14,29 @@ use Rattle.bar_cli.proofs.EvidenceLemmas.{found, same-verdict, unfound}
 use Rattle.bar_cli.proofs.judge.judge_table.Goals as goal
 
 pub returns-in_err-bytes-clause-ends : goal.returns-in_err-bytes-clause-ends
-returns-in_err-bytes-clause-ends g c = λ w lists same.
+returns-in_err-bytes-clause-ends g c = λ w was lists same.
     let p = err_from_is_err_and c.from_residual.result c.from_residual.ensures.1 in
-    let r = c.in_err-bytes.ensures in
+    let r = c.in_err-bytes.ensures was in
     rw (p.1, p.2, r.2) (EndsWith-unread _ _ _ _ (with_out w (g.K.Sink.stream c.args.out.now)) r.0 r.1)
 
 pub returns-in_default-clause-ends : goal.returns-in_default-clause-ends
-returns-in_default-clause-ends g c = λ w lists same.
+returns-in_default-clause-ends g c = λ w was lists same.
     let refused = unfound c.read_evidence.result _ c.in_default.is (rw c.deref.ensures.value at c.read_evidence.ensures) in
-    EndsWith-reading _ _ (g.F.Files.disk c.args.files.now) (g.F.Files.disk c.read_file.new.files)
+    EndsWith-reading _ _ (g.F.Files.disk c.args.files.now was) (g.F.Files.disk c.read_file.new.files was)
     (with_out w (g.K.Sink.stream c.args.out.now))
-    _ c.in_ok-bytes.bytes _ _ c.in_ok-bytes.ensures
+    _ c.in_ok-bytes.bytes _ _ (c.in_ok-bytes.ensures was)
     (EndsWith-refused _ (tt {0}) _ _ _ _ _ _ refused (EndsWith-ending 8 evidence_refused _ refl))
 
 pub returns-clause-ends : goal.returns-clause-ends
-returns-clause-ends g c = λ w lists same.
+returns-clause-ends g c = λ w was lists same.
     let accepted = found c.read_evidence.result c.in-Some.evidence _ c.in-Some.is (rw c.deref.ensures.value at c.read_evidence.ensures) in
     let v = same-verdict c.args.session.now (digests_of c.args.table.now.lists) lists (datagrams_of c.in-Some.evidence)
     (plain_verdict c.judge_evidence.result) c.judge_evidence.ensures same in
-    EndsWith-reading _ _ (g.F.Files.disk c.args.files.now) (g.F.Files.disk c.read_file.new.files)
+    EndsWith-reading _ _ (g.F.Files.disk c.args.files.now was) (g.F.Files.disk c.read_file.new.files was)
     (with_out w (g.K.Sink.stream c.args.out.now))
-    _ c.in_ok-bytes.bytes _ _ c.in_ok-bytes.ensures (EndsWith-accepted _ _ _ _ _ _ _ _ accepted
+    _ c.in_ok-bytes.bytes _ _ (c.in_ok-bytes.ensures was) (EndsWith-accepted _ _ _ _ _ _ _ _ accepted
     (subst (λ (v : Verdict). EndsWith (saying_plan v)
-    (with_out (with_files w (g.F.Files.disk c.read_file.new.files)) (g.K.Sink.stream c.args.out.now))
-    (with_out (with_files w (g.F.Files.disk c.read_file.new.files)) (g.K.Sink.stream c.say_verdict.new.out))
+    (with_out (with_files w (g.F.Files.disk c.read_file.new.files was)) (g.K.Sink.stream c.args.out.now))
+    (with_out (with_files w (g.F.Files.disk c.read_file.new.files was)) (g.K.Sink.stream c.say_verdict.new.out))
     (code_of_run c.say_verdict.result)
-    (said_by_run c.say_verdict.result)) v (c.say_verdict.ensures.ends (with_files w (g.F.Files.disk c.read_file.new.files)))))
+    (said_by_run c.say_verdict.result)) v (c.say_verdict.ensures.ends (with_files w (g.F.Files.disk c.read_file.new.files was)))))

@@ -18,7 +18,7 @@ returns-in_err-show_bytes-clause-ends g c =
     let p = err_from_is_err_and c.from_residual-in_err-show_bytes.result c.from_residual-in_err-show_bytes.ensures.1 in
     let v = plain_verdict c.args.verdict.now in
     rw (p.1, p.2, ← c.in_ok-line.ensures, ← c.as_bytes.ensures.value)
-    (λ w. EndsWith-doing (show c.as_bytes.result.now ∷ []) (status_of_verdict v) [] _ _ (λ told. tt) (says-on v)
+    (λ w. EndsWith-doing (show c.as_bytes.result.now ∷ []) (status_of_verdict v) [] _ _ tt (says-on v)
     (Err c.in_err-show_bytes.field-0.0) (c.in_err-show_bytes.ensures w))
 
 pub returns-in_err-show_bytes-clause-unprinted : goal.returns-in_err-show_bytes-clause-unprinted
@@ -31,5 +31,5 @@ pub returns-clause-ends : goal.returns-clause-ends
 returns-clause-ends g c =
     let v = plain_verdict c.args.verdict.now in
     rw (c.status_of.ensures.code, c.status_of.ensures.line, ← c.in_ok-line.ensures, ← c.as_bytes.ensures.value)
-    (λ w. EndsWith-doing (show c.as_bytes.result.now ∷ []) (status_of_verdict v) [] _ _ (λ told. tt) (says-on v) (Ok tt)
+    (λ w. EndsWith-doing (show c.as_bytes.result.now ∷ []) (status_of_verdict v) [] _ _ tt (says-on v) (Ok tt)
     (c.in_ok-show_bytes.ensures w))

@@ -8,23 +8,23 @@ use Rattle.bar_cli.proofs.Alternatives.{second-stands}
 use Rattle.bar_cli.proofs.replay.replay.Goals as goal
 
 pub returns-in-Ok-clause-ends : goal.returns-in-Ok-clause-ends
-returns-in-Ok-clause-ends g c = λ w.
+returns-in-Ok-clause-ends g c = λ w was.
     let accepted = rw c.deref.ensures.value at c.in-Ok.ensures.ok in
-    EndsWith-reading _ _ (g.F.Files.disk c.args.files.now) (g.F.Files.disk c.read_file.new.files)
+    EndsWith-reading _ _ (g.F.Files.disk c.args.files.now was) (g.F.Files.disk c.read_file.new.files was)
     (with_out w (g.K.Sink.stream c.args.out.now))
-    _ c.in_ok-text.text _ _ c.in_ok-text.ensures (EndsWith-accepted _ _ _ _ _ _ _ _ accepted (c.replay_session.ensures.ends w))
+    _ c.in_ok-text.text _ _ (c.in_ok-text.ensures was) (EndsWith-accepted _ _ _ _ _ _ _ _ accepted (c.replay_session.ensures.ends w was))
 
 pub returns-in_err-text-clause-ends : goal.returns-in_err-text-clause-ends
-returns-in_err-text-clause-ends g c = λ w.
+returns-in_err-text-clause-ends g c = λ w was.
     let p = err_from_is_err_and c.from_residual.result c.from_residual.ensures.1 in
-    let r = c.in_err-text.ensures in
+    let r = c.in_err-text.ensures was in
     rw (p.1, p.2, r.2) (EndsWith-unread _ _ _ _ (with_out w (g.K.Sink.stream c.args.out.now)) r.0 r.1)
 
 pub returns-in-Err-NoMemory-clause-ends : goal.returns-in-Err-NoMemory-clause-ends
-returns-in-Err-NoMemory-clause-ends g c = λ w.
-    EndsWith-reading _ _ (g.F.Files.disk c.args.files.now) (g.F.Files.disk c.read_file.new.files)
+returns-in-Err-NoMemory-clause-ends g c = λ w was.
+    EndsWith-reading _ _ (g.F.Files.disk c.args.files.now was) (g.F.Files.disk c.read_file.new.files was)
     (with_out w (g.K.Sink.stream c.args.out.now))
-    _ c.in_ok-text.text _ _ c.in_ok-text.ensures (EndsWith-memory _ _)
+    _ c.in_ok-text.text _ _ (c.in_ok-text.ensures was) (EndsWith-memory _ _)
 
 pub returns : goal.returns
 returns g c =
@@ -32,10 +32,10 @@ returns g c =
     rw c.deref.ensures.value at (second-stands c.in-Err.ensures.err (search rules))
     in
     record {
-      ends = λ w.
-          EndsWith-reading _ _ (g.F.Files.disk c.args.files.now) (g.F.Files.disk c.read_file.new.files)
+      ends = λ w was.
+          EndsWith-reading _ _ (g.F.Files.disk c.args.files.now was) (g.F.Files.disk c.read_file.new.files was)
           (with_out w (g.K.Sink.stream c.args.out.now))
-          _ c.in_ok-text.text _ _ c.in_ok-text.ensures
+          _ c.in_ok-text.text _ _ (c.in_ok-text.ensures was)
           (EndsWith-refused _ c.in-Err.fault _ _ _ _ _ _ told (EndsWith-ending 4 (session_refused c.in-Err.fault) _ refl));
       answers = refl;
       unprinted = λ quiet. refl;

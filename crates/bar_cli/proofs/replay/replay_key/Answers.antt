@@ -1,4 +1,4 @@
-use Rattle.std.proofs.Common.{◌∙◌, Ok, Err, refl, ap, sym}
+use Rattle.std.proofs.Common.{◌∙◌, Ok, Err, refl, ap, sym, None}
 use Rattle.std.proofs.lemmas.Result.{err_from_is_err_and}
 use Rattle.bar_outside.specs.Plan.{with_out}
 use Rattle.bar_outside.proofs.Ending.{EndsWith-reading, EndsWith-accepted, EndsWith-refused, EndsWith-doing, EndsWith-ending, EndsWith-unread}
@@ -15,44 +15,44 @@ use Rattle.bar_cli.proofs.StatusLemmas.{never-link, quiet, unshown-at}
 use Rattle.bar_cli.proofs.replay.replay_key.Goals as goal
 
 pub returns-in_err-replay_recording-in-Ok-clause-ends : goal.returns-in_err-replay_recording-in-Ok-clause-ends
-returns-in_err-replay_recording-in-Ok-clause-ends g c = λ w.
+returns-in_err-replay_recording-in-Ok-clause-ends g c = λ w was.
     let p =
     err_from_is_err_and c.from_residual-in_err-replay_recording-in-Ok.result c.from_residual-in_err-replay_recording-in-Ok.ensures.1 in
     let accepted = rw c.deref.ensures.value at c.in-Ok.ensures.ok in
     let inputs = paced (last_tick c.args.session) (inputs_left c.in-Ok.items) in
     let turns = turns_of c.args.session c.args.key.secrets inputs in
     let findings = found_by c.args.names.now.found.now (member_by c.args.session c.args.key.secrets) inputs in
-    rw (p.1, p.2) (EndsWith-reading _ _ (g.F.Files.disk c.args.files.now) (g.F.Files.disk c.read_file.new.files)
+    rw (p.1, p.2) (EndsWith-reading _ _ (g.F.Files.disk c.args.files.now was) (g.F.Files.disk c.read_file.new.files was)
     (with_out w (g.K.Sink.stream c.args.out.now))
-    _ c.in_ok-bytes.bytes _ _ c.in_ok-bytes.ensures (EndsWith-accepted _ _ _ _ _ _ _ _ accepted
+    _ c.in_ok-bytes.bytes _ _ (c.in_ok-bytes.ensures was) (EndsWith-accepted _ _ _ _ _ _ _ _ accepted
     (EndsWith-doing (replay_actions (names_view c.args.names.now) turns findings) 0 _ _ _
-    (λ told. can-replay (names_view c.args.names.now) turns findings _) refl (Err c.in_err-replay_recording-in-Ok.field-0.0)
-    (c.in_err-replay_recording-in-Ok.ensures w))))
+    (can-replay (names_view c.args.names.now) turns findings _) refl (Err c.in_err-replay_recording-in-Ok.field-0.0)
+    (c.in_err-replay_recording-in-Ok.ensures w was))))
 
 pub returns-in_ok-replay_recording-in-Ok-clause-ends : goal.returns-in_ok-replay_recording-in-Ok-clause-ends
-returns-in_ok-replay_recording-in-Ok-clause-ends g c = λ w.
+returns-in_ok-replay_recording-in-Ok-clause-ends g c = λ w was.
     let accepted = rw c.deref.ensures.value at c.in-Ok.ensures.ok in
     let inputs = paced (last_tick c.args.session) (inputs_left c.in-Ok.items) in
     let turns = turns_of c.args.session c.args.key.secrets inputs in
     let findings = found_by c.args.names.now.found.now (member_by c.args.session c.args.key.secrets) inputs in
-    EndsWith-reading _ _ (g.F.Files.disk c.args.files.now) (g.F.Files.disk c.read_file.new.files)
+    EndsWith-reading _ _ (g.F.Files.disk c.args.files.now was) (g.F.Files.disk c.read_file.new.files was)
     (with_out w (g.K.Sink.stream c.args.out.now))
-    _ c.in_ok-bytes.bytes _ _ c.in_ok-bytes.ensures (EndsWith-accepted _ _ _ _ _ _ _ _ accepted
+    _ c.in_ok-bytes.bytes _ _ (c.in_ok-bytes.ensures was) (EndsWith-accepted _ _ _ _ _ _ _ _ accepted
     (EndsWith-doing (replay_actions (names_view c.args.names.now) turns findings) 0 _ _ _
-    (λ told. can-replay (names_view c.args.names.now) turns findings _) refl (Ok tt) (c.in_ok-replay_recording-in-Ok.ensures w)))
+    (can-replay (names_view c.args.names.now) turns findings _) refl (Ok tt) (c.in_ok-replay_recording-in-Ok.ensures w was)))
 
 pub returns-in_err-bytes-clause-ends : goal.returns-in_err-bytes-clause-ends
-returns-in_err-bytes-clause-ends g c = λ w.
+returns-in_err-bytes-clause-ends g c = λ w was.
     let p = err_from_is_err_and c.from_residual.result c.from_residual.ensures.1 in
-    let r = c.in_err-bytes.ensures in
+    let r = c.in_err-bytes.ensures was in
     rw (p.1, p.2, r.2) (EndsWith-unread _ _ _ _ (with_out w (g.K.Sink.stream c.args.out.now)) r.0 r.1)
 
 pub returns-in-Err-clause-ends : goal.returns-in-Err-clause-ends
-returns-in-Err-clause-ends g c = λ w.
+returns-in-Err-clause-ends g c = λ w was.
     let refused = rw c.deref.ensures.value at c.in-Err.ensures.err in
-    EndsWith-reading _ _ (g.F.Files.disk c.args.files.now) (g.F.Files.disk c.read_file.new.files)
+    EndsWith-reading _ _ (g.F.Files.disk c.args.files.now was) (g.F.Files.disk c.read_file.new.files was)
     (with_out w (g.K.Sink.stream c.args.out.now))
-    _ c.in_ok-bytes.bytes _ _ c.in_ok-bytes.ensures
+    _ c.in_ok-bytes.bytes _ _ (c.in_ok-bytes.ensures was)
     (EndsWith-refused _ c.in-Err.fault _ _ _ _ _ _ refused (EndsWith-ending 8 (recording_refused c.in-Err.fault) _ refl))
 
 pub returns-in_err-replay_recording-in-Ok-clause-unprinted : goal.returns-in_err-replay_recording-in-Ok-clause-unprinted
@@ -60,4 +60,4 @@ returns-in_err-replay_recording-in-Ok-clause-unprinted g c =
     let p =
     err_from_is_err_and c.from_residual-in_err-replay_recording-in-Ok.result c.from_residual-in_err-replay_recording-in-Ok.ensures.1 in
     rw p.1 (unshown-at p.0 _
-    (λ e. absurd (never-link _ _ _ _ refl refl (c.in_err-replay_recording-in-Ok.ensures quiet) (ap Err (sym p.2 ∙ e)))))
+    (λ e. absurd (never-link _ _ _ _ refl refl (c.in_err-replay_recording-in-Ok.ensures quiet (λ path. None)) (ap Err (sym p.2 ∙ e)))))

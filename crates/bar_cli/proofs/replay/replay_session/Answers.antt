@@ -16,29 +16,29 @@ is-other fault P test (inl e) = absurd (false≢true (rw e at test))
 is-other fault P test (inr p) = p
 
 pub returns-in-Ok-clause-ends : goal.returns-in-Ok-clause-ends
-returns-in-Ok-clause-ends g c = λ w.
+returns-in-Ok-clause-ends g c = λ w was.
     let accepted = rw c.deref.ensures.value at c.in-Ok.ensures.ok in
-    EndsWith-reading _ _ (g.F.Files.disk c.args.files.now) (g.F.Files.disk c.read_file.new.files)
+    EndsWith-reading _ _ (g.F.Files.disk c.args.files.now was) (g.F.Files.disk c.read_file.new.files was)
     (with_out w (g.K.Sink.stream c.args.out.now))
-    _ c.in_ok-bytes.bytes _ _ c.in_ok-bytes.ensures (EndsWith-accepted _ _ _ _ _ _ _ _ accepted (c.replay_key.ensures.ends w))
+    _ c.in_ok-bytes.bytes _ _ (c.in_ok-bytes.ensures was) (EndsWith-accepted _ _ _ _ _ _ _ _ accepted (c.replay_key.ensures.ends w was))
 
 pub returns-in_err-bytes-clause-ends : goal.returns-in_err-bytes-clause-ends
-returns-in_err-bytes-clause-ends g c = λ w.
+returns-in_err-bytes-clause-ends g c = λ w was.
     let p = err_from_is_err_and c.from_residual.result c.from_residual.ensures.1 in
-    let r = c.in_err-bytes.ensures in
+    let r = c.in_err-bytes.ensures was in
     rw (p.1, p.2, r.2) (EndsWith-unread _ _ _ _ (with_out w (g.K.Sink.stream c.args.out.now)) r.0 r.1)
 
 pub returns-then-eq-clause-ends : goal.returns-then-eq-clause-ends
-returns-then-eq-clause-ends g c = λ w.
-    EndsWith-reading _ _ (g.F.Files.disk c.args.files.now) (g.F.Files.disk c.read_file.new.files)
+returns-then-eq-clause-ends g c = λ w was.
+    EndsWith-reading _ _ (g.F.Files.disk c.args.files.now was) (g.F.Files.disk c.read_file.new.files was)
     (with_out w (g.K.Sink.stream c.args.out.now))
-    _ c.in_ok-bytes.bytes _ _ c.in_ok-bytes.ensures (EndsWith-memory _ _)
+    _ c.in_ok-bytes.bytes _ _ (c.in_ok-bytes.ensures was) (EndsWith-memory _ _)
 
 pub returns-else-eq-clause-ends : goal.returns-else-eq-clause-ends
-returns-else-eq-clause-ends g c = λ w.
+returns-else-eq-clause-ends g c = λ w was.
     let refused = is-other _ _ (c.if-eq.ensures) (c.in-Err.ensures.err) in
     let told = rw c.deref.ensures.value at refused in
-    EndsWith-reading _ _ (g.F.Files.disk c.args.files.now) (g.F.Files.disk c.read_file.new.files)
+    EndsWith-reading _ _ (g.F.Files.disk c.args.files.now was) (g.F.Files.disk c.read_file.new.files was)
     (with_out w (g.K.Sink.stream c.args.out.now))
-    _ c.in_ok-bytes.bytes _ _ c.in_ok-bytes.ensures
+    _ c.in_ok-bytes.bytes _ _ (c.in_ok-bytes.ensures was)
     (EndsWith-refused _ c.in-Err.fault _ _ _ _ _ _ told (EndsWith-ending 5 (key_refused c.in-Err.fault) _ refl))

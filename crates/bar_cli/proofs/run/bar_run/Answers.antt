@@ -23,8 +23,8 @@ use Rattle.bar_cli.proofs.run.bar_run.Goals as goal
 -- ---- what was done
 
 pub returns-clause-done : goal.returns-clause-done
-returns-clause-done g c =
-    let ran = c.run_words-status.ensures.ran in
+returns-clause-done g c = λ was.
+    let ran = c.run_words-status.ensures.ran was in
     let code = c.report.ensures.code in
     record {
       usage = λ two.
@@ -87,8 +87,8 @@ returns-clause-done g c =
 -- ---- by the rules
 
 pub returns-clause-ruled : goal.returns-clause-ruled
-returns-clause-ruled g c =
-    let ran = c.run_words-status.ensures.ran in
+returns-clause-ruled g c = λ was.
+    let ran = c.run_words-status.ensures.ran was in
     let code = c.report.ensures.code in
     record {
       peer_done = λ names is told zero.
@@ -160,8 +160,8 @@ returns-clause-ruled g c =
 -- ---- what standard error has of it
 
 pub returns-clause-said : goal.returns-clause-said
-returns-clause-said g c =
-    let ran = c.run_words-status.ensures.ran in
+returns-clause-said g c = λ was.
+    let ran = c.run_words-status.ensures.ran was in
     let code = c.report.ensures.code in
     record {
       said = λ plan either.

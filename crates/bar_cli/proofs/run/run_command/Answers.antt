@@ -74,9 +74,9 @@ ends-same a b old new kids kids_new code line ends is =
 -- `peer`
 
 pub returns-in-Peer-clause-ran : goal.returns-in-Peer-clause-ran
-returns-in-Peer-clause-ran g c =
+returns-in-Peer-clause-ran g c = λ was.
     rw (c.in-Peer.is, c.status_of_live.ensures.code, c.status_of_live.ensures.line) (record {
-      ends = λ plan. c.peer.ensures.ends;
+      ends = λ plan. c.peer.ensures.ends was;
       statuses = peer-statuses (peer_view c.in-Peer.names) c.peer.result c.peer.ensures.answers;
       unprinted = c.peer.ensures.unprinted;
       unread = λ alone. absurd (true≢false (sym alone));
@@ -92,9 +92,9 @@ returns-in-Peer-clause-leaves g c =
 -- `broadcaster`
 
 pub returns-in-Broadcaster-clause-ran : goal.returns-in-Broadcaster-clause-ran
-returns-in-Broadcaster-clause-ran g c =
+returns-in-Broadcaster-clause-ran g c = λ was.
     rw (c.in-Broadcaster.is, c.status_of_live-in-Broadcaster.ensures.code, c.status_of_live-in-Broadcaster.ensures.line) (record {
-      ends = λ plan. c.broadcaster.ensures.ends;
+      ends = λ plan. c.broadcaster.ensures.ends was;
       statuses = broadcaster-statuses (caster_view c.in-Broadcaster.names) c.broadcaster.result;
       unprinted = c.broadcaster.ensures.unprinted;
       unread = λ alone. absurd (true≢false (sym alone));
@@ -110,15 +110,15 @@ returns-in-Broadcaster-clause-leaves g c =
 -- `replay`
 
 pub returns-in-Replay-clause-ran : goal.returns-in-Replay-clause-ran
-returns-in-Replay-clause-ran g c =
+returns-in-Replay-clause-ran g c = λ was.
     rw (c.in-Replay.is, c.status_of.ensures.code, c.status_of.ensures.line) (record {
       ends = λ plan.
           over-no_link _ _ _ _ _ (g.L.Link.wire c.args.link.now) _ _ (replaying.unlinked-plan (names_view c.in-Replay.names))
-          (never-six _ _ _ _ _ refl refl (c.replay.ensures.ends quiet))
-          (c.replay.ensures.ends (with_wire quiet (g.L.Link.wire c.args.link.now)));
+          (never-six _ _ _ _ _ refl refl (c.replay.ensures.ends quiet was))
+          (c.replay.ensures.ends (with_wire quiet (g.L.Link.wire c.args.link.now)) was);
       statuses =
           replay-statuses (names_view c.in-Replay.names) c.replay.result c.replay.ensures.answers
-          (never-linked _ _ _ _ _ refl refl (c.replay.ensures.ends quiet));
+          (never-linked _ _ _ _ _ refl refl (c.replay.ensures.ends quiet was));
       unprinted = c.replay.ensures.unprinted;
       unread = λ alone. absurd (true≢false (sym alone));
       unlinked = λ none. refl;
@@ -133,17 +133,17 @@ returns-in-Replay-clause-leaves g c =
 -- `keygen`
 
 pub returns-in-Keygen-clause-ran : goal.returns-in-Keygen-clause-ran
-returns-in-Keygen-clause-ran g c =
+returns-in-Keygen-clause-ran g c = λ was.
     rw (c.in-Keygen.is, c.status_of-in-Keygen.ensures.code, c.status_of-in-Keygen.ensures.line) (record {
       ends = λ plan.
           over-no_link _ _ _ _ _ (g.L.Link.wire c.args.link.now) _ _ (making.unlinked-plan (keygen_view c.in-Keygen.asked))
-          (never-six _ _ _ _ _ refl refl (c.keygen.ensures.ends quiet))
-          (c.keygen.ensures.ends (with_wire quiet (g.L.Link.wire c.args.link.now)));
+          (never-six _ _ _ _ _ refl refl (c.keygen.ensures.ends quiet was))
+          (c.keygen.ensures.ends (with_wire quiet (g.L.Link.wire c.args.link.now)) was);
       statuses =
           keygen-statuses (keygen_view c.in-Keygen.asked) c.keygen.result c.keygen.ensures.answers
-          (never-linked _ _ _ _ _ refl refl (c.keygen.ensures.ends quiet));
+          (never-linked _ _ _ _ _ refl refl (c.keygen.ensures.ends quiet was));
       unprinted = c.keygen.ensures.unprinted;
-      unread = λ few. c.keygen.ensures.unread (few-leaves _ few);
+      unread = λ few. c.keygen.ensures.unread was (few-leaves _ few);
       unlinked = λ none. refl;
       session = λ family is. absurd (no-session _ family refl is);
       childless = λ none. refl;
@@ -158,15 +158,15 @@ returns-in-Keygen-clause-leaves g c = λ asked is.
 -- `audit`
 
 pub returns-in-Audit-clause-ran : goal.returns-in-Audit-clause-ran
-returns-in-Audit-clause-ran g c =
+returns-in-Audit-clause-ran g c = λ was.
     rw (c.in-Audit.is, c.status_of-in-Audit.ensures.code, c.status_of-in-Audit.ensures.line) (record {
       ends = λ plan.
           over-no_link _ _ _ _ _ (g.L.Link.wire c.args.link.now) _ _ (auditing.unlinked-plan (audit_view c.in-Audit.names))
-          (never-six _ _ _ _ _ refl refl (c.audit.ensures.ends quiet))
-          (c.audit.ensures.ends (with_wire quiet (g.L.Link.wire c.args.link.now)));
+          (never-six _ _ _ _ _ refl refl (c.audit.ensures.ends quiet was))
+          (c.audit.ensures.ends (with_wire quiet (g.L.Link.wire c.args.link.now)) was);
       statuses =
           audit-statuses (audit_view c.in-Audit.names) c.audit.result c.audit.ensures.answers
-          (never-linked _ _ _ _ _ refl refl (c.audit.ensures.ends quiet));
+          (never-linked _ _ _ _ _ refl refl (c.audit.ensures.ends quiet was));
       unprinted = c.audit.ensures.unprinted;
       unread = λ alone. absurd (true≢false (sym alone));
       unlinked = λ none. refl;
@@ -181,15 +181,15 @@ returns-in-Audit-clause-leaves g c =
 -- `judge`
 
 pub returns-in-Judge-clause-ran : goal.returns-in-Judge-clause-ran
-returns-in-Judge-clause-ran g c =
+returns-in-Judge-clause-ran g c = λ was.
     rw (c.in-Judge.is, c.status_of-in-Judge.ensures.code, c.status_of-in-Judge.ensures.line) (record {
       ends = λ plan.
           over-no_link _ _ _ _ _ (g.L.Link.wire c.args.link.now) _ _ (judging.unlinked-plan (judge_view c.in-Judge.names))
-          (never-six _ _ _ _ _ refl refl (c.judge.ensures.ends quiet))
-          (c.judge.ensures.ends (with_wire quiet (g.L.Link.wire c.args.link.now)));
+          (never-six _ _ _ _ _ refl refl (c.judge.ensures.ends quiet was))
+          (c.judge.ensures.ends (with_wire quiet (g.L.Link.wire c.args.link.now)) was);
       statuses =
           judge-statuses (judge_view c.in-Judge.names) c.judge.result c.judge.ensures.answers
-          (never-linked _ _ _ _ _ refl refl (c.judge.ensures.ends quiet));
+          (never-linked _ _ _ _ _ refl refl (c.judge.ensures.ends quiet was));
       unprinted = c.judge.ensures.unprinted;
       unread = λ alone. absurd (true≢false (sym alone));
       unlinked = λ none. refl;
@@ -204,15 +204,15 @@ returns-in-Judge-clause-leaves g c =
 -- `pack`
 
 pub returns-in-Pack-clause-ran : goal.returns-in-Pack-clause-ran
-returns-in-Pack-clause-ran g c =
+returns-in-Pack-clause-ran g c = λ was.
     rw (c.in-Pack.is, c.status_of-in-Pack.ensures.code, c.status_of-in-Pack.ensures.line) (record {
       ends = λ plan.
           over-no_link _ _ _ _ _ (g.L.Link.wire c.args.link.now) _ _ (packing.unlinked-plan (packing_view c.in-Pack.names))
-          (never-six _ _ _ _ _ refl refl (c.pack.ensures.ends quiet))
-          (c.pack.ensures.ends (with_wire quiet (g.L.Link.wire c.args.link.now)));
+          (never-six _ _ _ _ _ refl refl (c.pack.ensures.ends quiet was))
+          (c.pack.ensures.ends (with_wire quiet (g.L.Link.wire c.args.link.now)) was);
       statuses =
           pack-statuses (packing_view c.in-Pack.names) c.pack.result c.pack.ensures.answers
-          (never-linked _ _ _ _ _ refl refl (c.pack.ensures.ends quiet));
+          (never-linked _ _ _ _ _ refl refl (c.pack.ensures.ends quiet was));
       unprinted = c.pack.ensures.unprinted;
       unread = λ alone. absurd (true≢false (sym alone));
       unlinked = λ none. refl;
@@ -227,15 +227,15 @@ returns-in-Pack-clause-leaves g c =
 -- `verify`
 
 pub returns-in-Verify-clause-ran : goal.returns-in-Verify-clause-ran
-returns-in-Verify-clause-ran g c =
+returns-in-Verify-clause-ran g c = λ was.
     rw (c.in-Verify.is, c.status_of-in-Verify.ensures.code, c.status_of-in-Verify.ensures.line) (record {
       ends = λ plan.
           over-no_link _ _ _ _ _ (g.L.Link.wire c.args.link.now) _ _ (verifying.unlinked-plan (verify_view c.in-Verify.names))
-          (never-six _ _ _ _ _ refl refl (c.verify.ensures.ends quiet))
-          (c.verify.ensures.ends (with_wire quiet (g.L.Link.wire c.args.link.now)));
+          (never-six _ _ _ _ _ refl refl (c.verify.ensures.ends quiet was))
+          (c.verify.ensures.ends (with_wire quiet (g.L.Link.wire c.args.link.now)) was);
       statuses =
           verify-statuses (verify_view c.in-Verify.names) c.verify.result c.verify.ensures.answers
-          (never-linked _ _ _ _ _ refl refl (c.verify.ensures.ends quiet));
+          (never-linked _ _ _ _ _ refl refl (c.verify.ensures.ends quiet was));
       unprinted = c.verify.ensures.unprinted;
       unread = λ alone. absurd (true≢false (sym alone));
       unlinked = λ none. refl;
@@ -250,7 +250,7 @@ returns-in-Verify-clause-leaves g c =
 -- `session`
 
 pub returns-in-Session-clause-ran : goal.returns-in-Session-clause-ran
-returns-in-Session-clause-ran g c =
+returns-in-Session-clause-ran g c = λ was.
     rw (c.in-Session.is, c.status_of-in-Session.ensures.code, c.status_of-in-Session.ensures.line) (record {
       ends = λ plan. absurd (true≢false (sym plan));
       statuses = c.session.ensures.statuses;
@@ -259,7 +259,7 @@ returns-in-Session-clause-ran g c =
       unlinked = λ none. refl;
       session = λ family is.
           ends-same (family_view c.in-Session.names) family _ _ _ _ _ _
-          (c.session.ensures.ends (with_wire quiet (g.L.Link.wire c.args.link.now))) is;
+          (c.session.ensures.ends (with_wire quiet (g.L.Link.wire c.args.link.now)) was) is;
       childless = λ none. absurd (true≢false none);
     })
 
@@ -270,12 +270,12 @@ returns-in-Session-clause-leaves g c =
 -- `simulate`
 
 pub returns-in-Simulate-clause-ran : goal.returns-in-Simulate-clause-ran
-returns-in-Simulate-clause-ran g c =
+returns-in-Simulate-clause-ran g c = λ was.
     rw (c.in-Simulate.is, c.status_of-in-Simulate.ensures.code, c.status_of-in-Simulate.ensures.line) (record {
       ends = λ plan.
           over-no_link _ _ _ _ _ (g.L.Link.wire c.args.link.now) _ _ (λ content. tt)
           (never-six _ _ _ _ _ refl refl (c.simulate_seed.ensures.ends quiet))
-          (c.simulate_seed.ensures.ends (with_files (with_wire quiet (g.L.Link.wire c.args.link.now)) (g.F.Files.disk c.args.files.now)));
+          (c.simulate_seed.ensures.ends (with_files (with_wire quiet (g.L.Link.wire c.args.link.now)) (g.F.Files.disk c.args.files.now was)));
       statuses =
           simulate-statuses c.in-Simulate.seed c.simulate_seed.result c.simulate_seed.ensures.answers
           (never-filed _ _ _ _ _ refl refl (c.simulate_seed.ensures.ends quiet))

@@ -19,12 +19,12 @@ none-some o e f = cc
 -- ---- the words are a line
 
 pub returns-in-Ok-clause-ran : goal.returns-in-Ok-clause-ran
-returns-in-Ok-clause-ran g c =
+returns-in-Ok-clause-ran g c = λ was.
     subst (λ (line : Option Line). CommandRan line
-    (outside (g.F.Files.disk c.args.files.now) (g.K.Sink.stream c.args.out.now) (g.L.Link.wire c.args.link.now))
-    (outside (g.F.Files.disk c.run_command.new.files) (g.K.Sink.stream c.run_command.new.out) (g.L.Link.wire c.run_command.new.link))
+    (outside (g.F.Files.disk c.args.files.now was) (g.K.Sink.stream c.args.out.now) (g.L.Link.wire c.args.link.now))
+    (outside (g.F.Files.disk c.run_command.new.files was) (g.K.Sink.stream c.run_command.new.out) (g.L.Link.wire c.run_command.new.link))
     (g.S.Spawner.children c.args.spawn.now) (g.S.Spawner.children c.run_command.new.spawn)
-    (code_of c.run_command.result) (said_at c.run_command.result)) (sym c.in-Ok.ensures.line) c.run_command.ensures.ran
+    (code_of c.run_command.result) (said_at c.run_command.result)) (sym c.in-Ok.ensures.line) (c.run_command.ensures.ran was)
 
 pub returns-in-Ok-clause-few_leaves : goal.returns-in-Ok-clause-few_leaves
 returns-in-Ok-clause-few_leaves g c = λ asked is four.
@@ -35,13 +35,13 @@ returns-in-Ok-clause-leaves_refused g c = λ asked is few.
     inl ((c.run_command.ensures.leaves asked (some-line (sym c.in-Ok.ensures.line ∙ is))).1 few)
 
 pub returns-in-Ok-clause-usage : goal.returns-in-Ok-clause-usage
-returns-in-Ok-clause-usage g c = λ two. absurd (no-usage (command_view c.in-Ok.command) _ c.run_command.ensures.ran.statuses two)
+returns-in-Ok-clause-usage g c = λ two. absurd (no-usage (command_view c.in-Ok.command) _ (c.run_command.ensures.ran (λ path. None)).statuses two)
 
 -- ---- they aren't
 
 pub returns-in-Err-Usage-clause-ran : goal.returns-in-Err-Usage-clause-ran
-returns-in-Err-Usage-clause-ran g c =
-    let now = outside (g.F.Files.disk c.args.files.now) (g.K.Sink.stream c.args.out.now) (g.L.Link.wire c.args.link.now) in
+returns-in-Err-Usage-clause-ran g c = λ was.
+    let now = outside (g.F.Files.disk c.args.files.now was) (g.K.Sink.stream c.args.out.now) (g.L.Link.wire c.args.link.now) in
     let kids = g.S.Spawner.children c.args.spawn.now in
     subst (λ (line : Option Line). CommandRan line now now kids kids 2 usage)
     (sym (c.in-Err-Usage.ensures.usage (ap Err c.in-Err-Usage.field-0-is))) (record {
@@ -63,14 +63,14 @@ returns-in-Err-Usage-clause-leaves_refused g c =
 -- ---- memory is wanting
 
 pub returns-in-Err-NoMemory-clause-ran : goal.returns-in-Err-NoMemory-clause-ran
-returns-in-Err-NoMemory-clause-ran g c = record {
+returns-in-Err-NoMemory-clause-ran g c = λ was. record {
   ends = λ plan.
-      no-memory _ (outside (g.F.Files.disk c.args.files.now) (g.K.Sink.stream c.args.out.now) (g.L.Link.wire c.args.link.now));
+      no-memory _ (outside (g.F.Files.disk c.args.files.now was) (g.K.Sink.stream c.args.out.now) (g.L.Link.wire c.args.link.now));
   statuses = memory-status _;
   unprinted = λ quiet. refl;
   unread = λ alone. refl;
   unlinked = λ none. refl;
   session = λ names is.
-      no-session names (outside (g.F.Files.disk c.args.files.now) (g.K.Sink.stream c.args.out.now) (g.L.Link.wire c.args.link.now)) _;
+      no-session names (outside (g.F.Files.disk c.args.files.now was) (g.K.Sink.stream c.args.out.now) (g.L.Link.wire c.args.link.now)) _;
   childless = λ none. refl;
 }

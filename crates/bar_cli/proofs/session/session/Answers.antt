@@ -1,4 +1,4 @@
-use Rattle.std.proofs.Common.{◌≡◌, ◌⊎◌, ◌∙◌, Err, Some, [], IsTrue, refl, sym, ap, inl, inr, rules, true≢false}
+use Rattle.std.proofs.Common.{◌≡◌, ◌⊎◌, ◌∙◌, Err, Some, [], IsTrue, refl, sym, ap, inl, inr, rules, true≢false, None}
 use Rattle.std.proofs.lemmas.Result.{err_from_is_err_and}
 use Rattle.bar_outside.specs.Faults.{code_of_fault, fault_of_file}
 use Rattle.bar_outside.specs.Plan.{with_out}
@@ -19,18 +19,18 @@ use Rattle.bar_cli.proofs.session.session.Goals as goal
 -- ---- its children ran
 
 pub returns-in-Ok-clause-ends : goal.returns-in-Ok-clause-ends
-returns-in-Ok-clause-ends g c = λ w.
+returns-in-Ok-clause-ends g c = λ w was.
     let accepted = rw c.deref.ensures.value at c.in-Ok.ensures.ok in
     let code = c.from.ensures.code in
     record {
-      files = λ told. c.in_ok-text.ensures.same;
+      files = λ told. (c.in_ok-text.ensures was).same;
       ended = inr (record {
         session = c.in-Ok.session;
-        read = EndsWith-reading _ _ (g.F.Files.disk c.args.files.now) (g.F.Files.disk c.read_file.new.files)
+        read = EndsWith-reading _ _ (g.F.Files.disk c.args.files.now was) (g.F.Files.disk c.read_file.new.files was)
             (with_out w (g.K.Sink.stream c.args.out.now))
-            _ c.in_ok-text.text _ _ c.in_ok-text.ensures
+            _ c.in_ok-text.text _ _ (c.in_ok-text.ensures was)
             (EndsWith-accepted _ _ _ _ _ _ _ _ accepted (EndsWith-ending 0 [] _ refl));
-        accepted = λ told. record { text = c.in_ok-text.text.items; read = c.in_ok-text.ensures.found told; is = accepted };
+        accepted = λ told. record { text = c.in_ok-text.text.items; read = (c.in_ok-text.ensures was).found told; is = accepted };
         ran = rw (code, ← c.shape-peers.ensures.value) c.run_children.ensures;
         late = rw code (outcome-late c.run_children.result);
         line_is = c.from.ensures.line ∙ ap line_of_end (sym code);
@@ -57,9 +57,9 @@ unread-status names file.Failed = refl
 unread-status names file.NoMemory = refl
 
 pub returns-in_err-text-clause-ends : goal.returns-in_err-text-clause-ends
-returns-in_err-text-clause-ends g c = λ w.
+returns-in_err-text-clause-ends g c = λ w was.
     let p = err_from_is_err_and c.from_residual.result c.from_residual.ensures.1 in
-    let r = c.in_err-text.ensures in
+    let r = c.in_err-text.ensures was in
     record {
       files = λ told. r.1.same;
       ended = inl (record {
@@ -73,17 +73,17 @@ returns-in_err-text-clause-ends g c = λ w.
 pub returns-in_err-text-clause-statuses : goal.returns-in_err-text-clause-statuses
 returns-in_err-text-clause-statuses g c =
     let p = err_from_is_err_and c.from_residual.result c.from_residual.ensures.1 in
-    let r = c.in_err-text.ensures in
+    let r = c.in_err-text.ensures (λ path. None) in
     rw (p.1, p.2, r.2) (unread-status (names_view c.args.names.now) r.0)
 
 -- ---- memory is wanting
 
 pub returns-in-Err-NoMemory-clause-ends : goal.returns-in-Err-NoMemory-clause-ends
-returns-in-Err-NoMemory-clause-ends g c = λ w. record {
-  files = λ told. c.in_ok-text.ensures.same;
+returns-in-Err-NoMemory-clause-ends g c = λ w was. record {
+  files = λ told. (c.in_ok-text.ensures was).same;
   ended = inl (record {
-    ends = EndsWith-reading _ _ (g.F.Files.disk c.args.files.now) (g.F.Files.disk c.read_file.new.files)
-        (with_out w (g.K.Sink.stream c.args.out.now)) _ c.in_ok-text.text _ _ c.in_ok-text.ensures (EndsWith-memory _ _);
+    ends = EndsWith-reading _ _ (g.F.Files.disk c.args.files.now was) (g.F.Files.disk c.read_file.new.files was)
+        (with_out w (g.K.Sink.stream c.args.out.now)) _ c.in_ok-text.text _ _ (c.in_ok-text.ensures was) (EndsWith-memory _ _);
     early = inr (inr refl);
     out = refl;
     children = refl;
@@ -98,12 +98,12 @@ returns g c =
     rw c.deref.ensures.value at (second-stands c.in-Err.ensures.err (search rules))
     in
     record {
-      ends = λ w. record {
-        files = λ told. c.in_ok-text.ensures.same;
+      ends = λ w was. record {
+        files = λ told. (c.in_ok-text.ensures was).same;
         ended = inl (record {
-          ends = EndsWith-reading _ _ (g.F.Files.disk c.args.files.now) (g.F.Files.disk c.read_file.new.files)
+          ends = EndsWith-reading _ _ (g.F.Files.disk c.args.files.now was) (g.F.Files.disk c.read_file.new.files was)
               (with_out w (g.K.Sink.stream c.args.out.now))
-              _ c.in_ok-text.text _ _ c.in_ok-text.ensures
+              _ c.in_ok-text.text _ _ (c.in_ok-text.ensures was)
               (EndsWith-refused _ c.in-Err.fault _ _ _ _ _ _ refused (EndsWith-ending 4 (session_refused c.in-Err.fault) _ refl));
           early = inr (inl refl);
           out = refl;

@@ -20,7 +20,7 @@ pub returns-in_err-show_bytes-clause-ends : goal.returns-in_err-show_bytes-claus
 returns-in_err-show_bytes-clause-ends g c =
     let p = err_from_is_err_and c.from_residual-in_err-show_bytes.result c.from_residual-in_err-show_bytes.ensures.1 in
     rw (p.1, p.2, ← text-is c.args.seed c.in_ok-end.end c.in_ok-end.ensures.end, ← c.in_ok-text.ensures, ← c.as_bytes.ensures.value)
-    (λ w. EndsWith-doing (show c.as_bytes.result.now ∷ []) 0 [] _ _ (λ told. tt) refl
+    (λ w. EndsWith-doing (show c.as_bytes.result.now ∷ []) 0 [] _ _ tt refl
     (Err c.in_err-show_bytes.field-0.0) (c.in_err-show_bytes.ensures w))
 
 pub returns-in_err-show_bytes-clause-unprinted : goal.returns-in_err-show_bytes-clause-unprinted
@@ -32,4 +32,4 @@ returns-in_err-show_bytes-clause-unprinted g c =
 pub returns-clause-ends : goal.returns-clause-ends
 returns-clause-ends g c =
     rw (← text-is c.args.seed c.in_ok-end.end c.in_ok-end.ensures.end, ← c.in_ok-text.ensures, ← c.as_bytes.ensures.value)
-    (λ w. EndsWith-doing (show c.as_bytes.result.now ∷ []) 0 [] _ _ (λ told. tt) refl (Ok tt) (c.in_ok-show_bytes.ensures w))
+    (λ w. EndsWith-doing (show c.as_bytes.result.now ∷ []) 0 [] _ _ tt refl (Ok tt) (c.in_ok-show_bytes.ensures w))

@@ -10,34 +10,34 @@ use Rattle.bar_cli.proofs.Alternatives.{second-stands}
 use Rattle.bar_cli.proofs.verify.verify_session.Goals as goal
 
 pub returns-in-Ok-clause-ends : goal.returns-in-Ok-clause-ends
-returns-in-Ok-clause-ends g c = λ w.
+returns-in-Ok-clause-ends g c = λ w was.
     let accepted = rw c.deref.ensures.value at c.in-Ok.ensures.ok in
-    EndsWith-reading _ _ (g.F.Files.disk c.args.files.now) (g.F.Files.disk c.read_file.new.files)
+    EndsWith-reading _ _ (g.F.Files.disk c.args.files.now was) (g.F.Files.disk c.read_file.new.files was)
     (with_out w (g.K.Sink.stream c.args.out.now))
-    _ c.in_ok-bytes.bytes _ _ c.in_ok-bytes.ensures (EndsWith-accepted _ _ _ _ _ _ _ _ accepted
-    (c.say_verdict.ensures.ends (with_files w (g.F.Files.disk c.read_file.new.files))))
+    _ c.in_ok-bytes.bytes _ _ (c.in_ok-bytes.ensures was) (EndsWith-accepted _ _ _ _ _ _ _ _ accepted
+    (c.say_verdict.ensures.ends (with_files w (g.F.Files.disk c.read_file.new.files was))))
 
 pub returns-in-Ok-clause-answers : goal.returns-in-Ok-clause-answers
 returns-in-Ok-clause-answers g c = proof-end (plain_verdict c.in-Ok.verdict) c.say_verdict.result c.say_verdict.ensures.code
 
 pub returns-in_err-bytes-clause-ends : goal.returns-in_err-bytes-clause-ends
-returns-in_err-bytes-clause-ends g c = λ w.
+returns-in_err-bytes-clause-ends g c = λ w was.
     let p = err_from_is_err_and c.from_residual.result c.from_residual.ensures.1 in
-    let r = c.in_err-bytes.ensures in
+    let r = c.in_err-bytes.ensures was in
     rw (p.1, p.2, r.2) (EndsWith-unread _ _ _ _ (with_out w (g.K.Sink.stream c.args.out.now)) r.0 r.1)
 
 pub returns-in-Err-NoMemory-clause-ends : goal.returns-in-Err-NoMemory-clause-ends
-returns-in-Err-NoMemory-clause-ends g c = λ w.
-    EndsWith-reading _ _ (g.F.Files.disk c.args.files.now) (g.F.Files.disk c.read_file.new.files)
+returns-in-Err-NoMemory-clause-ends g c = λ w was.
+    EndsWith-reading _ _ (g.F.Files.disk c.args.files.now was) (g.F.Files.disk c.read_file.new.files was)
     (with_out w (g.K.Sink.stream c.args.out.now))
-    _ c.in_ok-bytes.bytes _ _ c.in_ok-bytes.ensures (EndsWith-memory _ _)
+    _ c.in_ok-bytes.bytes _ _ (c.in_ok-bytes.ensures was) (EndsWith-memory _ _)
 
 pub returns-clause-ends : goal.returns-clause-ends
-returns-clause-ends g c = λ w.
+returns-clause-ends g c = λ w was.
     let told : verdict_of_proof c.args.session.now c.in_ok-bytes.bytes.items ≡ Err c.in-Err.fault =
     rw c.deref.ensures.value at (second-stands c.in-Err.ensures.err (search rules))
     in
-    EndsWith-reading _ _ (g.F.Files.disk c.args.files.now) (g.F.Files.disk c.read_file.new.files)
+    EndsWith-reading _ _ (g.F.Files.disk c.args.files.now was) (g.F.Files.disk c.read_file.new.files was)
     (with_out w (g.K.Sink.stream c.args.out.now))
-    _ c.in_ok-bytes.bytes _ _ c.in_ok-bytes.ensures
+    _ c.in_ok-bytes.bytes _ _ (c.in_ok-bytes.ensures was)
     (EndsWith-refused _ c.in-Err.fault _ _ _ _ _ _ told (EndsWith-ending 8 (proof_refused c.in-Err.fault) _ refl))

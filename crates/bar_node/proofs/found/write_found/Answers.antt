@@ -8,7 +8,7 @@ use Rattle.bar_node.specs.Runs.{found_after}
 use Rattle.bar_node.proofs.found.write_found.Goals as goal
 
 pub returns : goal.returns
-returns g c = λ taken stands w.
+returns g c = λ taken stands w was.
     let r = (g.C.Core.face c.args.core.now).rules in
     let manifests = kept_in c.kept_manifests.result.now in
     let evidence = kept_in c.evidence_by_party.result.now in
@@ -19,6 +19,6 @@ returns g c = λ taken stands w.
     ∙ findings-same c.args.found.now (r.manifest taken) manifests r.rounds (r.evidence taken) evidence r.peers
     (c.kept_manifests.ensures.are taken stands) (λ party low high. c.evidence_by_party.ensures taken stands party)
     in
-    subst (λ (findings : List Finding). Follows (findings_actions findings) (with_files w (g.F.Files.disk c.args.files.now))
-    (with_files w (g.F.Files.disk c.write_findings.new.files)) c.write_findings.result) same
-    (c.write_findings.ensures w (c.kept_manifests.ensures.short taken stands))
+    subst (λ (findings : List Finding). Follows (findings_actions findings) (with_files w (g.F.Files.disk c.args.files.now was))
+    (with_files w (g.F.Files.disk c.write_findings.new.files was)) c.write_findings.result) same
+    (c.write_findings.ensures w was (c.kept_manifests.ensures.short taken stands))

@@ -12,17 +12,17 @@ contents-init g c = record {
   keeps = keeps-same _ _;
   left = refl;
   still = λ inputs sends h. h;
-  so_far = record { done = []; split = refl; is = λ w. nothing_done _ };
+  so_far = record { done = []; split = refl; is = λ w was. nothing_done _ };
   counted = refl;
 }
 
 pub returns-in_err-keep_bytes-clause-follows : goal.returns-in_err-keep_bytes-clause-follows
-returns-in_err-keep_bytes-clause-follows g c = λ w.
+returns-in_err-keep_bytes-clause-follows g c = λ w was.
     let p = err_from_is_err_and c.from_residual.result c.from_residual.ensures.1 in
     let i = c.contents.invariant in
     rw (p.1, p.2)
     (stopped-at (kept (option_copied c.args.played)) _ i.so_far.done _ _ _ _ _ _ _ _ i.so_far.split c.in-Some.ensures.gives.0
-    (i.so_far.is w) (c.in_err-keep_bytes.ensures w))
+    (i.so_far.is w was) (c.in_err-keep_bytes.ensures w was))
 
 pub contents-preserved : goal.contents-preserved
 contents-preserved g c =
@@ -34,7 +34,7 @@ contents-preserved g c =
       so_far = record {
         done = i.so_far.done ++ take c.in-Some.len c.give_content.new.buf ∷ [];
         split = split-more _ _ _ _ _ i.so_far.split c.in-Some.ensures.gives.0;
-        is = λ w. one-more (kept (option_copied c.args.played)) i.so_far.done _ _ _ _ _ _ (i.so_far.is w) (c.in_ok-keep_bytes.ensures w);
+        is = λ w was. one-more (kept (option_copied c.args.played)) i.so_far.done _ _ _ _ _ _ (i.so_far.is w was) (c.in_ok-keep_bytes.ensures w was);
       };
       counted =
           c.saturating_add-count.ensures
@@ -42,6 +42,6 @@ contents-preserved g c =
     }
 
 pub returns-clause-follows : goal.returns-clause-follows
-returns-clause-follows g c = λ w.
+returns-clause-follows g c = λ w was.
     let i = c.contents.invariant in
-    all-done (kept (option_copied c.args.played)) _ i.so_far.done _ _ _ _ _ i.so_far.split c.in_default.ensures.gives.0 (i.so_far.is w)
+    all-done (kept (option_copied c.args.played)) _ i.so_far.done _ _ _ _ _ i.so_far.split c.in_default.ensures.gives.0 (i.so_far.is w was)

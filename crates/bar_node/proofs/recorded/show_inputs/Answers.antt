@@ -22,12 +22,12 @@ loop-input-init g c = (
         rw c.none-counts.ensures (took-none [] (g.C.Core.stands c.args.core.now) (g.C.Core.face c.args.core.now).rules c.requires.stands);
     row = rw c.new-paced.ensures (omega arith);
     few = omega arith;
-    follows = λ w. nothing_done _;
+    follows = λ w was. nothing_done _;
   },
 )
 
 pub returns-in_err-more-clause-follows : goal.returns-in_err-more-clause-follows
-returns-in_err-more-clause-follows g c = λ w.
+returns-in_err-more-clause-follows g c = λ w was.
     let p = err_from_is_err_and c.from_residual.result c.from_residual.ensures.1 in
     let i = c.loop-input.invariant.2 in
     let timed = g.met.C.Core.timed c.loop-input.core _ i.took.stands in
@@ -35,7 +35,7 @@ returns-in_err-more-clause-follows g c = λ w.
     let count = count-exact _ _ _ _ _ _ _ _ i timed goes (g.met.C.Core.few c.loop-input.core) in
     rw (p.1, p.2)
     (shown-stopped _ _ _ _ _ _ _ _ i timed goes (plain_input c.in-Some.input) (inputs_left c.next.new.self) c.in-Some.ensures.steps
-    (replay_layout c.args.played.now) _ _ _ (tt {0}) _ (i.follows w) (c.in_err-more.ensures.follows i.taken i.took.stands count w))
+    (replay_layout c.args.played.now) _ _ _ (tt {0}) _ (i.follows w was) (c.in_err-more.ensures.follows i.taken i.took.stands count w was))
 
 pub loop-input-preserved : goal.loop-input-preserved
 loop-input-preserved g c =
@@ -49,23 +49,23 @@ loop-input-preserved g c =
           (shown-more _ _ _ _ _ _ _ _ i timed goes (plain_input c.in-Some.input) (inputs_left c.next.new.self) c.in-Some.ensures.steps
           _ _ _ _ _ (c.in_ok-more.ensures.took i.taken i.took.stands)
           c.in_ok-more.ensures.idle c.in_ok-more.ensures.rules c.in_ok-more.ensures.run
-          (λ w. answered _ _ _ c.in_ok-more.more (tt {0})
+          (λ w was. answered _ _ _ c.in_ok-more.more (tt {0})
           (shown-then _ _ _ _ _ _ _ _ i timed goes (plain_input c.in-Some.input) (inputs_left c.next.new.self) c.in-Some.ensures.steps
-          (replay_layout c.args.played.now) _ _ _ (tt {0}) _ (i.follows w) (c.in_ok-more.ensures.follows i.taken i.took.stands count w)))),
+          (replay_layout c.args.played.now) _ _ _ (tt {0}) _ (i.follows w was) (c.in_ok-more.ensures.follows i.taken i.took.stands count w was)))),
     )
 
 pub returns-clause-follows : goal.returns-clause-follows
-returns-clause-follows g c = λ w.
+returns-clause-follows g c = λ w was.
     let i = c.loop-input.invariant.2 in
     turns-along (replay_layout c.args.played.now) (g.C.Core.face c.args.core.now).rules [] i.taken _ _ _ _
-    (shown-whole _ _ _ _ _ _ _ _ i c.in-None.ensures.steps.0) (answered _ _ _ (tt {0}) _ (i.follows w))
+    (shown-whole _ _ _ _ _ _ _ _ i c.in-None.ensures.steps.0) (answered _ _ _ (tt {0}) _ (i.follows w was))
 
 pub returns-then-is_over-clause-follows : goal.returns-then-is_over-clause-follows
-returns-then-is_over-clause-follows g c = λ w.
+returns-then-is_over-clause-follows g c = λ w was.
     let i = c.loop-input.invariant.2 in
     turns-along (replay_layout c.args.played.now) (g.C.Core.face c.args.core.now).rules [] i.taken _ _ _ _
     (shown-over _ _ _ _ _ _ _ _ i (g.met.C.Core.timed c.loop-input.core _ i.took.stands) c.if-is_over.ensures)
-    (answered _ _ _ (tt {0}) _ (i.follows w))
+    (answered _ _ _ (tt {0}) _ (i.follows w was))
 
 pub returns-then-is_over-clause-took : goal.returns-then-is_over-clause-took
 returns-then-is_over-clause-took g c =

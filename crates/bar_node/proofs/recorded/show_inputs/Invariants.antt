@@ -1,5 +1,6 @@
 use Rattle.std.proofs.Common.{[], Ok}
 use Rattle.bar_record.specs.Inputs.{inputs_left}
+use Rattle.bar_outside.specs.Disk.{Content}
 use Rattle.bar_outside.specs.Plan.{Outside, with_files, with_out}
 use Rattle.bar_outside.specs.Follows.{Follows}
 use Rattle.bar_node.specs.Turns.{turns, replay_layout}
@@ -13,6 +14,6 @@ invariant-loop-input g l =
     × (goal.iterator-loop-input g).is_finite l.input-iterator
     × Shown (g.C.Core.stands l.core) (g.C.Core.face l.fn.core).rules (g.C.Core.face l.core) l.paced
     (inputs_left l.fn.items) (inputs_left l.input-iterator) l.counts
-    (λ taken. (w : Outside) → Follows {T = Unit {0}} (turns (replay_layout l.played) (g.C.Core.face l.fn.core).rules [] taken)
-    (with_out (with_files w (g.F.Files.disk l.fn.files)) (g.K.Sink.stream l.fn.out))
-    (with_out (with_files w (g.F.Files.disk l.files)) (g.K.Sink.stream l.out)) (Ok tt))
+    (λ taken. (w : Outside) (was : Content) → Follows {T = Unit {0}} (turns (replay_layout l.played) (g.C.Core.face l.fn.core).rules [] taken)
+    (with_out (with_files w (g.F.Files.disk l.fn.files was)) (g.K.Sink.stream l.fn.out))
+    (with_out (with_files w (g.F.Files.disk l.files was)) (g.K.Sink.stream l.out)) (Ok tt))

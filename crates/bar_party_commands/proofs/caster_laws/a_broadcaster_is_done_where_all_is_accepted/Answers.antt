@@ -6,7 +6,7 @@ use Rattle.bar_party_commands.proofs.Endings.{done-or-memory}
 use Rattle.bar_party_commands.proofs.caster_laws.a_broadcaster_is_done_where_all_is_accepted.Goals as goal
 
 pub returns-clause-reliable : goal.returns-clause-reliable
-returns-clause-reliable c = λ names s k stream old new status run reliable a.
+returns-clause-reliable c = λ names s k stream old new status run reliable told a.
     done-or-memory (is_ended (rules_by s k stream) run.given) status (run.answers reliable)
     (subst (λ final. (status ≡ final) ⊎ (status ≡ 70)) (accepted-status names run.given old.files.content s k stream a)
-    (run.ends.complete reliable))
+    (run.ends.complete reliable told))

@@ -5,15 +5,15 @@ use Rattle.bar_outside.proofs.Following.{followed, stopped}
 use Rattle.bar_party_commands.proofs.peer_command.begin_files.Goals as goal
 
 pub returns-in_err-create_file : goal.returns-in_err-create_file
-returns-in_err-create_file g c = λ w.
+returns-in_err-create_file g c = λ w was.
     let p = err_from_is_err_and c.from_residual.result c.from_residual.ensures.1 in
     rw (p.1, p.2)
     (stopped (create c.args.names.now.played.now ∷ [])
     (create c.args.names.now.recording.now ∷ append c.args.names.now.recording.now c.args.head.now ∷ []) _ _ _
-    (c.in_err-create_file.ensures w))
+    (c.in_err-create_file.ensures w was))
 
 pub returns : goal.returns
-returns g c = λ w.
+returns g c = λ w was.
     followed (create c.args.names.now.played.now ∷ [])
     (create c.args.names.now.recording.now ∷ append c.args.names.now.recording.now c.args.head.now ∷ []) _ _ _ _
-    (c.in_ok-create_file.ensures w) _ (c.write_anew.ensures w)
+    (c.in_ok-create_file.ensures w was) _ (c.write_anew.ensures w was)

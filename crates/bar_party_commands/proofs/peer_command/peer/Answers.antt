@@ -8,18 +8,18 @@ use Rattle.bar_party_commands.proofs.RunEnding.{accepted-so, other-fault, refuse
 use Rattle.bar_party_commands.proofs.peer_command.peer.Goals as goal
 
 pub returns-in_err-text-clause-ends : goal.returns-in_err-text-clause-ends
-returns-in_err-text-clause-ends g c =
+returns-in_err-text-clause-ends g c = λ was.
     let p = err_from_is_err_and c.from_residual.result c.from_residual.ensures.1 in
-    let r = c.in_err-text.ensures in
+    let r = c.in_err-text.ensures was in
     rw (p.1, p.2, r.2) (unread _ session_of _ _ _ _ _ _ r.0 r.1)
 
 pub returns-in-Ok-clause-ends : goal.returns-in-Ok-clause-ends
-returns-in-Ok-clause-ends g c =
-    accepted-so _ session_of _ _ _ _ _ _ c.in_ok-text.text c.in_ok-text.ensures _ _ _ _
-    (rw c.deref.ensures.value at c.in-Ok.ensures.ok) c.peer_of_session.ensures.ends
+returns-in-Ok-clause-ends g c = λ was.
+    accepted-so _ session_of _ _ _ _ _ _ c.in_ok-text.text (c.in_ok-text.ensures was) _ _ _ _
+    (rw c.deref.ensures.value at c.in-Ok.ensures.ok) (c.peer_of_session.ensures.ends was)
 
 pub returns-in-Err-NoMemory-clause-ends : goal.returns-in-Err-NoMemory-clause-ends
-returns-in-Err-NoMemory-clause-ends g c = unmeant _ session_of _ _ _ _ _ _ c.in_ok-text.text c.in_ok-text.ensures
+returns-in-Err-NoMemory-clause-ends g c = λ was. unmeant _ session_of _ _ _ _ _ _ c.in_ok-text.text (c.in_ok-text.ensures was)
 
 pub returns : goal.returns
 returns g c =
@@ -27,8 +27,8 @@ returns g c =
     rw c.deref.ensures.value at (other-fault c.in-Err.fault NoMemory _ c.in-Err.ensures.err (search rules))
     in
     record {
-      ends =
-          refused-so _ session_of _ _ _ _ _ _ c.in_ok-text.text c.in_ok-text.ensures c.in-Err.fault 4
+      ends = λ was.
+          refused-so _ session_of _ _ _ _ _ _ c.in_ok-text.text (c.in_ok-text.ensures was) c.in-Err.fault 4
           (session_refused c.in-Err.fault) told refl (EndsWith-ending 4 (session_refused c.in-Err.fault) _ refl);
       answers = λ e. absurd (omega arith);
       unprinted = λ quiet. refl;

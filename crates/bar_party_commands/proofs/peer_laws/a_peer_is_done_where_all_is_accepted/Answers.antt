@@ -6,6 +6,6 @@ use Rattle.bar_party_commands.proofs.PeerRows.{accepted-status}
 use Rattle.bar_party_commands.proofs.peer_laws.a_peer_is_done_where_all_is_accepted.Goals as goal
 
 pub returns-clause-reliable : goal.returns-clause-reliable
-returns-clause-reliable c = λ names s k old new status run reliable a.
+returns-clause-reliable c = λ names s k old new status run reliable told a.
     done-or-memory (is_ended (rules_by s k) run.given) status (run.answers reliable)
-    (subst (λ final. (status ≡ final) ⊎ (status ≡ 70)) (accepted-status names run.given old.files.content s k a) (run.ends.complete reliable))
+    (subst (λ final. (status ≡ final) ⊎ (status ≡ 70)) (accepted-status names run.given old.files.content s k a) (run.ends.complete reliable told))

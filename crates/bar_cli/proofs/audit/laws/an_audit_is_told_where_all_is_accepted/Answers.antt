@@ -9,5 +9,5 @@ returns-clause-without_faults c = λ names old new status ends told accepted no_
     (done-unlinked (audit_plan names) old new status ends told (unlinked-plan names old.files.content) no_file no_output)
 
 pub returns-clause-reliable : goal.returns-clause-reliable
-returns-clause-reliable c = λ names old new status ends reliable accepted.
-    so-or_memory (end-told names old.files.content accepted).is (ends.complete reliable)
+returns-clause-reliable c = λ names old new status ends reliable told accepted.
+    so-or_memory (end-told names old.files.content accepted).is (ends.complete reliable told)

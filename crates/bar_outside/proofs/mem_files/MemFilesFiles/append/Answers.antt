@@ -21,15 +21,15 @@ returns-then-is_listed-clause-appends c = record {
   here = search rules;
   there = search rules;
   added = search rules;
-  fault = λ told.
+  fault =
       let p = front-added (content_of c.args.self.now.files) (content_of c.add_bytes.new.files) (created_in c.args.self.now.files c.args.path.now)
       c.args.path.now c.args.bytes.now _ c.add_bytes.result c.add_bytes.ensures.added c.add_bytes.ensures.left in
       (p.0, ap content_of c.note_fault.ensures.files ∙ p.1);
-  left = λ told not.
+  left = λ not.
       ap content_of c.note_fault.ensures.files
       ∙ none-added (content_of c.args.self.now.files) (content_of c.add_bytes.new.files) (created_in c.args.self.now.files c.args.path.now)
       c.args.path.now c.args.bytes.now 0 c.add_bytes.result c.add_bytes.ensures.done c.add_bytes.ensures.left not;
-  refused = λ told reliable failed. absurd (none-next c.args.self.now.schedule.fail.items _ reliable (sym c.is_listed.ensures.listed ∙ c.if-is_listed.true));
+  refused = λ reliable failed. absurd (none-next c.args.self.now.schedule.fail.items _ reliable (sym c.is_listed.ensures.listed ∙ c.if-is_listed.true));
 }
 
 pub returns-in_err-add_bytes-clause-appends : goal.returns-in_err-add_bytes-clause-appends
@@ -41,8 +41,8 @@ returns-in_err-add_bytes-clause-appends c =
       here = search rules;
       there = search rules;
       added = search rules;
-      fault = λ told. on-err _ c.from_residual.result (0, same ∙ sym (appended-nothing (content_of c.args.self.now.files) c.args.path.now));
-      left = λ told not. same;
+      fault = on-err _ c.from_residual.result (0, same ∙ sym (appended-nothing (content_of c.args.self.now.files) c.args.path.now));
+      left = λ not. same;
       refused = search rules;
     }
 
@@ -56,7 +56,7 @@ returns-clause-appends c =
       here = search rules;
       there = search rules;
       added = search rules;
-      fault = λ told. (0, same ∙ sym (appended-nothing (content_of c.args.self.now.files) c.args.path.now));
-      left = λ told not. same;
-      refused = λ told reliable failed. sym c.in_ok-add_bytes.ensures.done ∙ c.if-branch.false;
+      fault = (0, same ∙ sym (appended-nothing (content_of c.args.self.now.files) c.args.path.now));
+      left = λ not. same;
+      refused = λ reliable failed. sym c.in_ok-add_bytes.ensures.done ∙ c.if-branch.false;
     }

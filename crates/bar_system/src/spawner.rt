@@ -1,5 +1,10 @@
-//! The real child programs. They count their faults and tell nothing of what was started.
+//! The real child programs. They tell what was started and waited for, and count their faults.
+ghost use Rattle.std.specs.Prelude.{◌≡◌, [], length, true};
+ghost use Rattle.bar_outside.specs.OpenChildren.{are_below};
+ghost use Rattle.bar_system.specs.History.{calls_of, children_by};
+
 use bar_outside::{ChildFault, Spawner};
+use bar_told::{Log, Note};
 use std::io;
 use std::io::ErrorKind;
 use std::os::unix::process::ExitStatusExt;
@@ -16,7 +21,9 @@ const BY_SIGNAL: i32 = 128;
 pub struct RealSpawner<'a, R: Processes> {
     rt: &'a R,
     children: Vec<Option<Child<R::Started>>>,
+    log: Log,
     faults: u64,
+    ghost below: { are_below (length children.items) (calls_of log.events) ≡ true },
 }
 
 // Starts the program that the first word names.
@@ -32,6 +39,19 @@ fn start<R: Processes + AllocGlobal>(rt: &R, words: &[String]) -> io::Result<Chi
     command.spawn(rt)
 }
 
+// Puts the child at this place.
+fn put<R: Processes>(
+    children: &mut Vec<Option<Child<R::Started>>>,
+    number: usize,
+    child: Child<R::Started>,
+)
+    ensures { length children.new.items ≡ length children.old.items }
+{
+    if let Some(place) = children.get_mut(number) {
+        *place = Some(child);
+    }
+}
+
 // The number that a program ended with, or that of its signal and 128.
 fn code_of(status: ExitStatus) -> i32 {
     match status.code() {
@@ -44,7 +64,9 @@ fn code_of(status: ExitStatus) -> i32 {
 fn wait<R: Processes>(
     children: &mut Vec<Option<Child<R::Started>>>,
     child: usize,
-) -> io::Result<i32> {
+) -> io::Result<i32>
+    ensures { length children.new.items ≡ length children.old.items }
+{
     match children.get_mut(child) {
         Some(place) => match place.take() {
             Some(mut child) => Ok(code_of(child.wait()?)),
@@ -59,17 +81,21 @@ impl<'a, R: Processes + AllocGlobal> RealSpawner<'a, R> {
     ghost use Rattle.bar_outside.specs.Causes.{HasCause};
 
     /// No child so far.
-    pub fn new(rt: &'a R) -> Self {
+    pub fn new(rt: &'a R) -> Self
+        ensures { children_by result.log.events result.faults ≡ children_by [] 0 }
+    {
         RealSpawner {
             rt,
             children: Vec::new(rt.alloc()),
+            log: Log::new(),
             faults: 0,
         }
     }
 
     // Counts a fault, unless it is want of memory.
     fn fault(&mut self, error: &io::Error) -> ChildFault
-        ensures { HasCause {T = ⊤} ChildFault.Failed self.old.faults self.new.faults (Err result) }
+        ensures cause { HasCause {T = ⊤} ChildFault.Failed self.old.faults self.new.faults (Err result) }
+        ensures same { self.new.log.events ≡ self.old.log.events }
     {
         if error.kind() == ErrorKind::OutOfMemory {
             return ChildFault::NoMemory;
@@ -80,9 +106,7 @@ impl<'a, R: Processes + AllocGlobal> RealSpawner<'a, R> {
 }
 
 impl<R: Processes + AllocGlobal> Spawner for RealSpawner<'_, R> {
-    ghost use Rattle.std.specs.Prelude.{false, []};
-
-    ghost children = { λ spawner. record { told = false; reliable = false; calls = []; faults = spawner.faults } };
+    ghost children = { λ spawner. children_by spawner.log.events spawner.faults };
 
     fn start(&mut self, words: &[String]) -> Result<usize, ChildFault> {
         let number = self.children.len();
@@ -92,9 +116,8 @@ impl<R: Processes + AllocGlobal> Spawner for RealSpawner<'_, R> {
         }
         match start(self.rt, words) {
             Ok(child) => {
-                if let Some(place) = self.children.get_mut(number) {
-                    *place = Some(child);
-                }
+                put::<R>(&mut self.children, number, child);
+                self.log = self.log.then(&Note::Started(words, number));
                 Ok(number)
             }
             Err(error) => Err(self.fault(&error)),
@@ -103,8 +126,14 @@ impl<R: Processes + AllocGlobal> Spawner for RealSpawner<'_, R> {
 
     fn wait(&mut self, child: usize) -> Result<i32, ChildFault> {
         match wait::<R>(&mut self.children, child) {
-            Ok(status) => Ok(status),
-            Err(error) => Err(self.fault(&error)),
+            Ok(status) => {
+                self.log = self.log.then(&Note::Waited(child, Some(status)));
+                Ok(status)
+            }
+            Err(error) => {
+                self.log = self.log.then(&Note::Waited(child, None));
+                Err(self.fault(&error))
+            }
         }
     }
 }

@@ -1,8 +1,11 @@
-//! The real link: a UDP socket on the loopback address. It counts its faults and tells nothing of what went over it.
-ghost use Rattle.std.specs.Prelude.{◌≡◌, ◌≢◌, ◌≤◌, length, IfOk};
-ghost use Rattle.bar_outside.specs.Wire.{largest_packet, len_of};
+//! The real link: a UDP socket on the loopback address. It tells what it is bound to, what the socket gave and what was handed over to it, and
+//! counts its faults.
+ghost use Rattle.std.specs.Prelude.{◌≡◌, ◌≢◌, ◌≤◌, [], length, IfOk, IfSome};
+ghost use Rattle.bar_outside.specs.Wire.{largest_packet};
+ghost use Rattle.bar_system.specs.History.{wire_by};
 
 use bar_outside::{LARGEST_PACKET, Link, LinkFault, Taken};
+use bar_told::{Log, Note};
 use std::io;
 use std::io::ErrorKind;
 use std::net::{Ipv4Addr, Net, UdpSocket};
@@ -31,6 +34,7 @@ struct Bound {
 pub struct RealLink<'a, R> {
     rt: &'a R,
     bound: Option<Bound>,
+    log: Log,
     faults: u64,
 }
 
@@ -59,24 +63,23 @@ fn bind<R: Net>(rt: &R, me: u16, port: u16, begin_ms: u64, tick_ms: u32) -> io::
     })
 }
 
-/// Waits until the next tick is due or a datagram is there, which is written to the buffer. An overdue tick comes at once.
-fn wait<R: Clock>(rt: &R, bound: &mut Bound, buf: &mut [u8]) -> io::Result<Taken>
+/// Waits until the next tick is due, which is `None`, or a datagram is there, which is written to the buffer. An overdue tick comes at once.
+fn wait<R: Clock>(rt: &R, bound: &mut Bound, buf: &mut [u8]) -> io::Result<Option<usize>>
     requires { length buf.old ≡ largest_packet }
-    ensures within { IfOk result (λ taken. len_of taken ≤ largest_packet) }
-    ensures no_end { IfOk result (λ taken. taken ≢ Taken.End) }
+    ensures within { IfOk result (λ datagram. IfSome datagram (λ len. len ≤ largest_packet)) }
 {
     for _ in 0..u64::MAX {
         let now = unix_ms(rt)?;
         if bound.next_tick <= now {
             bound.next_tick = bound.next_tick.saturating_add(u64::from(bound.tick_ms));
-            return Ok(Taken::Tick);
+            return Ok(None);
         }
         let left = (bound.next_tick - now).min(LONGEST_WAIT);
         bound
             .socket
             .set_read_timeout(Some(Duration::from_millis(left)))?;
         match bound.socket.recv_from(buf) {
-            Ok((len, _)) => return Ok(Taken::Datagram(len)),
+            Ok((len, _)) => return Ok(Some(len)),
             Err(error) => match error.kind() {
                 ErrorKind::WouldBlock | ErrorKind::TimedOut | ErrorKind::Interrupted => {}
                 _ => return Err(error),
@@ -100,19 +103,24 @@ fn send(bound: &Bound, to: u16, bytes: &[u8]) -> io::Result<()> {
 impl<'a, R> RealLink<'a, R> {
     ghost use Rattle.std.specs.Prelude.{⊤, Err};
     ghost use Rattle.bar_outside.specs.Causes.{HasCause};
+    ghost use Rattle.bar_system.specs.RealLink.{wire_of};
 
     /// A link that isn't bound, with no fault so far.
-    pub fn new(rt: &'a R) -> Self {
+    pub fn new(rt: &'a R) -> Self
+        ensures { wire_of result ≡ wire_by [] 0 }
+    {
         RealLink {
             rt,
             bound: None,
+            log: Log::new(),
             faults: 0,
         }
     }
 
     /// Counts a fault, unless it is want of memory.
     fn fault(&mut self, error: &io::Error) -> LinkFault
-        ensures { HasCause {T = ⊤} LinkFault.Failed self.old.faults self.new.faults (Err result) }
+        ensures cause { HasCause {T = ⊤} LinkFault.Failed self.old.faults self.new.faults (Err result) }
+        ensures same { self.new.log.events ≡ self.old.log.events }
     {
         if error.kind() == ErrorKind::OutOfMemory {
             return LinkFault::NoMemory;
@@ -124,14 +132,15 @@ impl<'a, R> RealLink<'a, R> {
 
 impl<R: Net + Clock> Link for RealLink<'_, R> {
     ghost use Rattle.bar_outside.specs.Wire.{Takes};
-    ghost use Rattle.bar.specs.Untold.{untold_wire};
+    ghost use Rattle.bar_system.specs.RealLink.{wire_of};
 
-    ghost wire = { λ link. untold_wire link.faults };
+    ghost wire = { wire_of };
 
     fn bind(&mut self, me: u16, port: u16, begin_ms: u64, tick_ms: u32) -> Result<(), LinkFault> {
         match bind(self.rt, me, port, begin_ms, tick_ms) {
             Ok(bound) => {
                 self.bound = Some(bound);
+                self.log = self.log.then(&Note::Bound(me, port, begin_ms, tick_ms));
                 Ok(())
             }
             Err(error) => Err(self.fault(&error)),
@@ -140,7 +149,7 @@ impl<R: Net + Clock> Link for RealLink<'_, R> {
 
     fn next(&mut self, buf: &mut [u8]) -> Result<Taken, LinkFault>
         requires { largest_packet ≤ length buf.old }
-        ensures takes { Takes buf.new (untold_wire self.old.faults) (untold_wire self.new.faults) result }
+        ensures takes { Takes buf.new (wire_of self.old) (wire_of self.new) result }
         // a socket has no end
         ensures no_end { IfOk result (λ taken. taken ≢ Taken.End) }
     {
@@ -149,7 +158,14 @@ impl<R: Net + Clock> Link for RealLink<'_, R> {
             None => Err(io::Error::from(ErrorKind::NotConnected)),
         };
         match taken {
-            Ok(taken) => Ok(taken),
+            Ok(None) => {
+                self.log = self.log.then(&Note::Ticked);
+                Ok(Taken::Tick)
+            }
+            Ok(Some(len)) => {
+                self.log = self.log.then(&Note::Came(&buf[..len]));
+                Ok(Taken::Datagram(len))
+            }
             Err(error) => Err(self.fault(&error)),
         }
     }
@@ -160,7 +176,10 @@ impl<R: Net + Clock> Link for RealLink<'_, R> {
             None => Err(io::Error::from(ErrorKind::NotConnected)),
         };
         match sent {
-            Ok(()) => Ok(()),
+            Ok(()) => {
+                self.log = self.log.then(&Note::Sent(to, bytes));
+                Ok(())
+            }
             Err(error) => Err(self.fault(&error)),
         }
     }

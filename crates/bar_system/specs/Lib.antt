@@ -1,0 +1,4 @@
+pub mod Refusal
+pub mod History
+pub mod RealSink
+pub mod RealLink

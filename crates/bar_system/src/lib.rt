@@ -1,0 +1,11 @@
+//! The system as the program's outside: its files, streams, child programs and the loopback network, each with a history of what was read,
+//! taken and handed on.
+#![tactic(auto)]
+
+mod link;
+mod outside;
+mod spawner;
+
+pub use link::RealLink;
+pub use outside::{RealFiles, RealSink, Standard};
+pub use spawner::RealSpawner;

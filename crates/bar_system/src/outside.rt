@@ -1,0 +1,264 @@
+//! The files and streams of the system. They tell what was read and what was handed over, and count their faults.
+ghost use Rattle.std.specs.Prelude.{◌≡◌, ◌≤◌, ◌<◌, [], ◌∷◌, length, take, slice_get, string_bytes, All, IfSome, IsSomeAnd, IsTrue, OnErr, OnOk};
+ghost use Rattle.std.specs.Io.KnownBytes.{Appends};
+ghost use Rattle.bar_outside.specs.Disk.{Content, CreatedFiles};
+ghost use Rattle.bar_system.specs.History.{disk_by, made_of, stream_by};
+ghost use Rattle.bar_system.specs.Refusal.{IsRefusal};
+
+use bar_outside::{FileFault, Files, LARGEST_FILE, Sink, SinkFault};
+use bar_told::{Log, Note};
+use std::io::{ErrorKind, Read, Stderr, Stdout, Write};
+use std::{fs, io, rt};
+
+#[cfg(test)]
+mod tests;
+
+/// A file that was created, kept open for what is appended to it.
+#[derive(Drop)]
+pub struct CreatedFile<F> {
+    path: String,
+    file: F,
+}
+
+/// Files of the system. They tell what was read and what was handed over.
+#[derive(Drop)]
+pub struct RealFiles<'a, R: rt::Files> {
+    rt: &'a R,
+    created: Vec<CreatedFile<R::File>>,
+    log: Log,
+    faults: u64,
+    ghost here: { All (λ f. IsTrue (made_of log.events (string_bytes f.path))) created.items },
+}
+
+impl<'a, R: rt::Files + AllocGlobal> RealFiles<'a, R> {
+    ghost use Rattle.std.specs.Prelude.{⊤, Err};
+    ghost use Rattle.bar_outside.specs.Causes.{HasCause};
+    ghost use Rattle.bar_told.specs.Noted.{event_of};
+
+    /// The files that this runtime reaches. None was created so far.
+    pub fn new(rt: &'a R) -> Self
+        ensures { (was : Content) → disk_by result.log.events result.faults was ≡ disk_by [] 0 was }
+    {
+        RealFiles {
+            rt,
+            created: Vec::new(rt.alloc()),
+            log: Log::new(),
+            faults: 0,
+        }
+    }
+
+    // Counts a fault and notes it, unless it is want of memory.
+    fn fault(&mut self, error: &io::Error, note: &Note<'_>) -> FileFault
+        requires { IsRefusal (event_of note.now) }
+        ensures cause { HasCause {T = ⊤} FileFault.Failed self.old.faults self.new.faults (Err result) }
+        ensures noted { result ≡ FileFault.Failed → self.new.log.events ≡ event_of note.now ∷ self.old.log.events }
+        ensures unnoted { result ≡ FileFault.NoMemory → self.new.log.events ≡ self.old.log.events }
+    {
+        if error.kind() == ErrorKind::OutOfMemory {
+            return FileFault::NoMemory;
+        }
+        self.log = self.log.then(note);
+        self.faults = self.faults.saturating_add(1);
+        FileFault::Failed
+    }
+}
+
+// All the bytes of a file, read once. A file that is too large is an error.
+fn read_file<R: rt::Files + AllocGlobal>(rt: &R, path: &str) -> io::Result<Vec<u8>> {
+    let mut bytes = Vec::new(rt.alloc());
+    let file = fs::open(rt, path)?;
+    file.take(LARGEST_FILE as u64 + 1).read_to_end(&mut bytes)?;
+    if bytes.len() > LARGEST_FILE {
+        return Err(io::Error::from(ErrorKind::FileTooLarge));
+    }
+    Ok(bytes)
+}
+
+// Leaves an empty file of this name, and keeps it open.
+fn create_file<R: rt::Files + AllocGlobal>(
+    rt: &R,
+    created: &mut Vec<CreatedFile<R::File>>,
+    path: &str,
+) -> io::Result<()>
+    ensures made { (here : CreatedFiles) → All (λ f. IsTrue (here (string_bytes f.path))) created.old.items → IsTrue (here path.now) →
+        All (λ f. IsTrue (here (string_bytes f.path))) created.new.items }
+    ensures same { OnErr result (created.new.items ≡ created.old.items) }
+{
+    let name = String::from_str(rt.alloc(), path)?;
+    // The place is taken first, so that a file that was made has one.
+    created.reserve(1)?;
+    let file = fs::create(rt, path)?;
+    if created.push(CreatedFile { path: name, file }).is_err() {
+        return Err(io::Error::from(ErrorKind::OutOfMemory));
+    }
+    Ok(())
+}
+
+// The place of a file of this name that was created last.
+fn place_of<F>(created: &[CreatedFile<F>], path: &str) -> Option<usize>
+    ensures within { IfSome result (λ place. place < length created.now) }
+    ensures named { IfSome result (λ place. IsSomeAnd (slice_get created.now place) (λ f. string_bytes f.path ≡ path.now)) }
+{
+    for back in 0..created.len() {
+        let place = created.len() - 1 - back;
+        if created[place].path.as_str() == path {
+            return Some(place);
+        }
+    }
+    None
+}
+
+// Adds the bytes to a file that was created, and answers how many it took; or `None`, where it wasn't.
+fn append_file<F: Write>(
+    created: &mut Vec<CreatedFile<F>>,
+    path: &str,
+    bytes: &[u8],
+) -> Option<(usize, io::Result<()>)>
+    ensures few { IfSome result (λ r. r.0 ≤ length bytes.now) }
+    ensures all { IfSome result (λ r. OnOk r.1 (r.0 ≡ length bytes.now)) }
+    ensures here { (here : CreatedFiles) → All (λ f. IsTrue (here (string_bytes f.path))) created.old.items →
+        IfSome result (λ _. IsTrue (here path.now)) }
+    ensures kept { (here : CreatedFiles) → All (λ f. IsTrue (here (string_bytes f.path))) created.old.items →
+        All (λ f. IsTrue (here (string_bytes f.path))) created.new.items }
+{
+    let place = place_of(created, path)?;
+    let other = created.get_mut(place)?;
+    Some(write_bytes(&mut other.file, bytes))
+}
+
+impl<R: rt::Files + AllocGlobal> Files for RealFiles<'_, R> {
+    ghost disk = { λ files was. disk_by files.log.events files.faults was };
+
+    fn read(&mut self, path: &str) -> Result<Vec<u8>, FileFault> {
+        match read_file(self.rt, path) {
+            Ok(bytes) => {
+                self.log = self.log.then(&Note::Read(path, &bytes));
+                Ok(bytes)
+            }
+            Err(error) => Err(self.fault(&error, &Note::Unread(path))),
+        }
+    }
+
+    fn create(&mut self, path: &str) -> Result<(), FileFault> {
+        match create_file(self.rt, &mut self.created, path) {
+            Ok(()) => {
+                self.log = self.log.then(&Note::Made(path));
+                Ok(())
+            }
+            Err(error) => Err(self.fault(&error, &Note::Unmade(path))),
+        }
+    }
+
+    fn append(&mut self, path: &str, bytes: &[u8]) -> Result<(), FileFault> {
+        match append_file(&mut self.created, path, bytes) {
+            Some((took, written)) => {
+                self.log = self.log.then(&Note::Added(path, &bytes[..took]));
+                match written {
+                    Ok(()) => Ok(()),
+                    Err(error) => Err(self.fault(&error, &Note::Unadded(path))),
+                }
+            }
+            None => {
+                let error = io::Error::from(ErrorKind::NotFound);
+                Err(self.fault(&error, &Note::Unadded(path)))
+            }
+        }
+    }
+}
+
+/// A standard stream.
+#[derive(Drop)]
+pub enum Standard {
+    Out(Stdout),
+    Err(Stderr),
+}
+
+impl Write for Standard {
+    fn write(&mut self, buf: &[u8]) -> io::Result<usize> {
+        match self {
+            Standard::Out(out) => out.write(buf),
+            Standard::Err(err) => err.write(buf),
+        }
+    }
+
+    fn flush(&mut self) -> io::Result<()> {
+        match self {
+            Standard::Out(out) => out.flush(),
+            Standard::Err(err) => err.flush(),
+        }
+    }
+}
+
+/// A stream of the system. It tells what was handed over to it.
+#[derive(Drop)]
+pub struct RealSink<W: Write> {
+    stream: W,
+    log: Log,
+    faults: u64,
+}
+
+impl<W: Write> RealSink<W> {
+    ghost use Rattle.bar_system.specs.RealSink.{stream_of};
+
+    /// This stream, to which nothing was handed over so far, with no fault.
+    pub fn new(stream: W) -> Self
+        ensures { stream_of result ≡ stream_by [] 0 }
+    {
+        RealSink {
+            stream,
+            log: Log::new(),
+            faults: 0,
+        }
+    }
+}
+
+// Writes the bytes, and answers how many of them the stream took, and why it took no more.
+fn write_bytes<W: Write>(stream: &mut W, bytes: &[u8]) -> (usize, io::Result<()>)
+    ensures few { result.0 ≤ length bytes.now }
+    ensures all { OnOk result.1 (result.0 ≡ length bytes.now) }
+    // a stream that says what it holds has got exactly these
+    ensures exact { Appends (W.contents stream.old) (W.contents stream.new) (take result.0 bytes.now) }
+{
+    let mut took = 0;
+    for _ in 0..u64::MAX {
+        if took >= bytes.len() {
+            return (took, stream.flush());
+        }
+        match stream.write(&bytes[took..]) {
+            Ok(0) => return (took, Err(io::Error::from(ErrorKind::WriteZero))),
+            Ok(more) => took += more,
+            Err(error) => {
+                if error.kind() != ErrorKind::Interrupted {
+                    return (took, Err(error));
+                }
+            }
+        }
+    }
+    (took, Err(io::Error::from(ErrorKind::TimedOut)))
+}
+
+impl<W: Write> Sink for RealSink<W> {
+    ghost use Rattle.bar_outside.specs.Stream.{Writes};
+    ghost use Rattle.bar_system.specs.RealSink.{stream_of, HandsOn};
+
+    ghost stream = { stream_of };
+
+    fn write(&mut self, bytes: &[u8]) -> Result<(), SinkFault>
+        ensures writes { Writes bytes.now (stream_of self.old) (stream_of self.new) result }
+        // what is told is what a stream got that says what it holds
+        ensures hands_on { HandsOn W.contents self.old self.new }
+    {
+        let (took, written) = write_bytes(&mut self.stream, bytes);
+        self.log = self.log.then(&Note::Wrote(&bytes[..took]));
+        match written {
+            Ok(()) => Ok(()),
+            Err(error) => {
+                if error.kind() == ErrorKind::OutOfMemory {
+                    return Err(SinkFault::NoMemory);
+                }
+                self.faults = self.faults.saturating_add(1);
+                Err(SinkFault::Failed)
+            }
+        }
+    }
+}

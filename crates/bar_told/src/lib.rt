@@ -1,0 +1,6 @@
+//! A history of calls that proofs alone read: what an object of the system was asked for, and how it answered.
+#![tactic(auto)]
+
+mod log;
+
+pub use log::{Log, Note};
