@@ -2,6 +2,7 @@
 //! taken and handed on.
 #![tactic(auto)]
 
+mod held;
 mod link;
 mod outside;
 mod spawner;

@@ -3,7 +3,7 @@ use Rattle.std.proofs.lemmas.Option.{slice_get_read}
 use Rattle.bar_system.proofs.outside.place_of.Goals as goal
 
 pub returns-then-eq-clause-named : goal.returns-then-eq-clause-named
-returns-then-eq-clause-named g c =
+returns-then-eq-clause-named c =
     let created = c.args.created.now in
     let place = length created - 1 - c.loop-back.back in
     let within : place < length created = omega (arith, c.loop-back-test.true) in
