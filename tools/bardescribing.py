@@ -230,6 +230,8 @@ def evidence_told(data, datagrams):
 
 def proof_told(data, datagrams):
     """A proof: a line for each manifest, and for each datagram of its evidence."""
+    if data[: PROOF_HEAD - 1] != PROOF_MAGIC or len(data) < PROOF_HEAD:
+        raise Malformed("it has no head of a proof file")
     lines, at = [], PROOF_HEAD
     for _ in range(data[PROOF_HEAD - 1]):
         size = int.from_bytes(data[at : at + 2], "big")

@@ -16,7 +16,7 @@ from barformats import Malformed, Session
 from bargathering import gathered
 from barprogram import await_end, lines_of, running, status_of
 from barreplays import between_peers, differences, replays_of
-from barscript import Refusal, counted, failed, listed, refuse, say, told_of, well
+from barscript import Refusal, counted, failed, faults_of_place, listed, refuse, say, told_of, well
 from barsession import begin_of, is_free, key_of, party_words, session_words
 from barwatching import Watch, watched
 
@@ -93,6 +93,11 @@ def faults_of(folder, session, kill):
     yield from faults_of_ports(session)
 
 
+def faults_of_picture(path):
+    """What refuses to draw a picture to this path, if one is named."""
+    return faults_of_place(path, b"<svg", "a picture of a run") if path else []
+
+
 def accept(folder, kill=None):
     """The session of a folder, which is refused by all that is wrong with it."""
     session = session_of(folder)
@@ -109,7 +114,7 @@ def line_of(folder, party, status):
     if party == 0 or not played.exists():
         return f"party {party} status {status}"
     size, length = played.stat().st_size, folder.stream.stat().st_size
-    part = f"{size / length:.1%}" if length else "all"
+    part = f"{size / length:.1%}" if length else "of an empty stream"
     return f"party {party} status {status} played {size} of {length} bytes, {part}"
 
 
