@@ -27,6 +27,8 @@ SIGNED = {MANIFEST, REQUEST, RESPONSE, QUERY, REPLY, CASE, KEY, EVICT}
 
 # how long the heads of a recording and of a datagram are, and what every datagram begins with, before the session's version
 RECORDING_HEAD = 15
+# up to how many bytes of a file the program reads
+LARGEST_FILE = 1 << 30
 DATAGRAM_HEAD = 16
 MAGIC = b"\xba\x47"
 

@@ -12,6 +12,7 @@ import bartimeline
 from baraudits import audit_of
 from barcauses import causes_of
 from bardisturbing import Ended
+from barfloods import flood_lines, floods_of
 from barformats import Malformed, Session
 from bargathering import gathered
 from barprogram import await_end, lines_of, running, status_of
@@ -183,10 +184,10 @@ def compare_and_draw(folder, session, program, audit, picture, statuses=None):
     return [*causes, *unwritten], page
 
 
-def lost_lines(drops):
-    """A line for each party whose receive buffer ran over."""
+def lost_lines(drops, floods=()):
+    """A line for each party whose receive buffer ran over, but for those that were flooded."""
     for party, count in sorted(drops.items()):
-        if count:
+        if count and party not in floods:
             lost = f"{counted(count, 'datagram')} {'was' if count == 1 else 'were'} lost"
             yield f"party {party}: its receive buffer ran over, {lost}; a longer tick (--tick-ms) helps"
 
@@ -231,7 +232,8 @@ def outcome_of_run(folder, session, program, ran, kill=None, picture=None):
     say(audit.line)
     failures = barliars.audit_failures(audit, barliars.liars_in(folder))
     differ, page = compare_and_draw(folder, session, program, audit, picture, ran.statuses)
-    for line in lost_lines(ran.drops):
+    floods = floods_of(folder, session, ran.drops)
+    for line in [*flood_lines(floods), *lost_lines(ran.drops, floods)]:
         say(line)
     if causes or failures or differ:
         say(page)
