@@ -87,11 +87,13 @@ class Bench:
             printed = [await_end(process) for process in (one, two)]
         return [Ran(status_of(process), *told) for process, told in zip((one, two), printed)]
 
-    def run_killed(self, folder, seconds):
-        """Starts peer 1, whose session begins in a minute, and kills it after so many seconds."""
-        begin = round(1000 * (time.time() + 60))
+    def run_killed(self, folder, seconds, is_beside=False):
+        """Starts peer 1, whose session begins in a minute, and kills it after so many seconds, or as soon as it writes beside its key."""
+        begin, beside = round(1000 * (time.time() + 60)), folder.key(1).with_name(f"{folder.key(1).name}.new")
         with running(self.peer_words(folder, begin), stdout=subprocess.PIPE, stderr=subprocess.PIPE) as process:
-            time.sleep(seconds)
+            until = time.monotonic() + seconds
+            while time.monotonic() < until and not (is_beside and beside.exists()):
+                time.sleep(0 if is_beside else max(0, until - time.monotonic()))
             process.send_signal(signal.SIGKILL)
             await_end(process)
 
@@ -135,10 +137,13 @@ def shared_faults(bench, is_one_text, ports):
 # ---- runs that are killed
 
 
-def killed_faults(bench, seconds, is_run_again):
-    """What isn't as it should be of a peer that is killed after so many seconds. Returns whether its key is spent, and the faults."""
+def killed_faults(bench, seconds, is_run_again, is_beside=False):
+    """What isn't as it should be of a peer that is killed after so many seconds, or as soon as it writes beside its key.
+
+    Returns whether its key is spent, and the faults.
+    """
     folder = bench.copy()
-    bench.run_killed(folder, seconds)
+    bench.run_killed(folder, seconds, is_beside)
     left = bench.left(folder)
     faults = [*left.faults()]
     if is_run_again and not faults:
