@@ -24,6 +24,7 @@ from barformats import (
     Malformed,
     Session,
     entries_of,
+    fingerprint_of,
     manifests_of,
     parts_of,
     sends_of,
@@ -249,7 +250,7 @@ def key_told(data, _datagrams=None):
 
 def session_told(data, _datagrams=None):
     """A session's text: a line for each number."""
-    session = dataclasses.asdict(Session.of_text(data))
+    session = dataclasses.asdict(Session.of_text(data)) | {"SHA-256": fingerprint_of(data)}
     return Told("a session's text", [(f"{name} = {value}", {name: value}) for name, value in session.items() if value is not None])
 
 

@@ -1,4 +1,5 @@
 """What tools/show tells of files and of the datagrams in them."""
+import hashlib
 import json
 import pathlib
 import shutil
@@ -156,6 +157,11 @@ class Script(RoomCase):
             self.assertEqual(status, 0)
             self.assertEqual(len(secret), 64)
             self.assertNotIn(secret, "\n".join(out + err))
+
+    def test_the_fingerprint_of_a_text(self):
+        path = EXAMPLE / "evidence/session.toml"
+        status, out, err = run_script("show", path)
+        self.assertEqual((status, out[-2]), (0, f"SHA-256 = {hashlib.sha256(path.read_bytes()).hexdigest()}"), err)
 
     def test_what_is_refused(self):
         status, _, err = run_script("show", self.room / "none")
