@@ -3,6 +3,7 @@
 The real link takes so many datagrams and bytes between two ticks, and drops what comes behind them until the next one is due.
 """
 import dataclasses
+import itertools
 
 from barformats import Malformed, entries_of
 from barscript import counted, listed
@@ -30,6 +31,11 @@ def full_ticks(entries):
         else:
             count, size = count + 1, size + len(entry)
     return full
+
+
+def full_ticks_of(taken):
+    """The same of what a peer took, each datagram with the tick before it."""
+    return sum(full_ticks([datagram for _, datagram in behind]) for _, behind in itertools.groupby(taken, key=lambda it: it[0]))
 
 
 @dataclasses.dataclass(frozen=True)

@@ -34,6 +34,8 @@ class Floods(RoomCase):
         self.assertEqual(barfloods.full_ticks([None, SHORT, None]), 0)
         self.assertEqual(barfloods.full_ticks([*[SHORT] * MOST_DATAGRAMS, None, *[SHORT] * (MOST_DATAGRAMS - 1), None]), 1)
         self.assertEqual(barfloods.full_ticks([None, *[bytes(65_507)] * 128]), 1)
+        taken = [*[(1, SHORT)] * MOST_DATAGRAMS, (2, SHORT), *[(4, SHORT)] * MOST_DATAGRAMS]
+        self.assertEqual(barfloods.full_ticks_of(taken), 2)
 
     def test_a_loss_is_no_flood_and_a_great_loss_is(self):
         most = barfloods.most_of(self.session, 2)
