@@ -171,6 +171,35 @@ class Attack:
                 self.look(time.time(), sender)
 
 
+# ---- floods
+
+# how many datagrams a flood sends each peer between two looks at the end
+FLOOD_BURST = 64
+
+# what floods are made of: datagrams of zeros, as long as they can be, and questions for keys of the session, which are as short as they can be
+FLOODS = {
+    "long": lambda session, party: bytes(LARGEST),
+    "short": lambda session, party: head(session, KEYREQ, party % session.peers + 1, party) + bytes([0, 0, 0, 1, 0, 0]),
+}
+
+
+class Flood:
+    """Sends all peers of a session datagrams of one kind, as fast as it can, from now on."""
+
+    def __init__(self, session, kind):
+        self.targets = [(FLOODS[kind](session, party), (LOOPBACK, session.port + party)) for party in session.parties if party]
+        self.sent = 0
+
+    def looks(self, ended):
+        """Sends until the end."""
+        with socket.socket(socket.AF_INET, socket.SOCK_DGRAM) as sender:
+            while not ended.is_set():
+                for datagram, target in self.targets:
+                    for _ in range(FLOOD_BURST):
+                        sender.sendto(datagram, target)
+                    self.sent += FLOOD_BURST
+
+
 # ---- what came of it
 
 

@@ -9,7 +9,7 @@ import re
 import tempfile
 
 from bardatagrams import Exchange
-from barformats import entries_of, whole_recording
+from barformats import LARGEST_FILE, RECORDING_HEAD, entries_of, head_of, recording_of, whole_recording
 from barprogram import Status, run
 from barscript import counted, listed
 
@@ -42,6 +42,8 @@ class Audit:
     # why it wasn't audited, and whether that is a failure of the auditor's own
     refused: str | None = None
     is_failure: bool = False
+    # the parties whose recordings are refused, each with the reason: the audit went on without them
+    left_out: dict = dataclasses.field(default_factory=dict)
 
     @property
     def unbalanced(self):
@@ -66,23 +68,27 @@ class Audit:
         """What was found, in one line."""
         if self.refused:
             return f"the recordings weren't audited: {self.refused}"
+        told = "the audit finds no exchange"
         if self.named:
             number, push, initiator, responder = self.named
-            return f"the audit finds exchange {number} {push:d} {initiator} {responder} unbalanced: {self.cause}"
-        return f"the audit finds {self.balanced} balanced" if self.entries else "the audit finds no exchange"
+            told = f"the audit finds exchange {number} {push:d} {initiator} {responder} unbalanced: {self.cause}"
+        elif self.entries:
+            told = f"the audit finds {self.balanced} balanced"
+        without = listed(f"party {party} ({reason})" for party, reason in self.left_out.items()) if self.left_out else ""
+        return f"{told}, without {without}" if without else told
 
     @property
     def failures(self):
         """What failed, if anything."""
-        return [self.line] if self.named or self.is_failure else []
+        return [self.line] if self.named or self.is_failure or self.left_out else []
 
 
 def exchange_of(number, push, initiator, responder):
     return Exchange(int(number), push == "1", int(initiator), int(responder))
 
 
-def audit_of_text(recordings, printed):
-    """An audit of so many recordings, by the lines that were printed."""
+def audit_of_text(recordings, printed, left_out=None):
+    """An audit of so many recordings, by the lines that were printed, and what was left out of it."""
     entries, named, last = [], None, None
     for last in printed.splitlines():
         if it := EXCHANGE.fullmatch(last):
@@ -92,33 +98,76 @@ def audit_of_text(recordings, printed):
             named = exchange_of(*it.groups())
     if last != "balanced" and not named:
         return Audit(refused=f"the auditor ended with the line {last!r}", is_failure=True)
-    return Audit(recordings, tuple(entries), named)
+    return Audit(recordings, tuple(entries), named, left_out=left_out or {})
+
+
+def place_in(room, party):
+    """Where an audit of this folder finds a party's recording."""
+    return pathlib.Path(room) / f"R.{party}.recording"
+
+
+def too_large(path):
+    """Why a file isn't read by the program, if it is too large."""
+    size = path.stat().st_size
+    return f"it has {size:,} bytes, and files up to {LARGEST_FILE:,} are read" if size > LARGEST_FILE else None
 
 
 def mend(folder, party, room):
     """Puts a peer's recording, up to its last whole entry, where an audit of this folder finds it."""
-    recording, place = folder.recording(party).read_bytes(), pathlib.Path(room) / f"R.{party}.recording"
-    if entries_of(recording)[1]:
+    place = place_in(room, party)
+    recording = b"" if too_large(folder.recording(party)) else folder.recording(party).read_bytes()
+    if not recording or entries_of(recording)[1]:
         place.symlink_to(folder.recording(party))
     else:
         place.write_bytes(whole_recording(recording))
 
 
+def refused_alone(folder, session, program, room):
+    """The recordings that an audit of each by itself refuses, by party, with the reason."""
+    refused = {}
+    for party in session.parties[:-1]:
+        large = too_large(folder.recording(party))
+        ran = None if large else run(program, "audit", session=folder.session, results=f"{room}/R", first=party, last=party)
+        if large or ran.status in (Status.FILE, Status.INPUT):
+            refused[party] = large or ran.told
+    return refused
+
+
+def leave_out(session, left_out, room):
+    """Takes parties out of the recordings of an audit: their own have nothing, and those of the others nothing from them."""
+    for party in session.parties[:-1]:
+        place = place_in(room, party)
+        head, kept = b"BARL\x01" + bytes.fromhex(session.id) + party.to_bytes(2, "big"), []
+        if party not in left_out:
+            recording = place.read_bytes()
+            senders = ((entry, entry and head_of(entry, session)) for entry in entries_of(recording)[0])
+            head, kept = recording[:RECORDING_HEAD], [entry for entry, it in senders if not it or it[1] not in left_out]
+        place.unlink()
+        place.write_bytes(recording_of(head, kept))
+
+
 def audit_of(folder, session, program):
-    """Audits the recordings of all peers of a session, where all are there."""
+    """Audits the recordings of all peers of a session, where all are there, without those that are refused."""
     peers = range(1, session.peers + 1)
     missing = [f"party {party}" for party in peers if not folder.recording(party).is_file()]
     if missing:
         return Audit(refused=f"{listed(missing)} left no recording")
+    left_out = {}
     try:
         with tempfile.TemporaryDirectory() as room:
             for party in peers:
                 mend(folder, party, room)
-            ran = run(program, "audit", session=folder.session, results=f"{room}/R", first=1, last=session.peers)
+            words = {"session": folder.session, "results": f"{room}/R", "first": 1, "last": session.peers}
+            ran = run(program, "audit", **words)
+            if ran.status in (Status.FILE, Status.INPUT):
+                left_out = refused_alone(folder, session, program, room)
+                if left_out and len(left_out) < len(peers):
+                    leave_out(session, left_out, room)
+                    ran = run(program, "audit", **words)
     except OSError as error:
         return Audit(refused=f"{error.filename or 'a recording'} can't be read: {error.strerror}", is_failure=True)
     if ran.status == Status.WORDS:
         return Audit(refused="the program has no command `audit`, as earlier ones have none")
     if ran.status not in (Status.DONE, Status.NO_FAULT):
         return Audit(refused=ran.told, is_failure=True)
-    return audit_of_text(session.peers, ran.printed.decode(errors="replace"))
+    return audit_of_text(session.peers - len(left_out), ran.printed.decode(errors="replace"), left_out)

@@ -44,6 +44,7 @@ class PeerRow:
     taken: int = 0
     bytes_taken: int = 0
     lost: int = 0
+    full: int = 0
 
 
 @dataclasses.dataclass

@@ -24,6 +24,7 @@ from barformats import (
     Malformed,
     Session,
     entries_of,
+    fingerprint_of,
     manifests_of,
     parts_of,
     sends_of,
@@ -230,6 +231,8 @@ def evidence_told(data, datagrams):
 
 def proof_told(data, datagrams):
     """A proof: a line for each manifest, and for each datagram of its evidence."""
+    if data[: PROOF_HEAD - 1] != PROOF_MAGIC or len(data) < PROOF_HEAD:
+        raise Malformed("it has no head of a proof file")
     lines, at = [], PROOF_HEAD
     for _ in range(data[PROOF_HEAD - 1]):
         size = int.from_bytes(data[at : at + 2], "big")
@@ -247,7 +250,7 @@ def key_told(data, _datagrams=None):
 
 def session_told(data, _datagrams=None):
     """A session's text: a line for each number."""
-    session = dataclasses.asdict(Session.of_text(data))
+    session = dataclasses.asdict(Session.of_text(data)) | {"SHA-256": fingerprint_of(data)}
     return Told("a session's text", [(f"{name} = {value}", {name: value}) for name, value in session.items() if value is not None])
 
 

@@ -4,6 +4,9 @@ import re
 from bargrammar import EXCHANGE_KINDS, FIELDS, GRAMMAR, HEAD, NUMBER, ROLES, WORD_SIZE, window_words
 from barformats import MAGIC, UPDATES
 
+# the first line of a dissector
+FRONT = "-- Dissects the datagrams of bar. It is made from the table of the grammar by tools/export-pcap."
+
 # the Lua that walks over a datagram by the tables before it
 WALK = """
 local function is_one(buffer)
@@ -145,7 +148,7 @@ def dissector_of(session):
     every = [*HEAD, *(field for fields in FIELDS.values() for field in fields)]
     names = [*declared(every), ("signature", f'ProtoField.bytes("{abbreviation("signature")}", "signature")')]
     lines = [
-        "-- Dissects the datagrams of bar. It is made from the table of the grammar by tools/export-pcap.",
+        FRONT,
         'local bar = Proto("bar", "bar gossip")',
         f'bar.prefs.life = Pref.uint("Life", {session.life}, "how many rounds an update lives in the session")',
         f"local magic, word_size = 0x{MAGIC[:2].hex()}, {WORD_SIZE}",

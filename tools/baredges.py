@@ -94,9 +94,9 @@ def said_faults(ran):
 
 
 def key_faults(done, whole):
-    """A key file that was to be spent is as it was, or a front of what a whole run leaves."""
-    if done.is_key_changed and not whole.key.startswith(done.key):
-        yield "the key file is neither as it was nor a front of the spent one"
+    """A key file that was to be spent is as it was, or what a whole run leaves."""
+    if done.is_key_changed and done.key != whole.key:
+        yield "the key file is neither as it was nor the spent one"
 
 
 class Look:

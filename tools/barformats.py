@@ -1,5 +1,6 @@
 """Reads the files and datagrams that docs/FORMATS.md defines. What isn't what its name says is refused with the reason (`Malformed`)."""
 import dataclasses
+import hashlib
 import itertools
 import re
 import reprlib
@@ -27,6 +28,8 @@ SIGNED = {MANIFEST, REQUEST, RESPONSE, QUERY, REPLY, CASE, KEY, EVICT}
 
 # how long the heads of a recording and of a datagram are, and what every datagram begins with, before the session's version
 RECORDING_HEAD = 15
+# up to how many bytes of a file the program reads
+LARGEST_FILE = 1 << 30
 DATAGRAM_HEAD = 16
 MAGIC = b"\xba\x47"
 
@@ -328,6 +331,11 @@ class KeyFile:
         others = [name for name, value in wanted.items() if getattr(self, name) != value]
         if others:
             yield f"it has another {listed(others)} than party {party} of the session"
+
+
+def fingerprint_of(text):
+    """What tells a session's text from any other: its SHA-256."""
+    return hashlib.sha256(text).hexdigest()
 
 
 # ---- recordings

@@ -21,6 +21,7 @@ from bardata import (
 )
 from bardatagrams import Reader
 from barexchanges import Account, round_of
+from barfloods import full_ticks_of
 from barformats import CONTENT, SLOTS, Malformed, head_of, parts_of
 from bargrammar import EXCHANGE_KINDS, name_of
 from barcasting import casts_in
@@ -118,6 +119,7 @@ def peer_row(account, rounds, losses, **known):
         taken=len(log.taken),
         bytes_taken=sum(len(datagram) for _, datagram in log.taken),
         lost=losses.lost_by_peer[account.party],
+        full=full_ticks_of(log.taken),
         **known,
     )
 

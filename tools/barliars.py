@@ -2,7 +2,8 @@
 import collections
 import json
 
-from barscript import counted, listed
+from barnetwork import LIES
+from barscript import Refusal, counted, listed
 
 # the faults that the judge tells, in words
 FAULTS = {
@@ -19,10 +20,15 @@ FAULTS = {
 def liars_in(folder):
     """The peers that lied in the run of a folder, each with its lie. There are none where nothing is told of its network."""
     try:
-        told = json.loads(folder.network.read_text("utf-8"))
+        liars = {int(party): lie for party, lie in json.loads(folder.network.read_text("utf-8"))["liars"].items()}
+        others = [lie for lie in liars.values() if lie not in LIES]
     except FileNotFoundError:
         return {}
-    return {int(party): lie for party, lie in told["liars"].items()}
+    except (ValueError, KeyError, TypeError, AttributeError):
+        raise Refusal(f"{folder.network} tells of no network: move it away") from None
+    if others:
+        raise Refusal(f"{folder.network} tells of lies that nobody tells: move it away")
+    return liars
 
 
 def fault_of(name):

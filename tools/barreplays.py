@@ -4,6 +4,7 @@ import dataclasses
 import itertools
 import tempfile
 
+from baraudits import too_large
 from barformats import Malformed, entries_of, head_of, transcript_of, whole_recording
 from barprogram import Status, run, spread
 from barscript import counted
@@ -47,6 +48,9 @@ def log_of(recording, printed, played, findings):
 def replay(folder, program, party):
     """Replays a peer's recording, up to its last whole entry, and returns its log, or why there is none."""
     path = folder.recording(party)
+    large = too_large(path)
+    if large:
+        return large
     recording = path.read_bytes()
     with tempfile.TemporaryDirectory() as room:
         again = Folder(room)

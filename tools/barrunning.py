@@ -12,11 +12,12 @@ import bartimeline
 from baraudits import audit_of
 from barcauses import causes_of
 from bardisturbing import Ended
+from barfloods import flood_lines, floods_of
 from barformats import Malformed, Session
 from bargathering import gathered
 from barprogram import await_end, lines_of, running, status_of
 from barreplays import between_peers, differences, replays_of
-from barscript import Refusal, counted, failed, listed, refuse, say, told_of, well
+from barscript import Refusal, counted, failed, faults_of_place, listed, refuse, say, told_of, well
 from barsession import begin_of, is_free, key_of, party_words, session_words
 from barwatching import Watch, watched
 
@@ -93,6 +94,11 @@ def faults_of(folder, session, kill):
     yield from faults_of_ports(session)
 
 
+def faults_of_picture(path):
+    """What refuses to draw a picture to this path, if one is named."""
+    return faults_of_place(path, b"<svg", "a picture of a run") if path else []
+
+
 def accept(folder, kill=None):
     """The session of a folder, which is refused by all that is wrong with it."""
     session = session_of(folder)
@@ -109,7 +115,7 @@ def line_of(folder, party, status):
     if party == 0 or not played.exists():
         return f"party {party} status {status}"
     size, length = played.stat().st_size, folder.stream.stat().st_size
-    part = f"{size / length:.1%}" if length else "all"
+    part = f"{size / length:.1%}" if length else "of an empty stream"
     return f"party {party} status {status} played {size} of {length} bytes, {part}"
 
 
@@ -178,10 +184,10 @@ def compare_and_draw(folder, session, program, audit, picture, statuses=None):
     return [*causes, *unwritten], page
 
 
-def lost_lines(drops):
-    """A line for each party whose receive buffer ran over."""
+def lost_lines(drops, floods=()):
+    """A line for each party whose receive buffer ran over, but for those that were flooded."""
     for party, count in sorted(drops.items()):
-        if count:
+        if count and party not in floods:
             lost = f"{counted(count, 'datagram')} {'was' if count == 1 else 'were'} lost"
             yield f"party {party}: its receive buffer ran over, {lost}; a longer tick (--tick-ms) helps"
 
@@ -226,7 +232,8 @@ def outcome_of_run(folder, session, program, ran, kill=None, picture=None):
     say(audit.line)
     failures = barliars.audit_failures(audit, barliars.liars_in(folder))
     differ, page = compare_and_draw(folder, session, program, audit, picture, ran.statuses)
-    for line in lost_lines(ran.drops):
+    floods = floods_of(folder, session, ran.drops)
+    for line in [*flood_lines(floods), *lost_lines(ran.drops, floods)]:
         say(line)
     if causes or failures or differ:
         say(page)

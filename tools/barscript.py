@@ -99,6 +99,15 @@ def faults_of_counts(words, *names):
     return (f"--{name.replace('_', '-')} is {value}: take 1 or more" for name, value in values if value is not None and value < 1)
 
 
+def faults_of_place(path, front, what):
+    """What refuses to write this, which begins with these bytes, to a path: another file is there."""
+    if path.is_file():
+        with open(path, "rb") as file:
+            begins = file.read(len(front))
+        if begins not in (b"", front):
+            yield f"{path} is there and isn't {what}: name another file, or move it away"
+
+
 def require(paths, remedy):
     """Refuses to go on where some of these files and folders are missing."""
     missing = [str(path) for path in paths if not path.exists()]

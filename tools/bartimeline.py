@@ -201,6 +201,8 @@ def notes(run):
         reasons[peer.refused].append(f"peer {peer.peer}")
     lines += [(f"There is no row of {listed(peers)}: {reason}.", True) for reason, peers in reasons.items()]
     lines += [(f"Peer {peer.peer}: {listed(peer.differs)}.", True) for peer in run.peers if peer.differs]
+    flooded = [peer for peer in run.peers if peer.full]
+    lines += [(f"Peer {it.peer} was flooded: {counted(it.full, 'tick')} had no room for more datagrams.", True) for it in flooded]
     liars = [f"peer {peer.peer}" for peer in run.peers if peer.lies]
     lines += [(f"{listed(liars)} lied on purpose.".capitalize(), True)] if liars else []
     return [tag("p", html.escape(said), class_="warn") if warns else tag("p", html.escape(said)) for said, warns in lines]

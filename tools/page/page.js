@@ -331,7 +331,7 @@ function remember(told) {
 // shows what the address names: #peer=3&round=12&show=lost
 function follow() {
   const named = new URLSearchParams(location.hash.slice(1)), number = Number(named.get("round"));
-  if (named.get("show") in measures) {
+  if (Object.hasOwn(measures, named.get("show"))) {
     measure = named.get("show");
     document.querySelector(`input[value="${measure}"]`).checked = true;
     drawGrid();

@@ -89,6 +89,16 @@ class Script(RoomCase):
         (self.room / "session.toml").write_bytes((ROOT / "examples/first-path/one-block/session.toml").read_bytes())
         status, _, err = run_script("export-pcap", self.room, self.room / "f.pcap")
         self.assertEqual((status, err), (2, [f"REFUSED: {self.room} has no recording: name the folder of a session that was run"]))
+        shutil.copy(ROOT / "examples/first-path/one-block/recording", self.room / "party.1.recording")
+        (self.room / "f.pcap").write_text("another file")
+        status, _, err = run_script("export-pcap", self.room, self.room / "f.pcap")
+        told = f"REFUSED: {self.room}/f.pcap is there and isn't a capture: name another file, or move it away"
+        self.assertEqual((status, err, (self.room / "f.pcap").read_text()), (2, [told], "another file"))
+        status, _, err = run_script("export-pcap", self.room, self.room / "new.pcap", "--begin", 10**16)
+        self.assertEqual((status, (self.room / "new.pcap").exists()), (2, False), err)
+        (self.room / "party.1.recording").write_bytes(b"another file")
+        status, _, err = run_script("export-pcap", self.room, self.room / "new.pcap")
+        self.assertEqual((status, (self.room / "new.pcap").exists()), (2, False), err)
 
 
 def trade_in(session, blocks):

@@ -1,6 +1,8 @@
 """What tools/show tells of files and of the datagrams in them."""
+import hashlib
 import json
 import pathlib
+import shutil
 import struct
 import sys
 import unittest
@@ -156,12 +158,22 @@ class Script(RoomCase):
             self.assertEqual(len(secret), 64)
             self.assertNotIn(secret, "\n".join(out + err))
 
+    def test_the_fingerprint_of_a_text(self):
+        path = EXAMPLE / "evidence/session.toml"
+        status, out, err = run_script("show", path)
+        self.assertEqual((status, out[-2]), (0, f"SHA-256 = {hashlib.sha256(path.read_bytes()).hexdigest()}"), err)
+
     def test_what_is_refused(self):
         status, _, err = run_script("show", self.room / "none")
         self.assertEqual((status, err), (2, [f"REFUSED: {self.room}/none can't be read: No such file or directory; name a file"]))
         (self.room / "table").write_bytes(made.table(made.manifest(1)))
         status, _, err = run_script("show", self.room / "table")
-        self.assertEqual((status, err), (2, [f"REFUSED: {self.room}/session.toml can't be read: No such file or directory; name a file"]))
+        told = f"REFUSED: {self.room}/session.toml can't be read: No such file or directory; name the session's text by --session"
+        self.assertEqual((status, err), (2, [told]))
+        shutil.copy(EXAMPLE / "evidence/session.toml", self.room / "session.toml")
+        (self.room / "proof").write_bytes(b"BARP")
+        status, _, err = run_script("show", self.room / "proof")
+        self.assertEqual((status, err), (2, [f"REFUSED: {self.room}/proof can't be shown: it has no head of a proof file"]))
 
 
 if __name__ == "__main__":

@@ -1,4 +1,5 @@
 """Sessions that are made, and each refusal of one, at which nothing is made."""
+import hashlib
 import os
 import pathlib
 import stat
@@ -140,10 +141,12 @@ class Makings(RoomCase):
         words = ["--peers", 2, "--rounds", 1, "--fanout", 1, "--lms", 5, "--stream", self.stream, "--bar", fake_program(self.room)]
         status, out, err = run_script("make-session", self.room / "a/b", *words)
         self.assertEqual((status, barformats.Session.read(self.room / "a/b/session.toml").version), (0, 1))
-        self.assertRegex("\n".join(out), r"^OK: session [0-9a-f]{16}: 2 peers, 3.2 s, a stream of 600 bytes in a room of 8176$")
+        fingerprint = hashlib.sha256((self.room / "a/b/session.toml").read_bytes()).hexdigest()
+        self.assertEqual(out[:-1], [f"the SHA-256 of session.toml is {fingerprint}"])
+        self.assertRegex(out[-1], r"^OK: session [0-9a-f]{16}: 2 peers, 3.2 s, a stream of 600 bytes in a room of 8176$")
         self.assertEqual((err[0], err[-1]), ("keys: 1 of 3", "keys: 3 of 3"))
         status, out, _ = run_script("make-session", self.room / "a/c", *words, "--version", 2, "--per-round", 128)
-        self.assertRegex("\n".join(out), r"^OK: session .*, a stream of 600 bytes in a room of 130816$")
+        self.assertRegex(out[-1], r"^OK: session .*, a stream of 600 bytes in a room of 130816$")
         self.assertEqual((status, barformats.Session.read(self.room / "a/c/session.toml").version), (0, 2))
 
     def test_a_failing_program_leaves_nothing(self):

@@ -215,6 +215,24 @@ class Outcomes(SessionCase):
         self.assertEqual(self.folder.page.read_text(), pages)
         again = Run.of_json(self.folder.data.read_text())
         self.assertEqual([peer.bytes_played for peer in again.peers], [6, 6])
+        words = "draw-session", self.folder.path, "--bar", self.room / "bar"
+        picture = self.room / "picture.svg"
+        picture.write_text("another file")
+        status, _, err = run_script(*words, "--picture", picture)
+        told = f"REFUSED: {picture} is there and isn't a picture of a run: name another file, or move it away"
+        self.assertEqual((status, err, picture.read_text()), (2, [told], "another file"))
+        for text in ("[]", "{}", '{"liars": []}', '{"liars": {"one": "key"}}', "no JSON"):
+            self.folder.network.write_text(text)
+            status, _, err = run_script(*words)
+            self.assertEqual((status, err[-1]), (2, f"REFUSED: {self.folder.network} tells of no network: move it away"))
+        self.folder.network.write_text('{"liars": {"1": "\\u001b[2J"}}')
+        status, out, err = run_script(*words)
+        self.assertEqual((status, "\x1b" in "".join(out + err)), (2, False), err)
+
+    def test_a_session_that_never_ran_is_not_drawn(self):
+        status, out, err = run_script("draw-session", self.folder.path)
+        told = f"REFUSED: {self.folder.path} has no recording: run the session by tools/run-session first"
+        self.assertEqual((status, out, err), (2, [], [told]))
 
     def test_a_party_that_fails(self):
         with bound(self.session.port + 2):

@@ -1,17 +1,20 @@
--- What the history of files tells of an append.
+-- What the history of files tells of a read and of an append.
 use Rattle.std.proofs.Common.{◌≡◌, ◌++◌, ◌∷◌, ◌||◌, ◌∙◌, ℕ, Bool, List, [], Option, None, Some, Ok, Err, IsTrue, IsSome, true, false, cond, take, length, refl, sym, ap, subst, arith}
 use Rattle.std.specs.Bool.{⊤}
+use Rattle.std.specs.Prelude.{◌&&◌, Vec}
 use Rattle.std.specs.Option.{option_map}
 use Rattle.std.specs.Str.{bytes_eq}
+use Rattle.std.specs.declared.alloc.Global.{Global}
+use Rattle.std.proofs.lemmas.Bool.{and_parts}
 use Rattle.std.proofs.lemmas.Slice.Eq.{bytes_eq-Decides}
 use Rattle.std.proofs.Math.Seq.{take-length}
 use Rattle.bar_outside.specs.Causes.{HasCause}
-use Rattle.bar_outside.specs.Disk.{Appends, Content, appended, put_at}
+use Rattle.bar_outside.specs.Disk.{Appends, Content, Reads, appended, put_at, readable}
 use Rattle.bar_outside.specs.declared.files.FileFault.{FileFault}
 use Rattle.bar_outside.specs.declared.files.FileFault.TheVariants.{Failed, NoMemory}
 use Rattle.bar_outside.proofs.Contents.{appended-nothing}
 use Rattle.bar_told.specs.Event.{Event, wrote, bound, ticked, came, sent, started, waited, read, made, added, unread, unmade, unadded}
-use Rattle.bar_system.specs.History.{content_of, disk_by, made_of}
+use Rattle.bar_system.specs.History.{content_of, disk_by, fits_of, gives, made_of}
 
 true-false : true ≡ false → ⊥
 true-false e = cc
@@ -54,6 +57,30 @@ made-there (read name bytes ∷ before) was path h = made-there before was path 
 made-there (unread name ∷ before) was path h = made-there before was path h
 made-there (unmade name ∷ before) was path h = made-there before was path h
 made-there (unadded name ∷ before) was path h = made-there before was path h
+
+-- ---- reads
+
+given-held : (o : Option (List ℕ)) (bytes : List ℕ) → IsTrue (gives o bytes) → o ≡ Some bytes
+given-held (Some held) bytes h = ap Some ((bytes_eq-Decides held bytes).0 h)
+given-held None bytes h = absurd (true-false (sym h))
+
+-- what was read is told
+pub read-done : (events new : List Event) (faults : ℕ) (path : List ℕ) (bytes : Vec ℕ Global) (was : Content) →
+    new ≡ read path bytes.items ∷ events → Reads path (disk_by events faults was) (disk_by new faults was) (Ok bytes)
+read-done events new faults path bytes was e = rw e (record {
+  call = record {
+    told = λ h. (and_parts (gives (readable (content_of events was) path) bytes.items) (fits_of events was) h).1;
+    reliable = refl;
+    cause = record { later = omega arith; rose = λ f. cc };
+    failed = λ f. cc;
+    no_fault = λ f. refl;
+  };
+  same = refl;
+  same_here = refl;
+  found = λ h. given-held (readable (content_of events was) path) bytes.items
+      (and_parts (gives (readable (content_of events was) path) bytes.items) (fits_of events was) h).0;
+  refused = λ h. absurd (true-false (sym h));
+})
 
 -- ---- appends
 

@@ -15,7 +15,7 @@ module _ {F : Type 0} where
     pub was : slice_get old place ≡ Some before
     pub is : new ≡ slice_set old place after
     pub named : string_bytes before.path ≡ path
-    pub got : Appends (contents before.file) (contents after.file) piece
+    pub got : Appends (contents before.held.file) (contents after.held.file) piece
 
   -- what is told to be added to a file is what it got, or no file changed and nothing is told
   abbrev pub AddsTo : (F → Option (List ℕ)) → List ℕ → List (CreatedFile F) → List (CreatedFile F) → List Event → List Event → Type 0

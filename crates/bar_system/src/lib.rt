@@ -2,11 +2,13 @@
 //! taken and handed on.
 #![tactic(auto)]
 
+mod held;
 mod laws;
 mod link;
 mod outside;
 mod spawner;
 
+pub use held::Lockable;
 pub use laws::some_content_fits;
 pub use link::RealLink;
 pub use outside::{RealFiles, RealSink, Standard};

@@ -18,18 +18,30 @@ mod tests;
 /// coarser with their length.
 const LONGEST_WAIT: u64 = 100;
 
-/// A socket, the port of party 0, the length of a tick and the Unix time of the next one, both in milliseconds.
+/// How many datagrams are taken between two ticks. The parties of a session send a peer less than a thousand in one: a manifest, 128 blocks,
+/// a REQUEST and a QUERY from each of 199 peers, and what belongs to six exchanges. It is a quarter of those before which pacing puts a tick,
+/// so what comes moves no clock.
+const MOST_DATAGRAMS: u32 = 16_384;
+
+/// How many bytes these have. Those from the parties have less than five million, with the longest signatures.
+const MOST_BYTES: usize = 8 << 20;
+
+/// A socket, the port of party 0, the length of a tick and the Unix time of the next one, both in milliseconds; and how many datagrams and
+/// bytes are still taken before it.
 #[derive(Drop)]
 struct Bound {
     socket: UdpSocket,
     port: u16,
     tick_ms: u32,
     next_tick: u64,
+    left: u32,
+    left_bytes: usize,
 }
 
 /// A link over UDP on the loopback address. Ticks are due at the time that it is bound with and then at each length of a tick; those that
-/// are overdue come at once, one a call, before any datagram. The socket isn't connected, so that a datagram to a port where nobody listens
-/// is lost and fails nothing.
+/// are overdue come at once, one a call, before any datagram. What is no datagram of any session by its first bytes or its length is dropped,
+/// and so is what comes between two ticks behind 16,384 datagrams or 8 MiB. The socket isn't connected, so that a datagram to a port where
+/// nobody listens is lost and fails nothing.
 #[derive(Drop)]
 pub struct RealLink<'a, R> {
     rt: &'a R,
@@ -60,10 +72,53 @@ fn bind<R: Net>(rt: &R, me: u16, port: u16, begin_ms: u64, tick_ms: u32) -> io::
         port,
         tick_ms,
         next_tick: begin_ms,
+        left: MOST_DATAGRAMS,
+        left_bytes: MOST_BYTES,
     })
 }
 
-/// Waits until the next tick is due, which is `None`, or a datagram is there, which is written to the buffer. An overdue tick comes at once.
+/// The least and the most bytes of a datagram of this kind in any session: a signature has at most 9,004.
+fn lengths_of(kind: u8) -> (usize, usize) {
+    match kind {
+        1 => (21, 13_121),
+        2 => (1_045, 1_045),
+        3 => (84, 9_088),
+        4 => (20, 9_280),
+        5 => (52, 308),
+        6 => (52, 9_568),
+        7 => (21, 9_537),
+        8 => (24, 30_533),
+        9 => (22, 22),
+        10 => (54, 9_058),
+        11 => (20, LARGEST_PACKET),
+        12 => (21, 9_425),
+        _ => (1, 0),
+    }
+}
+
+/// Whether a datagram may be one of a session, by its first bytes and its length.
+fn may_be_read(datagram: &[u8]) -> bool {
+    match datagram {
+        [0xba, 0x47, 1 | 2, kind, ..] => {
+            let (least, most) = lengths_of(*kind);
+            least <= datagram.len() && datagram.len() <= most
+        }
+        _ => false,
+    }
+}
+
+/// Whether a datagram is taken; then there is less room before the next tick.
+fn takes(bound: &mut Bound, datagram: &[u8]) -> bool {
+    if !may_be_read(datagram) || bound.left == 0 || bound.left_bytes < datagram.len() {
+        return false;
+    }
+    bound.left -= 1;
+    bound.left_bytes -= datagram.len();
+    true
+}
+
+/// Waits until the next tick is due, which is `None`, or a datagram is there that is taken, which is written to the buffer. An overdue tick
+/// comes at once.
 fn wait<R: Clock>(rt: &R, bound: &mut Bound, buf: &mut [u8]) -> io::Result<Option<usize>>
     requires { length buf.old ≡ largest_packet }
     ensures within { IfOk result (λ datagram. IfSome datagram (λ len. len ≤ largest_packet)) }
@@ -72,6 +127,8 @@ fn wait<R: Clock>(rt: &R, bound: &mut Bound, buf: &mut [u8]) -> io::Result<Optio
         let now = unix_ms(rt)?;
         if bound.next_tick <= now {
             bound.next_tick = bound.next_tick.saturating_add(u64::from(bound.tick_ms));
+            bound.left = MOST_DATAGRAMS;
+            bound.left_bytes = MOST_BYTES;
             return Ok(None);
         }
         let left = (bound.next_tick - now).min(LONGEST_WAIT);
@@ -79,7 +136,11 @@ fn wait<R: Clock>(rt: &R, bound: &mut Bound, buf: &mut [u8]) -> io::Result<Optio
             .socket
             .set_read_timeout(Some(Duration::from_millis(left)))?;
         match bound.socket.recv_from(buf) {
-            Ok((len, _)) => return Ok(Some(len)),
+            Ok((len, _)) => {
+                if takes(bound, &buf[..len]) {
+                    return Ok(Some(len));
+                }
+            }
             Err(error) => match error.kind() {
                 ErrorKind::WouldBlock | ErrorKind::TimedOut | ErrorKind::Interrupted => {}
                 _ => return Err(error),

@@ -6,26 +6,39 @@ ghost use Rattle.bar_system.specs.History.{disk_by, made_of, stream_by};
 ghost use Rattle.bar_system.specs.RealFiles.{AddsTo, GotPiece};
 ghost use Rattle.bar_system.specs.Refusal.{IsRefusal};
 
+use crate::held::{HeldFile, Lockable, Mark, mark_of, open_held};
 use bar_outside::{FileFault, Files, LARGEST_FILE, Sink, SinkFault};
 use bar_told::{Log, Note};
+use std::fs::OpenFile;
 use std::io::{ErrorKind, Read, Stderr, Stdout, Write};
 use std::{fs, io, rt};
 
 #[cfg(test)]
 mod tests;
 
-/// A file that was created, kept open for what is appended to it.
+/// A file that was created, kept open and locked for what is appended to it.
 #[derive(Drop)]
 pub struct CreatedFile<F> {
     path: String,
-    file: F,
+    held: HeldFile<F>,
 }
 
-/// Files of the system. They tell what was read and what was handed over.
+/// A file that was read, and how it stood then.
+#[derive(Drop)]
+pub struct SeenFile {
+    path: String,
+    mark: Mark,
+}
+
+/// Files of the system. They tell what was read and what was handed over. Each that is created is locked until the end, and its owner's alone;
+/// one that another run has locked isn't created. One that is created after it was read must be as it was then: it is written beside, under
+/// its name and `.new`, and takes its place at the first append that is done, until when others see the old one. A key is written over by
+/// nothing but the same key.
 #[derive(Drop)]
 pub struct RealFiles<'a, R: rt::Files> {
     rt: &'a R,
     created: Vec<CreatedFile<R::File>>,
+    seen: Vec<SeenFile>,
     log: Log,
     faults: u64,
     ghost here: { All (λ f. IsTrue (made_of log.events (string_bytes f.path))) created.items },
@@ -43,6 +56,7 @@ impl<'a, R: rt::Files + AllocGlobal> RealFiles<'a, R> {
         RealFiles {
             rt,
             created: Vec::new(rt.alloc()),
+            seen: Vec::new(rt.alloc()),
             log: Log::new(),
             faults: 0,
         }
@@ -65,32 +79,66 @@ impl<'a, R: rt::Files + AllocGlobal> RealFiles<'a, R> {
     }
 }
 
-// All the bytes of a file, read once. A file that is too large is an error.
-fn read_file<R: rt::Files + AllocGlobal>(rt: &R, path: &str) -> io::Result<Vec<u8>> {
+// All the bytes of a file, read once, and how it stood before. A file that is too large is an error.
+fn read_file<R: rt::Files + AllocGlobal>(rt: &R, path: &str) -> io::Result<(Vec<u8>, Mark)> {
     let mut bytes = Vec::new(rt.alloc());
     let file = fs::open(rt, path)?;
+    let mark = mark_of(&file)?;
     file.take(LARGEST_FILE as u64 + 1).read_to_end(&mut bytes)?;
     if bytes.len() > LARGEST_FILE {
         return Err(io::Error::from(ErrorKind::FileTooLarge));
     }
+    Ok((bytes, mark))
+}
+
+// All the bytes of a file, and notes how it stood. One that was created in this run is read where its bytes stand.
+fn read_seen<R: rt::Files + AllocGlobal>(
+    rt: &R,
+    created: &[CreatedFile<R::File>],
+    seen: &mut Vec<SeenFile>,
+    path: &str,
+) -> io::Result<Vec<u8>> {
+    if let Some(place) = place_of(created, path) {
+        return Ok(read_file(rt, created[place].held.name(path))?.0);
+    }
+    let name = String::from_str(rt.alloc(), path)?;
+    let (bytes, mark) = read_file(rt, path)?;
+    if seen.push(SeenFile { path: name, mark }).is_err() {
+        return Err(io::Error::from(ErrorKind::OutOfMemory));
+    }
     Ok(bytes)
 }
 
+// How a file stood when it was read last.
+fn mark_seen(seen: &[SeenFile], path: &str) -> Option<Mark> {
+    let mut last = None;
+    for file in seen {
+        if file.path.as_str() == path {
+            last = Some(file.mark);
+        }
+    }
+    last
+}
+
 // Leaves an empty file of this name, and keeps it open.
-fn create_file<R: rt::Files + AllocGlobal>(
+fn create_file<R: rt::Files<File: Lockable> + AllocGlobal>(
     rt: &R,
     created: &mut Vec<CreatedFile<R::File>>,
+    seen: &[SeenFile],
     path: &str,
 ) -> io::Result<()>
     ensures made { (here : CreatedFiles) → All (λ f. IsTrue (here (string_bytes f.path))) created.old.items → IsTrue (here path.now) →
         All (λ f. IsTrue (here (string_bytes f.path))) created.new.items }
     ensures same { OnErr result (created.new.items ≡ created.old.items) }
 {
+    if let Some(place) = place_of(created, path) {
+        return created[place].held.empty_again(rt, path);
+    }
     let name = String::from_str(rt.alloc(), path)?;
     // The place is taken first, so that a file that was made has one.
     created.reserve(1)?;
-    let file = fs::create(rt, path)?;
-    if created.push(CreatedFile { path: name, file }).is_err() {
+    let held = open_held(rt, path, mark_seen(seen, path))?;
+    if created.push(CreatedFile { path: name, held }).is_err() {
         return Err(io::Error::from(ErrorKind::OutOfMemory));
     }
     Ok(())
@@ -110,9 +158,28 @@ fn place_of<F>(created: &[CreatedFile<F>], path: &str) -> Option<usize>
     None
 }
 
-// Adds the bytes to a file that was created, and answers how many it took; or `None`, where it wasn't.
-fn append_file<F: Write>(
-    created: &mut Vec<CreatedFile<F>>,
+// Adds the bytes to an open file, which takes its place then, and answers how many it took.
+fn add_bytes<R: rt::Files + AllocGlobal, F: Write + OpenFile>(
+    rt: &R,
+    held: &mut HeldFile<F>,
+    bytes: &[u8],
+) -> (usize, io::Result<()>)
+    ensures few { result.0 ≤ length bytes.now }
+    ensures all { OnOk result.1 (result.0 ≡ length bytes.now) }
+    // a file that says what it holds has got exactly these, also where it can't take its place
+    ensures exact { GetsBytes (F.contents held.old.file) (F.contents held.new.file) (take result.0 bytes.now) }
+{
+    let (took, written) = write_bytes(&mut held.file, bytes);
+    if let Err(error) = written {
+        return (took, Err(error));
+    }
+    (took, held.place(rt))
+}
+
+// Adds the bytes to a file that was created, which takes its place then, and answers how many it took; or `None`, where it wasn't.
+fn append_file<R: rt::Files + AllocGlobal>(
+    rt: &R,
+    created: &mut Vec<CreatedFile<R::File>>,
     path: &str,
     bytes: &[u8],
 ) -> Option<(usize, io::Result<()>)>
@@ -123,21 +190,21 @@ fn append_file<F: Write>(
     ensures kept { (here : CreatedFiles) → All (λ f. IsTrue (here (string_bytes f.path))) created.old.items →
         All (λ f. IsTrue (here (string_bytes f.path))) created.new.items }
     // a file that says what it holds has got exactly these
-    ensures exact { IfSome result (λ r. GotPiece F.contents path.now (take r.0 bytes.now) created.old.items created.new.items) }
+    ensures exact { IfSome result (λ r. GotPiece R.File.contents path.now (take r.0 bytes.now) created.old.items created.new.items) }
     ensures none { IfNone result (created.new.items ≡ created.old.items) }
 {
     let place = place_of(created, path)?;
     let other = created.get_mut(place)?;
-    Some(write_bytes(&mut other.file, bytes))
+    Some(add_bytes(rt, &mut other.held, bytes))
 }
 
-impl<R: rt::Files + AllocGlobal> Files for RealFiles<'_, R> {
+impl<R: rt::Files<File: Lockable> + AllocGlobal> Files for RealFiles<'_, R> {
     ghost use Rattle.bar_outside.specs.Disk.{Appends};
 
     ghost disk = { λ files was. disk_by files.log.events files.faults was };
 
     fn read(&mut self, path: &str) -> Result<Vec<u8>, FileFault> {
-        match read_file(self.rt, path) {
+        match read_seen(self.rt, &self.created, &mut self.seen, path) {
             Ok(bytes) => {
                 self.log = self.log.then(&Note::Read(path, &bytes));
                 Ok(bytes)
@@ -147,7 +214,7 @@ impl<R: rt::Files + AllocGlobal> Files for RealFiles<'_, R> {
     }
 
     fn create(&mut self, path: &str) -> Result<(), FileFault> {
-        match create_file(self.rt, &mut self.created, path) {
+        match create_file(self.rt, &mut self.created, &self.seen, path) {
             Ok(()) => {
                 self.log = self.log.then(&Note::Made(path));
                 Ok(())
@@ -163,7 +230,7 @@ impl<R: rt::Files + AllocGlobal> Files for RealFiles<'_, R> {
         ensures hands_on { AddsTo R.File.contents path.now self.old.created.items self.new.created.items
             self.old.log.events self.new.log.events }
     {
-        match append_file(&mut self.created, path, bytes) {
+        match append_file(self.rt, &mut self.created, path, bytes) {
             Some((took, written)) => {
                 self.log = self.log.then(&Note::Added(path, &bytes[..took]));
                 match written {

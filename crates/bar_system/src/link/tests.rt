@@ -1,6 +1,7 @@
 //! Real links over the loopback network, and their counts.
-use super::{RealLink, unix_ms};
+use super::{MOST_BYTES, MOST_DATAGRAMS, RealLink, takes, unix_ms};
 use bar_outside::{LARGEST_PACKET, Link, LinkFault, Taken};
+use std::alloc::AllocError;
 use std::test::Fail;
 
 /// A port of party 0, by the time. Tests that run at once have parties of their own.
@@ -12,6 +13,9 @@ fn port_now(rt: &HostRuntime) -> Result<u16, Fail> {
 /// A time far in the future, in milliseconds: no tick is due.
 const NEVER: u64 = 1 << 60;
 
+/// What may be a datagram of a session: a KEYREQ by its first bytes and its length.
+const DATAGRAM: &[u8] = b"\xba\x47\x01\x09these are 18 bytes";
+
 #[test]
 fn a_datagram_arrives(rt: HostRuntime) -> Result<(), Fail> {
     let port = port_now(&rt)?;
@@ -20,16 +24,19 @@ fn a_datagram_arrives(rt: HostRuntime) -> Result<(), Fail> {
     let mut two = RealLink::new(&rt);
     assert_eq!(rt; one.bind(1, port, NEVER, 1_000), Ok(()));
     assert_eq!(rt; two.bind(2, port, NEVER, 1_000), Ok(()));
+    // what is no datagram of any session is dropped
     assert_eq!(rt; one.send(2, b"hello"), Ok(()));
-    assert_eq!(rt; two.next(&mut buf), Ok(Taken::Datagram(5)));
-    assert!(rt; buf.starts_with(b"hello"));
+    assert_eq!(rt; one.send(2, &DATAGRAM[..21]), Ok(()));
+    assert_eq!(rt; one.send(2, DATAGRAM), Ok(()));
+    assert_eq!(rt; two.next(&mut buf), Ok(Taken::Datagram(22)));
+    assert!(rt; buf.starts_with(DATAGRAM));
     // each goes to its receiver alone
-    assert_eq!(rt; two.send(2, b"own"), Ok(()));
-    assert_eq!(rt; two.send(1, b"back"), Ok(()));
-    assert_eq!(rt; two.next(&mut buf), Ok(Taken::Datagram(3)));
-    assert!(rt; buf.starts_with(b"own"));
-    assert_eq!(rt; one.next(&mut buf), Ok(Taken::Datagram(4)));
-    assert!(rt; buf.starts_with(b"back"));
+    assert_eq!(rt; two.send(2, b"\xba\x47\x01\x09its own, 18 bytes."), Ok(()));
+    assert_eq!(rt; two.send(1, DATAGRAM), Ok(()));
+    assert_eq!(rt; two.next(&mut buf), Ok(Taken::Datagram(22)));
+    assert!(rt; buf.starts_with(b"\xba\x47\x01\x09its own"));
+    assert_eq!(rt; one.next(&mut buf), Ok(Taken::Datagram(22)));
+    assert!(rt; buf.starts_with(DATAGRAM));
     Ok(())
 }
 
@@ -43,6 +50,7 @@ fn the_largest_datagram_arrives_whole(rt: HostRuntime) -> Result<(), Fail> {
     assert_eq!(rt; two.bind(7, port, NEVER, 1_000), Ok(()));
     // a datagram to a port where nobody listens fails nothing
     assert_eq!(rt; two.send(8, b"lost"), Ok(()));
+    buf[..4].copy_from_slice(b"\xba\x47\x02\x0b");
     assert_eq!(rt; two.send(6, &buf), Ok(()));
     assert_eq!(rt; one.next(&mut buf), Ok(Taken::Datagram(LARGEST_PACKET)));
     assert_eq!(rt; two.faults, 0);
@@ -73,5 +81,32 @@ fn a_link_that_fails_is_counted(rt: HostRuntime) -> Result<(), Fail> {
     assert_eq!(rt; first.bind(5, port, NEVER, 1_000), Ok(()));
     assert_eq!(rt; link.bind(5, port, NEVER, 1_000), Err(LinkFault::Failed));
     assert_eq!(rt; link.faults, 3);
+    Ok(())
+}
+
+#[test]
+fn a_tick_has_room_for_so_much(rt: HostRuntime) -> Result<(), Fail> {
+    let port = port_now(&rt)?;
+    let mut one = RealLink::new(&rt);
+    assert_eq!(rt; one.bind(9, port, NEVER, 1_000), Ok(()));
+    let Some(bound) = &mut one.bound else {
+        return Err(Fail::from(AllocError));
+    };
+    for _ in 0..MOST_DATAGRAMS {
+        assert!(rt; takes(bound, DATAGRAM));
+    }
+    assert!(rt; !takes(bound, DATAGRAM));
+    bound.left = MOST_DATAGRAMS;
+    bound.left_bytes = DATAGRAM.len();
+    assert!(rt; takes(bound, DATAGRAM));
+    assert!(rt; !takes(bound, DATAGRAM));
+    // a tick makes room
+    bound.next_tick = 0;
+    let mut buf = vec![in rt.alloc(); 0; LARGEST_PACKET]?;
+    assert_eq!(rt; one.next(&mut buf), Ok(Taken::Tick));
+    assert!(rt;
+        one.bound.is_some_and(|bound| bound.left == MOST_DATAGRAMS
+            && bound.left_bytes == MOST_BYTES)
+    );
     Ok(())
 }

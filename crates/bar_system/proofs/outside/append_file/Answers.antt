@@ -13,9 +13,9 @@ returns-clause-exact g c =
     record {
       place = place;
       before = other;
-      after = record { path = other.path; file = c.write_bytes.new.stream };
+      after = record { path = other.path; held = c.add_bytes.new.held };
       was = there;
       is = refl;
       named = rw there at named;
-      got = c.write_bytes.ensures.exact;
+      got = c.add_bytes.ensures.exact;
     }

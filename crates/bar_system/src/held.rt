@@ -1,0 +1,250 @@
+//! Files that a run creates. Each is locked until the run ends and is its owner's alone, and a key is lost to none of them.
+ghost use Rattle.std.specs.Prelude.{◌≡◌};
+
+use std::fs::{File, Metadata, OpenFile, OpenOptions, Permissions};
+use std::io::{ErrorKind, Read};
+use std::os::unix::fs::{MetadataExt, OpenOptionsExt, PermissionsExt};
+use std::{fs, io, rt};
+
+/// What a created file is to its owner alone: read and written.
+const OWNERS_ALONE: u32 = 0o600;
+
+/// How far a key text is looked for: a key file has less than 300 bytes.
+const LONGEST_KEY: u64 = 4_096;
+
+/// What stands before a key file's secret, and how many digits that has.
+const SECRET: &str = "secret = \"";
+
+const SECRET_DIGITS: usize = 64;
+
+/// An open file of a runtime that can be locked.
+pub trait Lockable {
+    /// Locks it until it is closed. Where another run has locked it, the call fails.
+    fn lock_now(&self) -> io::Result<()>;
+}
+
+impl Lockable for File {
+    fn lock_now(&self) -> io::Result<()> {
+        Ok(self.try_lock()?)
+    }
+}
+
+/// Which file it was, and how it stood.
+#[derive(Clone, Copy, PartialEq, Eq)]
+pub struct Mark {
+    dev: u64,
+    ino: u64,
+    len: u64,
+    modified: (i64, i64),
+    changed: (i64, i64),
+}
+
+/// A file that is written beside another, whose place it takes as soon as it holds anything.
+#[derive(Drop)]
+pub struct Beside<F> {
+    path: String,
+    name: String,
+    // it is kept open for its lock
+    old: F,
+    is_placed: bool,
+}
+
+/// A file that was created, open and locked.
+#[derive(Drop)]
+pub struct HeldFile<F> {
+    pub file: F,
+    beside: Option<Beside<F>>,
+}
+
+/// How an open file stands.
+pub fn mark_of<F: OpenFile>(file: &F) -> io::Result<Mark> {
+    Ok(standing(&file.metadata()?))
+}
+
+fn standing(known: &Metadata) -> Mark {
+    Mark {
+        dev: known.dev(),
+        ino: known.ino(),
+        len: known.len(),
+        modified: (known.mtime(), known.mtime_nsec()),
+        changed: (known.ctime(), known.ctime_nsec()),
+    }
+}
+
+fn refusal() -> io::Error {
+    io::Error::from(ErrorKind::PermissionDenied)
+}
+
+// The digits of the secret in a key text.
+fn secret_in(text: &str) -> Option<&str> {
+    for line in text.lines() {
+        if let Some(rest) = line.strip_prefix(SECRET) {
+            if let Some(digits) = rest.get(..SECRET_DIGITS) {
+                return Some(digits);
+            }
+        }
+    }
+    None
+}
+
+// The digits of the secret in a file that holds a key text.
+fn secret_of<R: rt::Files + AllocGlobal>(rt: &R, path: &str) -> io::Result<Option<String>> {
+    let mut bytes = Vec::new(rt.alloc());
+    fs::open(rt, path)?
+        .take(LONGEST_KEY)
+        .read_to_end(&mut bytes)?;
+    match str::from_utf8(&bytes) {
+        Ok(text) => match secret_in(text) {
+            Some(digits) => Ok(Some(String::from_str(rt.alloc(), digits)?)),
+            None => Ok(None),
+        },
+        Err(_) => Ok(None),
+    }
+}
+
+// Opens a file of this name, which may be new, and locks it. The name is still its own.
+fn open_locked<R: rt::Files<File: Lockable>>(
+    rt: &R,
+    path: &str,
+    may_be_new: bool,
+) -> io::Result<R::File> {
+    let mut how = OpenOptions::new();
+    how.append(true).create(may_be_new).mode(OWNERS_ALONE);
+    let file = how.open(rt, path)?;
+    file.lock_now()?;
+    let (here, named) = (file.metadata()?, fs::metadata(rt, path)?);
+    if here.dev() != named.dev() || here.ino() != named.ino() || !here.is_file() {
+        return Err(refusal());
+    }
+    Ok(file)
+}
+
+// Leaves a locked file empty and its owner's alone.
+fn empty<F: OpenFile>(file: &F) -> io::Result<()> {
+    file.set_permissions(Permissions::from_mode(OWNERS_ALONE))?;
+    file.set_len(0)
+}
+
+// Opens an empty file of this name, which was not read in this run, and may be no file but a device.
+fn open_new<R: rt::Files<File: Lockable> + AllocGlobal>(
+    rt: &R,
+    path: &str,
+) -> io::Result<HeldFile<R::File>> {
+    if let Ok(known) = fs::metadata(rt, path) {
+        if !known.is_file() {
+            let file = OpenOptions::new().write(true).open(rt, path)?;
+            return Ok(HeldFile { file, beside: None });
+        }
+    }
+    let file = open_locked(rt, path, true)?;
+    if file.metadata()?.len() > 0 && secret_of(rt, path)?.is_some() {
+        return Err(refusal());
+    }
+    empty(&file)?;
+    Ok(HeldFile { file, beside: None })
+}
+
+// Opens an empty file beside one of this name, which stands as it did when it was read in this run.
+fn open_beside<R: rt::Files<File: Lockable> + AllocGlobal>(
+    rt: &R,
+    path: &str,
+    was: Mark,
+) -> io::Result<HeldFile<R::File>> {
+    let path = String::from_str(rt.alloc(), fs::canonicalize(rt, path)?.as_path().as_str())?;
+    let old = open_locked(rt, path.as_str(), false)?;
+    let known = old.metadata()?;
+    // Under a second name it would stay as it was.
+    if standing(&known) != was || known.nlink() != 1 {
+        return Err(refusal());
+    }
+    let mut name = String::from_str(rt.alloc(), path.as_str())?;
+    name.push_str(".new")?;
+    let file = open_locked(rt, name.as_str(), true)?;
+    // What another run of the same key left there is written over.
+    if file.metadata()?.len() > 0 {
+        let other = secret_of(rt, name.as_str())?;
+        if other.is_some() && other != secret_of(rt, path.as_str())? {
+            return Err(refusal());
+        }
+    }
+    empty(&file)?;
+    let beside = Beside {
+        path,
+        name,
+        old,
+        is_placed: false,
+    };
+    Ok(HeldFile {
+        file,
+        beside: Some(beside),
+    })
+}
+
+/// Opens an empty file of this name and locks it; or beside it, where it was read in this run. Where it can't be locked, isn't as it was
+/// when it was read, or holds a key text and wasn't read, the call fails, and the file is as it was.
+pub fn open_held<R: rt::Files<File: Lockable> + AllocGlobal>(
+    rt: &R,
+    path: &str,
+    was: Option<Mark>,
+) -> io::Result<HeldFile<R::File>> {
+    match was {
+        Some(was) => open_beside(rt, path, was),
+        None => open_new(rt, path),
+    }
+}
+
+impl<F: OpenFile> HeldFile<F> {
+    /// The name under which its bytes stand.
+    pub fn name<'a>(&'a self, path: &'a str) -> &'a str {
+        match &self.beside {
+            Some(beside) if !beside.is_placed => beside.name.as_str(),
+            _ => path,
+        }
+    }
+
+    /// Leaves it empty again. A key text isn't emptied.
+    pub fn empty_again<R: rt::Files + AllocGlobal>(&self, rt: &R, path: &str) -> io::Result<()> {
+        if !self.file.metadata()?.is_file() {
+            return Ok(());
+        }
+        if secret_of(rt, self.name(path))?.is_some() {
+            return Err(refusal());
+        }
+        self.file.set_len(0)
+    }
+
+    /// Has a file that holds something take the place of the one that it is beside of. Nothing but the same key takes that of a key.
+    pub fn place<R: rt::Files + AllocGlobal>(&mut self, rt: &R) -> io::Result<()>
+        ensures same { self.new.file ≡ self.old.file }
+    {
+        let file = &self.file;
+        match &mut self.beside {
+            Some(beside) if !beside.is_placed => {
+                put_over(rt, file, beside)?;
+                beside.is_placed = true;
+                Ok(())
+            }
+            _ => Ok(()),
+        }
+    }
+}
+
+// Has the file take its place, and stay there whatever becomes of the machine.
+fn put_over<R: rt::Files + AllocGlobal, F: OpenFile>(
+    rt: &R,
+    file: &F,
+    beside: &Beside<F>,
+) -> io::Result<()> {
+    let (path, name) = (beside.path.as_str(), beside.name.as_str());
+    let secret = secret_of(rt, path)?;
+    if secret.is_some() && secret != secret_of(rt, name)? {
+        return Err(refusal());
+    }
+    file.sync_all()?;
+    fs::rename(rt, name, path)?;
+    let folder = match path.rfind('/') {
+        Some(0) | None => "/",
+        Some(end) => path.get(..end).unwrap_or("/"),
+    };
+    fs::open(rt, folder)?.sync_all()
+}
