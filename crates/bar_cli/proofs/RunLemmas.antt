@@ -30,7 +30,7 @@ pub over-no_link : (plan : Content → Plan) (files files_new : Disk) (out out_n
     RunEndsWith (λ given. plan) (outside files out wire) (outside files_new out_new wire) status line
 over-no_link plan files files_new out out_new wire status line unlinked other ends = record {
   given = [];
-  heard = heard-nothing (outside files out wire) (outside files_new out_new wire) (λ told. refl);
+  heard = heard-nothing (outside files out wire) (outside files_new out_new wire) refl;
   ends = ends;
   reached = λ told. reached-unlinked (plan files.content).actions status _ _ (unlinked files.content) (ends.ends.part told);
   asked = λ told front next rest e. absurd (none-more front next rest e);
@@ -41,7 +41,7 @@ over-no_link plan files files_new out out_new wire status line unlinked other en
 pub no-memory : (plan : List Arrival → Content → Plan) (old : Outside) → RunEndsWith plan old old 70 no_memory
 no-memory plan old = record {
   given = [];
-  heard = heard-nothing old old (λ told. refl);
+  heard = heard-nothing old old refl;
   ends = EndsWith-memory (plan []) old;
   reached = λ told. nothing-reached (plan [] old.files.content).actions old old (Ran-nothing old);
   asked = λ told front next rest e. absurd (none-more front next rest e);

@@ -7,5 +7,5 @@ returns-in-Ok-clause-said g c =
     record {
       later = search rules;
       whole = search rules;
-      front = λ told. (length c.args.line.now, rw (take-length c.args.line.now) (c.in-Ok.ensures.added told));
+      front = (length c.args.line.now, rw (take-length c.args.line.now) c.in-Ok.ensures.added);
     }
