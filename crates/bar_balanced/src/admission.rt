@@ -2,7 +2,7 @@
 ghost use Rattle.std.specs.Prelude.{◌≡◌, ◌+◌, ◌≤◌, ℕ, List, Some, true};
 ghost use Rattle.bar_seeds.specs.Checkpoints.{kept_round, MovesOn};
 ghost use Rattle.bar_window.specs.declared.exchange.XKind.TheVariants.{Balanced};
-ghost use Rattle.bar_roster.specs.Points.{AreSeeds};
+ghost use Rattle.bar_session.specs.Points.{AreSeeds};
 ghost use Rattle.bar_wire.specs.Bodies.{choice_round, request_round};
 ghost use Rattle.bar_wire.specs.Views.{plain, IsView};
 ghost use Rattle.bar_rules.specs.Member.{Member};

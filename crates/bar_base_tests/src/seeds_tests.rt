@@ -1,7 +1,7 @@
 //! Outside vectors, and each public call once.
 
 ghost use Rattle.std.specs.Prelude.{◌≡◌, ◌<◌, ◌≤◌};
-ghost use Rattle.bar_roster.specs.Points.{AreSeeds};
+ghost use Rattle.bar_session.specs.Points.{AreSeeds};
 
 use bar_bytes::Steps;
 use bar_roster::Session;

@@ -15,7 +15,7 @@ use Rattle.bar_wire.specs.declared.kind.Kind.TheVariants as kinds
 use Rattle.bar_wire.proofs.FieldLengths.{length_digests}
 use Rattle.bar_rules.specs.Broadcaster.Sending.{caster_message, caster_signed}
 use Rattle.bar_rules.specs.Broadcaster.Stream.{caster_table, manifest_list, round_blocks}
-use Rattle.bar_roster.specs.Time.{round_after}
+use Rattle.bar_session.specs.Time.{round_after}
 use Rattle.bar_rules.specs.Member.{Member, Session}
 use Rattle.bar_rules.specs.Peer.Log.{Log, Ticked, has_kind_and_round, round_now, ticks}
 use Rattle.bar_rules.specs.Secrets.{signature_of}

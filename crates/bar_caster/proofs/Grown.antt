@@ -14,7 +14,7 @@ use Rattle.bar_wire.specs.Kinds.{code_of}
 use Rattle.bar_wire.specs.declared.kind.Kind.{Kind}
 use Rattle.bar_rules.specs.Broadcaster.Sending.{evicted, served}
 use Rattle.bar_rules.specs.Broadcaster.Stream.{caster_table, manifest_list, peers_of}
-use Rattle.bar_roster.specs.Time.{round_after, slot_after}
+use Rattle.bar_session.specs.Time.{round_after, slot_after}
 use Rattle.bar_rules.specs.Member.{Member, Session}
 use Rattle.bar_rules.specs.Peer.Log.{Log, Entry, Ticked, Heard, Said, Kept, first_said, has_kind_and_round, if_passes, kept, kept_in}
 use Rattle.bar_rules.specs.Peer.Log.{round_now, said_in, ticks}

@@ -27,7 +27,7 @@ use Rattle.bar_wire.specs.declared.kind.Kind.TheVariants as kinds
 use Rattle.bar_rules.specs.Broadcaster.Sending.{evict_by, judge_body}
 use Rattle.bar_rules.specs.Broadcaster.Stream.{caster_table, manifest_list}
 use Rattle.bar_rules.specs.Judge.Verdict.{Fault, Shown, verdict}
-use Rattle.bar_roster.specs.Time.{round_after}
+use Rattle.bar_session.specs.Time.{round_after}
 use Rattle.bar_rules.specs.Member.{Session}
 use Rattle.bar_rules.specs.Peer.Log.{Log, Kept, kept, round_now, ticks}
 use Rattle.bar_rules.specs.Values.{datagram_bytes}

@@ -5,7 +5,7 @@ use Rattle.bar_core.specs.Orders.{left_in}
 use Rattle.bar_wire.specs.Datagram.{Datagram}
 use Rattle.bar_wire.specs.Inputs.{Input}
 use Rattle.bar_rules.specs.Broadcaster.Sending.{caster_log_after, caster_step, caster_take}
-use Rattle.bar_roster.specs.Time.{last_tick}
+use Rattle.bar_session.specs.Time.{last_tick}
 use Rattle.bar_rules.specs.Member.{Member}
 use Rattle.bar_rules.specs.Members.{member_by}
 use Rattle.bar_rules.specs.Peer.Log.{Log, ticks}

@@ -12,7 +12,7 @@ use Rattle.bar_wire.specs.declared.kind.Kind.TheVariants as kinds
 use Rattle.bar_rules.specs.Broadcaster.Sending.{announce, announce_by, announce_evictions, announce_manifest, caster_tick, evicted}
 use Rattle.bar_rules.specs.Broadcaster.Sending.{send_blocks, served}
 use Rattle.bar_rules.specs.Broadcaster.Stream.{manifest_list, round_blocks}
-use Rattle.bar_roster.specs.Time.{round_after, slot_after}
+use Rattle.bar_session.specs.Time.{round_after, slot_after}
 use Rattle.bar_rules.specs.Member.{Member, Session}
 use Rattle.bar_rules.specs.Members.{member_by}
 use Rattle.bar_rules.specs.Peer.Log.{Log, Ticked, Said, has_kind_and_round, round_now, ticks}

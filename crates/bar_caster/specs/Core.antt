@@ -7,7 +7,7 @@ use Rattle.bar_wire.specs.Datagram.{Datagram}
 use Rattle.bar_wire.specs.Evidence.{evidence_bytes}
 use Rattle.bar_wire.specs.declared.kind.Kind.TheVariants.{Manifest}
 use Rattle.bar_rules.specs.Broadcaster.Sending.{caster_log_after, caster_step}
-use Rattle.bar_roster.specs.Time.{last_tick}
+use Rattle.bar_session.specs.Time.{last_tick}
 use Rattle.bar_rules.specs.Member.{Member}
 use Rattle.bar_rules.specs.Peer.Log.{kept}
 use Rattle.bar_rules.specs.Values.{datagram_bytes}

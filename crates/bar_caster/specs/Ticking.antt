@@ -4,7 +4,7 @@ use Rattle.std.specs.List.{flat_map, range_with_len}
 use Rattle.bar_window.specs.declared.update.UpdateId.{UpdateId}
 use Rattle.bar_rules.specs.Broadcaster.Sending.{caster_signed, evicted, served}
 use Rattle.bar_rules.specs.Broadcaster.Stream.{is_in_fanout}
-use Rattle.bar_roster.specs.Time.{round_after, slot_after}
+use Rattle.bar_session.specs.Time.{round_after, slot_after}
 use Rattle.bar_rules.specs.Member.{Session, Member}
 use Rattle.bar_rules.specs.Peer.Log.{Log, Said, Ticked, round_now}
 use Rattle.bar_wire.specs.Datagram.{Datagram, Evict}

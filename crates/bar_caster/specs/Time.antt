@@ -15,7 +15,7 @@ use Rattle.bar_rules.specs.Broadcaster.Sending.{announce_by, announce_evictions,
 use Rattle.bar_rules.specs.Broadcaster.Sending.{caster_step, caster_take, caster_tick, evicted}
 use Rattle.bar_rules.specs.Broadcaster.Sending.{send_all, send_block, send_blocks, served}
 use Rattle.bar_rules.specs.Broadcaster.Stream.{is_in_fanout, manifest_list, round_blocks}
-use Rattle.bar_roster.specs.Time.{last_tick, slot_after}
+use Rattle.bar_session.specs.Time.{last_tick, slot_after}
 use Rattle.bar_rules.specs.Member.{Member}
 use Rattle.bar_rules.specs.Peer.Log.{Log, Ticked, Said, first_said, has_kind_and_round, round_now, ticks}
 use Rattle.bar_rules.specs.Runs.{Outcome, begun, sending, state_after}

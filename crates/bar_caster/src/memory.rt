@@ -1,7 +1,7 @@
 ghost use Rattle.std.specs.Prelude.{◌≡◌, ◌+◌, ◌≤◌, length};
 ghost use Rattle.bar_wire.specs.declared.kind.Kind.TheVariants.{Manifest, Evict};
 ghost use Rattle.bar_rules.specs.Broadcaster.Party.{IsBroadcaster};
-ghost use Rattle.bar_roster.specs.Time.{last_tick, round_after};
+ghost use Rattle.bar_session.specs.Time.{last_tick, round_after};
 ghost use Rattle.bar_rules.specs.Members.{member_by};
 ghost use Rattle.bar_rules.specs.Peer.Sizes.{largest, most_evidence};
 
@@ -42,7 +42,7 @@ pub struct Memory {
 
 impl Memory {
     ghost use Rattle.std.specs.Prelude.{◌≡◌, nat_le};
-    ghost use Rattle.bar_roster.specs.Time.{last_tick, round_after};
+    ghost use Rattle.bar_session.specs.Time.{last_tick, round_after};
 
     /// This round.
     pub fn round(&self) -> u32

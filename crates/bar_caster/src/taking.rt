@@ -5,7 +5,7 @@ ghost use Rattle.bar_wire.specs.Evidence.{IsEvidence};
 ghost use Rattle.bar_wire.specs.Inputs.{Tick};
 ghost use Rattle.bar_wire.specs.Inputs.{Datagram as Arrival};
 ghost use Rattle.bar_rules.specs.Broadcaster.Sending.{caster_take, judge_body, judge_datagram};
-ghost use Rattle.bar_roster.specs.Time.{last_tick};
+ghost use Rattle.bar_session.specs.Time.{last_tick};
 ghost use Rattle.bar_rules.specs.Peer.Log.{Log};
 ghost use Rattle.bar_rules.specs.Values.{datagram_of};
 ghost use Rattle.bar_rules.specs.Verifiers.{IsVerifierOf, NamesLeavesOf};

@@ -3,9 +3,9 @@ ghost use Rattle.std.specs.Prelude.{◌≡◌, ◌+◌, ℕ, None, Contains, len
 ghost use Rattle.bar_bytes.specs.Rooms.{kept_in};
 ghost use Rattle.bar_wire.specs.Evidence.{evidence_bytes};
 ghost use Rattle.bar_wire.specs.declared.kind.Kind.TheVariants.{Manifest};
-ghost use Rattle.bar_roster.specs.Sessions.{IsSession};
+ghost use Rattle.bar_session.specs.Sessions.{IsSession};
 ghost use Rattle.bar_rules.specs.Broadcaster.Sending.{evicted};
-ghost use Rattle.bar_roster.specs.Time.{last_tick};
+ghost use Rattle.bar_session.specs.Time.{last_tick};
 ghost use Rattle.bar_rules.specs.Peer.Log.{kept, ticks};
 ghost use Rattle.bar_rules.specs.Values.{datagram_bytes};
 ghost use Rattle.bar_caster.specs.Memory.{said_of};

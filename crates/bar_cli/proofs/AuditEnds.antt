@@ -10,7 +10,7 @@ use Rattle.bar_outside.proofs.Unlinked.{IsUnlinked, unlinked-accepting, unlinked
 use Rattle.bar_window.specs.declared.exchange.Exchange.{Exchange}
 use Rattle.bar_record.specs.declared.fault.RecordFault.{RecordFault}
 use Rattle.bar_roster.specs.declared.fault.SessionFault.{SessionFault}
-use Rattle.bar_roster.specs.SessionText.{SessionData}
+use Rattle.bar_session.specs.SessionData.{SessionData}
 use Rattle.bar_audit.specs.Recordings.{Recording}
 use Rattle.bar_session_files.specs.Accepting.{session_of}
 use Rattle.bar_cli.specs.Audit.Audited.{balance_in}

@@ -15,7 +15,7 @@ use Rattle.bar_window.specs.declared.exchange.Exchange.{Exchange}
 use Rattle.bar_wire.specs.Inputs.{Input}
 use Rattle.bar_wire.specs.declared.shape.Shape.{Shape}
 use Rattle.bar_record.specs.declared.fault.RecordFault.{RecordFault}
-use Rattle.bar_roster.specs.SessionText.{SessionData}
+use Rattle.bar_session.specs.SessionData.{SessionData}
 use Rattle.bar_audit.specs.declared.audit.Audit.{Audit}
 use Rattle.bar_audit.specs.declared.line.Line.{Line}
 use Rattle.bar_audit.specs.Audits.{Audits}

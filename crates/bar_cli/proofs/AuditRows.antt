@@ -9,7 +9,7 @@ use Rattle.bar_window.specs.declared.exchange.Exchange.{Exchange}
 use Rattle.bar_wire.specs.Inputs.{Input}
 use Rattle.bar_record.specs.declared.fault.RecordFault.{RecordFault}
 use Rattle.bar_roster.specs.declared.fault.SessionFault.{SessionFault}
-use Rattle.bar_roster.specs.SessionText.{SessionData}
+use Rattle.bar_session.specs.SessionData.{SessionData}
 use Rattle.bar_audit.specs.Laws.{KeysArePaid, RunsAreBalanced}
 use Rattle.bar_audit.specs.Listed.{IsListed, recorded}
 use Rattle.bar_audit.specs.Recordings.{Recording}

@@ -5,7 +5,7 @@ use Rattle.std.specs.Option.{ok_or}
 use Rattle.bar_terms.specs.Table.{Table, Lists, digests_of}
 use Rattle.bar_wire.specs.Evidence.{datagrams_of}
 use Rattle.bar_wire.specs.declared.evidence.EvidenceView.{EvidenceView}
-use Rattle.bar_roster.specs.SessionText.{SessionData}
+use Rattle.bar_session.specs.SessionData.{SessionData}
 use Rattle.bar_rules.specs.Judge.Verdict.{Verdict, verdict}
 use Rattle.bar_judge.specs.declared.table_fault.TableFault.{TableFault}
 use Rattle.bar_judge.specs.declared.table_fault.TableFault.TheVariants.{BadEntry, NoMemory}

@@ -5,7 +5,7 @@ use Rattle.bar_outside.specs.Disk.{Content}
 use Rattle.bar_wire.specs.Inputs.{Input}
 use Rattle.bar_seeds.specs.declared.secrets.Secrets.{Secrets}
 use Rattle.bar_roster.specs.KeyFile.{key_file_of}
-use Rattle.bar_roster.specs.SessionText.{SessionData}
+use Rattle.bar_session.specs.SessionData.{SessionData}
 use Rattle.bar_rules.specs.Member.{Member, IsMember}
 use Rattle.bar_rules.specs.Members.{member_by}
 use Rattle.bar_window.specs.declared.exchange.Exchange.{Exchange}

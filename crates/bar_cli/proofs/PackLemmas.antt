@@ -5,7 +5,7 @@ use Rattle.bar_outside.specs.Plan.{Outside, doing}
 use Rattle.bar_outside.specs.Ends.{EndsWith}
 use Rattle.bar_outside.proofs.Ending.{EndsWith-accepted, EndsWith-refused, EndsWith-ending}
 use Rattle.bar_terms.specs.Table.{Lists, digests_of}
-use Rattle.bar_roster.specs.SessionText.{SessionData}
+use Rattle.bar_session.specs.SessionData.{SessionData}
 use Rattle.bar_rules.specs.Judge.Verdict.{Verdict, Shown, NotShown, verdict}
 use Rattle.bar_judge.specs.TableFile.{table_of}
 use Rattle.bar_judge.specs.Verdicts.{plain_why}

@@ -7,7 +7,7 @@ use Rattle.bar_outside.specs.Stages.{Went, IsUnchanged, ReadsFirst, EndsThere, H
 use Rattle.bar_outside.proofs.Unlinked.{IsUnlinked, unlinked-accepting, unlinked-reading}
 use Rattle.bar_terms.specs.Table.{Lists, digests_of}
 use Rattle.bar_roster.specs.declared.fault.SessionFault.{SessionFault}
-use Rattle.bar_roster.specs.SessionText.{SessionData}
+use Rattle.bar_session.specs.SessionData.{SessionData}
 use Rattle.bar_rules.specs.Judge.Verdict.{Verdict, Fault, Why, Shown, NotShown, verdict}
 use Rattle.bar_judge.specs.TableFile.{table_of}
 use Rattle.bar_judge.specs.declared.table_fault.TableFault.{TableFault}

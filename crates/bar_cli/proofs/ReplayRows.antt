@@ -14,7 +14,7 @@ use Rattle.bar_wire.specs.Inputs.{Input}
 use Rattle.bar_seeds.specs.declared.secrets.Secrets.{Secrets}
 use Rattle.bar_roster.specs.declared.fault.SessionFault.{SessionFault}
 use Rattle.bar_roster.specs.declared.key_fault.KeyFileFault.{KeyFileFault}
-use Rattle.bar_roster.specs.SessionText.{SessionData}
+use Rattle.bar_session.specs.SessionData.{SessionData}
 use Rattle.bar_record.specs.declared.fault.RecordFault.{RecordFault}
 use Rattle.bar_rules.specs.Member.{Member}
 use Rattle.bar_rules.specs.Peer.Run.{played_by}

@@ -7,7 +7,7 @@ use Rattle.bar_outside.specs.Stream.{Stream}
 use Rattle.bar_outside.specs.Wire.{Arrival, Wire}
 use Rattle.bar_outside.proofs.Ending.{EndsWith-memory, Ends-or_memory, said, said-fixed}
 use Rattle.bar_seeds.specs.declared.secrets.Secrets.{Secrets}
-use Rattle.bar_roster.specs.SessionText.{SessionData}
+use Rattle.bar_session.specs.SessionData.{SessionData}
 use Rattle.bar_session_files.specs.Accepting.{fresh_key_of, session_of}
 use Rattle.bar_party_commands.specs.Streams.{room_of, stream_in, stream_refused}
 use Rattle.bar_party_commands.specs.CasterPlan.{CasterNames, caster_key_plan, caster_plan, caster_run_plan, caster_stream_plan}

@@ -3,7 +3,7 @@ use Rattle.std.proofs.Common.{◌≡◌, ◌≤◌, ◌∙◌, ◌==◌, ℕ, Li
 use Rattle.std.proofs.lemmas.Bool.{cases_Bool, eqb-true}
 use Rattle.bar_outside.specs.Plan.{Outside}
 use Rattle.bar_seeds.specs.declared.secrets.Secrets.{Secrets}
-use Rattle.bar_roster.specs.SessionText.{SessionData}
+use Rattle.bar_session.specs.SessionData.{SessionData}
 use Rattle.bar_wire.specs.Inputs.{Input}
 use Rattle.bar_core.specs.Rules.{Rules, Send}
 use Rattle.bar_core.specs.Runs.{sends_over}

@@ -6,7 +6,7 @@ use Rattle.bar_outside.specs.Ends.{SameFiles, NothingPrinted}
 use Rattle.bar_outside.specs.Stages.{Went, IsUnchanged, ReadsFirst, EndsThere, HasShown, ShowsThere, NamesFirst}
 use Rattle.bar_outside.proofs.Unlinked.{IsUnlinked, unlinked-accepting, unlinked-reading}
 use Rattle.bar_roster.specs.declared.fault.SessionFault.{SessionFault}
-use Rattle.bar_roster.specs.SessionText.{SessionData}
+use Rattle.bar_session.specs.SessionData.{SessionData}
 use Rattle.bar_rules.specs.Judge.Verdict.{Verdict, Fault, Why, Shown, NotShown}
 use Rattle.bar_proof.specs.declared.proof_fault.ProofFault.{ProofFault}
 use Rattle.bar_session_files.specs.Accepting.{HasSession, session_of}

@@ -6,7 +6,7 @@ use Rattle.std.specs.Borrow.{Bor}
 use Rattle.std.specs.Option.{ok_or, option_and_then, option_map}
 use Rattle.bar_lms.specs.declared.params.Height.{Height}
 use Rattle.bar_lms.specs.declared.params.Params.{Params}
-use Rattle.bar_roster.specs.NumberRanges.{most_peers}
+use Rattle.bar_session.specs.Limits.{most_peers}
 use Rattle.bar_arguments.specs.Numbers.{id_of, number_in}
 use Rattle.bar_arguments.specs.Options.{texts}
 use Rattle.bar_arguments.specs.declared.options.WordsFault.{WordsFault}

@@ -7,7 +7,7 @@ use Rattle.bar_outside.specs.Follows.{Follows}
 use Rattle.bar_outside.proofs.Following.{followed, stopped}
 use Rattle.bar_record.specs.Pacing.{paced}
 use Rattle.bar_wire.specs.Inputs.{Input}
-use Rattle.bar_roster.specs.Time.{last_tick}
+use Rattle.bar_session.specs.Time.{last_tick}
 use Rattle.bar_rules.specs.Member.{Member}
 use Rattle.bar_core.specs.Rules.{Rules}
 use Rattle.bar_findings.specs.Findings.{Finding, findings_actions}

@@ -7,7 +7,7 @@ use Rattle.bar_outside.specs.Plan.{Plan, ending}
 use Rattle.bar_outside.specs.Wire.{Arrival}
 use Rattle.bar_lms.specs.declared.params.Height.{Height}
 use Rattle.bar_lms.specs.declared.params.Params.{Params}
-use Rattle.bar_roster.specs.NumberRanges.{most_long_rounds, most_peers, most_rounds}
+use Rattle.bar_session.specs.Limits.{most_long_rounds, most_peers, most_rounds}
 use Rattle.bar_arguments.specs.Numbers.{id_of, number_in}
 use Rattle.bar_arguments.specs.Options.{values_of}
 use Rattle.bar_child_processes.specs.Names.{SessionNames}

@@ -9,7 +9,7 @@ use Rattle.bar_outside.specs.Plan.Action.{create, append, show}
 use Rattle.bar_outside.specs.Ends.{SameFiles, NothingPrinted}
 use Rattle.bar_terms.specs.Table.{Lists}
 use Rattle.bar_roster.specs.declared.fault.SessionFault.{SessionFault}
-use Rattle.bar_roster.specs.SessionText.{SessionData}
+use Rattle.bar_session.specs.SessionData.{SessionData}
 use Rattle.bar_rules.specs.Judge.Verdict.{Fault, Why, Verdict, Shown, NotShown}
 use Rattle.bar_proof.specs.Packing.{IsPacked, packed_bytes}
 use Rattle.bar_proof.specs.ProofFile.{evidence_of}

@@ -6,7 +6,7 @@ use Rattle.bar_outside.specs.Plan.{Outside, Plan, accepting, ending, file_failed
 use Rattle.bar_outside.specs.Ends.{EndsWith, SameFiles}
 use Rattle.bar_child_processes.specs.Names.{SessionNames}
 use Rattle.bar_child_processes.specs.Sessions.{SessionRan}
-use Rattle.bar_roster.specs.SessionText.{SessionData}
+use Rattle.bar_session.specs.SessionData.{SessionData}
 use Rattle.bar_session_files.specs.Accepting.{HasSession, session_of}
 use Rattle.bar_cli.specs.Refusals.{session_refused}
 

@@ -5,7 +5,7 @@ use Rattle.bar_outside.specs.declared.files.CallKind.TheVariants.{Read}
 use Rattle.bar_outside.specs.Plan.{Outside, Plan, reading, accepting, ending}
 use Rattle.bar_outside.specs.Ends.{SameFiles}
 use Rattle.bar_roster.specs.declared.fault.SessionFault.{SessionFault}
-use Rattle.bar_roster.specs.SessionText.{SessionData}
+use Rattle.bar_session.specs.SessionData.{SessionData}
 use Rattle.bar_rules.specs.Judge.Verdict.{Verdict}
 use Rattle.bar_proof.specs.declared.proof_fault.ProofFault.{ProofFault}
 use Rattle.bar_session_files.specs.Accepting.{HasSession, session_of}

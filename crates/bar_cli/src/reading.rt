@@ -2,7 +2,7 @@
 ghost use Rattle.std.specs.Prelude.{◌≡◌, Ok, Err, IfOk, IfErr};
 ghost use Rattle.bar_record.specs.Inputs.{inputs_left};
 ghost use Rattle.bar_record.specs.Pacing.{paced};
-ghost use Rattle.bar_roster.specs.Time.{last_tick};
+ghost use Rattle.bar_session.specs.Time.{last_tick};
 ghost use Rattle.bar_cli.specs.Audit.Plan.{inputs_listed};
 ghost use Rattle.bar_cli.specs.Replay.Recordings.{recording_of};
 

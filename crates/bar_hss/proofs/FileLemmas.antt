@@ -11,8 +11,9 @@ use Rattle.bar_lms.specs.Secret as lms
 use Rattle.bar_lms.specs.Schemes.{accepted_by, leaves_by, length_by, most_by, named_by, public_by, signed_by, two_levels, upper_types}
 use Rattle.bar_lms.specs.Hss as hss
 use Rattle.bar_roster.proofs.KeyLemmas.{held_of}
-use Rattle.bar_roster.specs.KeyFile.{IsHeldBy, fits, key_in, secrets_in, session_key_of, signing_secret}
-use Rattle.bar_roster.specs.SessionText.{SessionData}
+use Rattle.bar_roster.specs.KeyFile.{IsHeldBy, fits, session_key_of}
+use Rattle.bar_session.specs.Fits.{key_in, secrets_in, signing_secret}
+use Rattle.bar_session.specs.SessionData.{SessionData}
 use Rattle.bar_roster.specs.declared.key_fields.KeyData.{KeyData}
 use Rattle.bar_seal.specs.declared.lms.LmsScheme.{LmsScheme}
 use Rattle.bar_seal.specs.declared.lms.LmsVerifier.{LmsVerifier}

@@ -2,8 +2,9 @@
 use Rattle.std.specs.Prelude.{◌≡◌, ℕ, Bool, List, Some}
 use Rattle.bar_lms.specs.declared.params.Height.{Height}
 use Rattle.bar_lms.specs.Schemes as session
-use Rattle.bar_roster.specs.SessionText.{SessionData}
-use Rattle.bar_roster.specs.KeyFile.{IsHeldBy, key_in, secrets_in}
+use Rattle.bar_session.specs.SessionData.{SessionData}
+use Rattle.bar_roster.specs.KeyFile.{IsHeldBy}
+use Rattle.bar_session.specs.Fits.{key_in, secrets_in}
 use Rattle.bar_hss.specs.declared.chosen.SessionVerifier.{SessionVerifier}
 use Rattle.bar_hss.specs.declared.chosen.SessionScheme.{SessionScheme}
 use Rattle.bar_hss.specs.declared.key_file.HssKeyFile.{HssKeyFile}

@@ -3,7 +3,8 @@
 ghost use Rattle.std.specs.Prelude.{◌≡◌, ◌≤◌, ◌⊎◌, Ok, Err, IfOk, IfErr, IsSome, Some};
 ghost use Rattle.bar_lms.specs.declared.params.Height.{Height};
 ghost use Rattle.bar_lms.specs.Schemes.{upper_types};
-ghost use Rattle.bar_roster.specs.KeyFile.{fits, key_file_of, key_in};
+ghost use Rattle.bar_roster.specs.KeyFile.{fits, key_file_of};
+ghost use Rattle.bar_session.specs.Fits.{key_in};
 ghost use Rattle.bar_hss.specs.Pairs.{IsPair};
 
 use crate::key::HssKey;

@@ -2,7 +2,7 @@
 
 ghost use Rattle.std.specs.Prelude.{◌≡◌, ◌⊎◌, Bool, None, Ok, Err, IfOk, IfErr, IsSome};
 ghost use Rattle.bar_roster.specs.KeyFile.{IsKeyFileOf, key_file_of};
-ghost use Rattle.bar_roster.specs.SessionText.{SessionData};
+ghost use Rattle.bar_session.specs.SessionData.{SessionData};
 
 use crate::chosen::SessionScheme;
 use crate::key_file::HssKeyFile;

@@ -5,14 +5,14 @@ use Rattle.std.proofs.lemmas.Bool.{cases_Bool}
 use Rattle.std.proofs.lemmas.Option.{option_and_then_some, none-some}
 use Rattle.bar_bytes.proofs.Lengths.{length_u32}
 use Rattle.bar_window.proofs.Widths.{most_places}
-use Rattle.bar_roster.proofs.Levels.{session_short}
+use Rattle.bar_session.proofs.Levels.{session_short}
 use Rattle.bar_wire.specs.declared.shape.Shape.{Shape}
 use Rattle.bar_wire.specs.Datagram.{Datagram, Body, Manifest, Block, Request, Response, Divulge, Query, Reply, Case, KeyReq, Key, Evidence, Evict, kind_of}
 use Rattle.bar_wire.specs.Grammar.{HasForm, InRange, SpellsDatagram, is_wide, message_bytes, pieces}
 use Rattle.bar_wire.specs.Grammar as grammar
 use Rattle.bar_wire.proofs.FieldLengths.{length_digests}
 use Rattle.bar_wire.proofs.Written.{message_len}
-use Rattle.bar_roster.specs.Sessions.{IsSession}
+use Rattle.bar_session.specs.Sessions.{IsSession}
 use Rattle.bar_rules.specs.Member.{Session}
 use Rattle.bar_rules.specs.Values.{datagram_of, is_signed_by}
 use Rattle.bar_judge.specs.TableFile.{RoundList, list_in, list_of_signed, if_after, list_after}

@@ -6,7 +6,7 @@ ghost use Rattle.bar_wire.specs.Views.{datagram, plain};
 ghost use Rattle.bar_rules.specs.Judge.Verdict.{fault_in_order, fault_of, fault_of_messages, fault_of_two};
 ghost use Rattle.bar_rules.specs.Verifiers.{NamesLeavesOf};
 ghost use Rattle.bar_seeds.specs.Checkpoints.{MovesOn};
-ghost use Rattle.bar_roster.specs.Points.{AreSeeds};
+ghost use Rattle.bar_session.specs.Points.{AreSeeds};
 ghost use Rattle.bar_judge.specs.Parts.{IsRead, datagrams, choice_round_alone};
 ghost use Rattle.bar_judge.specs.Verdicts.{plain_fault};
 

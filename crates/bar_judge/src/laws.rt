@@ -1,7 +1,7 @@
 //! What holds of verdicts, of faults that are found, and of table files. These functions do nothing: what they ensure is a law.
 ghost use Rattle.std.specs.Prelude.{◌≡◌, ℕ, ◌<◌, ◌^◌, List, Some, Ok, length, true};
 ghost use Rattle.std.specs.List.{AllByRecursion, list_all};
-ghost use Rattle.bar_roster.specs.Sessions.{IsSession};
+ghost use Rattle.bar_session.specs.Sessions.{IsSession};
 ghost use Rattle.bar_terms.specs.Table.{Lists, Table};
 ghost use Rattle.bar_wire.specs.Datagram.{Datagram};
 ghost use Rattle.bar_rules.specs.Judge.Verdict.{all_read, are_of_one_peer, fault_of, judged, verdict};

@@ -4,7 +4,7 @@ ghost use Rattle.std.specs.Option.{option_map_or};
 ghost use Rattle.bar_terms.specs.Table.{digests_of};
 ghost use Rattle.bar_wire.specs.Bodies.{briefcase_in, choice_in};
 ghost use Rattle.bar_seeds.specs.Checkpoints.{MovesOn};
-ghost use Rattle.bar_roster.specs.Points.{AreSeeds};
+ghost use Rattle.bar_session.specs.Points.{AreSeeds};
 ghost use Rattle.bar_wire.specs.Bodies.{choice_round};
 ghost use Rattle.bar_wire.specs.Views.{datagram, plain};
 ghost use Rattle.bar_rules.specs.Judge.Verdict.{bad_terms, fault_of_one, wrong_partner};

@@ -9,13 +9,13 @@ use Rattle.bar_wire.specs.Grammar.{IsDatagram, IsPeer}
 use Rattle.bar_wire.specs.Inputs.{Input}
 use Rattle.bar_wire.specs.Inputs as event
 use Rattle.bar_wire.specs.declared.kind.Kind.TheVariants as kinds
-use Rattle.bar_roster.specs.Sessions.{IsSession}
+use Rattle.bar_session.specs.Sessions.{IsSession}
 use Rattle.bar_terms.specs.Table.{Table}
 use Rattle.bar_rules.specs.Broadcaster.Party.{IsBroadcaster}
 use Rattle.bar_rules.specs.Broadcaster.Sending.{evicted, caster_signed, caster_step, caster_log_after, caster_sends_of}
 use Rattle.bar_rules.specs.Broadcaster.Stream.{caster_table, is_in_fanout, manifest_list, peers_of, round_blocks}
 use Rattle.bar_rules.specs.Judge.Verdict.{Fault, Shown, verdict}
-use Rattle.bar_roster.specs.Time.{last_tick, round_after, slot_after}
+use Rattle.bar_session.specs.Time.{last_tick, round_after, slot_after}
 use Rattle.bar_rules.specs.Member.{Session, Member}
 use Rattle.bar_rules.specs.Peer.Log.{Log, Said, first_said, has_kind_and_round, kept, round_now, ticks}
 use Rattle.bar_rules.specs.Peer.Sizes.{most_evidence}

@@ -1,7 +1,7 @@
 -- The premises of the laws can be met: there are sessions, setups, members, and worlds in which nothing is forged.
 use Rattle.std.specs.Prelude.{◌≡◌, ℕ, ◌+◌, ◌≤◌, Bool, true, List, length, None}
 use Rattle.std.specs.List.{AllByRecursion}
-use Rattle.bar_roster.specs.Sessions.{IsSession}
+use Rattle.bar_session.specs.Sessions.{IsSession}
 use Rattle.bar_rules.specs.Member.{Session, IsMember}
 use Rattle.bar_rules.specs.Values.{datagram_of}
 use Rattle.bar_rules.specs.World.World.{Move, TickOf, Deliver, Hostile, member, Setup, IsSetup}

@@ -4,7 +4,7 @@ use Rattle.bar_wire.specs.Datagram.{Datagram, is_signed, kind_of}
 use Rattle.bar_wire.specs.Evidence.{evidence_bytes}
 use Rattle.bar_wire.specs.Grammar.{AreDatagramsInRange, SpellsDatagram}
 use Rattle.bar_wire.specs.Limits.{largest_datagram}
-use Rattle.bar_roster.specs.Sessions.{IsSession}
+use Rattle.bar_session.specs.Sessions.{IsSession}
 use Rattle.bar_rules.specs.Member.{Member, Session}
 use Rattle.bar_rules.specs.Peer.Log.{Log, Heard, kept}
 use Rattle.bar_rules.specs.Peer.Rules.{IsObedient}

@@ -9,7 +9,7 @@ use Rattle.bar_outside.specs.Plan.LinkCall.{bind, receive}
 use Rattle.bar_outside.specs.Wire.{Arrival, Bound}
 use Rattle.bar_outside.proofs.ActionLists.{CanRun-append, created-stays, with_file-others, with_file-same}
 use Rattle.bar_seeds.specs.declared.secrets.Secrets.{Secrets}
-use Rattle.bar_roster.specs.SessionText.{SessionData}
+use Rattle.bar_session.specs.SessionData.{SessionData}
 use Rattle.bar_wire.specs.Inputs.{Input}
 use Rattle.bar_record.specs.Pacing.{ticks_of}
 use Rattle.bar_record.specs.Recording.{entry_bytes}

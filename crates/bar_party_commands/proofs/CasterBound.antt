@@ -6,7 +6,7 @@ use Rattle.bar_outside.specs.Wire.{Arrival}
 use Rattle.bar_outside.specs.Plan.{Action, Begun, Outside, Ran, content_after}
 use Rattle.bar_outside.proofs.Contents.{appended-same, put_at-same}
 use Rattle.bar_seeds.specs.declared.secrets.Secrets.{Secrets}
-use Rattle.bar_roster.specs.SessionText.{SessionData}
+use Rattle.bar_session.specs.SessionData.{SessionData}
 use Rattle.bar_node.specs.Stops.{IsApart}
 use Rattle.bar_party_commands.specs.CasterPlan.{CasterAccepted, CasterNames, caster_actions, caster_run}
 use Rattle.bar_party_commands.specs.CasterStands.{IsBound, IsBoundOrUnused, IsCasterOf}

@@ -6,7 +6,7 @@ use Rattle.bar_outside.specs.Wire.{Arrival}
 use Rattle.bar_outside.specs.Plan.{Action, Begun, Outside, Ran, content_after}
 use Rattle.bar_outside.proofs.Contents.{appended-other, appended-same, put_at-other, put_at-same}
 use Rattle.bar_seeds.specs.declared.secrets.Secrets.{Secrets}
-use Rattle.bar_roster.specs.SessionText.{SessionData}
+use Rattle.bar_session.specs.SessionData.{SessionData}
 use Rattle.bar_record.specs.Recording.{head_bytes}
 use Rattle.bar_party_commands.specs.PeerPlan.{PeerAccepted, PeerNames, before_binding, peer_actions, peer_run}
 use Rattle.bar_party_commands.specs.PeerStands.{HasOwnNames, IsBound, IsBoundOrUnused, IsPeerOf}

@@ -9,7 +9,7 @@ use Rattle.bar_outside.proofs.Untouched.{untouched-reached}
 use Rattle.bar_seeds.specs.declared.secrets.Secrets.{Secrets}
 use Rattle.bar_roster.specs.declared.fault.SessionFault.{SessionFault}
 use Rattle.bar_roster.specs.declared.key_fault.KeyFileFault.{KeyFileFault}
-use Rattle.bar_roster.specs.SessionText.{SessionData}
+use Rattle.bar_session.specs.SessionData.{SessionData}
 use Rattle.bar_findings.specs.Findings.{IsFindingName}
 use Rattle.bar_node.specs.Runs.{AsksToTheEnd, is_ended}
 use Rattle.bar_session_files.specs.Accepting.{HasSession, fresh_key_of, session_of}

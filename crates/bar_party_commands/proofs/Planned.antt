@@ -9,7 +9,7 @@ use Rattle.bar_outside.specs.Plan.LinkCall.{bind}
 use Rattle.bar_outside.specs.declared.fault.Fault.{Fault}
 use Rattle.bar_outside.proofs.Following.{followed, stopped}
 use Rattle.bar_seeds.specs.declared.secrets.Secrets.{Secrets}
-use Rattle.bar_roster.specs.SessionText.{SessionData}
+use Rattle.bar_session.specs.SessionData.{SessionData}
 use Rattle.bar_record.specs.Recording.{head_bytes}
 use Rattle.bar_rules.specs.Member.{Member}
 use Rattle.bar_rules.specs.Members.{member_by}

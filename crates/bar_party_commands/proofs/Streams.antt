@@ -5,7 +5,7 @@ use Rattle.std.proofs.lemmas.Bool.Decides.{nat_tests}
 use Rattle.bar_outside.specs.Ends.{EndsWith}
 use Rattle.bar_outside.specs.Plan.{Outside, ending}
 use Rattle.bar_outside.proofs.Ending.{EndsWith-ending}
-use Rattle.bar_roster.specs.SessionText.{SessionData}
+use Rattle.bar_session.specs.SessionData.{SessionData}
 use Rattle.bar_party_commands.specs.Streams.{room_of, stream_in, stream_refused}
 
 pub stream-fits : (s : SessionData) (bytes : List ℕ) → (room_of s < length bytes → ⊥) → stream_in s bytes ≡ Ok bytes

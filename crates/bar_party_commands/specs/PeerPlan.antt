@@ -5,7 +5,7 @@ use Rattle.bar_outside.specs.Plan.{Action, Plan, accepting, doing, ending, readi
 use Rattle.bar_outside.specs.Plan.Action.{append, create}
 use Rattle.bar_outside.specs.Wire.{Arrival}
 use Rattle.bar_seeds.specs.declared.secrets.Secrets.{Secrets}
-use Rattle.bar_roster.specs.SessionText.{SessionData}
+use Rattle.bar_session.specs.SessionData.{SessionData}
 use Rattle.bar_record.specs.Recording.{head_bytes}
 use Rattle.bar_core.specs.Rules.{Rules}
 use Rattle.bar_rules.specs.Members.{member_by}

@@ -8,8 +8,8 @@ use Rattle.bar_findings.specs.Findings.{IsFindingName}
 use Rattle.bar_seeds.specs.declared.secrets.Secrets.{Secrets}
 use Rattle.bar_roster.specs.declared.fault.SessionFault.{SessionFault}
 use Rattle.bar_roster.specs.declared.key_fault.KeyFileFault.{KeyFileFault}
-use Rattle.bar_roster.specs.SessionText.{SessionData}
-use Rattle.bar_roster.specs.KeyFile.{Fits}
+use Rattle.bar_session.specs.SessionData.{SessionData}
+use Rattle.bar_session.specs.Fits.{Fits}
 use Rattle.bar_wire.specs.Inputs.{Input}
 use Rattle.bar_record.specs.Recording.{entry_bytes, head_bytes, recording_bytes}
 use Rattle.bar_core.specs.Rules.{Send}

@@ -12,7 +12,7 @@ use Rattle.bar_outside.specs.Wire.{Arrival, Bound, bound_by}
 use Rattle.bar_record.specs.Recording.{IsInRange}
 use Rattle.bar_seeds.specs.declared.secrets.Secrets.{Secrets}
 use Rattle.bar_roster.specs.KeyAnew.{text_of}
-use Rattle.bar_roster.specs.SessionText.{SessionData}
+use Rattle.bar_session.specs.SessionData.{SessionData}
 use Rattle.bar_core.specs.Rules.{Rules}
 use Rattle.bar_node.specs.Effects.{received_in}
 use Rattle.bar_node.specs.Runs.{AsksToTheEnd, has_end, heard, inputs_of, is_ended}

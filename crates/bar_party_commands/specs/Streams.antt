@@ -2,7 +2,7 @@
 use Rattle.std.specs.Prelude.{ℕ, ◌*◌, ◌++◌, List, Result, Ok, Err, codes, length, nat_le, if◌then◌else◌}
 use Rattle.std.specs.Fmt.{decimal}
 use Rattle.bar_wire.specs.Limits.{largest_content}
-use Rattle.bar_roster.specs.SessionText.{SessionData}
+use Rattle.bar_session.specs.SessionData.{SessionData}
 
 -- how many bytes of a stream a session's rounds carry
 abbrev pub room_of : SessionData → ℕ

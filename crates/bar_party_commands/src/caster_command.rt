@@ -8,7 +8,7 @@ ghost use Rattle.bar_wire.specs.Inputs.{Input};
 ghost use Rattle.bar_seeds.specs.declared.secrets.Secrets.{Secrets as Held};
 ghost use Rattle.bar_core.specs.Orders.{left_in};
 ghost use Rattle.bar_hss.specs.Files.{IsPartyKeyOf};
-ghost use Rattle.bar_roster.specs.SessionText.{SessionData};
+ghost use Rattle.bar_session.specs.SessionData.{SessionData};
 ghost use Rattle.bar_rules.specs.Members.{member_by};
 ghost use Rattle.bar_caster.specs.Core.{caster_rules};
 ghost use Rattle.bar_caster.specs.Memory.{member_of, stream_of};

@@ -5,7 +5,7 @@ ghost use Rattle.bar_outside.specs.Ends.{UnlessStopped};
 ghost use Rattle.bar_outside.specs.Follows.{IsReliable};
 ghost use Rattle.bar_outside.specs.Plan.{Outside};
 ghost use Rattle.bar_seeds.specs.declared.secrets.Secrets.{Secrets};
-ghost use Rattle.bar_roster.specs.SessionText.{SessionData};
+ghost use Rattle.bar_session.specs.SessionData.{SessionData};
 ghost use Rattle.bar_party_commands.specs.CasterPlan.{CasterAccepted, CasterNames, caster_plan};
 ghost use Rattle.bar_party_commands.specs.CasterStands.{CasterDone, CasterStands, IsBoundOrUnused, IsCasterFile, KeyRefused, SessionRefused, StreamRefused};
 ghost use Rattle.bar_party_commands.specs.Running.{AtRunEnd, OfEachRun, RunEnds};

@@ -5,7 +5,7 @@ ghost use Rattle.bar_outside.specs.Ends.{UnlessStopped};
 ghost use Rattle.bar_outside.specs.Follows.{IsReliable};
 ghost use Rattle.bar_outside.specs.Plan.{Outside};
 ghost use Rattle.bar_seeds.specs.declared.secrets.Secrets.{Secrets};
-ghost use Rattle.bar_roster.specs.SessionText.{SessionData};
+ghost use Rattle.bar_session.specs.SessionData.{SessionData};
 ghost use Rattle.bar_party_commands.specs.PeerPlan.{PeerAccepted, PeerNames, peer_plan};
 ghost use Rattle.bar_party_commands.specs.PeerStands.{IsBoundOrUnused, IsPeerFile, KeyRefused, PeerDone, PeerStands, SessionRefused};
 ghost use Rattle.bar_party_commands.specs.Running.{AtRunEnd, OfEachRun, RunEnds};

@@ -11,7 +11,7 @@ use Rattle.bar_wire.specs.declared.kind.Kind.{Kind}
 use Rattle.bar_wire.specs.Grammar.{SpellsDatagram, IsDatagram, MaySend}
 use Rattle.bar_wire.specs.declared.shape.Shape.{Shape}
 use Rattle.bar_balanced.specs.Balanced.{AreSpelled}
-use Rattle.bar_roster.specs.Time.{round_after}
+use Rattle.bar_session.specs.Time.{round_after}
 use Rattle.bar_rules.specs.Member.{Member, IsMember}
 use Rattle.bar_rules.specs.Peer.Admission.{is_admitted, is_for, is_row_met}
 use Rattle.bar_rules.specs.Peer.Agreement.{IsRecent}

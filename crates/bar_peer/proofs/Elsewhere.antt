@@ -19,7 +19,7 @@ use Rattle.bar_wire.specs.Kinds.{is_signed_kind}
 use Rattle.bar_wire.specs.declared.shape.Shape.{Shape}
 use Rattle.bar_wire.specs.declared.kind.Kind.{Kind}
 use Rattle.bar_wire.specs.declared.kind.Kind.TheVariants as kinds
-use Rattle.bar_roster.specs.NumberRanges.{most_long_rounds}
+use Rattle.bar_session.specs.Limits.{most_long_rounds}
 use Rattle.bar_rules.specs.Member.{Session, Member, IsMember}
 use Rattle.bar_rules.specs.Values.{datagram_bytes, leaf_named, message_bytes}
 use Rattle.bar_rules.specs.Verifiers.{NamesLeavesOf}

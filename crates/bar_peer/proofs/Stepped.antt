@@ -8,7 +8,7 @@ use Rattle.std.proofs.lemmas.Bool.{false≢true, true≢false}
 use Rattle.std.proofs.lemmas.Bool.Decides.{nat_tests}
 use Rattle.bar_wire.specs.Inputs.{Input}
 use Rattle.bar_wire.specs.Inputs as event
-use Rattle.bar_roster.specs.Time.{last_tick, slot_after}
+use Rattle.bar_session.specs.Time.{last_tick, slot_after}
 use Rattle.bar_rules.specs.Member.{Member}
 use Rattle.bar_rules.specs.Runs.{begun}
 use Rattle.bar_rules.specs.Values.{datagram_of}

@@ -7,8 +7,8 @@ use Rattle.bar_wire.specs.Bodies.{choice_in, choice_round}
 use Rattle.bar_wire.specs.Datagram.{Datagram, is_signed, round_of}
 use Rattle.bar_wire.specs.Inputs.{Input}
 use Rattle.bar_wire.specs.Inputs as event
-use Rattle.bar_roster.specs.SessionText.{SessionData}
-use Rattle.bar_roster.specs.Time.{last_tick}
+use Rattle.bar_session.specs.SessionData.{SessionData}
+use Rattle.bar_session.specs.Time.{last_tick}
 use Rattle.bar_rules.specs.Member.{Member, key_of_party}
 use Rattle.bar_rules.specs.Values.{datagram_of}
 use Rattle.bar_rules.specs.Peer.Admission.{is_admitted}

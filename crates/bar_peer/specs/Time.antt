@@ -10,7 +10,7 @@ use Rattle.bar_wire.specs.declared.kind.Kind.{Kind}
 use Rattle.bar_wire.specs.declared.kind.Kind.TheVariants as kinds
 use Rattle.bar_record.specs.Pacing.{ticks_in, ticks_of}
 use Rattle.bar_core.proofs.Stepwise.{ticks-stepwise}
-use Rattle.bar_roster.specs.Time.{last_tick}
+use Rattle.bar_session.specs.Time.{last_tick}
 use Rattle.bar_rules.specs.Member.{Member, IsMember}
 use Rattle.bar_rules.specs.Peer.Admission.{is_admitted}
 use Rattle.bar_rules.specs.Peer.Evidence.{new_evidence}

@@ -1,14 +1,14 @@
 //! Which datagrams a peer admits.
 ghost use Rattle.std.specs.Prelude.{◌≡◌, ◌+◌, ◌≤◌, ◌&&◌, ℕ, List, true, if◌then◌else◌};
 ghost use Rattle.bar_seeds.specs.Checkpoints.{kept_round, MovesOn};
-ghost use Rattle.bar_roster.specs.Points.{AreSeeds};
+ghost use Rattle.bar_session.specs.Points.{AreSeeds};
 ghost use Rattle.bar_wire.specs.Bodies.{choice_round};
 ghost use Rattle.bar_seal.specs.Memo.{has_pair, with_pair};
 ghost use Rattle.bar_wire.specs.Datagram.{is_signed};
 ghost use Rattle.bar_peer.specs.Checking.{IsCheckedOnce};
 ghost use Rattle.bar_wire.specs.Bodies.{is_peer_kind};
 ghost use Rattle.bar_wire.specs.Views.{datagram, plain, IsView};
-ghost use Rattle.bar_roster.specs.Time.{round_after};
+ghost use Rattle.bar_session.specs.Time.{round_after};
 ghost use Rattle.bar_rules.specs.Member.{is_alive};
 ghost use Rattle.bar_rules.specs.Peer.Admission.{is_admitted, is_for, is_row_met, has_valid_signature};
 ghost use Rattle.bar_rules.specs.Peer.Evidence.{is_tried};

@@ -7,7 +7,7 @@ ghost use Rattle.bar_wire.specs.Datagram.{place_of};
 ghost use Rattle.bar_wire.specs.Evidence.{datagrams_of};
 ghost use Rattle.bar_wire.specs.Views.{datagram, plain, IsView};
 ghost use Rattle.bar_seeds.specs.Checkpoints.{MovesOn};
-ghost use Rattle.bar_roster.specs.Points.{AreSeeds};
+ghost use Rattle.bar_session.specs.Points.{AreSeeds};
 ghost use Rattle.bar_wire.specs.Bodies.{choice_round};
 ghost use Rattle.bar_judge.specs.Parts.{IsRead};
 ghost use Rattle.bar_rules.specs.Values.{is_signed_by};

@@ -1,7 +1,7 @@
 //! What a peer does at a datagram and at a tick.
 ghost use Rattle.std.specs.Prelude.{◌≡◌, ◌≤◌, ◌<◌, [], ◌+◌, ◌*◌, None, Some, true, false, is_some, length};
 ghost use Rattle.bar_seeds.specs.Checkpoints.{kept_round, MovesOn};
-ghost use Rattle.bar_roster.specs.Points.{AreSeeds};
+ghost use Rattle.bar_session.specs.Points.{AreSeeds};
 ghost use Rattle.bar_wire.specs.Bodies.{choice_round};
 ghost use Rattle.bar_seal.specs.Memo.{has_pair, with_pair};
 ghost use Rattle.bar_peer.specs.Checking.{IsCheckedOnce, AdmitsChecked, AdmitsKept, checked_in, choice_round_in, sender_in};
@@ -9,7 +9,7 @@ ghost use Rattle.bar_wire.specs.Inputs as event;
 ghost use Rattle.bar_wire.specs.Bodies.{is_peer_kind};
 ghost use Rattle.bar_wire.specs.Datagram.{Datagram, is_signed};
 ghost use Rattle.bar_wire.specs.Views.{plain};
-ghost use Rattle.bar_roster.specs.Time.{last_tick};
+ghost use Rattle.bar_session.specs.Time.{last_tick};
 ghost use Rattle.bar_rules.specs.Member.{Member};
 ghost use Rattle.bar_rules.specs.Peer.Admission.{is_admitted as admitted};
 ghost use Rattle.bar_rules.specs.Peer.Evidence.{is_tried, new_evidence};

@@ -1,6 +1,6 @@
 ghost use Rattle.std.specs.Prelude.{◌≡◌, ◌+◌, ◌≤◌, length};
 ghost use Rattle.bar_wire.specs.declared.kind.Kind.TheVariants.{Manifest};
-ghost use Rattle.bar_roster.specs.Time.{last_tick, round_after};
+ghost use Rattle.bar_session.specs.Time.{last_tick, round_after};
 ghost use Rattle.bar_rules.specs.Peer.Sizes.{largest, most_evidence};
 
 use crate::credentials::Credentials;

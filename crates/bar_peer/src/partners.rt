@@ -1,6 +1,6 @@
 //! What a peer asks for at the first slot of a round.
 ghost use Rattle.std.specs.Prelude.{◌+◌, ◌≤◌, length};
-ghost use Rattle.bar_roster.specs.Time.{round_after};
+ghost use Rattle.bar_session.specs.Time.{round_after};
 ghost use Rattle.bar_peer.specs.Ticking.{AsksPartner, AsksPartners};
 ghost use Rattle.bar_core.specs.Orders.{HasSameRoom};
 ghost use Rattle.bar_peer.specs.Memory.{IsSameParty};

@@ -1,5 +1,5 @@
 ghost use Rattle.std.specs.Prelude.{◌≡◌, ◌≤◌};
-ghost use Rattle.bar_roster.specs.Points.{AreSeeds};
+ghost use Rattle.bar_session.specs.Points.{AreSeeds};
 ghost use Rattle.bar_rules.specs.Verifiers.{IsVerifierOf, NamesLeavesOf};
 ghost use Rattle.bar_peer.specs.Memory.{member_of};
 ghost use Rattle.bar_rules.specs.Signers.{IsSignerOf};

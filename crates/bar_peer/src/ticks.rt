@@ -1,6 +1,6 @@
 //! What a peer sends at a tick.
 ghost use Rattle.std.specs.Prelude.{◌≡◌, ◌==◌, ◌+◌, ◌<◌, ◌≤◌, ◌∷◌, [], length};
-ghost use Rattle.bar_roster.specs.Time.{last_tick, slot_after};
+ghost use Rattle.bar_session.specs.Time.{last_tick, slot_after};
 ghost use Rattle.bar_rules.specs.Peer.Agreement.{IsRecent};
 ghost use Rattle.bar_rules.specs.Peer.Knowledge.{Knowledge, known};
 ghost use Rattle.bar_rules.specs.Peer.Log.{Log, Ticked};

@@ -6,7 +6,7 @@ use Rattle.std.specs.Option.{option_map_or, option_or}
 use Rattle.std.specs.Str.{bytes_eq}
 use Rattle.std.proofs.lemmas.Bool.{and_from, lt-ltb, ltb-true}
 use Rattle.bar_bytes.proofs.Tests.{bytes_eq-refl, eqb_refl}
-use Rattle.bar_roster.specs.Time.{last_tick}
+use Rattle.bar_session.specs.Time.{last_tick}
 use Rattle.bar_terms.specs.Table.{is_within}
 use Rattle.bar_terms.specs.Terms.{promise, promised_updates}
 use Rattle.bar_window.specs.Exchange.{other_role}

@@ -4,7 +4,7 @@ use Rattle.std.specs.Prelude.{Option, Some, None, is_some, cond, nat_le, option_
 use Rattle.std.specs.Bool.{then_some}
 use Rattle.std.specs.Option.{option_or}
 use Rattle.std.proofs.lemmas.Bool.{cond-false, leb-false, lt-leb}
-use Rattle.bar_roster.specs.Time.{last_tick}
+use Rattle.bar_session.specs.Time.{last_tick}
 use Rattle.bar_window.specs.Exchange.{other_role}
 use Rattle.bar_window.specs.Terms.{Terms}
 use Rattle.bar_window.specs.declared.exchange.Exchange.{Exchange}

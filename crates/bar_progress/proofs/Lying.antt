@@ -6,7 +6,7 @@ use Rattle.std.specs.Option.{option_or}
 use Rattle.std.proofs.lemmas.Bool.{and_from, both_ways, cond-true, eq-eqb, eqb-true, le-leb, ne_eqb}
 use Rattle.bar_bytes.proofs.Tests.{eqb_refl}
 use Rattle.bar_lms.specs.Schemes.{leaves_by}
-use Rattle.bar_roster.specs.Time.{last_tick}
+use Rattle.bar_session.specs.Time.{last_tick}
 use Rattle.bar_terms.specs.Table.{Table}
 use Rattle.bar_window.specs.declared.exchange.XKind.TheVariants.{Balanced}
 use Rattle.bar_wire.specs.Bodies.{evidence_in}

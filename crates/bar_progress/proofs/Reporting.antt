@@ -3,7 +3,7 @@ use Rattle.std.proofs.Common.{◌≡◌, ◌⊎◌, inl, inr, ℕ, true, false, 
 use Rattle.std.specs.Prelude.{None, Some, Contains, nat_le, option_map}
 use Rattle.std.proofs.lemmas.Bool.{and_from, eq-eqb, lt-leb}
 use Rattle.bar_bytes.proofs.Options.{or-none}
-use Rattle.bar_roster.specs.Time.{last_tick, slot_after}
+use Rattle.bar_session.specs.Time.{last_tick, slot_after}
 use Rattle.bar_window.proofs.Ranges.{Contains-here, Contains_cases, image_is_in}
 use Rattle.bar_wire.specs.Datagram.{Datagram, Evidence}
 use Rattle.bar_wire.specs.Inputs as event

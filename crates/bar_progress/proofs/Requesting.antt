@@ -3,7 +3,7 @@ use Rattle.std.proofs.Common.{◌≡◌, ◌∙◌, ◌⊎◌, inl, inr, ℕ, �
 use Rattle.std.specs.Prelude.{Option, Some, None, Contains, nat_le}
 use Rattle.std.proofs.lemmas.Bool.{and_from, eq-eqb, le-leb, lt-leb, lt-ltb}
 use Rattle.bar_bytes.proofs.Options.{or-none}
-use Rattle.bar_roster.specs.Time.{last_tick, round_after, slot_after}
+use Rattle.bar_session.specs.Time.{last_tick, round_after, slot_after}
 use Rattle.bar_window.proofs.Ranges.{Contains-here, Contains-later, Contains_cases}
 use Rattle.bar_window.specs.Exchange.{other_role, party_on}
 use Rattle.bar_window.specs.declared.exchange.Exchange.{Exchange}

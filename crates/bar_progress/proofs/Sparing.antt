@@ -6,7 +6,7 @@ use Rattle.std.specs.List.{AllByRecursion}
 use Rattle.std.specs.Str.{bytes_eq}
 use Rattle.std.proofs.lemmas.Bool.{both_ways, not-true}
 use Rattle.bar_bytes.proofs.Options.{or-none}
-use Rattle.bar_roster.specs.Time.{last_tick}
+use Rattle.bar_session.specs.Time.{last_tick}
 use Rattle.bar_window.specs.Exchange.{other_role, party_on}
 use Rattle.bar_window.specs.declared.exchange.Exchange.{Exchange}
 use Rattle.bar_window.specs.declared.exchange.Role.{Role}

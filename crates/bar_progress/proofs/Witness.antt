@@ -9,8 +9,8 @@ use Rattle.sha2.specs.Sha256.{sha256}
 use Rattle.bar_bytes.proofs.Tests.{bytes_eq-refl, eqb_refl}
 use Rattle.bar_lms.specs.declared.params.Height.TheVariants.{H10}
 use Rattle.bar_lms.specs.declared.params.Ots.TheVariants.{W8}
-use Rattle.bar_roster.proofs.Levels.{one_level}
-use Rattle.bar_roster.specs.Sessions.{IsSession}
+use Rattle.bar_session.proofs.Levels.{one_level}
+use Rattle.bar_session.specs.Sessions.{IsSession}
 use Rattle.bar_seeds.proofs.PartnerLemmas.{partner_low, partner_high, partner_other}
 use Rattle.bar_seeds.proofs.SeedLemmas.{own_seed}
 use Rattle.bar_seeds.specs.Seeds as seeds

@@ -1,6 +1,6 @@
 -- A balanced exchange goes on whatever stands between its deliveries.
 use Rattle.std.specs.Prelude.{◌≡◌, ℕ, ◌<◌, Bool, true, List, [], ◌∷◌, ◌++◌, Some, slice_get}
-use Rattle.bar_roster.specs.Time.{last_tick}
+use Rattle.bar_session.specs.Time.{last_tick}
 use Rattle.bar_window.specs.Exchange.{other_role, party_on}
 use Rattle.bar_window.specs.Terms.{Terms}
 use Rattle.bar_window.specs.declared.exchange.Exchange.{Exchange}

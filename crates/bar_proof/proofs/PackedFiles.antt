@@ -3,7 +3,7 @@ use Rattle.std.proofs.Common.{◌≡◌, ℕ, List, ap, sym, ◌∙◌, ◌<◌,
 use Rattle.std.specs.Prelude.{◌⊎◌, Some, Ok, Err}
 use Rattle.bar_terms.specs.Table.{Lists, digests_of}
 use Rattle.bar_wire.specs.Evidence.{IsEvidence}
-use Rattle.bar_roster.specs.Sessions.{IsSession}
+use Rattle.bar_session.specs.Sessions.{IsSession}
 use Rattle.bar_rules.specs.Member.{Session}
 use Rattle.bar_rules.specs.Judge.Verdict.{Fault, Shown, verdict}
 use Rattle.bar_judge.specs.TableFile.{RoundList, list_after, lists_of, table_of}

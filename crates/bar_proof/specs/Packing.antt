@@ -3,7 +3,7 @@ use Rattle.std.specs.Prelude.{◌≡◌, ℕ, List, Some, None, Ok, Err}
 use Rattle.bar_terms.specs.Table.{Lists, digests_of}
 use Rattle.bar_rules.specs.Member.{Session}
 use Rattle.bar_rules.specs.Judge.Verdict.{Fault, Shown, NotShown as NothingShown, verdict}
-use Rattle.bar_roster.specs.Sessions.{IsSession}
+use Rattle.bar_session.specs.Sessions.{IsSession}
 use Rattle.bar_judge.specs.TableFile.{lists_of, table_bytes, table_of}
 use Rattle.bar_judge.specs.Verdicts.{plain_why}
 use Rattle.bar_judge.specs.declared.table_fault.TableFault.{TableFault}

@@ -3,7 +3,7 @@ ghost use Rattle.std.specs.Prelude.{◌≡◌, ◌+◌, ◌≤◌, ℕ, nat_lt, 
 ghost use Rattle.bar_window.specs.Window.{members};
 ghost use Rattle.bar_terms.specs.Terms.{offer_ok};
 ghost use Rattle.bar_seeds.specs.Checkpoints.{kept_round, MovesOn};
-ghost use Rattle.bar_roster.specs.Points.{AreSeeds};
+ghost use Rattle.bar_session.specs.Points.{AreSeeds};
 ghost use Rattle.bar_wire.specs.Datagram.{Query};
 ghost use Rattle.bar_wire.specs.Grammar.{IsPeer};
 ghost use Rattle.bar_wire.specs.Views.{IsWindowIn};

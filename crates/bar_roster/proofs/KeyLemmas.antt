@@ -15,8 +15,9 @@ use Rattle.bar_seeds.specs.Seeds.{anchor_of}
 use Rattle.bar_seeds.specs.declared.secrets.Secrets.{Secrets}
 use Rattle.bar_roster.specs.declared.key_fields.KeyData.{KeyData}
 use Rattle.bar_roster.specs.declared.key_file.KeyFile.{KeyFile}
-use Rattle.bar_roster.specs.SessionText.{SessionData}
-use Rattle.bar_roster.specs.KeyFile.{Fits, fits, is_at, is_of_session, key_in, secrets_in, signing_secret, named_key, session_key_of, checked_key, key_file_of, IsHeldBy, IsMadeFor, IsKeyFileOf}
+use Rattle.bar_session.specs.SessionData.{SessionData}
+use Rattle.bar_session.specs.Fits.{Fits, key_in, secrets_in, signing_secret}
+use Rattle.bar_roster.specs.KeyFile.{fits, is_at, is_of_session, named_key, session_key_of, checked_key, key_file_of, IsHeldBy, IsMadeFor, IsKeyFileOf}
 use Rattle.bar_roster.specs.KeyText.{key_read}
 use Rattle.bar_roster.specs.declared.key_fault.KeyFileFault.{KeyFileFault}
 use Rattle.bar_roster.specs.declared.key_fault.KeyFileFault.TheVariants.{NotInRoster, Spent}

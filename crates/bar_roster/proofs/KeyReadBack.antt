@@ -22,10 +22,10 @@ use Rattle.toml.specs.Text.{IsLinesText, IsValueText}
 use Rattle.toml.proofs.Turns.{document_some}
 use Rattle.toml.proofs.ReadLines.{run, AllPrinted, read_lines}
 use Rattle.toml.proofs.OnLiterals.{toml_on_literals}
-use Rattle.bar_roster.specs.NumberRanges.{IsTop, first_ots_by, last_lms_by, most_peers, rounds_by}
+use Rattle.bar_session.specs.Limits.{IsTop, first_ots_by, last_lms_by, most_peers, rounds_by}
 use Rattle.bar_roster.specs.declared.key_fields.KeyData.{KeyData}
 use Rattle.bar_roster.specs.KeyText.{IsInRange, any_key_data, key_text_of, key_read, key_fields, names_top, truth}
-use Rattle.bar_roster.proofs.Levels.{lms_most, rounds_most}
+use Rattle.bar_session.proofs.Levels.{lms_most, rounds_most}
 use Rattle.bar_roster.proofs.PlainText.{hex_digits, string_text-digits}
 
 -- a text that is written out is text

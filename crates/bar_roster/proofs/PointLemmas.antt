@@ -8,8 +8,8 @@ use Rattle.std.proofs.lemmas.Slice.Eq.{bytes_eq-Decides}
 use Rattle.std.proofs.lemmas.Bool.{eqb-false}
 use Rattle.bar_seeds.specs.Seeds.{is_seed, chain_start}
 use Rattle.bar_seeds.specs.Checkpoints.{kept_of, kept_round, kept_value, parties_in, MovesOn}
-use Rattle.bar_roster.specs.SessionText.{SessionData}
-use Rattle.bar_roster.specs.Points.{anchor_in, AreSeeds}
+use Rattle.bar_session.specs.SessionData.{SessionData}
+use Rattle.bar_session.specs.Points.{anchor_in, AreSeeds}
 
 abbrev IsSeedOf : SessionData → Checkpoints → ℕ → Type 0
 IsSeedOf s points peer = is_seed s.shape.id (anchor_in s peer) peer (kept_round points peer) (kept_value points (anchor_in s peer) peer) ≡ true

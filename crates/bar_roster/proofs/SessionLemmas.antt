@@ -6,7 +6,8 @@ use Rattle.std.specs.Option.{ok_or}
 use Rattle.toml.specs.Data.{Data, integer, array, Items, no_items, item, Members, get_member}
 use Rattle.std.specs.Prelude.{is_some, option_map}
 use Rattle.bar_lms.specs.Schemes.{length_by, leaves_by}
-use Rattle.bar_roster.proofs.Levels.{levels_are, rounds_most}
+use Rattle.bar_roster.proofs.Levels.{levels_are}
+use Rattle.bar_session.proofs.Levels.{rounds_most}
 use Rattle.bar_wire.specs.Limits.{leaves_a_round}
 use Rattle.bar_wire.specs.declared.shape.Shape.{Shape}
 use Rattle.bar_roster.specs.declared.fault.Key.{Key}
@@ -16,9 +17,11 @@ use Rattle.bar_roster.specs.declared.fault.SessionFault.{SessionFault}
 use Rattle.bar_roster.specs.declared.fault.SessionFault.TheVariants.{NotToml, BadValue, TooFewLeaves}
 use Rattle.bar_roster.specs.declared.numbers.Numbers.{Numbers}
 use Rattle.bar_roster.specs.Fields.{◌>>=◌, of_kind, field, field_if_there, if_there, some_of, number_in, bytes_of, key_of, are_tables, peers_of, count_of, document}
-use Rattle.bar_roster.specs.NumberRanges.{AreInRange, IsTop, first_ots_by, last_lms_by, most_peers, most_per_round, rounds_by}
-use Rattle.bar_roster.specs.SessionText.{SessionData, numbers_of, types_of, peer_of, peers_from, front_of, listed_in, enough_leaves, session_data, parties_of, session_of}
-use Rattle.bar_roster.specs.Sessions.{IsSession}
+use Rattle.bar_roster.specs.NumberRanges.{AreInRange}
+use Rattle.bar_session.specs.Limits.{IsTop, first_ots_by, last_lms_by, most_peers, most_per_round, rounds_by}
+use Rattle.bar_session.specs.SessionData.{SessionData}
+use Rattle.bar_roster.specs.SessionText.{numbers_of, types_of, peer_of, peers_from, front_of, listed_in, enough_leaves, session_data, parties_of, session_of}
+use Rattle.bar_session.specs.Sessions.{IsSession}
 use Rattle.bar_roster.specs.Shapes.{height_of, params_of, is_shaped, shaped, shape_by, shape_of}
 
 -- ---- checks in a row

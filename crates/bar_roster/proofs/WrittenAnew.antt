@@ -16,16 +16,17 @@ use Rattle.bar_lms.specs.Params.{lms_type, ots_type}
 use Rattle.bar_seeds.specs.declared.secrets.Secrets.{Secrets}
 use Rattle.bar_roster.specs.Fields.{bytes_of, document, number_in}
 use Rattle.bar_roster.specs.KeyAnew.{longest_text, text_of}
-use Rattle.bar_roster.specs.KeyFile.{checked_key, fits, is_of_session, key_file_of, named_key, secrets_in, session_key_of}
+use Rattle.bar_roster.specs.KeyFile.{checked_key, fits, is_of_session, key_file_of, named_key, session_key_of}
+use Rattle.bar_session.specs.Fits.{secrets_in}
 use Rattle.bar_roster.specs.KeyText.{any_key_data, first_lines, key_fields, key_read, key_text_of, last_lines, names_top, own_levels, table_read, top_in, top_line, truth}
-use Rattle.bar_roster.specs.NumberRanges.{IsTop, first_ots_by, last_lms_by, most_peers, rounds_by}
-use Rattle.bar_roster.specs.SessionText.{SessionData}
+use Rattle.bar_session.specs.Limits.{IsTop, first_ots_by, last_lms_by, most_peers, rounds_by}
+use Rattle.bar_session.specs.SessionData.{SessionData}
 use Rattle.bar_roster.specs.declared.key_fault.KeyFileFault.{KeyFileFault}
 use Rattle.bar_roster.specs.declared.key_fault.KeyFileFault.TheVariants.{NotInRoster}
 use Rattle.bar_roster.specs.declared.key_fields.KeyData.{KeyData}
 use Rattle.bar_roster.proofs.KeyLemmas.{checked_fits, named_ours}
 use Rattle.bar_roster.proofs.KeyReadBack.{IsWritable, key_read-written}
-use Rattle.bar_roster.proofs.Levels.{lms_most, rounds_most}
+use Rattle.bar_session.proofs.Levels.{lms_most, rounds_most}
 use Rattle.bar_roster.proofs.SessionLemmas.{number_range}
 
 -- ---- what was read of a key text can be written

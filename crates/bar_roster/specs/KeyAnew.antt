@@ -3,7 +3,7 @@ use Rattle.std.specs.Prelude.{ℕ, Bool, List, option_map}
 use Rattle.bar_lms.specs.Params.{lms_type, ots_type}
 use Rattle.bar_seeds.specs.declared.secrets.Secrets.{Secrets}
 use Rattle.bar_roster.specs.KeyText.{any_key_data, key_text_of}
-use Rattle.bar_roster.specs.SessionText.{SessionData}
+use Rattle.bar_session.specs.SessionData.{SessionData}
 
 -- the text of a party's secret in a session, spent or not
 abbrev pub text_of : SessionData → Secrets → Bool → List ℕ

@@ -1,35 +1,18 @@
 -- Keys that belong to a session, and the first fault of one that doesn't.
-use Rattle.std.specs.Prelude.{◌≡◌, ℕ, ◌-◌, ◌≤◌, ◌==◌, ◌&&◌, ◌||◌, not, nat_eq, nat_le, Bool, false, List, Some, is_some, option_map, Result, Ok, Err, slice_get, if◌then◌else◌}
+use Rattle.std.specs.Prelude.{◌≡◌, ℕ, ◌-◌, ◌≤◌, ◌==◌, ◌&&◌, ◌||◌, not, nat_eq, nat_le, Bool, false, List, is_some, option_map, Result, Ok, Err, slice_get, if◌then◌else◌}
 use Rattle.std.specs.Bool.{MatchBool}
 use Rattle.std.specs.Option.{option_eq, option_map_or}
 use Rattle.std.specs.Str.{bytes_eq}
 use Rattle.bar_lms.specs.Params.{lms_type, ots_type}
-use Rattle.bar_lms.specs.Schemes.{public_by}
-use Rattle.bar_lms.specs.Secret.{Secret}
 use Rattle.bar_seeds.specs.declared.secrets.Secrets.{Secrets}
 use Rattle.bar_seeds.specs.Seeds.{anchor_of}
 use Rattle.bar_roster.specs.declared.key_file.KeyFile.{KeyFile}
 use Rattle.bar_roster.specs.declared.key_fault.KeyFileFault.{KeyFileFault}
 use Rattle.bar_roster.specs.declared.key_fault.KeyFileFault.TheVariants.{NotInRoster, Spent}
 use Rattle.bar_roster.specs.declared.key_fields.KeyData.{KeyData}
-use Rattle.bar_roster.specs.SessionText.{SessionData}
+use Rattle.bar_session.specs.SessionData.{SessionData}
+use Rattle.bar_session.specs.Fits.{Fits, key_in, secrets_in, signing_secret}
 use Rattle.bar_roster.specs.KeyText.{key_read}
-
--- what a party's secret is to a session: its source of seeds, and of its signing key
-abbrev pub secrets_in : SessionData → ℕ → List ℕ → Secrets
-secrets_in s party secret = record { id = s.shape.id; party = party; secret = secret }
-
-abbrev pub signing_secret : SessionData → List ℕ → Secret
-signing_secret s secret = record { params = s.params; id = s.shape.id; secret = secret }
-
--- the public key that comes from a secret
-abbrev pub key_in : SessionData → List ℕ → List ℕ
-key_in s secret = public_by s.top s.params s.shape.id secret
-
--- The session holds for a party the public key, and for a peer the anchor, that come from a secret.
-pub record Fits (s : SessionData) (party : ℕ) (secret : List ℕ) : Type 0 where
-  pub key : slice_get s.keys party ≡ Some (key_in s secret)
-  pub anchor : 1 ≤ party → slice_get s.anchors (party - 1) ≡ Some (anchor_of (secrets_in s party secret) s.shape.rounds)
 
 -- whether a row stands at a place
 abbrev pub is_at : List (List ℕ) → ℕ → List ℕ → Bool
@@ -39,7 +22,7 @@ is_at rows place row = option_map_or (λ held. bytes_eq held row) (slice_get row
 abbrev pub holds : SessionData → ℕ → List ℕ → List ℕ → Bool
 holds s party key anchor = is_at s.keys party key && ((party == 0) || is_at s.anchors (party - 1) anchor)
 
--- the first as a test
+-- whether it holds what comes from a secret: `Fits` as a test
 abbrev pub fits : SessionData → ℕ → List ℕ → Bool
 fits s party secret = holds s party (key_in s secret) (anchor_of (secrets_in s party secret) s.shape.rounds)
 

@@ -6,7 +6,7 @@ use Rattle.toml.specs.Data.{Members, get_member, as_bool}
 use Rattle.bar_roster.specs.declared.key_fault.KeyFileFault.{KeyFileFault}
 use Rattle.bar_roster.specs.declared.key_fault.KeyFileFault.TheVariants.{NotToml, BadValue, NotInRoster}
 use Rattle.bar_roster.specs.declared.key_fields.KeyData.{KeyData}
-use Rattle.bar_roster.specs.NumberRanges.{IsTop, first_ots_by, last_lms_by, most_peers, rounds_by}
+use Rattle.bar_session.specs.Limits.{IsTop, first_ots_by, last_lms_by, most_peers, rounds_by}
 use Rattle.bar_roster.specs.Fields.{document, number_in, bytes_of}
 
 -- what a key text says: whose key it is, in which session, the types of its signatures, the party's secret, and whether it was used

@@ -3,11 +3,8 @@ pub mod Fields
 pub mod SessionText
 pub mod FaultText
 pub mod NumberRanges
-pub mod Sessions
-pub mod Time
 pub mod KeyText
 pub mod KeyFile
 pub mod KeyFaultText
 pub mod KeyAnew
-pub mod Points
 pub mod Held

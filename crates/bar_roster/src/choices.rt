@@ -3,7 +3,7 @@ ghost use Rattle.std.specs.Prelude.{◌≡◌, ◌+◌, ◌-◌, ◌≤◌, [], 
 ghost use Rattle.bar_seeds.specs.Partners.{partner_of};
 ghost use Rattle.bar_seeds.specs.Seeds.{is_seed};
 ghost use Rattle.bar_seeds.specs.Checkpoints.{kept_round, MovesOn};
-ghost use Rattle.bar_roster.specs.Points.{AreSeeds};
+ghost use Rattle.bar_session.specs.Points.{AreSeeds};
 
 use crate::session::Session;
 use bar_bytes::Steps;

@@ -5,7 +5,7 @@ ghost use Rattle.toml.specs.Data.{get_member};
 ghost use Rattle.toml.specs.View.{table_view, view};
 ghost use Rattle.bar_roster.specs.Fields.{bytes_of, number_in};
 ghost use Rattle.bar_roster.specs.KeyText.{key_fields, names_top, top_in};
-ghost use Rattle.bar_roster.specs.NumberRanges.{rounds_by};
+ghost use Rattle.bar_session.specs.Limits.{rounds_by};
 
 use crate::fields::{bytes, number};
 use crate::numbers::{MOST_PEERS, first_ots_by, last_lms_by, rounds_by};

@@ -1,7 +1,8 @@
 //! Key files.
 
 ghost use Rattle.std.specs.Prelude.{◌≡◌, ◌≤◌, ◌⊎◌, None, Ok, Err, IfOk, IfErr};
-ghost use Rattle.bar_roster.specs.KeyFile.{fits, key_file_of, key_in};
+ghost use Rattle.bar_roster.specs.KeyFile.{fits, key_file_of};
+ghost use Rattle.bar_session.specs.Fits.{key_in};
 
 use crate::key_reading::read_key;
 use crate::{KeyData, KeyFileFault, Session};

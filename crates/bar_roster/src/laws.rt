@@ -1,11 +1,13 @@
 //! What holds of all session and key texts. These functions do nothing: what they ensure is a law.
 
 ghost use Rattle.std.specs.Prelude.{◌≡◌, ◌≤◌, ℕ, ◌↔◌, Bool, false, length, List, Ok, IsTrue};
-ghost use Rattle.bar_roster.specs.SessionText.{SessionData, session_of};
-ghost use Rattle.bar_roster.specs.Sessions.{IsSession};
+ghost use Rattle.bar_session.specs.SessionData.{SessionData};
+ghost use Rattle.bar_roster.specs.SessionText.{session_of};
+ghost use Rattle.bar_session.specs.Sessions.{IsSession};
 ghost use Rattle.bar_seeds.specs.declared.secrets.Secrets.{Secrets};
 ghost use Rattle.bar_roster.specs.KeyAnew.{longest_text, text_of};
-ghost use Rattle.bar_roster.specs.KeyFile.{Fits, IsHeldBy, fits, key_file_of};
+ghost use Rattle.bar_session.specs.Fits.{Fits};
+ghost use Rattle.bar_roster.specs.KeyFile.{IsHeldBy, fits, key_file_of};
 
 /// The test of a secret is true exactly where the session holds the key, and for a peer the anchor, that come from it.
 pub fn secrets_are_tested()

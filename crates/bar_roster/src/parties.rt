@@ -5,7 +5,8 @@ ghost use Rattle.toml.specs.Data.{as_table};
 ghost use Rattle.toml.specs.View.{array_view, items_view, table_view, view};
 ghost use Rattle.bar_roster.specs.Fields.{count_of, field, key_of, peers_of};
 ghost use Rattle.bar_roster.specs.Held.{rows_of};
-ghost use Rattle.bar_roster.specs.NumberRanges.{AreInRange, most_peers};
+ghost use Rattle.bar_roster.specs.NumberRanges.{AreInRange};
+ghost use Rattle.bar_session.specs.Limits.{most_peers};
 ghost use Rattle.bar_roster.specs.SessionText.{front_of, listed_in, peer_of, peers_from};
 
 use crate::fields::{bytes, bytes_at, needed};

@@ -34,7 +34,7 @@ pub struct Session {
 
 impl Model for Session {
     ghost use Rattle.bar_roster.specs.Held.{rows_of};
-    ghost use Rattle.bar_roster.specs.SessionText.{SessionData};
+    ghost use Rattle.bar_session.specs.SessionData.{SessionData};
 
     ghost Value = { SessionData };
 
@@ -50,7 +50,7 @@ impl Model for Session {
       anchors = s.anchors.items;
     } };
 
-    ghost use Rattle.bar_roster.specs.Sessions.{IsSession};
+    ghost use Rattle.bar_session.specs.Sessions.{IsSession};
 
     ghost invariant = { λ s. IsSession (record {
       shape = s.shape;
@@ -90,8 +90,8 @@ fn parties_at(alloc: Global, table: &Table, numbers: &Numbers) -> Result<Session
 }
 
 impl Session {
-    ghost use Rattle.bar_roster.specs.Sessions.{IsSession};
-    ghost use Rattle.bar_roster.specs.SessionText.{session_of_parts};
+    ghost use Rattle.bar_session.specs.Sessions.{IsSession};
+    ghost use Rattle.bar_session.specs.SessionData.{session_of_parts};
 
     /// Reads a session text, or tells its first fault.
     pub fn read(alloc: Global, bytes: &[u8]) -> Result<Session, SessionFault>

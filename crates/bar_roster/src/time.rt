@@ -1,6 +1,6 @@
 //! The time of a session: rounds, and the slots of each.
 ghost use Rattle.std.specs.Prelude.{◌≡◌, ◌≤◌};
-ghost use Rattle.bar_roster.specs.Time.{last_tick, round_after, slot_after};
+ghost use Rattle.bar_session.specs.Time.{last_tick, round_after, slot_after};
 
 use crate::Session;
 

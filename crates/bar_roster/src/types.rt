@@ -2,9 +2,10 @@
 ghost use Rattle.std.specs.Prelude.{◌≡◌, ◌≤◌, ◌*◌, Some, OnOk, option_map};
 ghost use Rattle.bar_lms.specs.Schemes.{leaves_by, length_by, upper_types};
 ghost use Rattle.bar_wire.specs.Limits.{leaves_a_round};
-ghost use Rattle.bar_roster.specs.NumberRanges.{AreInRange, most_long_rounds};
+ghost use Rattle.bar_roster.specs.NumberRanges.{AreInRange};
+ghost use Rattle.bar_session.specs.Limits.{most_long_rounds};
 ghost use Rattle.bar_roster.specs.SessionText.{enough_leaves};
-ghost use Rattle.bar_roster.specs.Sessions.{AreLevels};
+ghost use Rattle.bar_session.specs.Sessions.{AreLevels};
 ghost use Rattle.bar_roster.specs.Shapes.{height_of, params_of, shape_of};
 
 use crate::SessionFault;

@@ -5,8 +5,8 @@ use Rattle.bar_lms.specs.Acceptance.{is_accepted_under}
 use Rattle.bar_lms.specs.Params.{levels, signature_len}
 use Rattle.bar_lms.specs.Schemes.{accepted_by, leaves_by, length_by, named_by, signed_by}
 use Rattle.bar_lms.specs.Secret.{signed}
-use Rattle.bar_roster.specs.KeyFile.{signing_secret}
-use Rattle.bar_roster.specs.Sessions.{IsSession}
+use Rattle.bar_session.specs.Fits.{signing_secret}
+use Rattle.bar_session.specs.Sessions.{IsSession}
 use Rattle.bar_seal.specs.Leaves.{leaf_in}
 use Rattle.bar_rules.specs.Member.{Session, Member}
 use Rattle.bar_rules.specs.Signers.{IsSignerOf}

@@ -1,8 +1,8 @@
 -- A session, and one party of it with its secret.
 use Rattle.std.specs.Prelude.{ℕ, ◌+◌, ◌-◌, Bool, List, [], nat_lt, unwrap_or, slice_get}
-use Rattle.bar_roster.specs.SessionText.{SessionData}
-use Rattle.bar_roster.specs.Sessions.{IsSession}
-use Rattle.bar_roster.specs.KeyFile.{Fits}
+use Rattle.bar_session.specs.SessionData.{SessionData}
+use Rattle.bar_session.specs.Sessions.{IsSession}
+use Rattle.bar_session.specs.Fits.{Fits}
 use Rattle.bar_wire.specs.Grammar.{IsPeer}
 
 abbrev pub Session : Type 0

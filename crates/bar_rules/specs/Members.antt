@@ -1,5 +1,5 @@
 -- The party of a session that secrets are of.
-use Rattle.bar_roster.specs.SessionText.{SessionData}
+use Rattle.bar_session.specs.SessionData.{SessionData}
 use Rattle.bar_seeds.specs.declared.secrets.Secrets.{Secrets}
 use Rattle.bar_rules.specs.Member.{Member}
 

@@ -10,7 +10,7 @@ use Rattle.bar_seeds.specs.declared.secrets.Secrets.{Secrets}
 use Rattle.bar_seeds.specs.Seeds as seeds
 use Rattle.bar_seeds.specs.Partners as partners
 use Rattle.bar_seeds.specs.Derived as derived
-use Rattle.bar_roster.specs.KeyFile.{secrets_in}
+use Rattle.bar_session.specs.Fits.{secrets_in}
 use Rattle.bar_rules.specs.Member.{Session, Member, anchor_of_peer}
 
 abbrev pub secrets_of : Member → Secrets

@@ -1,9 +1,10 @@
 -- What holds of the session and the secrets of accepted texts.
 use Rattle.std.proofs.Common.{◌≡◌, ℕ, ◌<◌, ◌^◌, List, Bool, true, false, Ok, arith}
 use Rattle.bar_seeds.specs.declared.secrets.Secrets.{Secrets}
-use Rattle.bar_roster.specs.KeyFile.{Fits, IsHeldBy, key_file_of}
-use Rattle.bar_roster.specs.Sessions.{IsSession}
-use Rattle.bar_roster.specs.SessionText.{SessionData}
+use Rattle.bar_session.specs.Fits.{Fits}
+use Rattle.bar_roster.specs.KeyFile.{IsHeldBy, key_file_of}
+use Rattle.bar_session.specs.Sessions.{IsSession}
+use Rattle.bar_session.specs.SessionData.{SessionData}
 use Rattle.bar_roster.specs.SessionText as text
 use Rattle.bar_outside.specs.Disk.{Content}
 use Rattle.bar_session_files.specs.Accepting.{HasSession, fresh_key_of, secrets_of_key, session_of}

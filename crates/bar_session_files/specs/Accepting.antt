@@ -4,7 +4,7 @@ use Rattle.bar_outside.specs.Disk.{Content, readable}
 use Rattle.bar_seeds.specs.declared.secrets.Secrets.{Secrets}
 use Rattle.bar_roster.specs.declared.fault.SessionFault.{SessionFault}
 use Rattle.bar_roster.specs.declared.key_fault.KeyFileFault.{KeyFileFault}
-use Rattle.bar_roster.specs.SessionText.{SessionData}
+use Rattle.bar_session.specs.SessionData.{SessionData}
 use Rattle.bar_roster.specs.SessionText as text
 use Rattle.bar_roster.specs.KeyFile.{key_file_of}
 

@@ -3,7 +3,8 @@ use Rattle.bar_lms.specs.declared.params.Params.{Params}
 use Rattle.bar_seeds.specs.declared.secrets.Secrets.{Secrets}
 use Rattle.bar_wire.specs.declared.shape.Shape.{Shape}
 use Rattle.bar_roster.specs.declared.key_file.KeyFile.{KeyFile}
-use Rattle.bar_roster.specs.KeyFile.{IsHeldBy, IsKeyFileOf, secrets_in}
+use Rattle.bar_roster.specs.KeyFile.{IsHeldBy, IsKeyFileOf}
+use Rattle.bar_session.specs.Fits.{secrets_in}
 use Rattle.bar_rules.specs.Member.{Session}
 use Rattle.bar_world.specs.Keys.{AreMade, held_in, key_by, keys_by}
 use Rattle.bar_world.specs.Made.{seeding, signing}

@@ -4,9 +4,9 @@ use Rattle.bar_lms.specs.Schemes.{public_by}
 use Rattle.bar_lms.specs.Secret.{public_key}
 use Rattle.bar_seeds.specs.Seeds.{anchor_of}
 use Rattle.bar_wire.specs.declared.shape.Shape.{Shape}
-use Rattle.bar_roster.specs.KeyFile.{Fits}
-use Rattle.bar_roster.proofs.Levels.{one_level}
-use Rattle.bar_roster.specs.Sessions.{IsSession}
+use Rattle.bar_session.specs.Fits.{Fits}
+use Rattle.bar_session.proofs.Levels.{one_level}
+use Rattle.bar_session.specs.Sessions.{IsSession}
 use Rattle.bar_rules.specs.World.World.{IsSetup}
 use Rattle.bar_world.specs.declared.numbers.Numbers.{Numbers}
 use Rattle.bar_world.specs.Made.{AreNumbers, signing, keys_of, seeding, anchors_from, of_peers, anchors_of, made_session, made_setup}

@@ -5,7 +5,7 @@ use Rattle.bar_seeds.specs.declared.secrets.Secrets.{Secrets}
 use Rattle.bar_seeds.specs.Seeds.{anchor_of}
 use Rattle.bar_wire.specs.declared.shape.Shape.{Shape}
 use Rattle.bar_roster.specs.declared.key_file.KeyFile.{KeyFile}
-use Rattle.bar_roster.specs.SessionText.{session_of_parts}
+use Rattle.bar_session.specs.SessionData.{session_of_parts}
 use Rattle.bar_rules.specs.Member.{Session}
 use Rattle.bar_rules.specs.World.World.{IsSetup}
 use Rattle.bar_world.specs.declared.numbers.Numbers.{Numbers}

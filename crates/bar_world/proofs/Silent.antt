@@ -6,7 +6,7 @@ use Rattle.bar_wire.specs.Inputs.{Input, Tick}
 use Rattle.bar_wire.specs.Inputs as event
 use Rattle.bar_rules.specs.Broadcaster.Sending.{announce_by, announce_evictions, announce_manifest, caster_signed, caster_step, caster_take, caster_tick, evicted, send_blocks, served}
 use Rattle.bar_rules.specs.Broadcaster.Stream.{round_blocks}
-use Rattle.bar_roster.specs.Time.{last_tick, slot_after}
+use Rattle.bar_session.specs.Time.{last_tick, slot_after}
 use Rattle.bar_rules.specs.Member.{Member}
 use Rattle.bar_rules.specs.Peer.Log.{Log, Said, Ticked, round_now, ticks}
 use Rattle.bar_rules.specs.Runs.{Outcome, begun}

@@ -2,7 +2,8 @@
 use Rattle.std.specs.declared.alloc.Global.{Global}
 use Rattle.bar_seeds.specs.declared.secrets.Secrets.{Secrets}
 use Rattle.bar_roster.specs.declared.key_file.KeyFile.{KeyFile}
-use Rattle.bar_roster.specs.KeyFile.{Fits, IsHeldBy, IsKeyFileOf}
+use Rattle.bar_session.specs.Fits.{Fits}
+use Rattle.bar_roster.specs.KeyFile.{IsHeldBy, IsKeyFileOf}
 use Rattle.bar_rules.specs.Member.{Member, Session}
 use Rattle.bar_rules.specs.Members.{member_by}
 use Rattle.bar_rules.specs.World.World.{IsSetup, member}

@@ -3,7 +3,7 @@ use Rattle.std.specs.Prelude.{◌≡◌, ℕ, ◌^◌, ◌<◌, ◌≤◌, List,
 use Rattle.bar_lms.specs.Params.{levels}
 use Rattle.bar_lms.specs.Signature.{number_at}
 use Rattle.bar_wire.specs.Datagram.{Datagram, Body, Key, is_signed}
-use Rattle.bar_roster.specs.KeyFile.{signing_secret}
+use Rattle.bar_session.specs.Fits.{signing_secret}
 use Rattle.bar_rules.specs.Member.{Session, Member}
 use Rattle.bar_rules.specs.Values.{datagram_of, is_signed_by}
 use Rattle.bar_world.specs.declared.lies.Liar.{Liar}

@@ -7,8 +7,8 @@ use Rattle.bar_seeds.specs.declared.secrets.Secrets.{Secrets}
 use Rattle.bar_seeds.specs.Seeds.{anchor_of}
 use Rattle.bar_wire.specs.Limits.{leaves_a_round}
 use Rattle.bar_wire.specs.declared.shape.Shape.{Shape}
-use Rattle.bar_roster.specs.Sessions.{IsSessionShape}
-use Rattle.bar_roster.specs.SessionText.{session_of_parts}
+use Rattle.bar_session.specs.Sessions.{IsSessionShape}
+use Rattle.bar_session.specs.SessionData.{session_of_parts}
 use Rattle.bar_rules.specs.Member.{Session}
 use Rattle.bar_rules.specs.World.World.{Setup}
 use Rattle.bar_world.specs.declared.numbers.Numbers.{Numbers}

@@ -15,8 +15,8 @@ use Rattle.bar_wire.specs.Inputs.{Input}
 use Rattle.bar_record.specs.Recording as entries
 use Rattle.bar_record.specs.declared.fault.RecordFault.{RecordFault}
 use Rattle.bar_roster.specs.declared.fault.SessionFault.{SessionFault}
-use Rattle.bar_roster.specs.SessionText.{SessionData}
-use Rattle.bar_roster.specs.Time.{last_tick}
+use Rattle.bar_session.specs.SessionData.{SessionData}
+use Rattle.bar_session.specs.Time.{last_tick}
 use Rattle.bar_audit.specs.declared.audit.Audit.{Audit}
 use Rattle.bar_audit.specs.Audits.{Audits}
 use Rattle.bar_audit.specs.Exchanges.{unbalanced}

@@ -1,7 +1,7 @@
 -- What a table file spells, and what is said of evidence and of a proof file.
 use Rattle.std.specs.Prelude.{◌≡◌, ℕ, List, ◌++◌, codes, Result, Ok, Err}
 use Rattle.bar_terms.specs.Table.{Table, Lists, digests_of}
-use Rattle.bar_roster.specs.SessionText.{SessionData}
+use Rattle.bar_session.specs.SessionData.{SessionData}
 use Rattle.bar_rules.specs.Judge.Verdict.{Verdict, Shown, NotShown}
 use Rattle.bar_rules.specs.Judge.Verdict as rules
 use Rattle.bar_judge.specs.declared.table_fault.TableFault.{TableFault}

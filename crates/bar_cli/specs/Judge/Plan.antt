@@ -8,7 +8,7 @@ use Rattle.bar_outside.specs.Plan.Action.{show}
 use Rattle.bar_outside.specs.Ends.{SameFiles}
 use Rattle.bar_terms.specs.Table.{Lists}
 use Rattle.bar_roster.specs.declared.fault.SessionFault.{SessionFault}
-use Rattle.bar_roster.specs.SessionText.{SessionData}
+use Rattle.bar_session.specs.SessionData.{SessionData}
 use Rattle.bar_rules.specs.Judge.Verdict.{Verdict}
 use Rattle.bar_proof.specs.ProofFile.{evidence_of}
 use Rattle.bar_cli.specs.Judge.Judging.{lists_of, verdict_of, verdict_line, status_of_verdict}

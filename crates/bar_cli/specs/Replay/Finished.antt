@@ -6,7 +6,7 @@ use Rattle.bar_outside.specs.Plan.{Outside}
 use Rattle.bar_findings.specs.Findings.{evidence_name, table_name}
 use Rattle.bar_wire.specs.Inputs.{Input}
 use Rattle.bar_seeds.specs.declared.secrets.Secrets.{Secrets}
-use Rattle.bar_roster.specs.SessionText.{SessionData}
+use Rattle.bar_session.specs.SessionData.{SessionData}
 use Rattle.bar_rules.specs.Members.{member_by}
 use Rattle.bar_rules.specs.Peer.Run.{sends_of}
 use Rattle.bar_party_commands.specs.PeerPlan.{PeerAccepted, PeerNames}

@@ -2,11 +2,11 @@
 use Rattle.std.specs.Prelude.{ℕ, List, Result}
 use Rattle.std.specs.Result.{result_map_both}
 use Rattle.bar_wire.specs.Inputs.{Input}
-use Rattle.bar_roster.specs.SessionText.{SessionData}
+use Rattle.bar_session.specs.SessionData.{SessionData}
 use Rattle.bar_record.specs.Pacing.{paced}
 use Rattle.bar_record.specs.Recording as entries
 use Rattle.bar_record.specs.declared.fault.RecordFault.{RecordFault}
-use Rattle.bar_roster.specs.Time.{last_tick}
+use Rattle.bar_session.specs.Time.{last_tick}
 
 -- the inputs of the recording that bytes spell under a session, paced, if they spell one of this party; or its first fault
 unfoldable pub recording_of : SessionData → ℕ → List ℕ → Result (List Input) RecordFault

@@ -8,7 +8,7 @@ ghost use Rattle.bar_outside.specs.Ends.{Ends, OfEachEnd, AtEnd, UnlessStopped, 
 ghost use Rattle.bar_window.specs.declared.exchange.Exchange.{Exchange};
 ghost use Rattle.bar_record.specs.declared.fault.RecordFault.{RecordFault};
 ghost use Rattle.bar_roster.specs.declared.fault.SessionFault.{SessionFault};
-ghost use Rattle.bar_roster.specs.SessionText.{SessionData};
+ghost use Rattle.bar_session.specs.SessionData.{SessionData};
 ghost use Rattle.bar_cli.specs.Audit.Text.{status_of_balance};
 ghost use Rattle.bar_cli.specs.Audit.Plan.{AuditAccepted, AuditFiles, HasBadParties, HasBadRecording, HasBadSession, IsAuditCall, IsNextParty, audit_plan, recording_name};
 ghost use Rattle.bar_cli.specs.Audit.Audited.{Audited, AuditedFront, AuditStays, balance_in};

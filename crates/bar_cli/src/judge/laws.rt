@@ -7,7 +7,7 @@ ghost use Rattle.bar_outside.specs.Plan.{Outside, is_stop, line_at};
 ghost use Rattle.bar_outside.specs.Ends.{Ends, OfEachEnd, AtEnd, UnlessStopped, SameFiles, NothingPrinted};
 ghost use Rattle.bar_terms.specs.Table.{Lists};
 ghost use Rattle.bar_roster.specs.declared.fault.SessionFault.{SessionFault};
-ghost use Rattle.bar_roster.specs.SessionText.{SessionData};
+ghost use Rattle.bar_session.specs.SessionData.{SessionData};
 ghost use Rattle.bar_rules.specs.Judge.Verdict.{Fault, Why, Shown, NotShown};
 ghost use Rattle.bar_cli.specs.Judge.Judging.{status_of_verdict};
 ghost use Rattle.bar_cli.specs.Refusals.{session_refused, table_refused, evidence_refused};

@@ -1,5 +1,5 @@
 //! The types of a key's signatures.
-ghost use Rattle.bar_roster.specs.Sessions.{AreLevels};
+ghost use Rattle.bar_session.specs.Sessions.{AreLevels};
 
 use bar_lms::{Height, Params};
 

@@ -1,6 +1,6 @@
 //! What `keygen` and `hsskeygen` are asked for.
 ghost use Rattle.std.specs.Prelude.{◌≤◌};
-ghost use Rattle.bar_roster.specs.NumberRanges.{most_long_rounds};
+ghost use Rattle.bar_session.specs.Limits.{most_long_rounds};
 
 use crate::keygen::key_types::KeyTypes;
 

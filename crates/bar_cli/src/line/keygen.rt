@@ -5,7 +5,7 @@ ghost use Rattle.bar_arguments.specs.Options.{texts};
 ghost use Rattle.bar_arguments.specs.declared.options.WordsFault.TheVariants.{Usage};
 ghost use Rattle.bar_cli.specs.Line.{asked_by, hsskeygen_line, hsskeygen_values, keygen_line, keygen_values};
 ghost use Rattle.bar_cli.specs.Keygen.Types.{types_view};
-ghost use Rattle.bar_roster.specs.NumberRanges.{most_long_rounds};
+ghost use Rattle.bar_session.specs.Limits.{most_long_rounds};
 ghost use Rattle.bar_cli.specs.Views.{asked_view};
 
 use crate::keygen::key_types::KeyTypes;

@@ -6,7 +6,7 @@ ghost use Rattle.bar_outside.specs.Follows.{IsReliable};
 ghost use Rattle.bar_outside.specs.Plan.{Outside, is_stop, line_at};
 ghost use Rattle.bar_outside.specs.Ends.{Ends, OfEachEnd, AtEnd, UnlessStopped, SameFiles, NothingPrinted};
 ghost use Rattle.bar_roster.specs.declared.fault.SessionFault.{SessionFault};
-ghost use Rattle.bar_roster.specs.SessionText.{SessionData};
+ghost use Rattle.bar_session.specs.SessionData.{SessionData};
 ghost use Rattle.bar_session_files.specs.Accepting.{HasSession};
 ghost use Rattle.bar_cli.specs.Judge.Judging.{status_of_verdict};
 ghost use Rattle.bar_cli.specs.Refusals.{session_refused, table_refused, evidence_refused};

@@ -8,7 +8,7 @@ ghost use Rattle.bar_outside.specs.Ends.{Ends, OfEachEnd, AtEnd, UnlessStopped};
 ghost use Rattle.bar_seeds.specs.declared.secrets.Secrets.{Secrets};
 ghost use Rattle.bar_roster.specs.declared.fault.SessionFault.{SessionFault};
 ghost use Rattle.bar_roster.specs.declared.key_fault.KeyFileFault.{KeyFileFault};
-ghost use Rattle.bar_roster.specs.SessionText.{SessionData};
+ghost use Rattle.bar_session.specs.SessionData.{SessionData};
 ghost use Rattle.bar_record.specs.declared.fault.RecordFault.{RecordFault};
 ghost use Rattle.bar_findings.specs.Findings.{IsFindingName};
 ghost use Rattle.bar_cli.specs.Replay.Finished.{IsReplayed};

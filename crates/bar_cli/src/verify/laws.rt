@@ -6,7 +6,7 @@ ghost use Rattle.bar_outside.specs.Follows.{IsReliable};
 ghost use Rattle.bar_outside.specs.Plan.{Outside, is_stop, line_at};
 ghost use Rattle.bar_outside.specs.Ends.{Ends, OfEachEnd, AtEnd, UnlessStopped, SameFiles, NothingPrinted};
 ghost use Rattle.bar_roster.specs.declared.fault.SessionFault.{SessionFault};
-ghost use Rattle.bar_roster.specs.SessionText.{SessionData};
+ghost use Rattle.bar_session.specs.SessionData.{SessionData};
 ghost use Rattle.bar_rules.specs.Judge.Verdict.{Fault, Verdict, Why, Shown, NotShown};
 ghost use Rattle.bar_proof.specs.declared.proof_fault.ProofFault.{ProofFault};
 ghost use Rattle.bar_session_files.specs.Accepting.{HasSession};

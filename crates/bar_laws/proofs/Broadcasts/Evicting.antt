@@ -4,7 +4,7 @@ use Rattle.bar_rules.specs.Broadcaster.Party.{IsBroadcaster}
 use Rattle.bar_rules.specs.Broadcaster.Sending.{caster_log_after, caster_step, caster_take, evict_by, evicted, judge_body, judge_datagram}
 use Rattle.bar_rules.specs.Broadcaster.Stream.{caster_table, peers_of}
 use Rattle.bar_rules.specs.Judge.Verdict.{Fault, NotShown, Shown, Verdict, all_read, are_of_one_peer, fault_of, sender_of, verdict}
-use Rattle.bar_roster.specs.Time.{last_tick}
+use Rattle.bar_session.specs.Time.{last_tick}
 use Rattle.bar_rules.specs.Member.{Member, Session}
 use Rattle.bar_rules.specs.Peer.Log.{Kept, Log, kept, kept_in, ticks}
 use Rattle.bar_rules.specs.Runs.{Outcome, begun, state_after}

@@ -2,7 +2,7 @@
 use Rattle.bar_rules.specs.Broadcaster.Party.{IsBroadcaster}
 use Rattle.bar_rules.specs.Broadcaster.Sending.{evicted, served, caster_signed, send_all, announce_by, announce, announce_manifest, announce_evictions, send_block, send_blocks, caster_tick, evict_by, judge_body, judge_datagram, caster_take, caster_step, caster_log_after}
 use Rattle.bar_rules.specs.Broadcaster.Stream.{round_blocks, manifest_list, caster_table, is_in_fanout, peers_of}
-use Rattle.bar_roster.specs.Time.{last_tick, round_after, slot_after}
+use Rattle.bar_session.specs.Time.{last_tick, round_after, slot_after}
 use Rattle.bar_rules.specs.Member.{Session, Member}
 use Rattle.bar_rules.specs.Peer.Log.{Log, Ticked, Said, Kept, kept_in, kept, first_said, has_kind_and_round, ticks, round_now}
 use Rattle.bar_rules.specs.Peer.Run.{Out}

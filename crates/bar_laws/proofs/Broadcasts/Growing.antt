@@ -1,7 +1,7 @@
 -- The broadcaster's log grows.
 use Rattle.std.proofs.Common.{ℕ, Bool, true, false, List, [], ◌∷◌, refl, ap, cond}
 use Rattle.std.specs.Prelude.{nat_le}
-use Rattle.bar_roster.specs.Time.{last_tick}
+use Rattle.bar_session.specs.Time.{last_tick}
 use Rattle.bar_wire.specs.Inputs.{Input}
 use Rattle.bar_wire.specs.Inputs as event
 use Rattle.bar_rules.specs.Broadcaster.Party.{IsBroadcaster}

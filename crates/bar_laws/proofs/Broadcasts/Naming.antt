@@ -6,7 +6,7 @@ use Rattle.bar_rules.specs.Peer.Log.{Entry, Kept, Log, Said, Ticked, first_said,
 use Rattle.bar_rules.specs.Peer.Run.{Out}
 use Rattle.bar_rules.specs.Runs.{begun, sending, state_after}
 use Rattle.bar_rules.specs.Values.{datagram_of, unsigned}
-use Rattle.bar_roster.specs.Time.{last_tick}
+use Rattle.bar_session.specs.Time.{last_tick}
 use Rattle.bar_window.specs.declared.update.UpdateId.{UpdateId}
 use Rattle.bar_wire.specs.Bodies.{evictions_in}
 use Rattle.bar_wire.specs.Datagram.{Body, Datagram, Evict, Manifest, Block, kind_of}

@@ -2,7 +2,7 @@
 use Rattle.bar_laws.specs.Broadcasting.{ServesTheOthers}
 use Rattle.bar_rules.specs.Broadcaster.Party.{IsBroadcaster}
 use Rattle.bar_rules.specs.Broadcaster.Sending.{caster_tick, caster_take, caster_step, caster_log_after}
-use Rattle.bar_roster.specs.Time.{last_tick}
+use Rattle.bar_session.specs.Time.{last_tick}
 use Rattle.bar_rules.specs.Member.{Member}
 use Rattle.bar_rules.specs.Peer.Log.{Log, Ticked, kept, ticks}
 use Rattle.bar_rules.specs.Peer.Run.{Out}

@@ -3,7 +3,7 @@ use Rattle.bar_laws.specs.Broadcasting.{IsAnnouncement, IsSignedInTime, SignsOnc
 use Rattle.bar_rules.specs.Broadcaster.Party.{IsBroadcaster}
 use Rattle.bar_rules.specs.Broadcaster.Sending.{announce_by, announce_evictions, announce_manifest, caster_log_after, caster_signed, caster_step, caster_take, caster_tick, served}
 use Rattle.bar_rules.specs.Broadcaster.Stream.{manifest_list}
-use Rattle.bar_roster.specs.Time.{last_tick, slot_after}
+use Rattle.bar_session.specs.Time.{last_tick, slot_after}
 use Rattle.bar_rules.specs.Member.{Member}
 use Rattle.bar_rules.specs.Peer.Log.{Entry, Heard, Kept, Log, Said, Ticked, first_said, has_kind_and_round, if_passes, round_now, ticks}
 use Rattle.bar_rules.specs.Peer.Run.{Out}

@@ -6,7 +6,7 @@ use Rattle.bar_wire.specs.Limits.{leaves_a_round}
 use Rattle.bar_wire.specs.Bodies.{evidence_in}
 use Rattle.bar_rules.specs.Runs.{begun, sending}
 use Rattle.bar_rules.specs.Peer.Log.{kept, Entry, Heard, Log, Ticked, Said, Kept, first_said, has_kind_and_round, ticks, round_now}
-use Rattle.bar_roster.specs.Time.{last_tick}
+use Rattle.bar_session.specs.Time.{last_tick}
 use Rattle.bar_rules.specs.Member.{Session, Member}
 use Rattle.bar_rules.specs.Peer.Run.{Out}
 use Rattle.bar_rules.specs.Values.{datagram_of, is_signed_by, unsigned}
@@ -22,7 +22,7 @@ use Rattle.bar_laws.proofs.Runs.{Adds, SentBy, adds-send, sent-said, came, ticke
 use Rattle.bar_laws.proofs.Fitting.SignedAccepted.{signed-accepted}
 use Rattle.bar_lms.specs.Schemes.{leaves_by}
 use Rattle.bar_laws.proofs.Fitting.CasterFits.{manifest-fits, evict-fits, block-fits, served-are-peers, blocks-are-whole, blocks-are-few}
-use Rattle.bar_roster.specs.Sessions.{IsSession}
+use Rattle.bar_session.specs.Sessions.{IsSession}
 use Rattle.bar_wire.specs.Grammar.{IsDatagram}
 use Rattle.std.specs.List.{AllByRecursion}
 use Rattle.std.proofs.lemmas.Bool.{leb-true, ltb-true}

@@ -1,9 +1,9 @@
 -- What the broadcaster sends is in the grammar.
-use Rattle.bar_roster.specs.NumberRanges.{most_long_rounds}
+use Rattle.bar_session.specs.Limits.{most_long_rounds}
 use Rattle.bar_rules.specs.Broadcaster.Sending.{evicted, served, caster_message, caster_signed}
 use Rattle.bar_rules.specs.Broadcaster.Stream.{block_bytes, piece_of, round_blocks, manifest_list, peers_of}
 use Rattle.bar_lms.specs.Schemes.{leaves_by}
-use Rattle.bar_roster.specs.Sessions.{IsSession}
+use Rattle.bar_session.specs.Sessions.{IsSession}
 use Rattle.bar_rules.specs.Peer.Log.{kept, Log}
 use Rattle.bar_rules.specs.Member.{Session, Member}
 use Rattle.bar_rules.specs.Secrets.{signature_of}

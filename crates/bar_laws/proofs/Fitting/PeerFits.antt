@@ -6,7 +6,7 @@ use Rattle.bar_rules.specs.Peer.Exchanges.{request_kind, role_of, partner_in, re
 use Rattle.bar_rules.specs.Peer.Knowledge.{known}
 use Rattle.bar_rules.specs.Peer.Log.{kept, Log, Entry, Ticked, Heard, Said, Kept, said_in, first_said, ticks, round_now, is_announced}
 use Rattle.bar_rules.specs.Peer.Machine.{send_if, message_to}
-use Rattle.bar_roster.specs.Time.{last_tick}
+use Rattle.bar_session.specs.Time.{last_tick}
 use Rattle.bar_rules.specs.Member.{Member, IsMember}
 use Rattle.bar_rules.specs.Peer.Orders.{Order, Ask, Answer, Reveal, GiveCase, AskKey, GiveKey, Resend, Report}
 use Rattle.bar_rules.specs.Peer.Replies.{reply_orders, orders_for, orders_when, repeated}

@@ -1,5 +1,5 @@
 -- Each message that a member may sign is as the grammar has it, where all that was said or heard before is.
-use Rattle.bar_roster.specs.NumberRanges.{most_long_rounds}
+use Rattle.bar_session.specs.Limits.{most_long_rounds}
 use Rattle.bar_wire.specs.Bodies.{briefcase_in, history_in, offer_in, reply_in}
 use Rattle.bar_wire.specs.declared.kind.Kind.{Kind}
 use Rattle.bar_case.specs.Sealed.{IsTold}

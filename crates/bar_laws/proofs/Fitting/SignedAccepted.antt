@@ -1,7 +1,7 @@
 -- What a party signs is accepted under its key.
 use Rattle.bar_rules.specs.Peer.Signing.{leaf_for}
 use Rattle.bar_lms.specs.Schemes.{leaves_by}
-use Rattle.bar_roster.specs.KeyFile.{Fits, key_in}
+use Rattle.bar_session.specs.Fits.{Fits, key_in}
 use Rattle.bar_rules.specs.Peer.Knowledge.{known}
 use Rattle.bar_rules.specs.Peer.Log.{Log, Said}
 use Rattle.bar_rules.specs.Member.{Session, Member, IsMember, key_of_party}

@@ -5,7 +5,7 @@ use Rattle.bar_rules.specs.Peer.Evidence.{is_tried, accuses, new_evidence}
 use Rattle.bar_rules.specs.Peer.Knowledge.{known}
 use Rattle.bar_rules.specs.Peer.Log.{kept, kept_in, Log, Entry, Ticked, Heard, Said, Kept, table, ticks}
 use Rattle.bar_rules.specs.Peer.Machine.{send_if}
-use Rattle.bar_roster.specs.Time.{last_tick}
+use Rattle.bar_session.specs.Time.{last_tick}
 use Rattle.bar_rules.specs.Member.{Member}
 use Rattle.bar_rules.specs.Peer.Orders.{Order, Ask, Answer, Reveal, GiveCase, AskKey, GiveKey, Resend, Report}
 use Rattle.bar_rules.specs.Peer.Replies.{repeated, reply_orders}

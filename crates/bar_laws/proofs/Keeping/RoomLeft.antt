@@ -2,7 +2,7 @@
 use Rattle.bar_rules.specs.Peer.Exchanges.{role_of, request_kind, seat, seat_in}
 use Rattle.bar_rules.specs.Peer.Knowledge.{known, request_deadline}
 use Rattle.bar_rules.specs.Peer.Log.{Log, Entry, Heard, Said, ticks, ticks_in, round_now, if_passes, said_in, first_said, has_said}
-use Rattle.bar_roster.specs.Time.{round_after}
+use Rattle.bar_session.specs.Time.{round_after}
 use Rattle.bar_rules.specs.Member.{Member}
 use Rattle.bar_rules.specs.Peer.Rules.{IsObedient, Allows}
 use Rattle.bar_window.specs.Exchange.{same_exchange}

@@ -13,7 +13,7 @@ pub use Rattle.bar_seeds.proofs.Lengths.{length-chain_back, length-nonce_of, len
 pub use Rattle.bar_seal.proofs.Slots.{leaves_few, peers_named, caster_named}
 pub use Rattle.bar_seal.proofs.Named.{same_names}
 pub use Rattle.bar_lms.proofs.SchemeLemmas.{signed_accepted, signed_long, signed_names}
-pub use Rattle.bar_roster.proofs.Levels.{session_short}
+pub use Rattle.bar_session.proofs.Levels.{session_short}
 -- of bar_wire: the_datagram_is_spelled, the_test_tells_a_datagram, bytes_spell_one
 pub use Rattle.bar_wire.proofs.Told.{only_told, is_told}
 pub use Rattle.bar_wire.proofs.RangeTests.{datagram_tells}

@@ -12,7 +12,7 @@ use Rattle.bar_rules.specs.Peer.Exchanges.{request_kind, committed, with_exchang
 use Rattle.bar_rules.specs.Peer.Holdings.{block_by, block_opened, history, case_in}
 use Rattle.bar_rules.specs.Peer.Knowledge.{table_of, Knowledge, known, this_round, holds, case_heard_of, with_tick, with_heard, with_said, with_kept, request_deadline, answer_deadline}
 use Rattle.bar_rules.specs.Peer.Log.{lists_of, Log, Ticked, Heard, Said, Kept, has_kind_and_round, names_party}
-use Rattle.bar_roster.specs.Time.{round_after}
+use Rattle.bar_session.specs.Time.{round_after}
 use Rattle.bar_rules.specs.Member.{Member, is_alive}
 use Rattle.bar_rules.specs.Values.{window_of}
 use Rattle.std.proofs.Common.{◌≡◌, ℕ, ◌≤◌, ◌+◌, ◌-◌, Bool, true, false, List, [], ◌∷◌, refl, sym, ap, ◌∙◌, subst, arith, cond, ◌||◌, eqb}

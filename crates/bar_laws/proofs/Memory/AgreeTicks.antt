@@ -20,7 +20,7 @@ use Rattle.bar_rules.specs.Peer.Machine as machine
 use Rattle.bar_rules.specs.Peer.Orders.{Order, Ask, AskKey, Resend, Report}
 use Rattle.bar_rules.specs.Peer.Replies.{orders_when}
 use Rattle.bar_rules.specs.Peer.Ticks.{is_initiator, reveals, lacks_answer, lacks_case, lacks_key, again, asking_partner, new_requests, reports, orders_at_tick, content_of, content_at, contents_of_round, contents_at_tick}
-use Rattle.bar_roster.specs.Time.{last_tick, slot_after}
+use Rattle.bar_session.specs.Time.{last_tick, slot_after}
 use Rattle.bar_rules.specs.Member.{Member}
 use Rattle.bar_rules.specs.Peer.Rules.{IsObedient}
 use Rattle.bar_rules.specs.Secrets.{seed_of, partner_of}

@@ -14,7 +14,7 @@ use Rattle.bar_rules.specs.Peer.Exchanges.{request_kind, inserted, with_exchange
 use Rattle.bar_rules.specs.Peer.Holdings.{block_of, block_by}
 use Rattle.bar_rules.specs.Peer.Knowledge.{Knowledge, table_of, known, this_round, case_heard_of, first_with, with_request, with_tick, with_heard, with_said, with_kept}
 use Rattle.bar_rules.specs.Peer.Log.{Log, Ticked, Heard, Said, Kept, first_heard, first_said, count_heard, has_kind_and_round, names_party, manifest, ticks, round_now, kept}
-use Rattle.bar_roster.specs.Time.{round_after}
+use Rattle.bar_session.specs.Time.{round_after}
 use Rattle.bar_rules.specs.Member.{Session, Member}
 use Rattle.std.proofs.Common.{◌≡◌, ℕ, ◌≤◌, ◌+◌, Bool, true, false, List, [], ◌∷◌, refl, sym, ap, ◌∙◌, arith, cond, ◌||◌, ◌&&◌, eqb, add-zero}
 use Rattle.std.specs.Prelude.{Option, Some, None, is_some, filter, nat_le, option_map}

@@ -11,7 +11,7 @@ use Rattle.bar_rules.specs.Peer.Knowledge.{Knowledge, known, with_entry, with_he
 use Rattle.bar_rules.specs.Peer.Log.{Log, Entry, Ticked, Heard, Said, Kept, ticks}
 use Rattle.bar_rules.specs.Peer.Machine.{logs, minds, message_to, step_known}
 use Rattle.bar_rules.specs.Peer.Machine as machine
-use Rattle.bar_roster.specs.Time.{last_tick}
+use Rattle.bar_session.specs.Time.{last_tick}
 use Rattle.bar_rules.specs.Member.{Member}
 use Rattle.bar_rules.specs.Peer.Orders.{Order, Ask, Answer, Reveal, GiveCase, AskKey, GiveKey, Resend, Report}
 use Rattle.bar_rules.specs.Peer.Replies.{reply_orders, repeated}

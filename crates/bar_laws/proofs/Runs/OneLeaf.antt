@@ -3,7 +3,7 @@ use Rattle.bar_wire.specs.Limits.{leaves_a_round, seats_a_round}
 use Rattle.bar_wire.specs.declared.kind.Kind.TheVariants as kinds
 use Rattle.bar_wire.specs.Kinds.{code_of}
 use Rattle.bar_lms.specs.Schemes.{leaves_by}
-use Rattle.bar_roster.specs.Sessions.{IsSession}
+use Rattle.bar_session.specs.Sessions.{IsSession}
 use Rattle.bar_rules.specs.Peer.Admission.{is_row_met}
 use Rattle.bar_rules.specs.Peer.Exchanges.{seat, seat_in, request_kind, answer_kind, opening_kind}
 use Rattle.bar_rules.specs.Peer.Knowledge.{known}

@@ -1,7 +1,7 @@
 -- The broadcaster of a session.
 use Rattle.std.specs.Prelude.{◌≡◌}
-use Rattle.bar_roster.specs.KeyFile.{Fits}
-use Rattle.bar_roster.specs.Sessions.{IsSession}
+use Rattle.bar_session.specs.Fits.{Fits}
+use Rattle.bar_session.specs.Sessions.{IsSession}
 use Rattle.bar_rules.specs.Member.{Member}
 
 -- The member is the broadcaster of its session, which holds the key that comes from its secret.

@@ -13,7 +13,7 @@ use Rattle.bar_terms.specs.Table.{Table}
 use Rattle.bar_wire.specs.Datagram.{Datagram, Body, Manifest, Block, Request, Divulge, Query, Key, Evict, Briefcase, is_of, exchange_of}
 use Rattle.bar_wire.specs.declared.kind.Kind.TheVariants as kinds
 use Rattle.bar_wire.specs.declared.kind.Kind.{Kind}
-use Rattle.bar_roster.specs.Time.{round_after}
+use Rattle.bar_session.specs.Time.{round_after}
 use Rattle.bar_rules.specs.Member.{Session, Member}
 use Rattle.bar_rules.specs.Peer.Log.{Log, Entry, Ticked, Heard, Said, Kept, ticks, manifest, lists_of, first_heard, first_said, has_heard, count_heard, has_kind_and_round, is_announced, kept}
 use Rattle.bar_rules.specs.Peer.Holdings.{block_of, block_by, case_in}

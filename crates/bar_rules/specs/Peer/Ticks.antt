@@ -11,7 +11,7 @@ use Rattle.bar_window.specs.declared.exchange.XKind.{XKind}
 use Rattle.bar_window.specs.declared.exchange.XKind.TheVariants.{Balanced, Push}
 use Rattle.bar_window.specs.Exchange.{other_role}
 use Rattle.bar_wire.specs.declared.kind.Kind.TheVariants as kinds
-use Rattle.bar_roster.specs.Time.{slot_after}
+use Rattle.bar_session.specs.Time.{slot_after}
 use Rattle.bar_rules.specs.Member.{Member}
 use Rattle.bar_rules.specs.Values.{updates_of}
 use Rattle.bar_rules.specs.Secrets.{seed_of, partner_of}

@@ -1,7 +1,7 @@
 use Rattle.std.proofs.Common.{◌≡◌, ◌∙◌, ◌+◌, ◌*◌, ◌≤◌, ℕ, refl, sym, ap, subst, arith}
 use Rattle.std.proofs.Math.Nat.{mul-le-mul_right}
 use Rattle.bar_wire.specs.declared.shape.Shape.{Shape}
-use Rattle.bar_roster.specs.Time.{round_after}
+use Rattle.bar_session.specs.Time.{round_after}
 use Rattle.bar_rules.specs.Member.{Member}
 use Rattle.bar_caster.specs.Fanout.{AreRanksOf}
 use Rattle.bar_caster.specs.Memory.{member_of}

@@ -4,7 +4,7 @@ use Rattle.bar_outside.specs.Plan.{with_out}
 use Rattle.bar_outside.proofs.Ending.{EndsWith-reading, EndsWith-accepted, EndsWith-refused, EndsWith-doing, EndsWith-ending, EndsWith-unread}
 use Rattle.bar_record.specs.Inputs.{inputs_left}
 use Rattle.bar_record.specs.Pacing.{paced}
-use Rattle.bar_roster.specs.Time.{last_tick}
+use Rattle.bar_session.specs.Time.{last_tick}
 use Rattle.bar_rules.specs.Members.{member_by}
 use Rattle.bar_cli.specs.Replay.Found.{found_by}
 use Rattle.bar_cli.specs.Replay.Plan.{replay_actions, turns_of}

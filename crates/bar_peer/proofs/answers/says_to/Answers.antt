@@ -3,7 +3,7 @@ use Rattle.std.specs.Prelude.{option_map, IfSome}
 use Rattle.bar_wire.specs.Datagram.{Place, place_of}
 use Rattle.bar_wire.specs.Sides.{place_in}
 use Rattle.bar_wire.specs.Views.{plain}
-use Rattle.bar_roster.specs.Time.{round_after}
+use Rattle.bar_session.specs.Time.{round_after}
 use Rattle.bar_rules.specs.Member.{Member}
 use Rattle.bar_rules.specs.Peer.Agreement.{IsRecent}
 use Rattle.bar_exchange.specs.Placing.{message_in}

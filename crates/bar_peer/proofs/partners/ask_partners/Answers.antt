@@ -2,7 +2,7 @@ use Rattle.std.proofs.Common.{◌≡◌, ◌∙◌, ℕ, true, false, nat_lt, le
 use Rattle.std.proofs.lemmas.Bool.{lt-ltb, le-ltb}
 use Rattle.bar_window.specs.Window.{members}
 use Rattle.bar_window.specs.declared.exchange.XKind.TheVariants.{Push}
-use Rattle.bar_roster.specs.Time.{round_after}
+use Rattle.bar_session.specs.Time.{round_after}
 use Rattle.bar_rules.specs.Member.{Member}
 use Rattle.bar_rules.specs.Peer.Choices.{young_of}
 use Rattle.bar_rules.specs.Peer.Knowledge.{Knowledge, known, this_round}

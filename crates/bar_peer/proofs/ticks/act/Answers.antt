@@ -1,5 +1,5 @@
 use Rattle.std.proofs.Common.{◌∙◌, ◌==◌, ℕ, refl, sym, ap, subst, arith}
-use Rattle.bar_roster.specs.Time.{slot_after}
+use Rattle.bar_session.specs.Time.{slot_after}
 use Rattle.bar_peer.specs.declared.memory.Memory.{Memory}
 use Rattle.bar_peer.specs.Orders.{Orders}
 use Rattle.bar_peer.proofs.AtTick.{IsAsked, asked_at_tick, unasked_at_tick, reported_at_tick, unreported_at_tick}

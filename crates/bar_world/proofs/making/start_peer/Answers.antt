@@ -1,6 +1,6 @@
 use Rattle.std.proofs.Common.{sym, subst, false}
 use Rattle.bar_hss.specs.Files.{IsPartyKeyOf}
-use Rattle.bar_roster.specs.SessionText.{SessionData}
+use Rattle.bar_session.specs.SessionData.{SessionData}
 use Rattle.bar_world.proofs.making.start_peer.Goals as goal
 
 pub of_key-requires : goal.of_key-requires

@@ -1,7 +1,7 @@
 -- The notice of this round names those that are evicted, and is the first of its round.
 use Rattle.std.proofs.Common.{◌≡◌, ◌≤◌, ℕ, List, length, ap, arith}
 use Rattle.std.proofs.lemmas.List.{length-take}
-use Rattle.bar_roster.proofs.Levels.{session_short}
+use Rattle.bar_session.proofs.Levels.{session_short}
 use Rattle.bar_caster.specs.declared.memory.Memory.{Memory}
 use Rattle.bar_caster.proofs.memory.Memory.sign_notice.Goals as goal
 

@@ -6,7 +6,7 @@ use Rattle.bar_bytes.specs.Rooms.{kept_in}
 use Rattle.bar_wire.specs.Datagram.{Datagram}
 use Rattle.bar_wire.specs.Limits.{largest_datagram}
 use Rattle.bar_wire.specs.declared.kind.Kind.TheVariants as kinds
-use Rattle.bar_roster.specs.Time.{round_after}
+use Rattle.bar_session.specs.Time.{round_after}
 use Rattle.bar_rules.specs.Member.{Session}
 use Rattle.bar_rules.specs.Peer.Log.{round_now}
 use Rattle.bar_rules.specs.Values.{datagram_bytes}

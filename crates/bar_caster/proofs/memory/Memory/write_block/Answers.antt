@@ -7,7 +7,7 @@ use Rattle.bar_window.specs.declared.update.UpdateId.{UpdateId}
 use Rattle.bar_wire.specs.Datagram.{Message, Block}
 use Rattle.bar_wire.specs.Grammar.{message_bytes}
 use Rattle.bar_rules.specs.Broadcaster.Stream.{round_blocks}
-use Rattle.bar_roster.specs.Time.{round_after}
+use Rattle.bar_session.specs.Time.{round_after}
 use Rattle.bar_rules.specs.Peer.Log.{round_now}
 use Rattle.bar_rules.specs.Values.{datagram_bytes}
 use Rattle.bar_caster.specs.Memory.{stream_of}

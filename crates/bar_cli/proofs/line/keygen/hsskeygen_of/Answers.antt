@@ -3,7 +3,7 @@ use Rattle.std.specs.Borrow.{Bor}
 use Rattle.std.proofs.lemmas.Bool.Decides.{nat_tests}
 use Rattle.bar_lms.specs.declared.params.Height.{Height}
 use Rattle.bar_lms.specs.declared.params.Params.{Params}
-use Rattle.bar_roster.specs.NumberRanges.{most_long_rounds}
+use Rattle.bar_session.specs.Limits.{most_long_rounds}
 use Rattle.bar_cli.specs.Line.{asked_by, hsskeygen_values}
 use Rattle.bar_cli.proofs.WordLemmas.{not-seven-levels, seven-are}
 use Rattle.bar_cli.proofs.line.keygen.hsskeygen_of.Goals as goal

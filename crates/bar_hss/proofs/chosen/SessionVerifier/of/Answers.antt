@@ -1,7 +1,7 @@
 use Rattle.std.proofs.Common.{◌∙◌, sym}
 use Rattle.bar_lms.specs.declared.params.Height.{Height}
 use Rattle.bar_lms.specs.Schemes.{upper_types}
-use Rattle.bar_roster.specs.SessionText.{SessionData}
+use Rattle.bar_session.specs.SessionData.{SessionData}
 use Rattle.bar_hss.proofs.FileLemmas.{double_verifies, no_top, single_verifies, some_top}
 use Rattle.bar_hss.proofs.chosen.SessionVerifier.of.Goals as goal
 

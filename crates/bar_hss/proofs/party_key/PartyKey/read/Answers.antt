@@ -1,6 +1,6 @@
 use Rattle.std.proofs.Common.{◌∙◌, sym}
 use Rattle.bar_lms.specs.Params.{lms_type}
-use Rattle.bar_roster.specs.SessionText.{SessionData}
+use Rattle.bar_session.specs.SessionData.{SessionData}
 use Rattle.bar_hss.proofs.FileLemmas.{is_there, no_top}
 use Rattle.bar_hss.proofs.party_key.PartyKey.read.Goals as goal
 

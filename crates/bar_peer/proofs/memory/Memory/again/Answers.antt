@@ -1,6 +1,6 @@
 use Rattle.std.proofs.Common.{◌≡◌, ◌∙◌, false, not, sym, ap}
 use Rattle.bar_window.specs.declared.exchange.Exchange.{Exchange}
-use Rattle.bar_roster.specs.Time.{round_after}
+use Rattle.bar_session.specs.Time.{round_after}
 use Rattle.bar_rules.specs.Member.{Member}
 use Rattle.bar_rules.specs.Peer.Exchanges.{partner_in}
 use Rattle.bar_rules.specs.Peer.Knowledge.{this_round}

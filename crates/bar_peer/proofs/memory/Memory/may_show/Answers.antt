@@ -6,7 +6,7 @@ use Rattle.bar_wire.specs.Bodies.{is_peer_kind}
 use Rattle.bar_wire.specs.Evidence.{evidence_bytes}
 use Rattle.bar_wire.specs.Sides.{place_in}
 use Rattle.bar_wire.specs.Views.{datagram, plain}
-use Rattle.bar_roster.specs.Time.{round_after}
+use Rattle.bar_session.specs.Time.{round_after}
 use Rattle.bar_rules.specs.Member.{Member}
 use Rattle.bar_bytes.specs.Rooms.{kept_in}
 use Rattle.bar_bytes.proofs.Options.{some-copied, some-mapped}

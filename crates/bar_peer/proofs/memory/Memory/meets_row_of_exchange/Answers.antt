@@ -1,6 +1,6 @@
 use Rattle.std.proofs.Common.{◌≡◌, ◌&&◌, ◌∙◌, true, false, is_some, sym, ap, refl}
 use Rattle.bar_wire.specs.Views.{plain}
-use Rattle.bar_roster.specs.Time.{round_after}
+use Rattle.bar_session.specs.Time.{round_after}
 use Rattle.bar_rules.specs.Peer.Admission.{is_row_met}
 use Rattle.bar_rules.specs.Peer.Knowledge.{this_round}
 use Rattle.bar_peer.specs.Memory.{member_of}

@@ -5,7 +5,7 @@ use Rattle.bar_terms.specs.Table.{digests_of}
 use Rattle.bar_wire.specs.Datagram.{Datagram, KeyGiven, Place, Key, place_of}
 use Rattle.bar_wire.specs.Places.{kind_from, role_from}
 use Rattle.bar_wire.specs.Views.{datagram, plain}
-use Rattle.bar_roster.specs.Time.{round_after}
+use Rattle.bar_session.specs.Time.{round_after}
 use Rattle.bar_rules.specs.Member.{Member}
 use Rattle.bar_rules.specs.Peer.Knowledge.{this_round}
 use Rattle.bar_wire.specs.Sides.{place_in}

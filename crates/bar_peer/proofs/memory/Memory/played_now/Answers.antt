@@ -1,5 +1,5 @@
 use Rattle.std.proofs.Common.{◌≡◌, ◌-◌, ◌∙◌, sym, ap, arith}
-use Rattle.bar_roster.specs.Time.{round_after, slot_after}
+use Rattle.bar_session.specs.Time.{round_after, slot_after}
 use Rattle.bar_rules.specs.Peer.Knowledge.{known}
 use Rattle.bar_wire.specs.declared.shape.Shape.{Shape}
 use Rattle.bar_peer.specs.Memory.{member_of}

@@ -3,7 +3,7 @@ use Rattle.std.specs.Prelude.{option_map}
 use Rattle.bar_store.specs.Holds.{Holds}
 use Rattle.bar_ledger.specs.Recalls.{Recalls}
 use Rattle.bar_wire.specs.Evidence.{evidence_bytes}
-use Rattle.bar_roster.specs.Time.{round_after}
+use Rattle.bar_session.specs.Time.{round_after}
 use Rattle.bar_rules.specs.Member.{Member}
 use Rattle.bar_rules.specs.Values.{datagram_bytes}
 use Rattle.bar_rules.specs.Peer.Knowledge.{Knowledge, known, this_round, with_tick}

@@ -4,7 +4,7 @@ use Rattle.bar_wire.specs.Datagram.{Datagram}
 use Rattle.bar_wire.specs.Inputs.{Input}
 use Rattle.bar_wire.specs.Inputs as event
 use Rattle.bar_rules.specs.Runs.{begun}
-use Rattle.bar_roster.specs.SessionText.{SessionData}
+use Rattle.bar_session.specs.SessionData.{SessionData}
 use Rattle.bar_peer.specs.Steps.{is_tick}
 use Rattle.bar_laws.specs.Ignoring.{is_unread}
 use Rattle.bar_peer.proofs.Ignored.{none_mapped}

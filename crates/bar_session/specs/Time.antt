@@ -1,6 +1,6 @@
 -- The time of a session: rounds, and the slots of each.
 use Rattle.std.specs.Prelude.{ℕ, ◌+◌, ◌-◌, ◌*◌, ◌/◌, ◌%◌}
-use Rattle.bar_roster.specs.SessionText.{SessionData}
+use Rattle.bar_session.specs.SessionData.{SessionData}
 
 -- how many ticks a round has, each a slot of its own, from 0 on
 abbrev pub slots_a_round : ℕ

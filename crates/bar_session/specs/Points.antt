@@ -3,7 +3,7 @@ use Rattle.std.specs.Prelude.{◌≡◌, ℕ, ◌+◌, ◌-◌, ◌≤◌, true,
 use Rattle.bar_seeds.specs.Seeds.{is_seed}
 use Rattle.bar_seeds.specs.declared.checkpoints.Checkpoints.{Checkpoints}
 use Rattle.bar_seeds.specs.Checkpoints.{kept_round, kept_value, parties_in}
-use Rattle.bar_roster.specs.SessionText.{SessionData}
+use Rattle.bar_session.specs.SessionData.{SessionData}
 
 abbrev pub anchor_in : SessionData → ℕ → List ℕ
 anchor_in s peer = unwrap_or (slice_get s.anchors (peer - 1)) []
