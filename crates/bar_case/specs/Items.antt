@@ -1,6 +1,7 @@
 -- The items of a briefcase as bytes.
 use Rattle.std.specs.Prelude.{ℕ, ◌+◌, ◌*◌, List, [], ◌∷◌, drop, length, codes, Option, unwrap_or, flat_map}
 use Rattle.bar_bytes.specs.Tag.{tagged}
+use Rattle.bar_window.specs.Limits.{block_size, junk_size}
 use Rattle.bar_window.specs.declared.update.UpdateId.{UpdateId}
 use Rattle.bar_window.specs.declared.exchange.Exchange.{Exchange}
 use Rattle.bar_window.specs.declared.exchange.Role.{Role}
@@ -12,8 +13,8 @@ use Rattle.bar_terms.specs.Terms.{promised_updates, promised_junk}
 use Rattle.bar_case.specs.Keystream.{keystream}
 
 abbrev pub item_len : Item → ℕ
-item_len (Update u) = 1024
-item_len (Junk t) = 1280
+item_len (Update u) = block_size
+item_len (Junk t) = junk_size
 
 abbrev pub items_len : List Item → ℕ
 items_len [] = 0
@@ -21,7 +22,7 @@ items_len (item ∷ items) = item_len item + items_len items
 
 -- how many bytes a side's promise has
 abbrev pub promised_len : ℕ → Terms → Role → ℕ
-promised_len cap terms role = 1024 * length (promised_updates cap terms role) + 1280 * promised_junk terms role
+promised_len cap terms role = block_size * length (promised_updates cap terms role) + junk_size * promised_junk terms role
 
 -- the key of the junk of an exchange
 unfoldable pub junk_key : List ℕ → Exchange → List ℕ
@@ -29,7 +30,7 @@ junk_key id x = tagged (codes "JNK1") id (exchange_bytes x)
 
 -- a piece of junk by its number, where the key of the junk is given
 abbrev pub junk_item : List ℕ → ℕ → List ℕ
-junk_item key t = drop (1280 * t) (keystream key (1280 * t + 1280))
+junk_item key t = drop (junk_size * t) (keystream key (junk_size * t + junk_size))
 
 -- an item's bytes, where the key of the junk and the blocks of held updates are given
 abbrev pub item_bytes : List ℕ → (UpdateId → Option (List ℕ)) → Item → List ℕ

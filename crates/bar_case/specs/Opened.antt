@@ -2,6 +2,7 @@
 use Rattle.std.specs.Prelude.{◌≡◌, ℕ, ◌+◌, Bool, true, false, List, [], ◌∷◌, length, take, drop, position, Option, Some, None, if◌then◌else◌, bytes_eq}
 use Rattle.std.specs.Simd.{first_chunks}
 use Rattle.sha2.specs.Sha256.{sha256}
+use Rattle.bar_window.specs.Limits.{block_size}
 use Rattle.bar_window.specs.declared.update.UpdateId.{UpdateId}
 use Rattle.bar_window.specs.declared.exchange.Exchange.{Exchange}
 use Rattle.bar_window.specs.declared.exchange.Role.{Role}
@@ -98,7 +99,7 @@ opening id x cap terms role cipher key table =
 
 -- the opened blocks of the promised updates, in order
 unfoldable pub opened_blocks : ℕ → Terms → Role → List ℕ → List ℕ → List (List ℕ)
-opened_blocks cap terms role cipher key = first_chunks 1024 (length (promised_updates cap terms role)) (opened key cipher)
+opened_blocks cap terms role cipher key = first_chunks block_size (length (promised_updates cap terms role)) (opened key cipher)
 
 -- the table has the digest of each update's block
 abbrev pub AreTold : Table → List UpdateId → List (List ℕ) → Type 0

@@ -1,6 +1,7 @@
 -- What a side of an exchange seals.
 use Rattle.std.specs.Prelude.{◌≡◌, ◌⊎◌, ℕ, List, length, Option, Some, IsSome}
 use Rattle.sha2.specs.Sha256.{sha256}
+use Rattle.bar_window.specs.Limits.{block_size}
 use Rattle.bar_window.specs.declared.update.UpdateId.{UpdateId}
 use Rattle.bar_window.specs.declared.exchange.Exchange.{Exchange}
 use Rattle.bar_window.specs.declared.exchange.Role.{Role}
@@ -27,5 +28,5 @@ IsHeldItem blocks (Junk t) = Unit {0}
 pub record IsTold (table : Table) (blocks : UpdateId → Option (List ℕ)) (u : UpdateId) : Type 0 where
   pub block : List ℕ
   pub held : blocks u ≡ Some block
-  pub whole : length block ≡ 1024
+  pub whole : length block ≡ block_size
   pub told : (digest_of table u ≡ NoManifest) ⊎ (digest_of table u ≡ Known (sha256 block))

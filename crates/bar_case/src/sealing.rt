@@ -1,6 +1,7 @@
 //! Sealing a briefcase.
 
 ghost use Rattle.std.specs.Prelude.{◌≡◌, ◌+◌, ◌%◌, ◌≤◌, ◌++◌, true, length, take, drop, All, IsSome};
+ghost use Rattle.bar_window.specs.Limits.{largest_cipher, most_items};
 ghost use Rattle.bar_window.specs.Terms.{plain_terms};
 ghost use Rattle.bar_terms.specs.Windows.{AreAligned};
 ghost use Rattle.bar_terms.specs.Terms.{can_promise, promised_updates};
@@ -89,11 +90,11 @@ pub fn seal<B: Blocks>(
 ) -> usize
     requires windows { AreAligned terms.now }
     requires valid { can_promise cap (plain_terms terms.now) ≡ true }
-    requires cap { cap ≤ 16 }
+    requires cap { cap ≤ most_items }
     requires held { All (λ u. IsSome (B.block_of blocks.now u)) (promised_updates cap (plain_terms terms.now) role) }
-    requires room { 20480 ≤ length out.old }
+    requires room { largest_cipher ≤ length out.old }
     ensures len { result ≡ promised_len cap (plain_terms terms.now) role }
-    ensures fits { result ≤ 20480 }
+    ensures fits { result ≤ largest_cipher }
     ensures value { take result out.new ≡ sealed id.now x cap (plain_terms terms.now) role key.now (B.block_of blocks.now) }
     ensures rest { drop result out.new ≡ drop result out.old }
 {

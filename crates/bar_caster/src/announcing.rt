@@ -3,7 +3,7 @@ ghost use Rattle.std.specs.Prelude.{◌≡◌, ◌+◌, ◌*◌, ◌≤◌, ℕ,
 ghost use Rattle.std.specs.List.{concat, flat_map};
 ghost use Rattle.bar_bytes.specs.Bytes.{u16_bytes};
 ghost use Rattle.bar_wire.specs.Datagram.{Manifest, Evict};
-ghost use Rattle.bar_wire.specs.Limits.{largest_datagram};
+ghost use Rattle.bar_wire.specs.Limits.{header_len, largest_datagram};
 ghost use Rattle.bar_wire.specs.Views.{plain, IsBody};
 ghost use Rattle.bar_wire.specs.Writing.{body_written};
 ghost use Rattle.bar_rules.specs.Values.{message_bytes};
@@ -16,10 +16,10 @@ use bar_wire::{BROADCASTER, Body, EVERYONE, encode};
 /// Writes the message of a body to all peers, which is all before the signature, to the front of `out`, and answers its length.
 fn write_to_all(session: &Session, body: &Body<'_>, out: &mut [u8]) -> usize
     requires body { IsBody session.now.shape body.now }
-    requires short { 16 + body_written session.now.shape body.now ≤ largest_datagram }
+    requires short { header_len + body_written session.now.shape body.now ≤ largest_datagram }
     requires room { largest_datagram ≤ length out.old }
     ensures written { take result out.new ≡ message_bytes session.now (caster_message (plain body.now)) }
-    ensures end { result ≡ 16 + body_written session.now.shape body.now }
+    ensures end { result ≡ header_len + body_written session.now.shape body.now }
 {
     let shape = session.shape();
     encode(BROADCASTER, EVERYONE, body, &shape, out)

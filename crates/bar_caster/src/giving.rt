@@ -18,6 +18,7 @@ use crate::order::Order;
 use bar_bytes::put;
 use bar_laws::broadcasting::signs_once_a_round;
 use bar_seal::Scheme;
+use bar_window::BLOCK_SIZE;
 use bar_wire::{BROADCASTER, Body, encode};
 
 impl Memory {
@@ -29,7 +30,7 @@ impl Memory {
             → IsGiven self.now.session d (Some result) buf.new }
     {
         let round = self.round();
-        let mut block = [0; 1024];
+        let mut block = [0; BLOCK_SIZE];
         self.stream.write_block(round, index, &mut block);
         let body = Body::Block {
             round,

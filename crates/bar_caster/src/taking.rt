@@ -25,8 +25,7 @@ use bar_judge::{Verdict, verdict};
 use bar_laws::broadcasting::{shown_evidence_is_short, signs_once_a_round};
 use bar_roster::slot_after;
 use bar_seal::{Scheme, Verifier};
-use bar_store::HEADER_LEN;
-use bar_wire::{Body, decode, split_evidence};
+use bar_wire::{Body, HEADER_LEN, decode, split_evidence};
 use std::sync::ledger::Ledger as StepLedger;
 
 impl Memory {

@@ -1,6 +1,7 @@
 //! Briefcases of this peer's side.
 ghost use Rattle.std.specs.Prelude.{◌≡◌, ◌≤◌, ◌↔◌, IsTrue, IfSome, true, length, option_map};
 ghost use Rattle.std.specs.List.{All};
+ghost use Rattle.bar_window.specs.Limits.{most_items};
 ghost use Rattle.bar_window.specs.Terms.{plain_terms};
 ghost use Rattle.bar_terms.specs.Windows.{AreAligned};
 ghost use Rattle.bar_wire.specs.Limits.{largest_datagram};
@@ -22,7 +23,7 @@ use crate::writing::write_message;
 use bar_case::seal;
 use bar_store::Store;
 use bar_terms::{Item, can_promise, junk_count, promise, update_count};
-use bar_window::{Exchange, Role, Terms};
+use bar_window::{Exchange, LARGEST_CIPHER, Role, Terms};
 use bar_wire::Body;
 
 /// The terms of an exchange, where both sides' parts are known.
@@ -62,7 +63,7 @@ fn are_held(store: &Store, items: &[Item]) -> bool
 /// Whether a side promises something by terms, and the blocks of the updates that it promises are held.
 fn can_seal(store: &Store, terms: &Terms, role: Role, cap: u8) -> bool
     requires windows { AreAligned terms.now }
-    requires cap { cap ≤ 16 }
+    requires cap { cap ≤ most_items }
     ensures { IsTrue result ↔ IsSealable (block_in store.now) cap (plain_terms terms.now) role }
 {
     if !can_promise(terms, cap) {
@@ -89,7 +90,7 @@ pub fn write_case(sources: &Sources<'_>, x: Exchange, out: &mut [u8]) -> Option<
         return None;
     }
     let key = sources.secrets.key(x, role);
-    let mut cipher = [0; 20480];
+    let mut cipher = [0; LARGEST_CIPHER];
     let length = seal(
         &shape.id,
         x,

@@ -1,6 +1,6 @@
 //! The messages of every exchange that need no terms, and how each message is written.
 ghost use Rattle.std.specs.Prelude.{◌≡◌, ◌≤◌, ◌+◌, length, take, Some};
-ghost use Rattle.bar_wire.specs.Limits.{largest_datagram};
+ghost use Rattle.bar_wire.specs.Limits.{header_len, largest_datagram};
 ghost use Rattle.bar_wire.specs.Views.{plain, IsBody};
 ghost use Rattle.bar_wire.specs.Writing.{body_written};
 ghost use Rattle.bar_wire.specs.declared.kind.Kind.TheVariants as kinds;
@@ -18,7 +18,7 @@ use bar_wire::{Body, encode};
 /// and answers its length.
 pub fn write_message(sources: &Sources<'_>, x: Exchange, body: &Body<'_>, out: &mut [u8]) -> usize
     requires body { IsBody sources.now.session.now.shape body.now }
-    requires short { 16 + body_written sources.now.session.now.shape body.now ≤ largest_message }
+    requires short { header_len + body_written sources.now.session.now.shape body.now ≤ largest_message }
     requires room { largest_datagram ≤ length out.old }
     ensures written { (me : Member) (k : Knowledge) → Tells me k sources.now → take result out.new ≡ bytes_to me x (plain body.now) }
     ensures front { LeavesRest out.old (Some result) out.new }

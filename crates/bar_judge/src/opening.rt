@@ -2,6 +2,7 @@
 ghost use Rattle.std.specs.Prelude.{◌≡◌, ◌+◌, ◌*◌, ◌≤◌, ◌&&◌, false, true, length};
 ghost use Rattle.std.specs.Bool.{then_some};
 ghost use Rattle.std.specs.Option.{option_map_or};
+ghost use Rattle.bar_window.specs.Limits.{block_size, junk_size, most_items};
 ghost use Rattle.bar_window.specs.Terms.{plain_terms};
 ghost use Rattle.bar_terms.specs.Table.{digests_of, no_lists};
 ghost use Rattle.bar_terms.specs.Terms.{can_promise};
@@ -21,14 +22,14 @@ use bar_case::{Opening, unseal};
 use bar_roster::Session;
 use bar_terms::laws::valid_terms_can_promise;
 use bar_terms::{Table, junk_count, terms_fit, update_count};
-use bar_window::Exchange;
+use bar_window::{BLOCK_SIZE, Exchange, MOST_ITEMS};
 use bar_wire::{View, exchange_by};
 
 /// Whether a briefcase has as many items as its sender promises by its terms.
 pub(crate) fn has_counts(case: &Briefcase<'_>, cap: u8) -> bool
     requires windows { AreAligned case.now.terms }
     requires valid { can_promise cap (plain_terms case.now.terms) ≡ true }
-    requires cap { cap ≤ 16 }
+    requires cap { cap ≤ most_items }
     ensures { (s : Session) → s.cap ≡ cap → result ≡ counts_ok s (plain_briefcase case.now) }
 {
     case.updates == update_count(&case.terms, case.role, cap)
@@ -55,7 +56,7 @@ fn opening_by(
 ) -> Option<Opening>
     requires windows { AreWindowsOf session.now.shape.life case.now.round case.now.terms }
     requires round { x.round ≡ case.now.round }
-    requires whole { length case.now.cipher.now ≡ 1024 * case.now.updates + 1280 * case.now.junk }
+    requires whole { length case.now.cipher.now ≡ block_size * case.now.updates + junk_size * case.now.junk }
     ensures { result ≡ then_some
         (terms_ok session.now no_lists x (plain_terms case.now.terms) && counts_ok session.now (plain_briefcase case.now))
         (opening_of session.now (digests_of table.now.lists) x (plain_briefcase case.now) key.now) }
@@ -69,7 +70,7 @@ fn opening_by(
     if !has_counts(case, cap) {
         return None;
     }
-    let mut blocks = [[0; 1024]; 16];
+    let mut blocks = [[0; BLOCK_SIZE]; MOST_ITEMS];
     Some(unseal(
         &shape.id,
         x,

@@ -1,5 +1,6 @@
 //! The faults that two messages show whatever the table is.
 ghost use Rattle.std.specs.Prelude.{◌≡◌, ◌≤◌, ℕ, true, option_map};
+ghost use Rattle.bar_window.specs.Limits.{most_life};
 ghost use Rattle.bar_window.specs.Terms.{plain_terms};
 ghost use Rattle.bar_window.specs.Window.{members};
 ghost use Rattle.bar_wire.specs.Bodies.{is_peer_kind};
@@ -35,7 +36,7 @@ fn is_twice(m: &View<'_>, n: &View<'_>) -> bool
 
 /// Whether two windows are different sets.
 fn is_other(one: &Window, two: &Window, life: u8) -> bool
-    requires life { life ≤ 16 }
+    requires life { life ≤ most_life }
     ensures { (s : RulesSession) (round : ℕ) → s.shape.life ≡ life → IsWindowIn s.shape round one.now → IsWindowIn s.shape round two.now
         → result ≡ other_window s round (members one.now) (members two.now) }
 {

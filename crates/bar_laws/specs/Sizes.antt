@@ -3,12 +3,12 @@ use Rattle.std.specs.Prelude.{◌≡◌, ◌+◌, ◌≤◌, ℕ, List, Some, tr
 use Rattle.bar_wire.specs.Datagram.{Datagram, is_signed, kind_of}
 use Rattle.bar_wire.specs.Evidence.{evidence_bytes}
 use Rattle.bar_wire.specs.Grammar.{AreDatagramsInRange, SpellsDatagram}
-use Rattle.bar_wire.specs.Limits.{largest_datagram}
+use Rattle.bar_wire.specs.Limits.{header_len, largest_datagram}
 use Rattle.bar_session.specs.Sessions.{IsSession}
 use Rattle.bar_rules.specs.Member.{Member, Session}
 use Rattle.bar_rules.specs.Peer.Log.{Log, Heard, kept}
 use Rattle.bar_rules.specs.Peer.Rules.{IsObedient}
-use Rattle.bar_rules.specs.Peer.Sizes.{header_len, largest, most_evidence}
+use Rattle.bar_rules.specs.Peer.Sizes.{largest, most_evidence}
 use Rattle.bar_rules.specs.Values.{datagram_bytes}
 use Rattle.bar_seal.specs.Memo.{most_datagram}
 use Rattle.bar_laws.specs.Always.{InEachLog}

@@ -1,6 +1,7 @@
 //! A slot for one exchange: its entry, and rooms for what is heard of it.
 ghost use Rattle.std.specs.Prelude.{◌≡◌, ◌≤◌, Some, None, IfOk, length, is_some, option_map, option_and_then, option_copied, IfSome, true, false, if◌then◌else◌};
 ghost use Rattle.std.specs.Option.{option_map_or};
+ghost use Rattle.bar_window.specs.Limits.{most_items};
 ghost use Rattle.bar_window.specs.Terms.{plain_terms};
 ghost use Rattle.bar_wire.specs.Limits.{largest_datagram};
 ghost use Rattle.bar_terms.specs.Terms.{promise};
@@ -228,7 +229,7 @@ impl Slot {
 
     /// What was promised, received and opened.
     pub(crate) fn totals(&self, cap: u8) -> Totals
-        requires cap { cap ≤ 16 }
+        requires cap { cap ≤ most_items }
         requires terms { IfSome (kept_of self.now) (CanTotal cap) }
         ensures { result ≡ option_map_or (totals_by cap) (kept_of self.now) no_totals }
     {
@@ -261,7 +262,7 @@ pub fn names<V: Verifier>(verifier: &V, datagram: Option<&[u8]>, leaf: u32) -> b
 
 /// How many items a side promises, where it did.
 fn size_if(promised: bool, entry: &Entry, role: Role, cap: u8) -> u8
-    requires cap { cap ≤ 16 }
+    requires cap { cap ≤ most_items }
     requires terms { promised ≡ true → AreSound cap entry.now.terms }
     ensures { result ≡ (if promised then length (promise cap (plain_terms entry.now.terms) role) else 0) }
 {

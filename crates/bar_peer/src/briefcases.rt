@@ -1,6 +1,7 @@
 //! What a KEY shows of the briefcase that it opens.
 ghost use Rattle.std.specs.Prelude.{◌≡◌, ◌≤◌, ℕ, length, true, option_map, Some, IfSome};
 ghost use Rattle.std.specs.Option.{option_or};
+ghost use Rattle.bar_window.specs.Limits.{most_items};
 ghost use Rattle.bar_window.specs.declared.update.UpdateId.{UpdateId};
 ghost use Rattle.bar_terms.specs.Table.{digests_of};
 ghost use Rattle.bar_terms.specs.Terms.{can_promise};
@@ -27,11 +28,11 @@ use bar_case::{Opening, unseal};
 use bar_exchange::{heard_from, is_within};
 use bar_store::Store;
 use bar_terms::{Item, Promise, can_promise, junk_count, promise, update_count};
-use bar_window::Exchange;
+use bar_window::{BLOCK_SIZE, Exchange, MOST_ITEMS};
 use bar_wire::{Body, Kind, Place, View, decode, role_from};
 
 /// Holds the block of an item, where it is that of an update of the next round at most that is alive.
-fn hold_item(store: &mut Store, now: u32, item: &Item, block: &[u8; 1024])
+fn hold_item(store: &mut Store, now: u32, item: &Item, block: &[u8; BLOCK_SIZE])
     requires now { now ≡ store.old.round }
     ensures held { (u : UpdateId) → block_in store.new u ≡ option_or (block_in store.old u)
         (block_in_item (digests_of store.old.table.lists) store.old.life now item.now block.now u) }
@@ -45,7 +46,7 @@ fn hold_item(store: &mut Store, now: u32, item: &Item, block: &[u8; 1024])
 }
 
 /// Holds the blocks of items, one after another.
-fn hold_all(store: &mut Store, now: u32, items: &[Item], blocks: &[[u8; 1024]])
+fn hold_all(store: &mut Store, now: u32, items: &[Item], blocks: &[[u8; BLOCK_SIZE]])
     requires now { now ≡ store.old.round }
     requires few { length items.now ≤ length blocks.now }
     ensures held { (u : UpdateId) → block_in store.new u ≡ option_or (block_in store.old u)
@@ -76,14 +77,14 @@ impl Memory {
         x: Exchange,
         case: &View<'_>,
         key: &[u8; 32],
-        out: &mut [[u8; 1024]; 16],
+        out: &mut [[u8; BLOCK_SIZE]; MOST_ITEMS],
     ) -> Option<Promise>
         requires windows { AreWindows self.now.who.session.shape case.now.body }
         requires form { HasForm self.now.who.session.shape (plain case.now.body) }
         ensures given { (c : Briefcase) (now : ℕ) → plain case.now.body ≡ Case c → can_promise self.now.who.session.cap c.terms ≡ true
             → counts_ok self.now.who.session c ≡ true → IsNear (digests_of self.now.store.table.lists) now
             → AreGiven self.now.who.session now (digests_of self.now.store.table.lists) x key.now (Some c) (items_in result) out.new }
-        ensures few { IfSome result (λ p. p.len ≤ 16) }
+        ensures few { IfSome result (λ p. p.len ≤ most_items) }
     {
         let Body::Case {
             role,
@@ -143,7 +144,7 @@ impl Memory {
         let Some(case) = self.heard_view(Kind::Case, place) else {
             return;
         };
-        let mut blocks = [[0; 1024]; 16];
+        let mut blocks = [[0; BLOCK_SIZE]; MOST_ITEMS];
         let Some(promise) = self.unseal(place.x, &case, key, &mut blocks) else {
             return;
         };

@@ -12,8 +12,7 @@ ghost use Rattle.bar_core.specs.Orders.{HasSameRoom};
 use crate::memory::Memory;
 use crate::order::Order;
 use bar_core::Orders;
-use bar_store::HEADER_LEN;
-use bar_wire::{BROADCASTER, Body, encode, split_evidence};
+use bar_wire::{BROADCASTER, Body, HEADER_LEN, encode, split_evidence};
 
 impl Memory {
     /// Whether a report is due of the evidence against a party: some is kept, and the party isn't announced evicted.

@@ -1,5 +1,6 @@
 //! The round of the first bad item that a key shows of a briefcase.
 ghost use Rattle.std.specs.Prelude.{◌≡◌, ◌+◌, ◌*◌, ◌≤◌, ◌&&◌, true, length, take, option_and_then};
+ghost use Rattle.bar_window.specs.Limits.{block_size, junk_size, most_items};
 ghost use Rattle.bar_window.specs.Terms.{plain_terms};
 ghost use Rattle.bar_terms.specs.Table.{digests_of, no_lists};
 ghost use Rattle.bar_terms.specs.Terms.{promise};
@@ -15,12 +16,12 @@ use bar_judge::{Briefcase, briefcase_of};
 use bar_roster::Session;
 use bar_terms::laws::valid_terms_can_promise;
 use bar_terms::{Item, Promise, Table, promise};
-use bar_window::Exchange;
+use bar_window::{BLOCK_SIZE, Exchange, MOST_ITEMS};
 use bar_wire::{Body, View};
 
 /// The round of the item that is bad, where there is one and it is an update.
 fn round_of_bad(opening: Opening, promise: &Promise) -> Option<u32>
-    requires { promise.now.len ≤ 16 }
+    requires { promise.now.len ≤ most_items }
     ensures { result ≡ option_and_then round_of_item (bad_item opening (take promise.now.len promise.now.items)) }
 {
     let Opening::Bad { item } = opening else {
@@ -41,7 +42,7 @@ fn bad_round_by(
     key: &[u8; 32],
 ) -> Option<u32>
     requires windows { AreWindowsOf session.now.shape.life case.now.round case.now.terms }
-    requires whole { length case.now.cipher.now ≡ 1024 * case.now.updates + 1280 * case.now.junk }
+    requires whole { length case.now.cipher.now ≡ block_size * case.now.updates + junk_size * case.now.junk }
     requires valid { (terms_ok session.now no_lists x (plain_terms case.now.terms)
         && counts_ok session.now (plain_briefcase case.now)) ≡ true }
     ensures { result ≡ option_and_then round_of_item
@@ -51,7 +52,7 @@ fn bad_round_by(
     valid_terms_can_promise();
     let shape = session.shape();
     let cap = session.cap();
-    let mut blocks = [[0; 1024]; 16];
+    let mut blocks = [[0; BLOCK_SIZE]; MOST_ITEMS];
     let opening = unseal(
         &shape.id,
         x,

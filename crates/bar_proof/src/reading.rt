@@ -20,13 +20,13 @@ pub(crate) const LETTERS: [u8; 5] = [b'B', b'A', b'R', b'P', 1];
 const HEAD_LEN: usize = 6;
 
 /// The most manifests of a proof file.
-const MOST: u8 = 16;
+const MOST_MANIFESTS: u8 = 16;
 
-/// Whether bytes begin with the letters, the version and a count of at most 16.
+/// Whether bytes begin with the letters, the version and a count that isn't too high.
 pub(crate) fn has_head(bytes: &[u8]) -> bool
     ensures { result ≡ has_head bytes.now }
 {
-    bytes.len() >= HEAD_LEN && bytes[..5] == LETTERS[..] && bytes[5] <= MOST
+    bytes.len() >= HEAD_LEN && bytes[..5] == LETTERS[..] && bytes[5] <= MOST_MANIFESTS
 }
 
 /// The table of a proof file's manifests, and what follows them, or the first fault of a manifest. It counts each hash: each manifest has

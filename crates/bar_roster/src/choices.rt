@@ -1,9 +1,9 @@
 //! The seeds of a session's peers, and the partners that these choose.
-ghost use Rattle.std.specs.Prelude.{◌≡◌, ◌+◌, ◌-◌, ◌≤◌, [], true, unwrap_or, slice_get, IfOk};
+ghost use Rattle.std.specs.Prelude.{◌≡◌, ◌+◌, ◌≤◌, true, IfOk};
 ghost use Rattle.bar_seeds.specs.Partners.{partner_of};
 ghost use Rattle.bar_seeds.specs.Seeds.{is_seed};
 ghost use Rattle.bar_seeds.specs.Checkpoints.{kept_round, MovesOn};
-ghost use Rattle.bar_session.specs.Points.{AreSeeds};
+ghost use Rattle.bar_session.specs.Points.{AreSeeds, anchor_in};
 
 use crate::session::Session;
 use bar_bytes::Steps;
@@ -24,7 +24,7 @@ impl Session {
         requires low { 1 ≤ peer }
         requires high { peer ≤ self.now.shape.peers }
         ensures exact { result ≡
-            is_seed self.now.shape.id (unwrap_or (slice_get self.now.anchors (peer - 1)) []) peer round seed.now }
+            is_seed self.now.shape.id (anchor_in self.now peer) peer round seed.now }
         ensures cost { steps.new ≡ steps.old + round }
     {
         seed_ok(
@@ -59,7 +59,7 @@ impl Session {
         requires high { peer ≤ self.now.shape.peers }
         requires kept { AreSeeds self.now points.old }
         ensures exact { result ≡
-            is_seed self.now.shape.id (unwrap_or (slice_get self.now.anchors (peer - 1)) []) peer round seed.now }
+            is_seed self.now.shape.id (anchor_in self.now peer) peer round seed.now }
         ensures cost { steps.new ≤ steps.old + round }
         ensures kept { AreSeeds self.now points.new }
         ensures moves { MovesOn peer points.old points.new }

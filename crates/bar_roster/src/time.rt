@@ -1,6 +1,6 @@
 //! The time of a session: rounds, and the slots of each.
 ghost use Rattle.std.specs.Prelude.{◌≡◌, ◌≤◌};
-ghost use Rattle.bar_session.specs.Time.{last_tick, round_after, slot_after};
+ghost use Rattle.bar_session.specs.Time.{last_tick, most_ticks, round_after, slot_after};
 
 use crate::Session;
 
@@ -25,7 +25,7 @@ impl Session {
     /// The last tick that a party takes: the last one of the round behind that in which the last updates are played.
     pub fn last_tick(&self) -> u32
         ensures value { result ≡ last_tick self.now }
-        ensures few { result ≤ 57736 }
+        ensures few { result ≤ most_ticks }
     {
         let shape = self.shape();
         SLOTS_A_ROUND * (shape.rounds + u32::from(shape.life) + 1)

@@ -1,5 +1,5 @@
 -- A session, and one party of it with its secret.
-use Rattle.std.specs.Prelude.{ℕ, ◌+◌, ◌-◌, Bool, List, [], nat_lt, unwrap_or, slice_get}
+use Rattle.std.specs.Prelude.{ℕ, ◌+◌, Bool, List, [], nat_lt, unwrap_or, slice_get}
 use Rattle.bar_session.specs.SessionData.{SessionData}
 use Rattle.bar_session.specs.Sessions.{IsSession}
 use Rattle.bar_session.specs.Fits.{Fits}
@@ -22,10 +22,6 @@ pub record IsMember (me : Member) : Type 0 where
 -- the public key of a party, the broadcaster's at 0
 abbrev pub key_of_party : Session → ℕ → List ℕ
 key_of_party s party = unwrap_or (slice_get s.keys party) []
-
--- the anchor of a peer
-abbrev pub anchor_of_peer : Session → ℕ → List ℕ
-anchor_of_peer s peer = unwrap_or (slice_get s.anchors (peer - 1)) []
 
 -- an update of this round is alive in that round
 abbrev pub is_alive : Session → ℕ → ℕ → Bool

@@ -11,7 +11,8 @@ use Rattle.bar_seeds.specs.Seeds as seeds
 use Rattle.bar_seeds.specs.Partners as partners
 use Rattle.bar_seeds.specs.Derived as derived
 use Rattle.bar_session.specs.Fits.{secrets_in}
-use Rattle.bar_rules.specs.Member.{Session, Member, anchor_of_peer}
+use Rattle.bar_session.specs.Points.{anchor_in}
+use Rattle.bar_rules.specs.Member.{Session, Member}
 
 abbrev pub secrets_of : Member → Secrets
 secrets_of me = secrets_in me.session me.party me.secret
@@ -33,7 +34,7 @@ seed_of me round = seeds.seed_of (secrets_of me) me.session.shape.rounds round
 
 -- whether it is a peer's seed of a round
 abbrev pub is_seed : Session → ℕ → ℕ → List ℕ → Bool
-is_seed s peer round seed = seeds.is_seed s.shape.id (anchor_of_peer s peer) peer round seed
+is_seed s peer round seed = seeds.is_seed s.shape.id (anchor_in s peer) peer round seed
 
 -- the partner that a seed chooses for a peer
 abbrev pub partner_of : Session → List ℕ → XKind → ℕ → ℕ

@@ -14,6 +14,17 @@ most_rounds = 1820
 abbrev pub most_long_rounds : ℕ
 most_long_rounds = 7200
 
+-- the ports of party 0; each party p has this port and p more
+abbrev pub lowest_port : ℕ
+lowest_port = 1024
+
+abbrev pub highest_port : ℕ
+highest_port = 65335
+
+-- the most milliseconds between two ticks
+abbrev pub longest_tick : ℕ
+longest_tick = 60000
+
 -- by whether signatures have two levels: the most rounds, the last type of a message's tree, and the first type of one-time signatures
 abbrev pub rounds_by : Bool → ℕ
 rounds_by two = if two then most_long_rounds else most_rounds

@@ -5,6 +5,7 @@ use Rattle.bar_seeds.specs.declared.checkpoints.Checkpoints.{Checkpoints}
 use Rattle.bar_seeds.specs.Checkpoints.{kept_round, kept_value, parties_in}
 use Rattle.bar_session.specs.SessionData.{SessionData}
 
+-- the anchor of a peer
 abbrev pub anchor_in : SessionData → ℕ → List ℕ
 anchor_in s peer = unwrap_or (slice_get s.anchors (peer - 1)) []
 

@@ -10,5 +10,5 @@ mod store;
 mod windows;
 
 pub use added::Added;
-pub use sizes::{HEADER_LEN, largest_evict, largest_manifest, most_evidence};
+pub use sizes::{largest_evict, largest_manifest, most_evidence};
 pub use store::Store;

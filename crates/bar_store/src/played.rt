@@ -6,11 +6,11 @@ ghost use Rattle.bar_rules.specs.Peer.Ticks.{content_of};
 ghost use Rattle.bar_store.specs.Held.{block_in};
 
 use crate::store::Store;
-use bar_window::UpdateId;
+use bar_window::{BLOCK_SIZE, UpdateId};
 use bar_wire::LARGEST_CONTENT;
 
 /// The content of a block, where its length is one that a content can have.
-fn content_of(block: &[u8; 1024]) -> Option<&[u8]>
+fn content_of(block: &[u8; BLOCK_SIZE]) -> Option<&[u8]>
     ensures { option_to_list (option_copied result) ≡ content_of block.now }
 {
     let len = 256 * usize::from(block[0]) + usize::from(block[1]);

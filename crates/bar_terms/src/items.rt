@@ -1,4 +1,4 @@
-use bar_window::UpdateId;
+use bar_window::{MOST_ITEMS, UpdateId};
 
 /// One item of a briefcase: the block of an update, or a piece of junk by its number in its exchange.
 #[derive(Clone, Copy, Debug, PartialEq, Eq)]
@@ -10,6 +10,6 @@ pub enum Item {
 /// What a side promises: the first `len` of `items`, updates in order and then junk from 0 on. The other items mean nothing.
 #[derive(Clone, Copy, Debug, PartialEq, Eq)]
 pub struct Promise {
-    pub items: [Item; 16],
+    pub items: [Item; MOST_ITEMS],
     pub len: u8,
 }

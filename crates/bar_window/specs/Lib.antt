@@ -1,3 +1,4 @@
+pub mod Limits
 pub mod Updates
 pub mod Exchange
 pub mod Terms

@@ -1,9 +1,14 @@
 -- The limits of every datagram, and the numbers that a session says of its own.
 use Rattle.std.specs.Prelude.{◌≡◌, ℕ, ◌+◌, ◌*◌, ◌<◌, ◌≤◌, List, length}
+use Rattle.bar_window.specs.Limits.{most_life}
 
 -- the most bytes of a datagram
 abbrev pub largest_datagram : ℕ
 largest_datagram = 65507
+
+-- how many bytes stand before the fields of a datagram
+abbrev pub header_len : ℕ
+header_len = 16
 
 -- the receiver that means all peers
 abbrev pub everyone : ℕ
@@ -25,8 +30,8 @@ exchanges_a_round = 2 * (1 + seats_a_round)
 abbrev pub leaves_a_round : ℕ
 leaves_a_round = 3 * exchanges_a_round
 
--- An id has eight bytes, and an update lives for 1 to 16 rounds.
+-- An id has eight bytes, and an update lives for at least a round.
 pub record IsShape (id : List ℕ) (life : ℕ) : Type 0 where
   pub id_long : length id ≡ 8
   pub alive : 0 < life
-  pub few : life ≤ 16
+  pub few : life ≤ most_life

@@ -5,6 +5,7 @@ use Rattle.std.specs.Option.{option_and_then}
 use Rattle.std.specs.Simd.{first_chunks}
 use Rattle.std.specs.Int.{w16, w32, w64, from_be_bytes}
 use Rattle.bar_bytes.specs.Bytes.{first_u16}
+use Rattle.bar_window.specs.Limits.{block_size, junk_size}
 use Rattle.bar_window.specs.declared.update.UpdateId.{UpdateId}
 use Rattle.bar_window.specs.declared.exchange.XKind.{XKind}
 use Rattle.bar_window.specs.declared.exchange.XKind.TheVariants.{Balanced, Push}
@@ -14,6 +15,7 @@ use Rattle.bar_window.specs.Places.{is_set}
 use Rattle.bar_window.specs.Updates.{first_round, window_of}
 use Rattle.bar_window.specs.Terms.{Terms}
 use Rattle.bar_window.specs.Terms as forms
+use Rattle.bar_wire.specs.Limits.{header_len}
 use Rattle.bar_wire.specs.declared.shape.Shape.{Shape}
 use Rattle.bar_wire.specs.declared.kind.Kind.{Kind}
 use Rattle.bar_wire.specs.declared.kind.Kind.TheVariants as kinds
@@ -40,13 +42,13 @@ terms_len s (suc code) = 4 * window_len s + 1
 -- how many bytes each field of a kind has, by the counts that stand among the bytes after the header
 abbrev pub widths : Shape → Kind → List ℕ → List ℕ
 widths s kinds.Manifest b = 4 ∷ 1 ∷ 32 * slice_index b 4 ∷ []
-widths s kinds.Block b = 4 ∷ 1 ∷ 1024 ∷ []
+widths s kinds.Block b = 4 ∷ 1 ∷ block_size ∷ []
 widths s kinds.Request b = 4 ∷ 32 ∷ 32 ∷ []
 widths s kinds.Response b = 4 ∷ window_len s ∷ []
 widths s kinds.Divulge b = 4 ∷ 32 ∷ window_len s ∷ []
 widths s kinds.Query b = 4 ∷ 32 ∷ window_len s ∷ window_len s ∷ []
 widths s kinds.Reply b = 4 ∷ window_len s ∷ window_len s ∷ 1 ∷ []
-widths s kinds.Case b = 4 ∷ 1 ∷ 1 ∷ 1 ∷ 1 ∷ terms_len s (slice_index b 4) ∷ (1024 * slice_index b 6 + 1280 * slice_index b 7) ∷ []
+widths s kinds.Case b = 4 ∷ 1 ∷ 1 ∷ 1 ∷ 1 ∷ terms_len s (slice_index b 4) ∷ (block_size * slice_index b 6 + junk_size * slice_index b 7) ∷ []
 widths s kinds.KeyReq b = 4 ∷ 1 ∷ 1 ∷ []
 widths s kinds.Key b = 4 ∷ 1 ∷ 1 ∷ 32 ∷ []
 widths s kinds.Evidence b = 1 ∷ entries_len (slice_index b 0) (drop 1 b) ∷ []
@@ -140,10 +142,10 @@ abbrev pub datagram_at : Shape → Kind → List ℕ → Datagram
 datagram_at s kind bytes = record {
   message = record {
     from = from_be_bytes w16 (slice_range bytes 12 14);
-    to = from_be_bytes w16 (slice_range bytes 14 16);
-    body = body_at s kind (drop 16 bytes);
+    to = from_be_bytes w16 (slice_range bytes 14 header_len);
+    body = body_at s kind (drop header_len bytes);
   };
-  signature = drop (16 + fields_len s kind (drop 16 bytes)) bytes;
+  signature = drop (header_len + fields_len s kind (drop header_len bytes)) bytes;
 }
 
 -- The datagram that the bytes spell: the one that stands at the places of its kind, has a spelling and spells these bytes again.

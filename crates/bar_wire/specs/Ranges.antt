@@ -1,6 +1,7 @@
 -- What has a spelling, as tests.
 use Rattle.std.specs.Prelude.{ℕ, ◌+◌, ◌*◌, ◌^◌, Bool, true, not, ◌&&◌, ◌==◌, List, [], ◌∷◌, length, nat_lt, nat_le}
 use Rattle.std.specs.List.{list_all}
+use Rattle.bar_window.specs.Limits.{block_size, junk_size, most_items}
 use Rattle.bar_window.specs.declared.update.UpdateId.{UpdateId}
 use Rattle.bar_window.specs.declared.exchange.XKind.{XKind}
 use Rattle.bar_window.specs.declared.exchange.XKind.TheVariants.{Balanced, Push}
@@ -34,13 +35,13 @@ has_term_form s r kind (forms.Push young aged want give junk) =
 
 abbrev pub has_form : Shape → Body → Bool
 has_form s (Manifest r digests) = is_u32 r && list_all (λ d. length d == 32) digests
-has_form s (Block u block) = is_u32 u.round && (length block == 1024)
+has_form s (Block u block) = is_u32 u.round && (length block == block_size)
 has_form s (Request r seed commitment) = is_u32 r && (length seed == 32) && (length commitment == 32)
 has_form s (Response r hb) = is_u32 r && is_window_set s r hb
 has_form s (Divulge r nonce ha) = is_u32 r && (length nonce == 32) && is_window_set s r ha
 has_form s (Query r seed young aged) = is_u32 r && (length seed == 32) && is_window_set s r young && is_window_set s r aged
 has_form s (Reply r want give junk) = is_u32 r && is_window_set s r want && is_window_set s r give
-has_form s (Case c) = is_u32 c.round && has_term_form s c.round c.kind c.terms && (length c.cipher == 1024 * c.updates + 1280 * c.junk)
+has_form s (Case c) = is_u32 c.round && has_term_form s c.round c.kind c.terms && (length c.cipher == block_size * c.updates + junk_size * c.junk)
 has_form s (KeyReq r kind role) = is_u32 r
 has_form s (Key k) = is_u32 k.round && (length k.key == 32)
 has_form s (Evidence datagrams) = list_all (λ d. is_u16 (length d)) datagrams
@@ -69,7 +70,7 @@ are_parties_in_range peers parties = nat_lt 0 (length parties) && nat_le (length
 
 abbrev pub has_few_junk : Terms → Bool
 has_few_junk (forms.Balanced nonce ha hb) = true
-has_few_junk (forms.Push young aged want give junk) = nat_le junk 16
+has_few_junk (forms.Push young aged want give junk) = nat_le junk most_items
 
 abbrev pub is_in_range : Shape → Body → Bool
 is_in_range s (Manifest r digests) = is_round s r && nat_le (length digests) s.per_round
@@ -78,8 +79,8 @@ is_in_range s (Request r seed commitment) = is_round s r
 is_in_range s (Response r hb) = is_round s r
 is_in_range s (Divulge r nonce ha) = is_round s r
 is_in_range s (Query r seed young aged) = is_round s r
-is_in_range s (Reply r want give junk) = is_round s r && nat_le junk 16
-is_in_range s (Case c) = is_round s c.round && nat_lt 0 (c.updates + c.junk) && nat_le (c.updates + c.junk) 16 && has_few_junk c.terms
+is_in_range s (Reply r want give junk) = is_round s r && nat_le junk most_items
+is_in_range s (Case c) = is_round s c.round && nat_lt 0 (c.updates + c.junk) && nat_le (c.updates + c.junk) most_items && has_few_junk c.terms
 is_in_range s (KeyReq r kind role) = is_round s r
 is_in_range s (Key k) = is_round s k.round
 is_in_range s (Evidence datagrams) = are_datagrams_in_range datagrams

@@ -5,6 +5,7 @@ ghost use Rattle.bar_wire.specs.Headers.{IsHeader, IsCutAt};
 use crate::fault::WireFault;
 use crate::kind::Kind;
 use crate::lengths::{has_length, signature_len};
+use crate::limits::HEADER_LEN;
 use crate::shape::Shape;
 use bar_bytes::{split_array, split_u16};
 
@@ -26,7 +27,7 @@ fn is_id(id: &[u8; 8], shape: &Shape) -> bool
 fn read_header<'a>(bytes: &'a [u8], shape: &Shape) -> Result<Header<'a>, WireFault>
     ensures { MatchResult result (IsHeader shape.now bytes.now) (IsFirstFault shape.now bytes.now) }
 {
-    if bytes.len() < 16 {
+    if bytes.len() < HEADER_LEN {
         return Err(WireFault::Short);
     }
     let [first, second, version, code, rest @ ..] = bytes else {

@@ -33,7 +33,8 @@ pub use laws::{
     the_datagram_is_spelled, the_test_tells_a_datagram,
 };
 pub use limits::{
-    BROADCASTER, EVERYONE, LARGEST_CONTENT, LARGEST_DATAGRAM, LEAVES_A_ROUND, SEATS_A_ROUND,
+    BROADCASTER, EVERYONE, HEADER_LEN, LARGEST_CONTENT, LARGEST_DATAGRAM, LEAVES_A_ROUND,
+    SEATS_A_ROUND,
 };
 pub use place::{Place, exchange_by, place_of};
 pub use reading::decode;

@@ -1,6 +1,9 @@
 /// The most bytes of a datagram.
 pub const LARGEST_DATAGRAM: u16 = 65_507;
 
+/// How many bytes stand before the fields of a datagram.
+pub const HEADER_LEN: usize = 16;
+
 /// The broadcaster's number.
 pub const BROADCASTER: u16 = 0;
 

@@ -9,14 +9,14 @@ use crate::limits::EVERYONE;
 use crate::shape::Shape;
 use crate::view::Body;
 use crate::windows::is_round;
-use bar_window::Terms;
+use bar_window::{MOST_ITEMS, Terms};
 
 fn has_few_junk(terms: &Terms) -> bool
     ensures { IsTrue result ↔ HasFewJunk (plain_terms terms.now) }
 {
     match terms {
         Terms::Balanced { .. } => true,
-        Terms::Push { junk, .. } => *junk <= 16,
+        Terms::Push { junk, .. } => usize::from(*junk) <= MOST_ITEMS,
     }
 }
 
@@ -33,7 +33,8 @@ pub(crate) fn is_in_range(body: &Body<'_>, shape: &Shape) -> bool
         Body::Response { round, .. } => is_round(*round, shape),
         Body::Divulge { round, .. } => is_round(*round, shape),
         Body::Query { round, .. } => is_round(*round, shape),
-        Body::Reply { round, junk, .. } => is_round(*round, shape) && *junk <= 16,
+        Body::Reply { round, junk, .. } => is_round(*round, shape)
+            && usize::from(*junk) <= MOST_ITEMS,
         Body::Case {
             round,
             updates,
@@ -41,8 +42,8 @@ pub(crate) fn is_in_range(body: &Body<'_>, shape: &Shape) -> bool
             terms,
             ..
         } => {
-            let items = u16::from(*updates) + u16::from(*junk);
-            is_round(*round, shape) && 0 < items && items <= 16 && has_few_junk(terms)
+            let items = usize::from(*updates) + usize::from(*junk);
+            is_round(*round, shape) && 0 < items && items <= MOST_ITEMS && has_few_junk(terms)
         }
         Body::KeyReq { round, .. } => is_round(*round, shape),
         Body::Key { round, .. } => is_round(*round, shape),

@@ -1,5 +1,6 @@
 -- A setup that is made from its parties' secrets: its session holds the keys and anchors that come from them.
 use Rattle.std.specs.Prelude.{◌≡◌, ℕ, ◌+◌, ◌*◌, ◌^◌, ◌≤◌, List, [], ◌∷◌, map}
+use Rattle.bar_window.specs.Limits.{most_items}
 use Rattle.bar_lms.specs.declared.params.Params.{Params}
 use Rattle.bar_lms.specs.Params.{levels, signature_len}
 use Rattle.bar_lms.specs.Secret.{Secret, public_key}
@@ -49,7 +50,7 @@ pub record AreNumbers (shape : Shape) (n : Numbers) : Type 0 where
   pub shape_is : IsSessionShape shape
   pub signatures : shape.sig_len ≡ signature_len n.params
   pub cap_low : 1 ≤ n.cap
-  pub cap_high : n.cap ≤ 16
+  pub cap_high : n.cap ≤ most_items
   pub fanout_low : 1 ≤ n.fanout
   pub fanout_high : n.fanout ≤ shape.peers
   pub leaves : leaves_a_round * shape.rounds ≤ 2 ^ levels n.params.height

@@ -1,26 +1,23 @@
 -- How many bytes the datagrams of each kind have at the most.
 use Rattle.std.specs.Prelude.{ℕ, ◌+◌, ◌*◌, max}
+use Rattle.bar_window.specs.Limits.{block_size, largest_cipher}
 use Rattle.bar_wire.specs.Grammar.{signature_len}
-use Rattle.bar_wire.specs.Limits.{largest_datagram}
+use Rattle.bar_wire.specs.Limits.{header_len, largest_datagram}
 use Rattle.bar_wire.specs.Places.{window_len}
 use Rattle.bar_wire.specs.declared.kind.Kind.{Kind}
 use Rattle.bar_wire.specs.declared.kind.Kind.TheVariants as kinds
 use Rattle.bar_wire.specs.declared.shape.Shape.{Shape}
 
--- the bytes of the header
-abbrev pub header_len : ℕ
-header_len = 16
-
--- the most bytes of the fields after the header: a CASE has sixteen items at the most, each of junk
+-- the most bytes of the fields after the header: the largest CASE has junk alone
 abbrev pub most_fields : Shape → Kind → ℕ
 most_fields s kinds.Manifest = 5 + 32 * s.per_round
-most_fields s kinds.Block = 1029
+most_fields s kinds.Block = 5 + block_size
 most_fields s kinds.Request = 68
 most_fields s kinds.Response = 4 + window_len s
 most_fields s kinds.Divulge = 36 + window_len s
 most_fields s kinds.Query = 36 + 2 * window_len s
 most_fields s kinds.Reply = 5 + 2 * window_len s
-most_fields s kinds.Case = 8 + max (32 + 2 * window_len s) (4 * window_len s + 1) + 16 * 1280
+most_fields s kinds.Case = 8 + max (32 + 2 * window_len s) (4 * window_len s + 1) + largest_cipher
 most_fields s kinds.KeyReq = 6
 most_fields s kinds.Key = 38
 most_fields s kinds.Evidence = 1 + 2 * (2 + largest_datagram)
