@@ -6,6 +6,7 @@ import posixpath
 import re
 
 import barblocks
+import barlists
 import barpages
 from barcommands import Commands
 from bardocuments import Document, Fault, Mention
@@ -24,6 +25,8 @@ class Check:
     # what no source has, and sentences with words that else go stale, each with the reason why it stands in a document
     excused: dict[str, str] = dataclasses.field(default_factory=dict)
     allowed: dict[str, str] = dataclasses.field(default_factory=dict)
+    # what crates.txt lists for a crate that doesn't name it, as "crate: listed", each with the reason
+    needed: dict[str, str] = dataclasses.field(default_factory=dict)
     # whether blocks that need the built program are run
     with_program: bool = False
     # what tells that a block is run
@@ -52,6 +55,7 @@ class Check:
         yield from barpages.faults_of_readme(self.pages["README.md"], self.sources)
         if "docs/FORMATS.md" in self.pages:
             yield from barpages.faults_of_formats(self.pages["docs/FORMATS.md"], self.sources)
+        yield from barlists.faults_of_lists(self.sources, self.needed)
         yield from self.faults_of_exceptions()
 
     def faults_of_names(self, document):

@@ -299,8 +299,15 @@ def crates_in(lines):
 
 
 def crates_below(lines, crate):
-    """What a crate stands on, by the lines of crates.txt."""
-    return crates_in(lines)[crate]
+    """What a crate stands on, by the lines of crates.txt: what it names itself, and then what only crates below it name."""
+    crates, below = crates_in(lines), []
+    left = [*crates[crate]]
+    while left:
+        name = left.pop(0)
+        if name not in below:
+            below.append(name)
+            left += crates.get(name, ())
+    return below
 
 
 def needed_for(lines, names):

@@ -8,6 +8,7 @@ import os
 import pathlib
 import re
 
+from barlists import named_in
 from barnames import NAMES, Definition, Kind, definitions_of, patterns_of, script_texts_of, texts_of
 
 UNREAD = {".git", "__pycache__"}
@@ -33,6 +34,8 @@ class Sources:
         # each crate with itself and all that it stands on, and the crates of the toolchain
         self.crates: dict[str, frozenset[str]] = {}
         self.ported: set[str] = set()
+        # the crates that each crate names, among other names
+        self.named: dict[str, set[str]] = collections.defaultdict(set)
         self.definitions: dict[str, list[Definition]] = collections.defaultdict(list)
         # what each crate hands on of the crates below it
         self.published: dict[str, set[str]] = collections.defaultdict(set)
@@ -105,6 +108,7 @@ class Sources:
             self.script_texts.update(each for each in script_texts_of(text) if is_telling(each))
 
     def read_source(self, text, ending, crate, owners):
+        self.named[crate] |= named_in(text, ending)
         for each in definitions_of(text, ending, crate, owners):
             self.definitions[each.name].append(each)
         if "proofs" not in owners:

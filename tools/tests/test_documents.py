@@ -74,6 +74,7 @@ The law `doubles_are_even` is of bar_small's `double`. The record `Even` has `ev
 """
 
 PAIRS = """//! Pairs.
+use sha2::Sha256;
 use std::fmt;
 
 pub const LIMIT: u8 = 9;
@@ -154,9 +155,9 @@ FILES = {
     "crates/bar_large/README.md": LARGE,
     "crates/bar_large/src/laws.rt": "pub fn doubles_are_even()\n    ensures even { IsEven }\n{}\n",
     "crates/bar_large/specs/Evens.antt": "pub record Even (n : ℕ) : Type 0 where\n  pub half : ℕ\n",
-    "crates/bar_large/proofs/Evens.antt": "even-lemma : (n : ℕ) → Even (n + n)\neven-lemma n = refl\n",
+    "crates/bar_large/proofs/Evens.antt": "use Rattle.bar_small.specs.Doubling.{Doubled}\neven-lemma : (n : ℕ) → Even (n + n)\neven-lemma n = refl\n",
     "crates/bar/README.md": "# bar\n\nIt has `main`.\n",
-    "crates/bar/src/main.rt": "fn main() {}\n",
+    "crates/bar/src/main.rt": "fn main() {\n    bar_large::doubles_are_even();\n}\n",
     "crates/bar/src/commands.rt": COMMANDS,
     "crates/bar/specs/Status.antt": STATUS,
 }
@@ -285,6 +286,21 @@ class Names(Repository):
         changes = {"README.md": f"{README}\nIt is `no_name`.\n"}
         self.assertEqual(self.check(changes, excused={"no_name": "a reason"})[1], [])
         self.assert_found(self.check(excused={"no_name": "a reason"})[1], "no document has `no_name` any more")
+
+
+class Lists(Repository):
+    def test_a_crate_that_is_named_nowhere(self):
+        self.assert_found(self.changed("crates.txt", "bar_large:", "bar_large: sha2"), "crates.txt:5: `bar_large` lists `sha2`")
+
+    def test_a_crate_that_is_named_in_a_comment(self):
+        main = "fn main() {\n    // by bar_large::doubles_are_even\n}\n"
+        self.assert_found(self.check({"crates/bar/src/main.rt": main})[1], "`bar` lists `bar_large`")
+
+    def test_what_the_prover_needs(self):
+        needed = {"bar_large: sha2": "a reason"}
+        longer = FILES["crates.txt"].replace("bar_large:", "bar_large: sha2")
+        self.assertEqual(self.check({"crates.txt": longer}, needed=needed)[1], [])
+        self.assert_found(self.check(needed=needed)[1], "no `bar_large: sha2`")
 
 
 class Commands(Repository):

@@ -212,6 +212,7 @@ mkdir -p crates/bar/out; echo built > crates/bar/out/bar; chmod 755 crates/bar/o
         lines = "# ground\nbar_bytes:\nbar_lms: bar_bytes bar_lanes sha2\nbar: bar_lms\n"
         self.assertEqual(barprogram.crates_below(lines, "bar_lms"), ["bar_bytes", "bar_lanes", "sha2"])
         self.assertEqual(barprogram.crates_below(lines, "bar_bytes"), [])
+        self.assertEqual(barprogram.crates_below(lines, "bar"), ["bar_lms", "bar_bytes", "bar_lanes", "sha2"])
         self.assertEqual([*barprogram.needed_for(lines, ["bar_lms"])], ["bar_bytes", "bar_lms"])
 
 

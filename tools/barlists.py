@@ -1,0 +1,28 @@
+"""Whether crates.txt lists for each crate what its sources name, and nothing else."""
+import re
+
+from bardocuments import Fault
+
+# what a line says behind its code, and a crate at the front of a path: of definitions, or of code
+COMMENT = {".rt": re.compile(r"//.*"), ".antt": re.compile(r"--.*")}
+NAMED = re.compile(r"\bRattle\.(\w+)\.|(?<![\w:])(\w+)::")
+
+
+def named_in(text, ending):
+    """The crates that a source names, among other names that stand at the front of a path."""
+    return {first or second for first, second in NAMED.findall(COMMENT[ending].sub("", text))}
+
+
+def faults_of_lists(sources, needed):
+    """A crate in a list is named in the crate whose list it is, or needed there by the prover; and it is excused only where it isn't named."""
+    left = set(needed)
+    for number, line in enumerate(sources.lines_of("crates.txt"), 1):
+        crate, _, below = line.partition(":")
+        named = sources.named.get(crate, set())
+        for name in below.split() if crate in sources.crates else ():
+            excuse = f"{crate}: {name}"
+            if name not in named and excuse not in needed:
+                yield Fault("crates.txt", number, f"`{crate}` lists `{name}`, which it names nowhere")
+            elif name not in named:
+                left.discard(excuse)
+    yield from (Fault("tools/check-documents", 1, f"crates.txt has no `{excuse}` that needs an excuse any more") for excuse in sorted(left))
