@@ -4,7 +4,7 @@ ghost use Rattle.bar_wire.specs.Places.{fields_len};
 ghost use Rattle.bar_wire.specs.Views.{plain, AreWhole};
 ghost use Rattle.bar_wire.specs.Reading.{HasBytes, Reads, ReadsForm, IsReadButRanges};
 
-use crate::exchange::kind_from;
+use crate::exchange::split_side;
 use crate::kind::Kind;
 use crate::ranges::is_in_range;
 use crate::shape::Shape;
@@ -117,17 +117,10 @@ fn case<'a>(bytes: &'a [u8], shape: &Shape) -> Option<Body<'a>>
     ensures { ReadsForm shape.now kinds.Case bytes.now result }
 {
     let (round, rest) = split_u32(bytes);
-    let (xkind, rest) = split_u8(rest);
-    let (role, rest) = split_u8(rest);
+    let (xkind, role, rest) = split_side(rest)?;
     let (updates, rest) = split_u8(rest);
     let (junk, rest) = split_u8(rest);
-    if xkind > 1 || role > 1 {
-        return None;
-    }
-    let kind = kind_from(xkind);
-    let Some((terms, cipher)) = read_terms(kind, rest, round, shape) else {
-        return None;
-    };
+    let (terms, cipher) = read_terms(xkind, rest, round, shape)?;
     Some(Body::Case {
         round,
         xkind,
@@ -144,11 +137,7 @@ fn key_request<'a>(bytes: &'a [u8], shape: &Shape) -> Option<Body<'a>>
     ensures { ReadsForm shape.now kinds.KeyReq bytes.now result }
 {
     let (round, rest) = split_u32(bytes);
-    let (xkind, rest) = split_u8(rest);
-    let (role, _) = split_u8(rest);
-    if xkind > 1 || role > 1 {
-        return None;
-    }
+    let (xkind, role, _) = split_side(rest)?;
     Some(Body::KeyReq { round, xkind, role })
 }
 
@@ -157,12 +146,8 @@ fn key<'a>(bytes: &'a [u8], shape: &Shape) -> Option<Body<'a>>
     ensures { ReadsForm shape.now kinds.Key bytes.now result }
 {
     let (round, rest) = split_u32(bytes);
-    let (xkind, rest) = split_u8(rest);
-    let (role, rest) = split_u8(rest);
+    let (xkind, role, rest) = split_side(rest)?;
     let (key, _) = split_array(rest);
-    if xkind > 1 || role > 1 {
-        return None;
-    }
     Some(Body::Key {
         round,
         xkind,
