@@ -1,5 +1,5 @@
 -- What has a spelling, decided rule by rule.
-use Rattle.std.specs.Prelude.{ℕ, ◌≡◌, ◌+◌, ◌*◌, ◌<◌, ◌^◌, Bool, List, [], ◌∷◌, length}
+use Rattle.std.specs.Prelude.{ℕ, ◌≡◌, ◌+◌, ◌*◌, ◌^◌, Bool, List, [], ◌∷◌, length}
 use Rattle.std.proofs.Common.{ap}
 use Rattle.std.proofs.lemmas.Bool.{eq-eqb}
 use Rattle.bar_window.specs.declared.update.UpdateId.{UpdateId}

@@ -60,9 +60,7 @@ fn response<'a>(bytes: &'a [u8], shape: &Shape) -> Option<Body<'a>>
     ensures { ReadsForm shape.now kinds.Response bytes.now result }
 {
     let (round, rest) = split_u32(bytes);
-    let Some((hb, _)) = read_window(rest, round, shape) else {
-        return None;
-    };
+    let (hb, _) = read_window(rest, round, shape)?;
     Some(Body::Response { round, hb })
 }
 
@@ -72,9 +70,7 @@ fn divulge<'a>(bytes: &'a [u8], shape: &Shape) -> Option<Body<'a>>
 {
     let (round, rest) = split_u32(bytes);
     let (nonce, rest) = split_array(rest);
-    let Some((ha, _)) = read_window(rest, round, shape) else {
-        return None;
-    };
+    let (ha, _) = read_window(rest, round, shape)?;
     Some(Body::Divulge { round, nonce, ha })
 }
 
@@ -84,9 +80,7 @@ fn query<'a>(bytes: &'a [u8], shape: &Shape) -> Option<Body<'a>>
 {
     let (round, rest) = split_u32(bytes);
     let (seed, rest) = split_array(rest);
-    let Some((young, aged, _)) = read_windows(rest, round, shape) else {
-        return None;
-    };
+    let (young, aged, _) = read_windows(rest, round, shape)?;
     Some(Body::Query {
         round,
         seed,
@@ -100,9 +94,7 @@ fn reply<'a>(bytes: &'a [u8], shape: &Shape) -> Option<Body<'a>>
     ensures { ReadsForm shape.now kinds.Reply bytes.now result }
 {
     let (round, rest) = split_u32(bytes);
-    let Some((want, give, rest)) = read_windows(rest, round, shape) else {
-        return None;
-    };
+    let (want, give, rest) = read_windows(rest, round, shape)?;
     let (junk, _) = split_u8(rest);
     Some(Body::Reply {
         round,

@@ -1,4 +1,4 @@
-use Rattle.std.proofs.Common.{◌∷◌, ◌∙◌, List, ℕ, ap}
+use Rattle.std.proofs.Common.{◌∷◌, ◌∙◌, ℕ, ap}
 use Rattle.bar_wire.proofs.Codes.{no_kind_at, no_role_at}
 use Rattle.bar_wire.proofs.exchange.split_side.Goals as goal
 
