@@ -1,7 +1,9 @@
 -- Which bodies stand at a place of a balanced exchange.
 use Rattle.std.proofs.Common.{◌≡◌, ◌∙◌, ℕ, List, refl, sym}
 use Rattle.std.specs.Borrow.{Bor}
+use Rattle.bar_window.specs.declared.exchange.Role.{Role}
 use Rattle.bar_window.specs.declared.exchange.Role.TheVariants.{Initiator, Responder}
+use Rattle.bar_window.specs.declared.exchange.XKind.{XKind}
 use Rattle.bar_window.specs.declared.exchange.XKind.TheVariants.{Balanced, Push}
 use Rattle.bar_window.specs.declared.terms.Terms.{Terms}
 use Rattle.bar_window.specs.declared.window.Window.{Window}
@@ -15,8 +17,9 @@ use Rattle.bar_exchange.proofs.Placed.{BodyStands, kind_at}
 pub none_balanced : (from to : ℕ) (b : RawBody) (p : Place) → BodyStands from to (plain b) p → p.x.kind ≡ Balanced
     → ((r : ℕ) (seed commitment : Bor (List ℕ)) → b ≡ bodies.Request r seed commitment → ⊥) → ((r : ℕ) (hb : Window) → b ≡ bodies.Response r hb → ⊥)
     → ((r : ℕ) (nonce : Bor (List ℕ)) (ha : Window) → b ≡ bodies.Divulge r nonce ha → ⊥)
-    → ((r xkind role updates junk : ℕ) (terms : Terms) (cipher : Bor (List ℕ)) → b ≡ bodies.Case r xkind role updates junk terms cipher → ⊥)
-    → ((r xkind role : ℕ) → b ≡ bodies.KeyReq r xkind role → ⊥) → ((r xkind role : ℕ) (key : Bor (List ℕ)) → b ≡ bodies.Key r xkind role key → ⊥) → ⊥
+    → ((r : ℕ) (xkind : XKind) (role : Role) (updates junk : ℕ) (terms : Terms) (cipher : Bor (List ℕ)) → b ≡ bodies.Case r xkind role updates junk terms cipher → ⊥)
+    → ((r : ℕ) (xkind : XKind) (role : Role) → b ≡ bodies.KeyReq r xkind role → ⊥)
+    → ((r : ℕ) (xkind : XKind) (role : Role) (key : Bor (List ℕ)) → b ≡ bodies.Key r xkind role key → ⊥) → ⊥
 none_balanced from to (bodies.Request r seed commitment) p at is q a d c n y = q r seed commitment refl
 none_balanced from to (bodies.Response r hb) p at is q a d c n y = a r hb refl
 none_balanced from to (bodies.Divulge r nonce ha) p at is q a d c n y = d r nonce ha refl

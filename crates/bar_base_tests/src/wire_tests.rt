@@ -1,3 +1,4 @@
+use bar_window::{Role, XKind};
 use bar_wire::{Body, Input, Shape, WireFault, decode, encode, split_evidence};
 use std::alloc::{AllocError, Global};
 use std::test::Fail;
@@ -208,8 +209,8 @@ fn a_key_request_is_read_and_written(rt: HostRuntime) -> Result<(), Fail> {
             &view.body,
             Body::KeyReq {
                 round: 5,
-                xkind: 0,
-                role: 0
+                xkind: XKind::Balanced,
+                role: Role::Initiator
             }
         )
     );

@@ -103,8 +103,8 @@ pub fn write_case(sources: &Sources<'_>, x: Exchange, out: &mut [u8]) -> Option<
     );
     let body = Body::Case {
         round: x.round,
-        xkind: x.kind.code(),
-        role: role.code(),
+        xkind: x.kind,
+        role,
         updates: update_count(&terms, role, cap),
         junk: junk_count(&terms, role),
         terms,

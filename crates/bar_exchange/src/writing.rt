@@ -44,8 +44,8 @@ pub fn write_key_request(sources: &Sources<'_>, x: Exchange, out: &mut [u8]) -> 
     let role = side(sources.ledger, x);
     let body = Body::KeyReq {
         round: x.round,
-        xkind: x.kind.code(),
-        role: role.code(),
+        xkind: x.kind,
+        role,
     };
     write_message(sources, x, &body, out)
 }
@@ -61,8 +61,8 @@ pub fn write_key(sources: &Sources<'_>, x: Exchange, out: &mut [u8]) -> usize
     let key = sources.secrets.key(x, role);
     let body = Body::Key {
         round: x.round,
-        xkind: x.kind.code(),
-        role: role.code(),
+        xkind: x.kind,
+        role,
         key: &key,
     };
     write_message(sources, x, &body, out)

@@ -5,7 +5,7 @@ ghost use Rattle.bar_wire.specs.Views.{plain};
 ghost use Rattle.bar_judge.specs.Parts.{plain_key};
 
 use bar_window::{Role, XKind};
-use bar_wire::{Body, View, kind_from, role_from};
+use bar_wire::{Body, View};
 
 /// What a KEY says: the round, kind and side of its exchange, and the key.
 #[derive(Clone, Copy, Debug)]
@@ -28,8 +28,8 @@ pub(crate) fn key_of<'a>(view: &View<'a>) -> Option<GivenKey<'a>>
             key,
         } => Some(GivenKey {
             round,
-            kind: kind_from(xkind),
-            role: role_from(role),
+            kind: xkind,
+            role,
             key,
         }),
         _ => None,

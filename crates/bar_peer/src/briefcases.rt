@@ -29,7 +29,7 @@ use bar_exchange::{heard_from, is_within};
 use bar_store::Store;
 use bar_terms::{Item, Promise, can_promise, junk_count, promise, update_count};
 use bar_window::{BLOCK_SIZE, Exchange, MOST_ITEMS};
-use bar_wire::{Body, Kind, Place, View, decode, role_from};
+use bar_wire::{Body, Kind, Place, View, decode};
 
 /// Holds the block of an item, where it is that of an update of the next round at most that is alive.
 fn hold_item(store: &mut Store, now: u32, item: &Item, block: &[u8; BLOCK_SIZE])
@@ -97,7 +97,6 @@ impl Memory {
         else {
             return None;
         };
-        let role = role_from(role);
         let session = &self.who.session;
         let cap = session.cap();
         if !can_promise(&terms, cap) {

@@ -10,11 +10,10 @@ use Rattle.std.proofs.lemmas.Slice.Eq.{bytes_eq-Decides}
 use Rattle.bar_wire.specs.Evidence.{IsEvidence, datagrams_of, evidence_bytes}
 use Rattle.bar_wire.specs.Grammar.{entry}
 use Rattle.bar_wire.specs.Places.{entries}
-use Rattle.bar_wire.specs.Ranges.{are_datagrams_in_range}
+use Rattle.bar_wire.specs.Ranges.{are_datagrams_in_range, datagrams_decided}
 use Rattle.bar_wire.specs.declared.evidence.EvidenceView.{EvidenceView}
 use Rattle.bar_wire.specs.declared.fault.WireFault.{WireFault}
 use Rattle.bar_wire.proofs.EvidenceReads.{lengths_fit}
-use Rattle.bar_wire.proofs.RangeTests.{datagrams_tell}
 use Rattle.bar_wire.proofs.ReadBack.{entries_back}
 use Rattle.bar_proof.specs.ProofFile.{datagrams_at, evidence_of}
 
@@ -29,7 +28,7 @@ unfolding evidence_of
 spelled bytes ds of =
     ap (λ (x : List (List ℕ)). then_some (are_datagrams_in_range x && bytes_eq (evidence_bytes x) bytes) x) (stand-there bytes ds of)
     ∙ ap (λ (b : Bool). then_some b ds)
-    (and_from (are_datagrams_in_range ds) (bytes_eq (evidence_bytes ds) bytes) ((datagrams_tell ds).1 of.range)
+    (and_from (are_datagrams_in_range ds) (bytes_eq (evidence_bytes ds) bytes) ((datagrams_decided ds).tells.1 of.range)
     ((bytes_eq-Decides (evidence_bytes ds) bytes).1 (sym of.is)))
 
 pub is-spelled : (bytes : List ℕ) (ds : List (List ℕ)) → evidence_of bytes ≡ Some ds → IsEvidence bytes ds
@@ -44,7 +43,7 @@ is-spelled bytes ds h = by_test (are_datagrams_in_range (datagrams_at bytes) && 
         let t = and_parts (are_datagrams_in_range (datagrams_at bytes)) (bytes_eq (evidence_bytes (datagrams_at bytes)) bytes) e in
         subst (λ (x : List (List ℕ)). IsEvidence bytes x) same
         (record {
-          range = (datagrams_tell (datagrams_at bytes)).0 t.0;
+          range = (datagrams_decided (datagrams_at bytes)).tells.0 t.0;
           is = sym ((bytes_eq-Decides (evidence_bytes (datagrams_at bytes)) bytes).0 t.1);
         })
 

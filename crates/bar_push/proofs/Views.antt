@@ -1,7 +1,9 @@
 -- Which bodies stand at a place of a push.
 use Rattle.std.proofs.Common.{◌≡◌, ◌∙◌, ℕ, List, refl, sym}
 use Rattle.std.specs.Borrow.{Bor}
+use Rattle.bar_window.specs.declared.exchange.Role.{Role}
 use Rattle.bar_window.specs.declared.exchange.Role.TheVariants.{Initiator, Responder}
+use Rattle.bar_window.specs.declared.exchange.XKind.{XKind}
 use Rattle.bar_window.specs.declared.exchange.XKind.TheVariants.{Balanced, Push}
 use Rattle.bar_window.specs.declared.terms.Terms.{Terms}
 use Rattle.bar_window.specs.declared.window.Window.{Window}
@@ -15,8 +17,9 @@ use Rattle.bar_exchange.proofs.Placed.{BodyStands, kind_at}
 pub none_pushed : (from to : ℕ) (b : RawBody) (p : Place) → BodyStands from to (plain b) p → p.x.kind ≡ Push
     → ((r : ℕ) (seed : Bor (List ℕ)) (young aged : Window) → b ≡ bodies.Query r seed young aged → ⊥)
     → ((r : ℕ) (want give : Window) (junk : ℕ) → b ≡ bodies.Reply r want give junk → ⊥)
-    → ((r xkind role updates junk : ℕ) (terms : Terms) (cipher : Bor (List ℕ)) → b ≡ bodies.Case r xkind role updates junk terms cipher → ⊥)
-    → ((r xkind role : ℕ) → b ≡ bodies.KeyReq r xkind role → ⊥) → ((r xkind role : ℕ) (key : Bor (List ℕ)) → b ≡ bodies.Key r xkind role key → ⊥) → ⊥
+    → ((r : ℕ) (xkind : XKind) (role : Role) (updates junk : ℕ) (terms : Terms) (cipher : Bor (List ℕ)) → b ≡ bodies.Case r xkind role updates junk terms cipher → ⊥)
+    → ((r : ℕ) (xkind : XKind) (role : Role) → b ≡ bodies.KeyReq r xkind role → ⊥)
+    → ((r : ℕ) (xkind : XKind) (role : Role) (key : Bor (List ℕ)) → b ≡ bodies.Key r xkind role key → ⊥) → ⊥
 none_pushed from to (bodies.Query r seed young aged) p at is q a c n y = q r seed young aged refl
 none_pushed from to (bodies.Reply r want give junk) p at is q a c n y = a r want give junk refl
 none_pushed from to (bodies.Case r xkind role updates junk terms cipher) p at is q a c n y = c r xkind role updates junk terms cipher refl

@@ -7,7 +7,7 @@ ghost use Rattle.bar_wire.specs.Views.{plain};
 ghost use Rattle.bar_seal.specs.Leaves.{leaf_of, first_slot, leaf_at, step_of};
 
 use bar_window::{Exchange, Role, XKind};
-use bar_wire::{Body, Kind, LEAVES_A_ROUND, SEATS_A_ROUND, kind_from, role_from};
+use bar_wire::{Body, Kind, LEAVES_A_ROUND, SEATS_A_ROUND};
 
 /// The steps of a side of an exchange: its first message, its briefcase and its key.
 const FIRST: u32 = 0;
@@ -86,13 +86,13 @@ pub fn leaf_of(body: &Body<'_>, seat: u8) -> u32
             xkind,
             role,
             ..
-        } => leaf_at(*round, kind_from(*xkind), role_from(*role), CASE, seat),
+        } => leaf_at(*round, *xkind, *role, CASE, seat),
         Body::Key {
             round,
             xkind,
             role,
             ..
-        } => leaf_at(*round, kind_from(*xkind), role_from(*role), KEY, seat),
+        } => leaf_at(*round, *xkind, *role, KEY, seat),
         // The other kinds are never signed.
         _ => 0,
     }

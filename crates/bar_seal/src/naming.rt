@@ -6,7 +6,7 @@ ghost use Rattle.bar_wire.specs.Views.{plain};
 ghost use Rattle.bar_seal.specs.Identities.{identity_by};
 
 use crate::identities::Identity;
-use bar_wire::{Body, Kind, View, kind_from, role_from};
+use bar_wire::{Body, Kind, View};
 
 /// What a signed datagram is told by, or `None` for a kind that bears no signature.
 pub fn identity(view: &View<'_>) -> Option<Identity>
@@ -44,8 +44,8 @@ pub fn identity(view: &View<'_>) -> Option<Identity>
         } => Some(Identity {
             from,
             to,
-            xkind: kind_from(xkind).code(),
-            role: role_from(role).code(),
+            xkind: xkind.code(),
+            role: role.code(),
             ..Identity::of_round(Kind::Case, round)
         }),
         Body::Key {
@@ -56,8 +56,8 @@ pub fn identity(view: &View<'_>) -> Option<Identity>
         } => Some(Identity {
             from,
             to,
-            xkind: kind_from(xkind).code(),
-            role: role_from(role).code(),
+            xkind: xkind.code(),
+            role: role.code(),
             ..Identity::of_round(Kind::Key, round)
         }),
         // The other kinds are never signed.

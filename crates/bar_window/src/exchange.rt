@@ -1,4 +1,4 @@
-ghost use Rattle.std.specs.Prelude.{◌≡◌};
+ghost use Rattle.std.specs.Prelude.{◌≡◌, ◌<◌, MatchOption};
 ghost use Rattle.bar_window.specs.Exchange.{kind_code, role_code, other_role, party_on, exchange_bytes};
 
 /// The two kinds of exchange: balanced, of equally many updates, and push, of young updates for old ones or junk.
@@ -18,6 +18,17 @@ impl XKind {
             XKind::Push => 1,
         }
     }
+
+    /// The kind of a number, or None where no kind has it.
+    pub fn at(code: u8) -> Option<XKind>
+        ensures { MatchOption result (1 < code) (λ kind. code ≡ kind_code kind) }
+    {
+        match code {
+            0 => Some(XKind::Balanced),
+            1 => Some(XKind::Push),
+            _ => None,
+        }
+    }
 }
 
 /// The two sides of an exchange.
@@ -35,6 +46,17 @@ impl Role {
         match self {
             Role::Initiator => 0,
             Role::Responder => 1,
+        }
+    }
+
+    /// The role of a number, or None where no role has it.
+    pub fn at(code: u8) -> Option<Role>
+        ensures { MatchOption result (1 < code) (λ role. code ≡ role_code role) }
+    {
+        match code {
+            0 => Some(Role::Initiator),
+            1 => Some(Role::Responder),
+            _ => None,
         }
     }
 

@@ -1,5 +1,5 @@
 -- The codes of kinds of exchange and of roles.
-use Rattle.std.proofs.Common.{◌≡◌, ℕ, zero, suc, ◌+◌, ◌*◌, ◌<◌, refl, sym, ap, ◌∙◌, arith}
+use Rattle.std.proofs.Common.{◌≡◌, ℕ, zero, suc, ◌+◌, ◌*◌, ◌<◌, List, ◌∷◌, refl, sym, ap, ◌∙◌, arith}
 use Rattle.bar_window.specs.declared.exchange.XKind.{XKind}
 use Rattle.bar_window.specs.declared.exchange.XKind.TheVariants.{Balanced, Push}
 use Rattle.bar_window.specs.declared.exchange.Role.{Role}
@@ -7,6 +7,7 @@ use Rattle.bar_window.specs.declared.exchange.Role.TheVariants.{Initiator, Respo
 use Rattle.bar_window.specs.Exchange.{kind_code, role_code}
 use Rattle.bar_wire.specs.declared.shape.Shape.{Shape}
 use Rattle.bar_wire.specs.Places.{kind_from, role_from, terms_len, window_len}
+use Rattle.bar_wire.specs.Sides.{NoSideAt}
 
 pub terms_len_push : (s : Shape) (code : ℕ) → 0 < code → terms_len s code ≡ 4 * window_len s + 1
 terms_len_push s zero lt = absurd (omega (arith, lt))
@@ -34,12 +35,9 @@ pub role_small : (r : Role) → role_code r < 2
 role_small Initiator = omega arith
 role_small Responder = omega arith
 
-pub code_of_kind : (code : ℕ) → code < 2 → kind_code (kind_from code) ≡ code
-code_of_kind zero lt = refl
-code_of_kind (suc zero) lt = refl
-code_of_kind (suc (suc n)) lt = absurd (omega (arith, lt))
+-- bytes whose first or second number is no code
+pub no_kind_at : (code : ℕ) (bytes rest : List ℕ) → 1 < code → bytes ≡ code ∷ rest → NoSideAt bytes
+no_kind_at code bytes rest big is = λ kind role after spelled. let same : code ≡ kind_code kind = cc in omega (arith, big, same, kind_small kind)
 
-pub code_of_role : (code : ℕ) → code < 2 → role_code (role_from code) ≡ code
-code_of_role zero lt = refl
-code_of_role (suc zero) lt = refl
-code_of_role (suc (suc n)) lt = absurd (omega (arith, lt))
+pub no_role_at : (k code : ℕ) (bytes next rest : List ℕ) → 1 < code → bytes ≡ k ∷ next → next ≡ code ∷ rest → NoSideAt bytes
+no_role_at k code bytes next rest big is then = λ kind role after spelled. let same : code ≡ role_code role = cc in omega (arith, big, same, role_small role)

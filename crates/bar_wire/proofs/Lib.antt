@@ -12,7 +12,6 @@ pub mod CaseReads
 pub mod Nones
 pub mod Whole
 pub mod SetBack
-pub mod RangeTests
 pub mod Signed
 pub mod ReadBack
 pub mod Told

@@ -1,5 +1,5 @@
 -- Bytes that spell no fields of a kind.
-use Rattle.std.proofs.Common.{◌≡◌, ℕ, ◌<◌, ◌^◌, List, [], ◌∷◌, ◌++◌, length, sym, ap, subst, ◌∙◌, arith}
+use Rattle.std.proofs.Common.{◌≡◌, ℕ, ◌<◌, ◌^◌, List, [], ◌∷◌, ◌++◌, length, sym, ap, subst, ◌∙◌}
 use Rattle.std.specs.List.{concat}
 use Rattle.bar_bytes.specs.Bytes.{u32_bytes}
 use Rattle.bar_bytes.proofs.Lengths.{length_u32}
@@ -10,13 +10,13 @@ use Rattle.bar_wire.specs.declared.shape.Shape.{Shape}
 use Rattle.bar_wire.specs.declared.kind.Kind.TheVariants as kinds
 use Rattle.bar_wire.specs.Datagram.{Response, Divulge, Query, Reply, Case, KeyReq, Key}
 use Rattle.bar_wire.specs.Grammar.{set_bytes, term_pieces, IsWindowSet, IsRound, HasTermForm}
-use Rattle.bar_wire.specs.Places.{kind_from}
 use Rattle.bar_wire.specs.Reading.{SpellsNone}
+use Rattle.bar_wire.specs.Sides.{NoSideAt}
 use Rattle.bar_wire.specs.Windows.{NoWindowAt, NoWindowsAt}
 use Rattle.bar_wire.specs.Terms.{NoTermsAt}
 use Rattle.bar_wire.proofs.CaseReads.{CaseStart}
 use Rattle.bar_wire.proofs.Peel.{peel, same_u32}
-use Rattle.bar_wire.proofs.Codes.{kind_back, kind_small, role_small}
+use Rattle.bar_wire.proofs.Codes.{same_kind_code}
 
 one_u32 : (m n : ℕ) (x y : List ℕ) → m < 2 ^ 32 → n < 2 ^ 32 → u32_bytes m ++ x ≡ u32_bytes n ++ y → (m ≡ n) × (x ≡ y)
 one_u32 m n x y p q e = let a = peel (u32_bytes m) (u32_bytes n) x y (length_u32 m ∙ sym (length_u32 n)) e in (same_u32 m n p q a.front, a.rest)
@@ -47,39 +47,29 @@ no_reply s r bytes rest lt is none (Reply r' want give z) kind spelled =
     none (subst (IsRound s) a.0 spelled.range.0) want give (z ∷ []) (subst (λ (n : ℕ). IsWindowSet s n want) a.0 spelled.form.1) (subst (λ (n : ℕ). IsWindowSet s n give) a.0 spelled.form.2) (sym a.1 ∙ ap (λ (n : ℕ). set_bytes s n want ++ (set_bytes s n give ++ (z ∷ []))) a.0)
 no_reply s r bytes rest lt is none b kind spelled = absurd cc
 
-pub no_case : (s : Shape) (r k p u z : ℕ) (bytes rest : List ℕ) → CaseStart r k p u z bytes rest → NoTermsAt s (kind_from k) r rest → SpellsNone s kinds.Case bytes
+pub no_case : (s : Shape) (r : ℕ) (k : XKind) (p : Role) (u z : ℕ) (bytes rest : List ℕ) → CaseStart r k p u z bytes rest → NoTermsAt s k r rest → SpellsNone s kinds.Case bytes
 no_case s r k p u z bytes rest start none (Case c) kind spelled =
     let text = concat (term_pieces s c.round c.terms) in
-    let a = one_u32 c.round r (kind_code c.kind ∷ role_code c.role ∷ c.updates ∷ c.junk ∷ (text ++ (c.cipher ++ []))) (k ∷ p ∷ u ∷ z ∷ rest) spelled.form.0 start.fits (sym spelled.is ∙ start.is) in
-    let code : kind_code c.kind ≡ k = cc in
+    let a = one_u32 c.round r (kind_code c.kind ∷ role_code c.role ∷ c.updates ∷ c.junk ∷ (text ++ (c.cipher ++ []))) (kind_code k ∷ role_code p ∷ u ∷ z ∷ rest) spelled.form.0 start.fits (sym spelled.is ∙ start.is) in
+    let code : kind_code c.kind ≡ kind_code k = cc in
     let left : text ++ (c.cipher ++ []) ≡ rest = cc in
-    let same : c.kind ≡ kind_from k = sym (kind_back c.kind) ∙ ap kind_from code in
     let form : HasTermForm s r c.kind c.terms = subst (λ (n : ℕ). HasTermForm s n c.kind c.terms) a.0 spelled.form.1 in
-    none (subst (IsRound s) a.0 spelled.range.0) c.terms (c.cipher ++ []) (subst (λ (n : XKind). HasTermForm s r n c.terms) same form) (sym left ∙ ap (λ (n : ℕ). concat (term_pieces s n c.terms) ++ (c.cipher ++ [])) a.0)
+    none (subst (IsRound s) a.0 spelled.range.0) c.terms (c.cipher ++ []) (subst (λ (n : XKind). HasTermForm s r n c.terms) (same_kind_code c.kind k code) form) (sym left ∙ ap (λ (n : ℕ). concat (term_pieces s n c.terms) ++ (c.cipher ++ [])) a.0)
 no_case s r k p u z bytes rest start none b kind spelled = absurd cc
 
--- the codes of a kind of exchange and of a role are 0 or 1
-codes_small : (kind : XKind) (role : Role) (r' r k p : ℕ) (after rest : List ℕ) → r' < 2 ^ 32 → r < 2 ^ 32 → u32_bytes r' ++ (kind_code kind ∷ role_code role ∷ after) ≡ u32_bytes r ++ (k ∷ p ∷ rest) → (k < 2) × (p < 2)
-codes_small kind role r' r k p after rest f g e =
-    let a = one_u32 r' r (kind_code kind ∷ role_code role ∷ after) (k ∷ p ∷ rest) f g e in
-    let first : kind_code kind ≡ k = cc in
-    let second : role_code role ≡ p = cc in
-    (omega (arith, first, kind_small kind), omega (arith, second, role_small role))
+-- bytes whose second and third fields are no codes of a kind of exchange and of a role
+pub no_case_side : (s : Shape) (r : ℕ) (bytes rest : List ℕ) → r < 2 ^ 32 → bytes ≡ u32_bytes r ++ rest → NoSideAt rest → SpellsNone s kinds.Case bytes
+no_case_side s r bytes rest lt is none (Case c) kind spelled =
+    let after = c.updates ∷ c.junk ∷ (concat (term_pieces s c.round c.terms) ++ (c.cipher ++ [])) in
+    none c.kind c.role after (sym (one_u32 c.round r (kind_code c.kind ∷ role_code c.role ∷ after) rest spelled.form.0 lt (sym spelled.is ∙ is)).1)
+no_case_side s r bytes rest lt is none b kind spelled = absurd cc
 
--- bytes whose second and third fields are no such codes
-pub record BadCodes (r k p : ℕ) (bytes rest : List ℕ) : Type 0 where
-  pub fits : r < 2 ^ 32
-  pub is : bytes ≡ u32_bytes r ++ (k ∷ p ∷ rest)
-  pub bad : (k < 2) × (p < 2) → ⊥
+pub no_key_request : (s : Shape) (r : ℕ) (bytes rest : List ℕ) → r < 2 ^ 32 → bytes ≡ u32_bytes r ++ rest → NoSideAt rest → SpellsNone s kinds.KeyReq bytes
+no_key_request s r bytes rest lt is none (KeyReq r' k role) kind spelled =
+    none k role [] (sym (one_u32 r' r (kind_code k ∷ role_code role ∷ []) rest spelled.form lt (sym spelled.is ∙ is)).1)
+no_key_request s r bytes rest lt is none b kind spelled = absurd cc
 
-pub no_case_codes : (s : Shape) (r k p : ℕ) (bytes rest : List ℕ) → BadCodes r k p bytes rest → SpellsNone s kinds.Case bytes
-no_case_codes s r k p bytes rest codes (Case c) kind spelled = codes.bad (codes_small c.kind c.role c.round r k p (c.updates ∷ c.junk ∷ (concat (term_pieces s c.round c.terms) ++ (c.cipher ++ []))) rest spelled.form.0 codes.fits (sym spelled.is ∙ codes.is))
-no_case_codes s r k p bytes rest codes b kind spelled = absurd cc
-
-pub no_key_request : (s : Shape) (r k p : ℕ) (bytes rest : List ℕ) → BadCodes r k p bytes rest → SpellsNone s kinds.KeyReq bytes
-no_key_request s r k p bytes rest codes (KeyReq r' x role) kind spelled = codes.bad (codes_small x role r' r k p [] rest spelled.form codes.fits (sym spelled.is ∙ codes.is))
-no_key_request s r k p bytes rest codes b kind spelled = absurd cc
-
-pub no_key : (s : Shape) (r k p : ℕ) (bytes rest : List ℕ) → BadCodes r k p bytes rest → SpellsNone s kinds.Key bytes
-no_key s r k p bytes rest codes (Key g) kind spelled = codes.bad (codes_small g.kind g.role g.round r k p (g.key ++ []) rest spelled.form.0 codes.fits (sym spelled.is ∙ codes.is))
-no_key s r k p bytes rest codes b kind spelled = absurd cc
+pub no_key : (s : Shape) (r : ℕ) (bytes rest : List ℕ) → r < 2 ^ 32 → bytes ≡ u32_bytes r ++ rest → NoSideAt rest → SpellsNone s kinds.Key bytes
+no_key s r bytes rest lt is none (Key g) kind spelled =
+    none g.kind g.role (g.key ++ []) (sym (one_u32 g.round r (kind_code g.kind ∷ role_code g.role ∷ (g.key ++ [])) rest spelled.form.0 lt (sym spelled.is ∙ is)).1)
+no_key s r bytes rest lt is none b kind spelled = absurd cc

@@ -19,11 +19,10 @@ use Rattle.bar_wire.specs.declared.view.View.{View}
 use Rattle.bar_wire.specs.Kinds.{code_of, kind_at}
 use Rattle.bar_wire.specs.Datagram.{Datagram, kind_of}
 use Rattle.bar_wire.specs.Grammar.{pieces, start, spelling, SpellsDatagram}
-use Rattle.bar_wire.specs.Ranges.{is_datagram}
+use Rattle.bar_wire.specs.Ranges.{datagram_decided, is_datagram}
 use Rattle.bar_wire.specs.Places.{fields_len, body_at, datagram_at, datagram_of}
 use Rattle.bar_wire.specs.Faults.{IsFirstFault}
 use Rattle.bar_wire.specs.Views.{IsView, datagram}
-use Rattle.bar_wire.proofs.RangeTests.{datagram_tells}
 use Rattle.bar_wire.proofs.ReadBack.{u16_back, body_back, len_back}
 use Rattle.bar_wire.proofs.Head.{three_joined}
 use Rattle.bar_wire.proofs.Whole.{cut_from, start_len, fault_spells_none}
@@ -74,7 +73,7 @@ passes : (s : Shape) (bytes : List ℕ) (e d : Datagram) → then_some (is_datag
 passes s bytes e d h =
     let t = then-is (is_datagram s e && bytes_eq (spelling s e) bytes) e d h in
     let both = and_parts (is_datagram s e) (bytes_eq (spelling s e) bytes) t.0 in
-    subst (λ (x : Datagram). SpellsDatagram s x bytes) t.1 (record { fits = (datagram_tells s e).0 both.0; is = sym ((bytes_decides (spelling s e) bytes).0 both.1) })
+    subst (λ (x : Datagram). SpellsDatagram s x bytes) t.1 (record { fits = (datagram_decided s e).tells.0 both.0; is = sym ((bytes_decides (spelling s e) bytes).0 both.1) })
 
 at_kind : (s : Shape) (bytes : List ℕ) (o : Option Kind) (d : Datagram)
     → option_and_then (λ kind. then_some (is_datagram s (datagram_at s kind bytes) && bytes_eq (spelling s (datagram_at s kind bytes)) bytes) (datagram_at s kind bytes)) o ≡ Some d → SpellsDatagram s d bytes
@@ -91,7 +90,7 @@ is_told s d bytes spelled =
     let kind = kind_of d.message.body in
     let cut = cut_from s bytes d spelled in
     let test : Datagram → Option Datagram = λ e. then_some (is_datagram s e && bytes_eq (spelling s e) bytes) e in
-    let holds : is_datagram s d && bytes_eq (spelling s d) bytes ≡ true = and_from (is_datagram s d) (bytes_eq (spelling s d) bytes) ((datagram_tells s d).1 spelled.fits) ((bytes_decides (spelling s d) bytes).1 (sym spelled.is)) in
+    let holds : is_datagram s d && bytes_eq (spelling s d) bytes ≡ true = and_from (is_datagram s d) (bytes_eq (spelling s d) bytes) ((datagram_decided s d).tells.1 spelled.fits) ((bytes_decides (spelling s d) bytes).1 (sym spelled.is)) in
     ap (option_and_then (λ (k : Kind). test (datagram_at s k bytes))) cut.has.kind_is ∙ ap test (stands s d bytes spelled) ∙ ap (λ b. then_some b d) holds
 
 none_from : {X : Type 0} (o : Option X) → ((x : X) → o ≡ Some x → ⊥) → o ≡ None

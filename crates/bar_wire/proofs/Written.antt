@@ -15,7 +15,7 @@ use Rattle.bar_wire.specs.declared.view.Body.TheVariants as raw
 use Rattle.bar_wire.specs.Datagram.{Message, kind_of}
 use Rattle.bar_wire.specs.Grammar.{set_bytes, term_pieces, pieces, entry, start, message_bytes}
 use Rattle.std.specs.Simd.{first_chunks}
-use Rattle.bar_wire.specs.Places.{entries, entries_len, pairs, kind_from, role_from}
+use Rattle.bar_wire.specs.Places.{entries, entries_len, pairs}
 use Rattle.bar_wire.specs.Views.{plain, IsBody}
 use Rattle.bar_wire.specs.Writing.{terms_written, body_written}
 use Rattle.bar_wire.proofs.Lists.{chunks_joined}
@@ -71,9 +71,9 @@ written_is s (raw.Reply round want give junk) of =
 written_is s (raw.Case round xkind role updates junk t cipher) of =
     let text = concat (term_pieces s round (plain_terms t)) in
     let rest = text ++ (cipher.now ++ []) in
-    omega (arith, length_u32 round, terms_len_is s round t, length-append (u32_bytes round) (kind_code (kind_from xkind) ∷ role_code (role_from role) ∷ updates ∷ junk ∷ rest), length-append text (cipher.now ++ []), length-append cipher.now [])
-written_is s (raw.KeyReq round xkind role) of = omega (arith, length_u32 round, length-append (u32_bytes round) (kind_code (kind_from xkind) ∷ role_code (role_from role) ∷ []))
-written_is s (raw.Key round xkind role key) of = omega (arith, length_u32 round, length-append (u32_bytes round) (kind_code (kind_from xkind) ∷ role_code (role_from role) ∷ (key.now ++ [])), length-append key.now [])
+    omega (arith, length_u32 round, terms_len_is s round t, length-append (u32_bytes round) (kind_code xkind ∷ role_code role ∷ updates ∷ junk ∷ rest), length-append text (cipher.now ++ []), length-append cipher.now [])
+written_is s (raw.KeyReq round xkind role) of = omega (arith, length_u32 round, length-append (u32_bytes round) (kind_code xkind ∷ role_code role ∷ []))
+written_is s (raw.Key round xkind role key) of = omega (arith, length_u32 round, length-append (u32_bytes round) (kind_code xkind ∷ role_code role ∷ (key.now ++ [])), length-append key.now [])
 written_is s (raw.Evidence count datagrams) of =
     let parts = entries count datagrams.now in
     omega (arith, length_joined count datagrams.now of.whole, length-append (flat_map entry parts) [])

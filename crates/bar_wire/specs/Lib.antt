@@ -3,6 +3,7 @@ pub mod Kinds
 pub mod Datagram
 pub mod Bodies
 pub mod Grammar
+pub mod Decision
 pub mod Ranges
 pub mod Places
 pub mod Faults

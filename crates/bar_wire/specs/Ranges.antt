@@ -1,104 +1,120 @@
--- What has a spelling, as tests.
-use Rattle.std.specs.Prelude.{ℕ, ◌+◌, ◌*◌, ◌^◌, Bool, true, not, ◌&&◌, ◌==◌, List, [], ◌∷◌, length, nat_lt, nat_le}
-use Rattle.std.specs.List.{list_all}
+-- What has a spelling, decided rule by rule.
+use Rattle.std.specs.Prelude.{ℕ, ◌≡◌, ◌+◌, ◌*◌, ◌^◌, Bool, List, [], ◌∷◌, length}
+use Rattle.std.proofs.Common.{ap}
+use Rattle.std.proofs.lemmas.Bool.{eq-eqb}
 use Rattle.bar_window.specs.Limits.{block_size, junk_size, most_items}
 use Rattle.bar_window.specs.declared.update.UpdateId.{UpdateId}
 use Rattle.bar_window.specs.declared.exchange.XKind.{XKind}
 use Rattle.bar_window.specs.declared.exchange.XKind.TheVariants.{Balanced, Push}
 use Rattle.bar_window.specs.Updates.{is_set_of}
-use Rattle.bar_window.specs.Exchange.{same_kind}
+use Rattle.bar_window.specs.Exchange.{kind_code, same_kind}
 use Rattle.bar_window.specs.Terms.{Terms}
 use Rattle.bar_window.specs.Terms as forms
+use Rattle.bar_window.proofs.Exchanges.{same_kind-is}
+use Rattle.bar_window.proofs.Spelling.{set_test, set_passes}
 use Rattle.bar_wire.specs.declared.shape.Shape.{Shape}
 use Rattle.bar_wire.specs.declared.kind.Kind.{Kind}
 use Rattle.bar_wire.specs.declared.kind.Kind.TheVariants as kinds
 use Rattle.bar_wire.specs.Limits.{everyone, largest_datagram}
-use Rattle.bar_wire.specs.Datagram.{Datagram, Body, Manifest, Block, Request, Response, Divulge, Query, Reply, Case, KeyReq, Key, Evidence, Evict, kind_of}
-use Rattle.bar_wire.specs.Grammar.{words_of, signature_len}
+use Rattle.bar_wire.specs.Datagram.{Datagram, Body, Manifest, Block, Request, Response, Divulge, Query, Reply, Case, KeyReq, Key, Evidence, Evict, kind_of, round_of}
+use Rattle.bar_wire.specs.Decision.{Decision, below, at_most, equal, different, always, likewise, both, three, four, five, each}
+use Rattle.bar_wire.specs.Grammar.{words_of, signature_len, IsWindowSet, HasTermForm, HasForm, IsRound, IsPeer, RisesTo, IsEntryInRange, AreDatagramsInRange, ArePartiesInRange, HasFewJunk, InRange, MaySend, IsDatagram}
 
 -- ---- widths and lengths
 
-abbrev pub is_u32 : ℕ → Bool
-is_u32 n = nat_lt n (2 ^ 32)
+abbrev pub kind_decided : (k l : XKind) → Decision (k ≡ l)
+kind_decided k l = record {
+  test = same_kind k l;
+  tells = (same_kind-is k l, λ same. eq-eqb (kind_code k) (kind_code l) (ap kind_code same));
+}
 
-abbrev pub is_u16 : ℕ → Bool
-is_u16 n = nat_lt n (2 ^ 16)
+abbrev pub set_decided : (s : Shape) (round : ℕ) (us : List UpdateId) → Decision (IsWindowSet s round us)
+set_decided s round us = record {
+  test = is_set_of (words_of s) s.life round us;
+  tells = (set_test (words_of s) s.life round us, set_passes (words_of s) s.life round us);
+}
 
-abbrev pub is_window_set : Shape → ℕ → List UpdateId → Bool
-is_window_set s round us = is_set_of (words_of s) s.life round us
+abbrev pub term_form_decided : (s : Shape) (r : ℕ) (kind : XKind) (t : Terms) → Decision (HasTermForm s r kind t)
+term_form_decided s r kind (forms.Balanced nonce ha hb) =
+    four (kind_decided kind Balanced) (equal (length nonce) 32) (set_decided s r ha) (set_decided s r hb)
+term_form_decided s r kind (forms.Push young aged want give junk) =
+    five (kind_decided kind Push) (set_decided s r young) (set_decided s r aged) (set_decided s r want) (set_decided s r give)
 
-abbrev pub has_term_form : Shape → ℕ → XKind → Terms → Bool
-has_term_form s r kind (forms.Balanced nonce ha hb) =
-    same_kind kind Balanced && (length nonce == 32) && is_window_set s r ha && is_window_set s r hb
-has_term_form s r kind (forms.Push young aged want give junk) =
-    same_kind kind Push && is_window_set s r young && is_window_set s r aged && is_window_set s r want && is_window_set s r give
-
-abbrev pub has_form : Shape → Body → Bool
-has_form s (Manifest r digests) = is_u32 r && list_all (λ d. length d == 32) digests
-has_form s (Block u block) = is_u32 u.round && (length block == block_size)
-has_form s (Request r seed commitment) = is_u32 r && (length seed == 32) && (length commitment == 32)
-has_form s (Response r hb) = is_u32 r && is_window_set s r hb
-has_form s (Divulge r nonce ha) = is_u32 r && (length nonce == 32) && is_window_set s r ha
-has_form s (Query r seed young aged) = is_u32 r && (length seed == 32) && is_window_set s r young && is_window_set s r aged
-has_form s (Reply r want give junk) = is_u32 r && is_window_set s r want && is_window_set s r give
-has_form s (Case c) = is_u32 c.round && has_term_form s c.round c.kind c.terms && (length c.cipher == block_size * c.updates + junk_size * c.junk)
-has_form s (KeyReq r kind role) = is_u32 r
-has_form s (Key k) = is_u32 k.round && (length k.key == 32)
-has_form s (Evidence datagrams) = list_all (λ d. is_u16 (length d)) datagrams
-has_form s (Evict r parties) = is_u32 r && list_all is_u16 parties
+abbrev pub form_decided : (s : Shape) (b : Body) → Decision (HasForm s b)
+form_decided s (Manifest r digests) = both (below r (2 ^ 32)) (each (λ (d : List ℕ). equal (length d) 32) digests)
+form_decided s (Block u block) = both (below u.round (2 ^ 32)) (equal (length block) block_size)
+form_decided s (Request r seed commitment) = three (below r (2 ^ 32)) (equal (length seed) 32) (equal (length commitment) 32)
+form_decided s (Response r hb) = both (below r (2 ^ 32)) (set_decided s r hb)
+form_decided s (Divulge r nonce ha) = three (below r (2 ^ 32)) (equal (length nonce) 32) (set_decided s r ha)
+form_decided s (Query r seed young aged) =
+    four (below r (2 ^ 32)) (equal (length seed) 32) (set_decided s r young) (set_decided s r aged)
+form_decided s (Reply r want give junk) = three (below r (2 ^ 32)) (set_decided s r want) (set_decided s r give)
+form_decided s (Case c) =
+    three (below c.round (2 ^ 32)) (term_form_decided s c.round c.kind c.terms) (equal (length c.cipher) (block_size * c.updates + junk_size * c.junk))
+form_decided s (KeyReq r kind role) = below r (2 ^ 32)
+form_decided s (Key k) = both (below k.round (2 ^ 32)) (equal (length k.key) 32)
+form_decided s (Evidence datagrams) = each (λ (d : List ℕ). below (length d) (2 ^ 16)) datagrams
+form_decided s (Evict r parties) = both (below r (2 ^ 32)) (each (λ (p : ℕ). below p (2 ^ 16)) parties)
 
 -- ---- ranges
 
-abbrev pub is_round : Shape → ℕ → Bool
-is_round s round = nat_lt 0 round && nat_le round s.rounds
+abbrev pub round_decided : (s : Shape) (round : ℕ) → Decision (IsRound s round)
+round_decided s round = both (below 0 round) (at_most round s.rounds)
 
-abbrev pub is_peer : Shape → ℕ → Bool
-is_peer s p = nat_lt 0 p && nat_le p s.peers
+abbrev pub peer_decided : (s : Shape) (p : ℕ) → Decision (IsPeer s p)
+peer_decided s p = both (below 0 p) (at_most p s.peers)
 
-abbrev pub rises_to : ℕ → ℕ → List ℕ → Bool
-rises_to high low [] = true
-rises_to high low (p ∷ ps) = nat_lt low p && nat_le p high && rises_to high p ps
+abbrev pub rising_decided : (high low : ℕ) (ps : List ℕ) → Decision (RisesTo high low ps)
+rising_decided high low [] = always
+rising_decided high low (p ∷ ps) = three (below low p) (at_most p high) (rising_decided high p ps)
 
-abbrev pub is_entry_in_range : List ℕ → Bool
-is_entry_in_range datagram = nat_lt 0 (length datagram) && nat_le (length datagram) largest_datagram
+abbrev pub entry_decided : (datagram : List ℕ) → Decision (IsEntryInRange datagram)
+entry_decided datagram = both (below 0 (length datagram)) (at_most (length datagram) largest_datagram)
 
-abbrev pub are_datagrams_in_range : List (List ℕ) → Bool
-are_datagrams_in_range datagrams = nat_lt 0 (length datagrams) && nat_le (length datagrams) 2 && list_all is_entry_in_range datagrams
+abbrev pub datagrams_decided : (datagrams : List (List ℕ)) → Decision (AreDatagramsInRange datagrams)
+datagrams_decided datagrams = three (below 0 (length datagrams)) (at_most (length datagrams) 2) (each entry_decided datagrams)
 
-abbrev pub are_parties_in_range : ℕ → List ℕ → Bool
-are_parties_in_range peers parties = nat_lt 0 (length parties) && nat_le (length parties) peers && rises_to peers 0 parties
+abbrev pub parties_decided : (peers : ℕ) (parties : List ℕ) → Decision (ArePartiesInRange peers parties)
+parties_decided peers parties = three (below 0 (length parties)) (at_most (length parties) peers) (rising_decided peers 0 parties)
 
-abbrev pub has_few_junk : Terms → Bool
-has_few_junk (forms.Balanced nonce ha hb) = true
-has_few_junk (forms.Push young aged want give junk) = nat_le junk most_items
+abbrev pub junk_decided : (t : Terms) → Decision (HasFewJunk t)
+junk_decided (forms.Balanced nonce ha hb) = always
+junk_decided (forms.Push young aged want give junk) = at_most junk most_items
 
-abbrev pub is_in_range : Shape → Body → Bool
-is_in_range s (Manifest r digests) = is_round s r && nat_le (length digests) s.per_round
-is_in_range s (Block u block) = is_round s u.round && nat_lt u.index s.per_round
-is_in_range s (Request r seed commitment) = is_round s r
-is_in_range s (Response r hb) = is_round s r
-is_in_range s (Divulge r nonce ha) = is_round s r
-is_in_range s (Query r seed young aged) = is_round s r
-is_in_range s (Reply r want give junk) = is_round s r && nat_le junk most_items
-is_in_range s (Case c) = is_round s c.round && nat_lt 0 (c.updates + c.junk) && nat_le (c.updates + c.junk) most_items && has_few_junk c.terms
-is_in_range s (KeyReq r kind role) = is_round s r
-is_in_range s (Key k) = is_round s k.round
-is_in_range s (Evidence datagrams) = are_datagrams_in_range datagrams
-is_in_range s (Evict r parties) = is_round s r && are_parties_in_range s.peers parties
+abbrev pub range_decided : (s : Shape) (b : Body) → Decision (InRange s b)
+range_decided s (Manifest r digests) = both (round_decided s r) (at_most (length digests) s.per_round)
+range_decided s (Block u block) = both (round_decided s u.round) (below u.index s.per_round)
+range_decided s (Reply r want give junk) = both (round_decided s r) (at_most junk most_items)
+range_decided s (Case c) =
+    four (round_decided s c.round) (below 0 (c.updates + c.junk)) (at_most (c.updates + c.junk) most_items) (junk_decided c.terms)
+range_decided s (Evidence datagrams) = datagrams_decided datagrams
+range_decided s (Evict r parties) = both (round_decided s r) (parties_decided s.peers parties)
+range_decided s b = round_decided s (round_of b)
 
-abbrev pub may_send : Shape → Kind → ℕ → ℕ → Bool
-may_send s kinds.Manifest from to = (from == 0) && (to == everyone)
-may_send s kinds.Evict from to = (from == 0) && (to == everyone)
-may_send s kinds.Block from to = (from == 0) && is_peer s to
-may_send s kinds.Evidence from to = is_peer s from && (to == 0)
-may_send s _ from to = is_peer s from && is_peer s to && not (from == to)
+abbrev pub sending_decided : (s : Shape) (kind : Kind) (from to : ℕ) → Decision (MaySend s kind from to)
+sending_decided s kinds.Manifest from to = both (equal from 0) (equal to everyone)
+sending_decided s kinds.Evict from to = both (equal from 0) (equal to everyone)
+sending_decided s kinds.Block from to = both (equal from 0) (peer_decided s to)
+sending_decided s kinds.Evidence from to = both (peer_decided s from) (equal to 0)
+sending_decided s _ from to = three (peer_decided s from) (peer_decided s to) (different from to)
+
+-- ---- datagrams
+
+abbrev pub datagram_decided : (s : Shape) (d : Datagram) → Decision (IsDatagram s d)
+datagram_decided s d =
+    let m = d.message in
+    let kind = kind_of m.body in
+    let fields =
+    five (below m.from (2 ^ 16)) (below m.to (2 ^ 16)) (form_decided s m.body) (range_decided s m.body) (sending_decided s kind m.from m.to)
+    in
+    likewise (both fields (equal (length d.signature) (signature_len s kind)))
+    (λ h. record { from_fits = h.0.0; to_fits = h.0.1; form = h.0.2; range = h.0.3; may_send = h.0.4; signature_long = h.1 })
+    (λ h. ((h.from_fits, h.to_fits, h.form, h.range, h.may_send), h.signature_long))
 
 -- whether a datagram has a spelling
 abbrev pub is_datagram : Shape → Datagram → Bool
-is_datagram s d =
-    is_u16 d.message.from
-    && is_u16 d.message.to
-    && has_form s d.message.body
-    && is_in_range s d.message.body
-    && may_send s (kind_of d.message.body) d.message.from d.message.to
-    && (length d.signature == signature_len s (kind_of d.message.body))
+is_datagram s d = (datagram_decided s d).test
+
+-- whether these are the datagrams of an EVIDENCE
+abbrev pub are_datagrams_in_range : List (List ℕ) → Bool
+are_datagrams_in_range datagrams = (datagrams_decided datagrams).test

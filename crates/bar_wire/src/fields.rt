@@ -4,7 +4,7 @@ ghost use Rattle.bar_wire.specs.Places.{fields_len};
 ghost use Rattle.bar_wire.specs.Views.{plain, AreWhole};
 ghost use Rattle.bar_wire.specs.Reading.{HasBytes, Reads, ReadsForm, IsReadButRanges};
 
-use crate::exchange::kind_from;
+use crate::exchange::split_side;
 use crate::kind::Kind;
 use crate::ranges::is_in_range;
 use crate::shape::Shape;
@@ -60,9 +60,7 @@ fn response<'a>(bytes: &'a [u8], shape: &Shape) -> Option<Body<'a>>
     ensures { ReadsForm shape.now kinds.Response bytes.now result }
 {
     let (round, rest) = split_u32(bytes);
-    let Some((hb, _)) = read_window(rest, round, shape) else {
-        return None;
-    };
+    let (hb, _) = read_window(rest, round, shape)?;
     Some(Body::Response { round, hb })
 }
 
@@ -72,9 +70,7 @@ fn divulge<'a>(bytes: &'a [u8], shape: &Shape) -> Option<Body<'a>>
 {
     let (round, rest) = split_u32(bytes);
     let (nonce, rest) = split_array(rest);
-    let Some((ha, _)) = read_window(rest, round, shape) else {
-        return None;
-    };
+    let (ha, _) = read_window(rest, round, shape)?;
     Some(Body::Divulge { round, nonce, ha })
 }
 
@@ -84,9 +80,7 @@ fn query<'a>(bytes: &'a [u8], shape: &Shape) -> Option<Body<'a>>
 {
     let (round, rest) = split_u32(bytes);
     let (seed, rest) = split_array(rest);
-    let Some((young, aged, _)) = read_windows(rest, round, shape) else {
-        return None;
-    };
+    let (young, aged, _) = read_windows(rest, round, shape)?;
     Some(Body::Query {
         round,
         seed,
@@ -100,9 +94,7 @@ fn reply<'a>(bytes: &'a [u8], shape: &Shape) -> Option<Body<'a>>
     ensures { ReadsForm shape.now kinds.Reply bytes.now result }
 {
     let (round, rest) = split_u32(bytes);
-    let Some((want, give, rest)) = read_windows(rest, round, shape) else {
-        return None;
-    };
+    let (want, give, rest) = read_windows(rest, round, shape)?;
     let (junk, _) = split_u8(rest);
     Some(Body::Reply {
         round,
@@ -117,17 +109,10 @@ fn case<'a>(bytes: &'a [u8], shape: &Shape) -> Option<Body<'a>>
     ensures { ReadsForm shape.now kinds.Case bytes.now result }
 {
     let (round, rest) = split_u32(bytes);
-    let (xkind, rest) = split_u8(rest);
-    let (role, rest) = split_u8(rest);
+    let (xkind, role, rest) = split_side(rest)?;
     let (updates, rest) = split_u8(rest);
     let (junk, rest) = split_u8(rest);
-    if xkind > 1 || role > 1 {
-        return None;
-    }
-    let kind = kind_from(xkind);
-    let Some((terms, cipher)) = read_terms(kind, rest, round, shape) else {
-        return None;
-    };
+    let (terms, cipher) = read_terms(xkind, rest, round, shape)?;
     Some(Body::Case {
         round,
         xkind,
@@ -144,11 +129,7 @@ fn key_request<'a>(bytes: &'a [u8], shape: &Shape) -> Option<Body<'a>>
     ensures { ReadsForm shape.now kinds.KeyReq bytes.now result }
 {
     let (round, rest) = split_u32(bytes);
-    let (xkind, rest) = split_u8(rest);
-    let (role, _) = split_u8(rest);
-    if xkind > 1 || role > 1 {
-        return None;
-    }
+    let (xkind, role, _) = split_side(rest)?;
     Some(Body::KeyReq { round, xkind, role })
 }
 
@@ -157,12 +138,8 @@ fn key<'a>(bytes: &'a [u8], shape: &Shape) -> Option<Body<'a>>
     ensures { ReadsForm shape.now kinds.Key bytes.now result }
 {
     let (round, rest) = split_u32(bytes);
-    let (xkind, rest) = split_u8(rest);
-    let (role, rest) = split_u8(rest);
+    let (xkind, role, rest) = split_side(rest)?;
     let (key, _) = split_array(rest);
-    if xkind > 1 || role > 1 {
-        return None;
-    }
     Some(Body::Key {
         round,
         xkind,

@@ -24,7 +24,6 @@ mod writing;
 
 pub use bodies::is_peer_kind;
 pub use evidence::{EvidenceView, split_evidence};
-pub use exchange::{kind_from, role_from};
 pub use fault::WireFault;
 pub use input::Input;
 pub use kind::Kind;

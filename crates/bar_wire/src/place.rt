@@ -5,7 +5,6 @@ ghost use Rattle.bar_wire.specs.Views.{datagram, plain};
 ghost use Rattle.bar_wire.specs.declared.shape.Shape.{Shape};
 ghost use Rattle.bar_wire.specs.Sides.{place_in};
 
-use crate::exchange::{kind_from, role_from};
 use crate::view::{Body, View};
 use bar_window::{Exchange, Role, XKind};
 
@@ -48,14 +47,14 @@ fn part_of(body: &Body<'_>) -> Option<(u32, XKind, Role)>
             xkind,
             role,
             ..
-        } => Some((round, kind_from(xkind), role_from(role))),
-        Body::KeyReq { round, xkind, role } => Some((round, kind_from(xkind), role_from(role))),
-        Body::Key {
+        }
+        | Body::KeyReq { round, xkind, role }
+        | Body::Key {
             round,
             xkind,
             role,
             ..
-        } => Some((round, kind_from(xkind), role_from(role))),
+        } => Some((round, xkind, role)),
         Body::Manifest { .. } | Body::Block { .. } | Body::Evidence { .. } | Body::Evict { .. } => {
             None
         }
@@ -66,11 +65,9 @@ fn part_of(body: &Body<'_>) -> Option<(u32, XKind, Role)>
 pub fn place_of(view: &View<'_>) -> Option<Place>
     ensures { (shape : Shape) → option_map place_in result ≡ place_of (datagram shape view.now).message }
 {
-    match part_of(&view.body) {
-        Some((round, kind, role)) => Some(Place {
-            x: exchange_by(round, kind, role, view.from, view.to),
-            role,
-        }),
-        None => None,
-    }
+    let (round, kind, role) = part_of(&view.body)?;
+    Some(Place {
+        x: exchange_by(round, kind, role, view.from, view.to),
+        role,
+    })
 }

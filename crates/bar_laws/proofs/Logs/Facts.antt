@@ -14,9 +14,8 @@ pub use Rattle.bar_seal.proofs.Slots.{leaves_few, peers_named, caster_named}
 pub use Rattle.bar_seal.proofs.Named.{same_names}
 pub use Rattle.bar_lms.proofs.SchemeLemmas.{signed_accepted, signed_long, signed_names}
 pub use Rattle.bar_session.proofs.Levels.{session_short}
--- of bar_wire: the_datagram_is_spelled, the_test_tells_a_datagram, bytes_spell_one
+-- of bar_wire: the_datagram_is_spelled, bytes_spell_one
 pub use Rattle.bar_wire.proofs.Told.{only_told, is_told}
-pub use Rattle.bar_wire.proofs.RangeTests.{datagram_tells}
 -- of bar_window: sets_pass_their_test, bytes_are_those_of_the_words
 pub use Rattle.bar_window.proofs.Spelling.{set_test, set_passes, length_window_bytes}
 -- of the library sha2: a digest has 32 bytes

@@ -8,8 +8,6 @@ use Rattle.bar_terms.specs.Terms.{promised_updates, promised_junk}
 use Rattle.bar_seeds.specs.Derived as derived
 use Rattle.bar_wire.specs.Datagram.{Case}
 use Rattle.bar_wire.specs.declared.shape.Shape.{Shape}
-use Rattle.bar_wire.specs.Places.{kind_from, role_from}
-use Rattle.bar_wire.proofs.Codes.{kind_back, role_back}
 use Rattle.bar_wire.specs.Views.{AreTermWindows}
 use Rattle.bar_case.specs.Sealed as sealing
 use Rattle.bar_case.proofs.Blocks.{sealed_same}
@@ -58,8 +56,6 @@ returns-clause-written c me k tells recent can =
     subst (λ (s : Session). AreTermWindows s.shape x.round c.in_ok-terms.terms) session c.in_ok-terms.ensures.windows
     in
     let key : c.key-key.result ≡ briefcase_key me x (role_of me x) = c.key-key.ensures ∙ (λ i. derived.briefcase_key (tells.secrets i) x (role i)) in
-    let kind : kind_from c.code.result ≡ x.kind = ap kind_from c.code.ensures ∙ kind_back x.kind in
-    let side : role_from c.code-2.result ≡ role_of me x = ap role_from c.code-2.ensures ∙ role_back c.side-role.result ∙ role in
     let updates : c.update_count.result ≡ length (promised_updates me.session.cap t (role_of me x)) =
     c.update_count.ensures ∙ (λ i. length (promised_updates (cap i) t (role i)))
     in
@@ -73,5 +69,5 @@ returns-clause-written c me k tells recent can =
     in
     ap Some
     (c.write_message.ensures.written me k tells
-    ∙ (λ i. bytes_to me x (Case (record { round = x.round; kind = kind i; role = side i; updates = updates i; junk = junk i; terms = t; cipher = sealed i }))))
+    ∙ (λ i. bytes_to me x (Case (record { round = x.round; kind = x.kind; role = role i; updates = updates i; junk = junk i; terms = t; cipher = sealed i }))))
     ∙ ap (λ (o : Option Terms). option_map (bytes_to me x) (option_map (case_body me k x) o)) known

@@ -1,13 +1,10 @@
-use Rattle.std.proofs.Common.{[], ◌∷◌, ◌++◌, sym, subst}
+use Rattle.std.proofs.Common.{sym, subst}
 use Rattle.std.specs.List.{concat}
-use Rattle.bar_bytes.specs.Bytes.{u32_bytes}
-use Rattle.bar_window.specs.Terms.{plain_terms}
 use Rattle.bar_wire.specs.declared.view.Body.{Body as RawBody}
-use Rattle.bar_wire.specs.Grammar.{pieces, term_pieces}
-use Rattle.bar_wire.specs.Views.{plain, AreWindows, AreCodes}
+use Rattle.bar_wire.specs.Grammar.{pieces}
+use Rattle.bar_wire.specs.Views.{plain, AreWindows}
 use Rattle.bar_bytes.specs.Putting.{Appends}
-use Rattle.bar_wire.proofs.Codes.{code_of_kind, code_of_role}
-use Rattle.bar_wire.proofs.Writes.{writes_then, writes_last, writes_same}
+use Rattle.bar_wire.proofs.Writes.{writes_then, writes_last}
 use Rattle.bar_wire.proofs.writing.put_body.Goals as goal
 
 pub returns-in-Block : goal.returns-in-Block
@@ -54,20 +51,17 @@ pub returns-in-Case : goal.returns-in-Case
 returns-in-Case c =
     let s = c.args.shape.now in
     let windows = subst (λ (b : RawBody). AreWindows s b) c.in-Case.is c.requires.body.windows in
-    let codes = subst (λ (b : RawBody). AreCodes b) c.in-Case.is c.requires.body.codes in
-    let round = u32_bytes c.in-Case.round in
-    let text = concat (term_pieces s c.in-Case.round (plain_terms c.in-Case.terms)) in
     subst (λ (b : RawBody). Appends c.args.out.now c.args.at (concat (pieces s (plain b))) c.put-in-Case.new.out c.put-in-Case.result) (sym c.in-Case.is)
-    (writes_same (round ++ (_ ∷ _ ∷ c.in-Case.updates ∷ c.in-Case.junk ∷ (text ++ (c.in-Case.cipher.now ++ []))))
-    (λ i. round ++ (sym (code_of_kind c.in-Case.xkind codes.0) i ∷ sym (code_of_role c.in-Case.role codes.1) i ∷ c.in-Case.updates ∷ c.in-Case.junk ∷ (text ++ (c.in-Case.cipher.now ++ []))))
-    (writes_then c.put_u32-at-in-Case.ensures.writes (writes_then c.put_u8-at-in-Case.ensures.writes (writes_then c.put_u8-at-in-Case-2.ensures.writes (writes_then c.put_u8-at-in-Case-3.ensures.writes (writes_then c.put_u8-at-in-Case-4.ensures.writes (writes_then (c.put_terms-at.ensures.writes c.in-Case.round windows) (writes_last c.put-in-Case.ensures))))))))
+    (writes_then c.put_u32-at-in-Case.ensures.writes (writes_then c.put_side-at.ensures.writes (writes_then c.put_u8-at-in-Case.ensures.writes (writes_then c.put_u8-at-in-Case-2.ensures.writes (writes_then (c.put_terms-at.ensures.writes c.in-Case.round windows) (writes_last c.put-in-Case.ensures))))))
+
+pub returns-in-KeyReq : goal.returns-in-KeyReq
+returns-in-KeyReq c =
+    let s = c.args.shape.now in
+    subst (λ (b : RawBody). Appends c.args.out.now c.args.at (concat (pieces s (plain b))) c.put_side.new.out c.put_side.result) (sym c.in-KeyReq.is)
+    (writes_then c.put_u32-at-in-KeyReq.ensures.writes c.put_side.ensures.writes)
 
 pub returns-in-Key : goal.returns-in-Key
 returns-in-Key c =
     let s = c.args.shape.now in
-    let codes = subst (λ (b : RawBody). AreCodes b) c.in-Key.is c.requires.body.codes in
-    let round = u32_bytes c.in-Key.round in
     subst (λ (b : RawBody). Appends c.args.out.now c.args.at (concat (pieces s (plain b))) c.put-in-Key.new.out c.put-in-Key.result) (sym c.in-Key.is)
-    (writes_same (round ++ (_ ∷ _ ∷ (c.in-Key.key.now ++ [])))
-    (λ i. round ++ (sym (code_of_kind c.in-Key.xkind codes.0) i ∷ sym (code_of_role c.in-Key.role codes.1) i ∷ (c.in-Key.key.now ++ [])))
-    (writes_then c.put_u32-at-in-Key.ensures.writes (writes_then c.put_u8-at-in-Key.ensures.writes (writes_then c.put_u8-at-in-Key-2.ensures.writes (writes_last c.put-in-Key.ensures)))))
+    (writes_then c.put_u32-at-in-Key.ensures.writes (writes_then c.put_side-at-in-Key.ensures.writes (writes_last c.put-in-Key.ensures)))

@@ -3,7 +3,6 @@ use Rattle.std.specs.Prelude.{option_map}
 use Rattle.std.specs.Option.{option_or}
 use Rattle.bar_terms.specs.Table.{digests_of}
 use Rattle.bar_wire.specs.Datagram.{Datagram, KeyGiven, Place, Key, place_of}
-use Rattle.bar_wire.specs.Places.{kind_from, role_from}
 use Rattle.bar_wire.specs.Views.{datagram, plain}
 use Rattle.bar_session.specs.Time.{round_after}
 use Rattle.bar_rules.specs.Member.{Member}
@@ -20,7 +19,7 @@ returns-in_default-place-clause-learns c k h sound now is =
     let me : Member = member_of c.args.self.now.who in
     let d : Datagram = datagram me.session.shape c.args.arrival.now.view in
     let w = c.in-Key in
-    let g : KeyGiven = record { round = w.round; kind = kind_from w.xkind; role = role_from w.role; key = w.key.now } in
+    let g : KeyGiven = record { round = w.round; kind = w.xkind; role = w.role; key = w.key.now } in
     absurd (no_place d g (ap plain w.is)
     (sym c.args.arrival.now.placed ∙ ap (option_map place_in) c.in_default-place.is))
 
@@ -29,7 +28,7 @@ returns-in_default-heard_view-clause-learns c k h sound now is =
     let me : Member = member_of c.args.self.now.who in
     let d : Datagram = datagram me.session.shape c.args.arrival.now.view in
     let w = c.in-Key in
-    let g : KeyGiven = record { round = w.round; kind = kind_from w.xkind; role = role_from w.role; key = w.key.now } in
+    let g : KeyGiven = record { round = w.round; kind = w.xkind; role = w.role; key = w.key.now } in
     let body : d.message.body ≡ Key g = ap plain w.is in
     let p : Place = place_in c.in-Some.place in
     let at : place_of d.message ≡ Some p = sym c.args.arrival.now.placed ∙ ap (option_map place_in) c.in-Some.is in
@@ -45,7 +44,7 @@ returns-in_default-unseal-clause-learns c k h sound now is =
     let s = c.args.self.now.store in
     let d : Datagram = datagram me.session.shape c.args.arrival.now.view in
     let w = c.in-Key in
-    let g : KeyGiven = record { round = w.round; kind = kind_from w.xkind; role = role_from w.role; key = w.key.now } in
+    let g : KeyGiven = record { round = w.round; kind = w.xkind; role = w.role; key = w.key.now } in
     let body : d.message.body ≡ Key g = ap plain w.is in
     let p : Place = place_in c.in-Some.place in
     let at : place_of d.message ≡ Some p = sym c.args.arrival.now.placed ∙ ap (option_map place_in) c.in-Some.is in
@@ -62,7 +61,7 @@ returns-clause-learns c k h sound now is =
     let s = c.args.self.now.store in
     let d : Datagram = datagram me.session.shape c.args.arrival.now.view in
     let w = c.in-Key in
-    let g : KeyGiven = record { round = w.round; kind = kind_from w.xkind; role = role_from w.role; key = w.key.now } in
+    let g : KeyGiven = record { round = w.round; kind = w.xkind; role = w.role; key = w.key.now } in
     let body : d.message.body ≡ Key g = ap plain w.is in
     let p : Place = place_in c.in-Some.place in
     let at : place_of d.message ≡ Some p = sym c.args.arrival.now.placed ∙ ap (option_map place_in) c.in-Some.is in

@@ -7,7 +7,6 @@ use Rattle.bar_case.specs.Opened.{opening, opened_blocks, AreTold}
 use Rattle.bar_case.specs.declared.findings.Opening.TheVariants.{Good}
 use Rattle.bar_wire.specs.Bodies.{briefcase_in}
 use Rattle.bar_wire.specs.Datagram.{Briefcase}
-use Rattle.bar_wire.specs.Places.{kind_from, role_from}
 use Rattle.bar_wire.specs.Views.{plain}
 use Rattle.bar_wire.specs.declared.shape.Shape.{Shape}
 use Rattle.bar_rules.specs.Values.{opening_of}
@@ -25,8 +24,8 @@ returns-in-Good-clause-given c told now is can counts near =
     let t = plain_terms w.terms in
     let case : Briefcase = record {
       round = w.round;
-      kind = kind_from w.xkind;
-      role = role_from w.role;
+      kind = w.xkind;
+      role = w.role;
       updates = w.updates;
       junk = w.junk;
       terms = t;
@@ -34,17 +33,16 @@ returns-in-Good-clause-given c told now is can counts near =
     } in
     let same : Some case ≡ Some told = ap briefcase_in (sym (ap plain w.is) ∙ is) in
     let cap : c.cap-cap.result ≡ s.cap = c.cap-cap.ensures in
-    let role : c.role_from-role.result ≡ case.role = c.role_from-role.ensures in
     let id : c.shape.result.id ≡ s.shape.id = ap (λ (s : Shape). s.id) c.shape.ensures.value in
     let good : opening_of s table x case key ≡ Good c.in-Good.field-0 =
-    sym (c.unseal-opening.ensures.opening ∙ (λ i. opening (id i) x (cap i) t (role i) w.cipher.now key (digests_of (c.table.ensures i).lists))) ∙ c.in-Good.is
+    sym (c.unseal-opening.ensures.opening ∙ (λ i. opening (id i) x (cap i) t w.role w.cipher.now key (digests_of (c.table.ensures i).lists))) ∙ c.in-Good.is
     in
     let items : take c.promise.result.len c.promise.result.items ≡ promise s.cap t case.role =
-    c.promise.ensures.items ∙ (λ i. promise (cap i) t (role i))
+    c.promise.ensures.items ∙ (λ i. promise (cap i) t w.role)
     in
-    let rest : List (List ℕ) = drop (length (promised_updates c.cap-cap.result t c.role_from-role.result)) c.args.out.now in
+    let rest : List (List ℕ) = drop (length (promised_updates c.cap-cap.result t w.role)) c.args.out.now in
     let blocks : c.unseal-opening.new.out ≡ opened_blocks s.cap t case.role w.cipher.now key ++ rest =
-    c.unseal-opening.ensures.placed ∙ (λ i. opened_blocks (cap i) t (role i) w.cipher.now key ++ rest)
+    c.unseal-opening.ensures.placed ∙ (λ i. opened_blocks (cap i) t w.role w.cipher.now key ++ rest)
     in
     let digests : AreTold table (promised_updates s.cap t case.role) (opened_blocks s.cap t case.role w.cipher.now key) =
     c.good_openings_have_their_digests.ensures s.shape.id x s.cap t case.role w.cipher.now key table c.in-Good.field-0 good
@@ -64,18 +62,17 @@ returns-in_default-opening c =
     let t = plain_terms w.terms in
     let case : Briefcase = record {
       round = w.round;
-      kind = kind_from w.xkind;
-      role = role_from w.role;
+      kind = w.xkind;
+      role = w.role;
       updates = w.updates;
       junk = w.junk;
       terms = t;
       cipher = w.cipher.now;
     } in
     let cap : c.cap-cap.result ≡ s.cap = c.cap-cap.ensures in
-    let role : c.role_from-role.result ≡ case.role = c.role_from-role.ensures in
     let id : c.shape.result.id ≡ s.shape.id = ap (λ (s : Shape). s.id) c.shape.ensures.value in
     let opened : c.unseal-opening.result ≡ opening_of s table x case key =
-    c.unseal-opening.ensures.opening ∙ (λ i. opening (id i) x (cap i) t (role i) w.cipher.now key (digests_of (c.table.ensures i).lists))
+    c.unseal-opening.ensures.opening ∙ (λ i. opening (id i) x (cap i) t w.role w.cipher.now key (digests_of (c.table.ensures i).lists))
     in
     record {
       given = λ told now is can counts near.
