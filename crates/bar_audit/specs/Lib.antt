@@ -10,3 +10,4 @@ pub mod Balance
 pub mod Shown
 pub mod Given
 pub mod Audits
+pub mod Worlds

@@ -63,10 +63,10 @@ at-output names old new told (inr (inr p)) =
     ]
 
 -- all that stands
-pub stands : ShownIsPacked → AreInRange → (names : PackFiles) (old new : Outside) (status : ℕ) → IsTrue new.files.told →
+pub stands : ShownIsPacked → TablesAreSpelled → AreInRange → (names : PackFiles) (old new : Outside) (status : ℕ) → IsTrue new.files.told →
     Outcome names old new status → PackStands names old new status
-stands law ranged names old new status told o = record {
-  packed = λ zero. packed names old new law ranged told (subst (Outcome names old new) zero o);
+stands law spells ranged names old new status told o = record {
+  packed = λ zero. packed names old new law spells ranged told (subst (Outcome names old new) zero o);
   not_packed = λ one. not-packed names old new (subst (Outcome names old new) one o);
   front = a_front names old new status told o;
   others = λ path differs. other-untouched names old new status path told differs o;

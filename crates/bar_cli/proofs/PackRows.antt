@@ -13,6 +13,7 @@ use Rattle.bar_judge.specs.TableFile.{table_of}
 use Rattle.bar_judge.specs.declared.table_fault.TableFault.{TableFault}
 use Rattle.bar_proof.specs.Packing.{IsPacked, ShownIsPacked, packed_bytes}
 use Rattle.bar_proof.specs.ProofFile.{evidence_of}
+use Rattle.bar_proof.specs.Laws.{TablesAreSpelled}
 use Rattle.bar_session_files.specs.Accepting.{HasSession, session_of}
 use Rattle.bar_cli.specs.Judge.Judging.{lists_of, or_place, verdict_of, verdict_line}
 use Rattle.bar_cli.specs.Pack.{PackFiles, HasInputs, HasTable, PackAccepted, HasBadTable, HasBadEvidence, HasShownOne, Packed, NotPacked, IsPackCall, packed_line, packing_actions, by_verdict, by_datagrams, by_lists, by_session, evidence_plan, table_plan, pack_plan, verdict_in, file_in, file_of}
@@ -179,14 +180,14 @@ same-shown s table evidence file lists ds party fault t e v p =
 
 module _ (names : PackFiles) (old new : Outside) where
   -- at 0 the proof was packed
-  pub packed : ShownIsPacked → AreInRange → IsTrue new.files.told → Outcome names old new 0 → Packed names old new
-  packed law ranged told (inl r) = absurd (elim r.1 [
+  pub packed : ShownIsPacked → TablesAreSpelled → AreInRange → IsTrue new.files.told → Outcome names old new 0 → Packed names old new
+  packed law spells ranged told (inl r) = absurd (elim r.1 [
     | inl stop ↦ go-on 0 refl stop
     | inr why ↦ elim why [ inl k ↦ differ 0 4 refl k.0 | inr k ↦ differ 0 8 refl k.0 ]
   ])
-  packed law ranged told (inr (inl t)) =
+  packed law spells ranged told (inr (inl t)) =
       absurd (elim t.told.ended [ inl same ↦ differ 0 1 refl same | inr stop ↦ go-on 0 refl stop ])
-  packed law ranged told (inr (inr p)) =
+  packed law spells ranged told (inr (inr p)) =
       let one = p.one in
       let i = one.accepted.by_table.inputs in
       let lists = one.accepted.by_table.lists in
@@ -201,6 +202,7 @@ module _ (names : PackFiles) (old new : Outside) where
       record {
         one = one;
         packed = is;
+        spelled = λ bytes read_lists is_read. spells i.session i.table read_lists bytes is_read;
         party_is = same.0;
         fault_is = same.1;
         written = m.written;

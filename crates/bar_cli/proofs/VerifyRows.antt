@@ -9,6 +9,7 @@ use Rattle.bar_roster.specs.declared.fault.SessionFault.{SessionFault}
 use Rattle.bar_session.specs.SessionData.{SessionData}
 use Rattle.bar_rules.specs.Judge.Verdict.{Verdict, Fault, Why, Shown, NotShown}
 use Rattle.bar_proof.specs.declared.proof_fault.ProofFault.{ProofFault}
+use Rattle.bar_proof.specs.Laws.{ProofsAreSpelled}
 use Rattle.bar_session_files.specs.Accepting.{HasSession, session_of}
 use Rattle.bar_cli.specs.Judge.Judging.{verdict_of_proof, verdict_line, status_of_verdict}
 use Rattle.bar_cli.specs.Judge.Plan.{saying_plan}
@@ -87,38 +88,52 @@ module _ (reads : ReadsFirst) (ends : EndsThere) (shows : ShowsThere) (names : V
 -- ---- the rows
 
 -- a verdict of this status was printed
-verified : (names : VerifyFiles) (old new : Outside) (status : ℕ) → is_stop status ≡ false →
+verified : ProofsAreSpelled → (names : VerifyFiles) (old new : Outside) (status : ℕ) → is_stop status ≡ false →
     (IsRefused names old.files.content status → ⊥) → Outcome names old new status → HasVerified names status old new
-verified names old new status go not_refused (inl r) = absurd (elim r.1 [ inl stop ↦ go-on status go stop | inr why ↦ not_refused why ])
-verified names old new status go not_refused (inr a) = (
+verified spells names old new status go not_refused (inl r) = absurd (elim r.1 [ inl stop ↦ go-on status go stop | inr why ↦ not_refused why ])
+verified spells names old new status go not_refused (inr a) = (
   a.0,
   elim a.2.ended [ inl same ↦ same | inr stop ↦ absurd (go-on status go stop) ],
-  record { accepted = a.1; printed = a.2.whole go; files = a.2.files },
+  record {
+    accepted = a.1;
+    spelled = λ bytes proof is. spells a.1.session a.1.bytes proof bytes is;
+    printed = a.2.whole go;
+    files = a.2.files;
+  },
 )
 
 -- so it is at 0 and at 1
-pub verified_so : (names : VerifyFiles) (old new : Outside) (status : ℕ) → (status ≡ 0) ⊎ (status ≡ 1) → Outcome names old new status →
+pub verified_so : ProofsAreSpelled → (names : VerifyFiles) (old new : Outside) (status : ℕ) → (status ≡ 0) ⊎ (status ≡ 1) → Outcome names old new status →
     HasVerified names status old new
-verified_so names old new status (inl e) o =
-    verified names old new status (ap is_stop e)
+verified_so spells names old new status (inl e) o =
+    verified spells names old new status (ap is_stop e)
     (λ r. elim r [ inl k ↦ differ 0 4 refl (sym e ∙ k.0) | inr k ↦ differ 0 8 refl (sym e ∙ k.0) ]) o
-verified_so names old new status (inr e) o =
-    verified names old new status (ap is_stop e)
+verified_so spells names old new status (inr e) o =
+    verified spells names old new status (ap is_stop e)
     (λ r. elim r [ inl k ↦ differ 1 4 refl (sym e ∙ k.0) | inr k ↦ differ 1 8 refl (sym e ∙ k.0) ]) o
 
-module _ (names : VerifyFiles) (old new : Outside) where
+-- whatever the status, no file is changed
+pub same_files : (names : VerifyFiles) (old new : Outside) (status : ℕ) → Outcome names old new status → SameFiles old new
+same_files names old new status (inl r) = r.0.files
+same_files names old new status (inr a) = a.2.files
+
+module _ (spells : ProofsAreSpelled) (names : VerifyFiles) (old new : Outside) where
   pub shown : Outcome names old new 0 → (party : ℕ) × (fault : Fault) × Verified names (Shown party fault) old new
   shown o =
-      let j = verified_so names old new 0 (inl refl) o in
+      let j = verified_so spells names old new 0 (inl refl) o in
       let s = is-shown j.0 j.1 in
       (s.0, s.1, subst (λ v. Verified names v old new) s.2 j.2)
 
   pub not_shown : Outcome names old new 1 → (why : Why) × Verified names (NotShown why) old new
   not_shown o =
-      let j = verified_so names old new 1 (inr refl) o in
+      let j = verified_so spells names old new 1 (inr refl) o in
       let s = is-not_shown j.0 j.1 in
       (s.0, subst (λ v. Verified names v old new) s.1 j.2)
 
+  pub stands : (status : ℕ) → Outcome names old new status → VerifyStands names old new status
+  stands status o = record { said = λ which. verified_so spells names old new status which o; files = same_files names old new status o }
+
+module _ (names : VerifyFiles) (old new : Outside) where
   -- at a refusal nothing was printed
   pub refused_so : (status : ℕ) → is_stop status ≡ false → (4 ≡ status) ⊎ (8 ≡ status) → Outcome names old new status →
       IsUnchanged status old new × IsRefused names old.files.content status
@@ -139,13 +154,6 @@ module _ (names : VerifyFiles) (old new : Outside) where
   pub front_or_nothing : (status : ℕ) → Outcome names old new status → NothingPrinted old new ⊎ VerifiedFront names old new
   front_or_nothing status (inl r) = inl r.0.out
   front_or_nothing status (inr a) = inr (record { verdict = a.0; accepted = a.1; printed = a.2.front })
-
-  pub same_files : (status : ℕ) → Outcome names old new status → SameFiles old new
-  same_files status (inl r) = r.0.files
-  same_files status (inr a) = a.2.files
-
-  pub stands : (status : ℕ) → Outcome names old new status → VerifyStands names old new status
-  stands status o = record { said = λ which. verified_so names old new status which o; files = same_files status o }
 
 -- ---- the calls
 

@@ -11,10 +11,10 @@ use Rattle.bar_terms.specs.Table.{Lists}
 use Rattle.bar_roster.specs.declared.fault.SessionFault.{SessionFault}
 use Rattle.bar_session.specs.SessionData.{SessionData}
 use Rattle.bar_rules.specs.Judge.Verdict.{Fault, Why, Verdict, Shown, NotShown}
-use Rattle.bar_proof.specs.Packing.{IsPacked, packed_bytes}
+use Rattle.bar_proof.specs.Packing.{IsPacked, IsSpelled, packed_bytes}
 use Rattle.bar_proof.specs.ProofFile.{evidence_of}
 use Rattle.bar_session_files.specs.Accepting.{HasSession, session_of}
-use Rattle.bar_cli.specs.Judge.Judging.{lists_of, verdict_of, verdict_line}
+use Rattle.bar_cli.specs.Judge.Judging.{AreBytes, lists_of, verdict_of, verdict_line}
 use Rattle.bar_cli.specs.Judge.Plan.{saying_plan}
 use Rattle.bar_cli.specs.Refusals.{session_refused, table_refused, evidence_refused}
 
@@ -120,6 +120,9 @@ pub record Packed (names : PackFiles) (old new : Outside) : Type 0 where
   pub one : HasShownOne names old.files.content
   pub packed : IsPacked one.accepted.by_table.inputs.session one.accepted.by_table.inputs.table one.accepted.by_table.inputs.evidence
       (file_of names old.files.content one)
+  -- the table file is the encoding of its manifests, with no byte besides
+  pub spelled : AreBytes one.accepted.by_table.inputs.table →
+      IsSpelled one.accepted.by_table.inputs.session one.accepted.by_table.inputs.table
   pub party_is : packed.party ≡ one.party
   pub fault_is : packed.fault ≡ one.fault
   pub written : new.files.content names.proof ≡ Some (file_of names old.files.content one)

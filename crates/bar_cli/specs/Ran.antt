@@ -75,7 +75,8 @@ pub record ByTheRules (wanted : Option Line) (old new : Outside) (status : ℕ) 
   pub peer_stands : (names : PeerNames) → wanted ≡ Some (line.peer names) → IsTrue new.files.told → peer.PeerStands names old new
   -- whatever its status, a peer did nothing over the link, and the status isn't 0; or what it sent is a front of what the rules send over
   -- the inputs that it took, all of it at 0; and at each moment over them each datagram is signed by rule, its exchanges balance, its keys
-  -- go to partners, bad keys leave evidence, all evidence that it keeps is shown, nobody frames it, and no leaf signs twice
+  -- go to partners, bad keys leave evidence, all evidence that it keeps is shown, nobody frames it under a table that agrees with its own,
+  -- and no leaf signs twice
   pub peer_headline : (names : PeerNames) → wanted ≡ Some (line.peer names) → IsTrue new.files.told → PeerHeadline names old new status
   -- a broadcaster that ends with 0 took what the link gave up to its end or to the last tick, has sent exactly what the rules have it
   -- over these inputs, paced, and has written and printed what it found
@@ -91,7 +92,7 @@ pub record ByTheRules (wanted : Option Line) (old new : Outside) (status : ℕ) 
   pub sends : (names : ReplayFiles) → wanted ≡ Some (line.replay names) → IsTrue new.files.told → status ≡ 0 → SendsByTheRules names old new
   -- whatever its status, a replay printed nothing, or a front of the transcript up to one place of its recording; and whatever the
   -- recording's inputs are, at each moment, each datagram is signed by rule, exchanges balance, keys go to partners, bad keys leave
-  -- evidence, all evidence is shown, nobody frames the peer, and no leaf signs twice
+  -- evidence, all evidence is shown, nobody frames the peer under a table that agrees with its own, and no leaf signs twice
   pub replay_headline : (names : ReplayFiles) → wanted ≡ Some (line.replay names) → IsTrue new.files.told →
       ReplayHeadline names old new status
   -- an audit that ends with 0 or 1 has printed a line for each exchange that its recordings record, in order, and then that all are

@@ -8,8 +8,9 @@ use Rattle.bar_roster.specs.declared.fault.SessionFault.{SessionFault}
 use Rattle.bar_session.specs.SessionData.{SessionData}
 use Rattle.bar_rules.specs.Judge.Verdict.{Verdict}
 use Rattle.bar_proof.specs.declared.proof_fault.ProofFault.{ProofFault}
+use Rattle.bar_proof.specs.Laws.{IsProofSpelled}
 use Rattle.bar_session_files.specs.Accepting.{HasSession, session_of}
-use Rattle.bar_cli.specs.Judge.Judging.{verdict_of_proof, verdict_line, status_of_verdict}
+use Rattle.bar_cli.specs.Judge.Judging.{AreBytes, verdict_of_proof, verdict_line, status_of_verdict}
 use Rattle.bar_cli.specs.Judge.Plan.{saying_plan}
 use Rattle.bar_cli.specs.Refusals.{session_refused, proof_refused}
 
@@ -57,6 +58,8 @@ pub record HasBadProof (names : VerifyFiles) (content : Content) (fault : ProofF
 -- both were accepted, this is the verdict of the rules, and its line was printed and nothing else done
 pub record Verified (names : VerifyFiles) (verdict : Verdict) (old new : Outside) : Type 0 where
   pub accepted : VerifyAccepted names old.files.content verdict
+  -- the proof file is the encoding of its manifests and of its evidence, with no byte besides
+  pub spelled : AreBytes accepted.bytes → IsProofSpelled accepted.session accepted.bytes
   pub printed : new.out.bytes ≡ old.out.bytes ++ verdict_line verdict
   pub files : SameFiles old new
 

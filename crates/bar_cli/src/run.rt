@@ -34,7 +34,7 @@ use bar_party_commands::{
     only_its_files_are_changed_by_a_broadcaster, only_its_files_are_changed_by_a_peer, peer,
 };
 use bar_peer::rules_give_the_run;
-use bar_proof::laws::what_is_shown_is_packed;
+use bar_proof::laws::{proofs_are_spelled, tables_are_spelled, what_is_shown_is_packed};
 use bar_roster::laws::{accepted_secrets_are_held, accepted_sessions_are_in_range};
 use bar_world::laws::honest_peers_stay;
 use std::alloc::Global;
@@ -83,8 +83,10 @@ pub fn bar_run<F: Files, L: Link, K: Sink, S: Spawner>(
     only_its_files_are_changed_by_a_broadcaster();
     only_its_files_are_changed_by_a_peer();
     plans_go_in_order();
+    proofs_are_spelled();
     rules_give_the_run();
     signed_by_rule();
+    tables_are_spelled();
     what_is_shown_is_packed();
     let status = run_words(alloc, words, files, link, out, spawn);
     report(alloc, &status, err)

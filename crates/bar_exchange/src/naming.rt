@@ -155,7 +155,7 @@ fn naming_from<'a, V: Verifier>(
 
 /// The first signed datagram that was heard in another exchange than this one with a party, whose signature names a leaf: of the
 /// exchanges that may still be asked about, in their order, and of the side that isn't this peer's. Where there is none, each slot is
-/// looked at once; nothing is hashed and nothing read.
+/// looked at once; no hash is counted and nothing is read.
 pub fn naming_elsewhere<'a, V: Verifier>(
     verifier: &V,
     ledger: &'a Ledger,

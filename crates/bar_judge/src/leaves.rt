@@ -18,7 +18,7 @@ fn is_same(one: Identity, two: Identity) -> bool
     one == two
 }
 
-/// Whether two datagrams of different identities have signatures that name one leaf. It hashes nothing and reads no message.
+/// Whether two datagrams of different identities have signatures that name one leaf. It counts no hash and reads no message.
 pub(crate) fn is_leaf_twice<V: Verifier>(
     session: &Session,
     verifier: &V,

@@ -1,5 +1,5 @@
 -- A party of a world does what its own run does: its log, and what it played and sent, follow from the inputs that the moves gave it.
-use Rattle.std.specs.Prelude.{◌≡◌, ℕ, ◌≤◌, ◌==◌, Bool, false, List, [], ◌∷◌, ◌++◌, map, filter, Option, Some, None, if◌then◌else◌, slice_get}
+use Rattle.std.specs.Prelude.{◌≡◌, ℕ, ◌≤◌, ◌==◌, Bool, false, List, [], ◌∷◌, ◌++◌, map, filter, Option, Some, None, if◌then◌else◌, slice_get, Contains}
 use Rattle.std.specs.Option.{option_map_or}
 use Rattle.bar_rules.specs.Broadcaster.Sending.{caster_step}
 use Rattle.bar_wire.specs.Datagram.{Datagram}
@@ -10,8 +10,8 @@ use Rattle.bar_rules.specs.Member.{Session}
 use Rattle.bar_rules.specs.Peer.Run.{step}
 use Rattle.bar_rules.specs.Runs.{Outcome, state_after, played_from, sends_from}
 use Rattle.bar_rules.specs.Values.{datagram_bytes, datagram_of}
-use Rattle.bar_rules.specs.World.World.{World, Move, TickOf, Deliver, Hostile, member, happens, Setup, IsSetup, initial}
-use Rattle.bar_laws.specs.Parties.{after}
+use Rattle.bar_rules.specs.World.World.{World, Move, TickOf, Deliver, Hostile, member, happens, Setup, IsSetup, IsGenuine, initial}
+use Rattle.bar_laws.specs.Parties.{ForgesNothing, after}
 
 -- ---- the inputs of a party
 
@@ -36,6 +36,14 @@ inputs_from setup w party (m ∷ ms) = input_at w party m ++ inputs_from setup (
 -- its ticks, what is delivered to it out of the pool, and what hostile parties hand it, in order
 abbrev pub inputs_of : Setup → List Move → ℕ → List Input
 inputs_of setup moves party = inputs_from setup (initial setup) party moves
+
+-- Where nothing is forged, each signed datagram of a trusted party that stands among these inputs, admitted or not, stands in that party's
+-- log as signed, with this signature.
+abbrev pub GivenIsGenuine : Type 0
+GivenIsGenuine =
+    (setup : Setup) (trusted : ℕ → Bool) (moves : List Move) → ForgesNothing setup trusted moves
+    → (receiver : ℕ) (bytes : List ℕ) → Contains (inputs_of setup moves receiver) (event.Datagram bytes)
+    → IsGenuine setup trusted (after setup moves) bytes
 
 -- ---- its packets
 

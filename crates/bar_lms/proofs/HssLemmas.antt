@@ -1,7 +1,7 @@
 -- What is signed with two levels is accepted, has its length and names its leaf.
-use Rattle.std.proofs.Common.{◌≡◌, ℕ, ◌+◌, ◌/◌, ◌%◌, ◌<◌, ◌≤◌, ◌++◌, true, false, length, take, drop, List, refl, arith, ap, ◌∙◌, length-append}
+use Rattle.std.proofs.Common.{◌≡◌, ℕ, ◌+◌, ◌/◌, ◌%◌, ◌<◌, ◌≤◌, ◌++◌, true, false, length, take, drop, List, refl, arith, ap, subst, ◌∙◌, length-append}
 use Rattle.std.proofs.lemmas.Bool.{and_parts, and_from, eqb-true, eq-eqb}
-use Rattle.std.proofs.lemmas.List.{append_assoc, take_at, drop_at, take-append-le, length-take-le}
+use Rattle.std.proofs.lemmas.List.{append_assoc, take_at, drop_at, take-append-le, take-take, length-take-le}
 use Rattle.std.proofs.lemmas.Nat.{from_be_bytes-to_be_bytes_4, pow_pos, div_below}
 use Rattle.std.specs.Bool.{Decides}
 use Rattle.std.specs.Prelude.{codes, Bool, if◌then◌else◌}
@@ -12,9 +12,9 @@ use Rattle.bar_lms.specs.Params.{levels, signature_len}
 use Rattle.bar_lms.specs.Signature.{key_bytes, public_of, number_at}
 use Rattle.bar_lms.specs.Acceptance.{is_accepted_under, steps_taken_under, Accepts}
 use Rattle.bar_lms.specs.Secret.{private_of, randomizer_of}
-use Rattle.bar_lms.specs.Hss.{HssSecret, leaves_of, numbered, upper_secret, upper_of, lower_of, lower_key, hss_public_key, hss_leaves, upper_signature, lower_signature, hss_signed, hss_signature_len, upper_part, key_part, lower_part, hss_leaf_in, HssAccepts, is_hss_formed, is_hss_accepted, hss_steps_taken, hss_most_steps}
+use Rattle.bar_lms.specs.Hss.{HssSecret, NamesItsLeaves, leaves_of, numbered, upper_secret, upper_of, lower_of, lower_key, hss_public_key, hss_leaves, upper_signature, lower_signature, hss_signed, hss_signature_len, upper_part, key_part, lower_part, hss_leaf_in, HssAccepts, is_hss_formed, is_hss_accepted, hss_steps_taken, hss_most_steps}
 use Rattle.bar_lms.proofs.Accepted.{length-sha256, signature_accepted, signature_leaf}
-use Rattle.bar_lms.proofs.Decided.{passes, tree_key, tree_accepts, made_ident}
+use Rattle.bar_lms.proofs.Decided.{passes, tree_key, tree_accepts, made_ident, under_test}
 use Rattle.bar_lms.proofs.DigitLemmas.{level_facts}
 use Rattle.bar_lms.proofs.StepLemmas.{few_under}
 
@@ -203,3 +203,29 @@ hss_few top low key message sig =
     in
     elim (is_hss_formed top low key sig) as (λ b. (if b then steps_taken_under top (drop 4 key) (key_part top sig) (upper_part top sig) + (if is_accepted_under top (drop 4 key) (key_part top sig) (upper_part top sig) then steps_taken_under low (key_part top sig) message (lower_part top sig) else 0) else 0) ≤ hss_most_steps top low)
     [ true ↦ both (is_accepted_under top (drop 4 key) (key_part top sig) (upper_part top sig)) | false ↦ omega arith ]
+
+-- ---- the leaves that an accepted signature names
+
+accepted-leaf : (p : Params) (key message sig : List ℕ) → is_accepted_under p key message sig ≡ true → number_at sig 0 < leaves_of p
+accepted-leaf p key message sig accepted =
+    let a = (under_test p key message sig).0 accepted in
+    subst (λ (q : Params). number_at sig 0 < leaves_of q) a.params a.accepted.leaf
+
+-- the first number of a part is that of the whole at its place
+upper-number : (top : Params) (sig : List ℕ) → number_at (upper_part top sig) 0 ≡ number_at sig 4
+upper-number top sig = ap (from_be_bytes w32) (take-take 4 (signature_len top) (drop 4 sig) (signature_some top))
+
+pub names-leaves : (top low : Params) (key message sig : List ℕ) → is_hss_accepted top low key message sig ≡ true → low.height ≡ H5
+    → NamesItsLeaves top sig
+names-leaves top low key message sig accepted five =
+    let a = (formed_test top low key message sig).0 accepted in
+    let upper : number_at sig 4 < leaves_of top =
+    subst (λ (n : ℕ). n < leaves_of top) (upper-number top sig) (accepted-leaf top (drop 4 key) (key_part top sig) (upper_part top sig) a.upper)
+    in
+    let n : leaves_of low ≡ 32 = rw five refl in
+    let lower : number_at sig (60 + signature_len top) < 32 =
+    subst (λ (m : ℕ). number_at sig (60 + signature_len top) < m) n (accepted-leaf low (key_part top sig) message (lower_part top sig) a.lower)
+    in
+    let most = (level_facts top.height).leaves in
+    let small : number_at sig 4 < 32768 = omega (arith, most, upper) in
+    record { upper = upper; lower = lower; both = omega (arith, small, lower) }

@@ -1,5 +1,5 @@
 -- HSS of two levels (RFC 8554, 6): the leaves of one tree sign the public keys of trees below it, whose leaves sign messages.
-use Rattle.std.specs.Prelude.{◌≡◌, ℕ, ◌+◌, ◌*◌, ◌/◌, ◌%◌, ◌^◌, ◌==◌, ◌&&◌, Bool, true, if◌then◌else◌, List, ◌++◌, length, take, drop, codes}
+use Rattle.std.specs.Prelude.{◌≡◌, ℕ, ◌+◌, ◌*◌, ◌/◌, ◌%◌, ◌^◌, ◌<◌, ◌==◌, ◌&&◌, Bool, true, if◌then◌else◌, List, ◌++◌, length, take, drop, codes}
 use Rattle.std.specs.Int.{w32, to_be_bytes}
 use Rattle.bar_bytes.specs.Tag.{tagged}
 use Rattle.bar_lms.specs.declared.params.Params.{Params}
@@ -97,6 +97,12 @@ pub record HssAccepts (top low : Params) (key message sig : List ℕ) : Type 0 w
   pub signed_keys : number_at sig 0 ≡ 1
   pub upper : is_accepted_under top (drop 4 key) (key_part top sig) (upper_part top sig) ≡ true
   pub lower : is_accepted_under low (key_part top sig) message (lower_part top sig) ≡ true
+
+-- Both parts of a signature name a leaf of their trees, of which a lower one has 32, and together the leaf that the signature names.
+pub record NamesItsLeaves (top : Params) (sig : List ℕ) : Type 0 where
+  pub upper : number_at sig 4 < leaves_of top
+  pub lower : number_at sig (60 + signature_len top) < 32
+  pub both : hss_leaf_in top sig ≡ 32 * number_at sig 4 + number_at sig (60 + signature_len top)
 
 -- what is tested before any hash
 unfoldable pub is_hss_formed : Params → Params → List ℕ → List ℕ → Bool

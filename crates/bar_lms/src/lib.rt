@@ -5,7 +5,7 @@ pub use acceptance::{number_at, verify};
 pub use key::{KeyFault, PublicKey};
 pub use laws::{
     acceptance_is_tested, acceptance_under_types_is_tested, hss_acceptance_is_tested,
-    hss_signed_is_accepted, keys_are_tested, signed_is_accepted,
+    hss_accepted_names_its_leaves, hss_signed_is_accepted, keys_are_tested, signed_is_accepted,
 };
 pub use params::{BadType, Height, Ots, Params};
 pub use place::Place;

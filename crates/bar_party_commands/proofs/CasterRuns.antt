@@ -1,7 +1,8 @@
 -- What a broadcaster has done that ended, or was stopped.
-use Rattle.std.proofs.Common.{◌≡◌, ℕ, List, ◌++◌, [], cond, Option, None, refl, ap, ◌∙◌, inl, inr, IsTrue, true≢false, sym, arith}
+use Rattle.std.proofs.Common.{◌≡◌, ◌≢◌, ℕ, List, ◌++◌, [], cond, Option, None, refl, ap, ◌∙◌, inl, inr, IsTrue, true≢false, sym, arith}
 use Rattle.bar_outside.specs.Wire.{Arrival}
-use Rattle.bar_outside.specs.Plan.{Action, Outside, Ran, shown}
+use Rattle.bar_outside.specs.Plan.{Action, Outside, Ran, Touches, shown}
+use Rattle.bar_outside.proofs.Untouched.{content-untouched}
 use Rattle.bar_seeds.specs.declared.secrets.Secrets.{Secrets}
 use Rattle.bar_session.specs.SessionData.{SessionData}
 use Rattle.bar_core.specs.Rules.{Rules}
@@ -21,8 +22,14 @@ use Rattle.bar_party_commands.proofs.CasterBound.{IsCasterBehind, all-caster, is
 use Rattle.bar_party_commands.proofs.CasterRows.{Outcome, accepted-asked, accepted-reached, caster-kinds}
 use Rattle.bar_party_commands.proofs.Endings.{as-untouched, ended-at}
 use Rattle.bar_party_commands.proofs.Printed.{front-at_end}
-use Rattle.bar_party_commands.proofs.RunLaws.{Finds, WholeSent, found-at}
+use Rattle.bar_party_commands.proofs.RunLaws.{Finds, WholeSent, found-at, others-at}
 use Rattle.bar_party_commands.proofs.RunSplits.{begun-first, ended-behind, front-behind, outside-at, printed-behind, ran-behind, received-behind}
+
+-- no other file is changed by the spending of the key
+unspent : (key : List ℕ) (s : SessionData) (k : Secrets) (path : List ℕ) → path ≢ key → Touches (spending key s k) path → ⊥
+unspent key s k path not_key (inl e) = not_key e
+unspent key s k path not_key (inr (inl e)) = not_key e
+unspent key s k path not_key (inr (inr none)) = none
 
 -- what holds of each run that was done in part
 abbrev pub PartSent : Type 0
@@ -132,6 +139,10 @@ module _ (held : AreHeld) (few : IsFew) (names : CasterNames) (given : List Arri
             all_sent None None names.found (r s k stream) given (bound s k) new whole
             ∙ ap (λ xs. old.wire.traffic.sent ++ xs) (sends (member_by s k) stream (taken_of (r s k stream) given));
         found = found-at finds None None names.found (r s k stream) given (bound s k) new whole ended few_others;
+        others = λ path not_key not_found.
+            others-at finds None None names.found (r s k stream) given (bound s k) new whole ended few_others path
+            (record { not_recording = tt; not_played = tt; not_found = not_found })
+            ∙ content-untouched (spending names.key s k) old.files.content path (unspent names.key s k path not_key);
         printed =
             printed-behind kinds c.ran all
             ∙ ap (λ b. old.out.bytes ++ shown (cond b (caster_summary (r s k stream) (taken_of (r s k stream) given)) [])) ended;

@@ -1,7 +1,8 @@
 -- What a peer has done that ended, or was stopped.
-use Rattle.std.proofs.Common.{◌≡◌, ◌<◌, ◌^◌, ℕ, List, [], ◌++◌, cond, Some, refl, ap, ◌∙◌, inl, inr, IsTrue, true≢false, sym, arith}
+use Rattle.std.proofs.Common.{◌≡◌, ◌≢◌, ◌<◌, ◌^◌, ℕ, List, [], ◌++◌, cond, Some, refl, ap, ◌∙◌, inl, inr, IsTrue, true≢false, sym, arith}
 use Rattle.bar_outside.specs.Wire.{Arrival}
-use Rattle.bar_outside.specs.Plan.{Action, Outside, Ran, shown}
+use Rattle.bar_outside.specs.Plan.{Action, Outside, Ran, Touches, shown}
+use Rattle.bar_outside.proofs.Untouched.{content-untouched}
 use Rattle.bar_seeds.specs.declared.secrets.Secrets.{Secrets}
 use Rattle.bar_session.specs.SessionData.{SessionData}
 use Rattle.bar_record.specs.Recording.{head_bytes}
@@ -25,8 +26,18 @@ use Rattle.bar_party_commands.proofs.Endings.{as-untouched, ended-at}
 use Rattle.bar_party_commands.proofs.PeerBound.{IsPeerBehind, all-peer, is-bound, is-of, played-at, recorded-at, split-peer}
 use Rattle.bar_party_commands.proofs.PeerRows.{Outcome, accepted-asked, accepted-reached, peer-kinds}
 use Rattle.bar_party_commands.proofs.Printed.{front-at_end}
-use Rattle.bar_party_commands.proofs.RunLaws.{Finds, WholeSent, found-at}
+use Rattle.bar_party_commands.proofs.RunLaws.{Finds, WholeSent, found-at, others-at}
 use Rattle.bar_party_commands.proofs.RunSplits.{begun-first, ended-behind, front-behind, outside-at, printed-behind, ran-behind, received-behind}
+
+-- no other file is begun before the binding
+unbegun : (names : PeerNames) (s : SessionData) (k : Secrets) (path : List ℕ) → path ≢ names.key → path ≢ names.played → path ≢ names.recording →
+    Touches (before_binding names s k) path → ⊥
+unbegun names s k path not_key not_played not_recording (inl e) = not_key e
+unbegun names s k path not_key not_played not_recording (inr (inl e)) = not_key e
+unbegun names s k path not_key not_played not_recording (inr (inr (inl e))) = not_played e
+unbegun names s k path not_key not_played not_recording (inr (inr (inr (inl e)))) = not_recording e
+unbegun names s k path not_key not_played not_recording (inr (inr (inr (inr (inl e))))) = not_recording e
+unbegun names s k path not_key not_played not_recording (inr (inr (inr (inr (inr none))))) = none
 
 -- what holds of each peer's run, done in part or whole
 
@@ -114,6 +125,10 @@ module _ (names : PeerNames) (s : SessionData) (k : Secrets) (given : List Arriv
       played = λ own. (done-peer own).played_is [] (played-at names own s k old.files.content) ∙ ap Some (plays me inputs);
       recorded = λ own. (done-peer own).recorded_is head (recorded-at names own s k old.files.content);
       found = found-at finds (Some names.recording) (Some names.played) names.found r given bound new ran-all ended few;
+      others = λ path not_key not_played not_recording not_found.
+          others-at finds (Some names.recording) (Some names.played) names.found r given bound new ran-all ended few path
+          (record { not_recording = not_recording; not_played = not_played; not_found = not_found })
+          ∙ content-untouched (before_binding names s k) old.files.content path (unbegun names s k path not_key not_played not_recording);
       printed =
           printed-behind (peer-kinds names s k given) ran (all-peer names s k given)
           ∙ ap (λ b. old.out.bytes ++ shown (cond b (peer_summary r inputs) [])) ended;

@@ -4,8 +4,8 @@ use Rattle.bar_outside.specs.Wire.{Arrival}
 use Rattle.bar_outside.specs.Plan.{Outside, Ran}
 use Rattle.bar_core.specs.Rules.{Rules}
 use Rattle.bar_core.specs.Runs.{sends_over}
-use Rattle.bar_node.specs.Runs.{is_ended, node_plan, taken_of}
-use Rattle.bar_node.specs.Stops.{FoundBy}
+use Rattle.bar_node.specs.Runs.{found_after, is_ended, node_plan, taken_of}
+use Rattle.bar_node.specs.Stops.{FoundBy, IsOther}
 use Rattle.bar_party_commands.specs.Stands.{AreFound}
 
 -- it has sent all
@@ -28,3 +28,10 @@ pub found-at : Finds → (recording played : Option (List ℕ)) (found : List �
 found-at finds recording played found r given old new ran ended few =
     let f = finds recording played found r given old new ran ended few in
     record { table = f.table; evidence = f.evidence }
+
+-- and it changed no other file
+pub others-at : Finds → (recording played : Option (List ℕ)) (found : List ℕ) (r : Rules) (given : List Arrival) (old new : Outside) →
+    Ran (node_plan recording played found r given) old new → IsTrue (is_ended r given) → r.peers < 2 ^ 64 →
+    (path : List ℕ) → IsOther recording played (found_after found r (taken_of r given)) path → new.files.content path ≡ old.files.content path
+others-at finds recording played found r given old new ran ended few path other =
+    (finds recording played found r given old new ran ended few).others path other

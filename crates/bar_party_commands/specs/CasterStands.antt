@@ -1,5 +1,6 @@
 -- What stands after `broadcaster`.
 use Rattle.std.specs.Prelude.{◌≡◌, ◌≢◌, ◌⊎◌, ◌<◌, ℕ, List, [], ◌++◌, Some, Ok, Err, IsTrue, length, true}
+use Rattle.std.specs.List.{AllByRecursion}
 use Rattle.bar_outside.specs.Disk.{Content, readable}
 use Rattle.bar_outside.specs.Plan.{Outside, shown}
 use Rattle.bar_outside.specs.Wire.{Arrival}
@@ -12,7 +13,7 @@ use Rattle.bar_session.specs.Fits.{Fits}
 use Rattle.bar_rules.specs.Broadcaster.Sending.{caster_step}
 use Rattle.bar_rules.specs.Members.{member_by}
 use Rattle.bar_rules.specs.Runs.{sends_from}
-use Rattle.bar_node.specs.Runs.{IsGiven, has_end, heard, is_ended, taken_of}
+use Rattle.bar_node.specs.Runs.{IsGiven, found_after, has_end, heard, is_ended, taken_of}
 use Rattle.bar_node.specs.Stops.{IsApart, StoppedSending}
 use Rattle.bar_session_files.specs.Accepting.{HasSession, fresh_key_of, session_of}
 use Rattle.bar_party_commands.specs.Streams.{room_of}
@@ -50,6 +51,11 @@ pub record CasterDone (names : CasterNames) (old new : Outside) : Type 0 where
       ++ packets session
       (sends_from (caster_step (member_by session secrets) stream) [] 1 (taken_of (rules_by session secrets stream) given))
   pub found : AreFound names.found (rules_by session secrets stream) (taken_of (rules_by session secrets stream) given) new.files.content
+  -- no other file is changed: of those of what was found, only the table file and those of the parties that evidence is kept against
+  pub others : (path : List ℕ) → path ≢ names.key →
+      AllByRecursion (λ f. f.name ≢ path)
+      (found_after names.found (rules_by session secrets stream) (taken_of (rules_by session secrets stream) given)) →
+      new.files.content path ≡ old.files.content path
   pub printed : new.out.bytes
       ≡ old.out.bytes
       ++ shown (caster_summary (rules_by session secrets stream) (taken_of (rules_by session secrets stream) given))

@@ -1,6 +1,6 @@
 -- What stands after `peer`.
 use Rattle.std.specs.Prelude.{◌≡◌, ◌≢◌, ◌⊎◌, ℕ, List, [], ◌++◌, Some, Err, IsTrue, false}
-use Rattle.std.specs.List.{concat, flat_map}
+use Rattle.std.specs.List.{AllByRecursion, concat, flat_map}
 use Rattle.bar_outside.specs.Disk.{Content, readable}
 use Rattle.bar_outside.specs.Plan.{Outside, shown}
 use Rattle.bar_outside.specs.Wire.{Arrival}
@@ -16,7 +16,7 @@ use Rattle.bar_core.specs.Rules.{Send}
 use Rattle.bar_core.specs.Runs.{contents_over, sends_over}
 use Rattle.bar_rules.specs.Members.{member_by}
 use Rattle.bar_rules.specs.Peer.Run.{played_by, sends_of}
-use Rattle.bar_node.specs.Runs.{IsGiven, has_end, heard, is_ended, taken_of}
+use Rattle.bar_node.specs.Runs.{IsGiven, found_after, has_end, heard, is_ended, taken_of}
 use Rattle.bar_node.specs.Stops.{AreApart, Cut, IsApart, IsFront, end_of}
 use Rattle.bar_session_files.specs.Accepting.{HasSession, fresh_key_of, session_of}
 use Rattle.bar_party_commands.specs.PeerPlan.{PeerAccepted, PeerNames, before_binding, rules_by}
@@ -48,6 +48,10 @@ pub record HasRun (names : PeerNames) (s : SessionData) (k : Secrets) (inputs : 
   pub played : HasOwnNames names → new.files.content names.played ≡ Some (played_by (member_by s k) inputs)
   pub recorded : HasOwnNames names → new.files.content names.recording ≡ Some (recording_bytes s.shape.id k.party inputs)
   pub found : AreFound names.found (rules_by s k) inputs new.files.content
+  -- no other file is changed: of those of what was found, only the table file and those of the parties that evidence is kept against
+  pub others : (path : List ℕ) → path ≢ names.key → path ≢ names.played → path ≢ names.recording →
+      AllByRecursion (λ f. f.name ≢ path) (found_after names.found (rules_by s k) inputs) →
+      new.files.content path ≡ old.files.content path
   pub printed : new.out.bytes ≡ old.out.bytes ++ shown (peer_summary (rules_by s k) inputs)
 
 -- A peer that ended with 0.

@@ -8,7 +8,7 @@ pub fn rules_give_the_run()
     ensures contents { RulesPlay }
 {}
 
-/// A signed datagram that a step admits is remembered behind it, so that its repeat in the next step costs no verification.
+/// A signed datagram that a step admits is remembered behind it, so that its repeat in the next step isn't verified again.
 pub fn admitted_datagrams_are_remembered()
     ensures { AdmittedIsRemembered }
 {}

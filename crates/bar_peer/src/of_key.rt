@@ -1,5 +1,6 @@
 //! The peer of a party's key.
-ghost use Rattle.std.specs.Prelude.{◌≡◌, [], false, IfOk};
+ghost use Rattle.std.specs.Prelude.{◌≡◌, ℕ, [], None, false, IfOk};
+ghost use Rattle.bar_seeds.specs.Checkpoints.{kept_of};
 ghost use Rattle.bar_hss.specs.Files.{IsPartyKeyOf};
 ghost use Rattle.bar_rules.specs.Members.{member_by};
 ghost use Rattle.bar_peer.specs.Memory.{member_of};
@@ -29,6 +30,8 @@ impl Peer<SessionScheme> {
         ensures sends { IfOk result (λ p. left_in p.orders ≡ []) }
         ensures contents { IfOk result (λ p. contents_left p.memory.store p.playing ≡ []) }
         ensures member { IfOk result (λ p. member_of p.memory.who ≡ member_by session key.secrets) }
+        ensures memo { IfOk result (λ p. p.checker.memo ≡ record { places = 256; pairs = [] }) }
+        ensures points { IfOk result (λ p. (peer : ℕ) → kept_of p.points peer ≡ None) }
     {
         let mut scheme = key.scheme;
         scheme.remember(alloc, leaves_in_use(&session.shape()))?;

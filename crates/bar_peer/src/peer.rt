@@ -27,7 +27,7 @@ pub struct Peer<S: Scheme> {
         (S.Verifier.signature_len checker.verifier) },
     ghost signs: { IsSignerOf (member_of memory.who) (S.signed checker.verifier) (S.leaf_count checker.verifier)
         (S.Verifier.signature_len checker.verifier) },
-    ghost seeds: { AreSeeds memory.who.session points },
-    ghost places: { checker.memo.places ≡ 256 },
+    pub ghost seeds: { AreSeeds memory.who.session points },
+    pub ghost places: { checker.memo.places ≡ 256 },
     ghost room: { most_orders memory.who.session ≤ orders.room },
 }

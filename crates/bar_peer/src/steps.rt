@@ -84,6 +84,8 @@ fn take_input<V: Verifier, L: StepLedger>(
     ensures first { AdmitsChecked memory.old (plain_input input.entry) checker.old.memo checker.new.memo }
     ensures memo { IsCheckedOnce (checked_in memory.old.who.session (plain_input input.entry)) checker.old.memo checker.new.memo }
     ensures verifier { checker.new.verifier ≡ checker.old.verifier }
+    ensures tick { is_tick (plain_input input.entry) ≡ true
+        → (checker.new.memo ≡ checker.old.memo) × (points.new ≡ points.old) × (steps.new ≡ steps.old) }
 {
     match input {
         Input::Tick => take_tick(memory, orders),
@@ -149,6 +151,9 @@ impl<S: Scheme> Peer<S> {
             self.old.checker.memo self.new.checker.memo }
         ensures first { StandsFirst self.old.memory (plain_input input.entry) self.new.checker.memo }
         ensures moves { MovesOn (sender_in self.old.memory.who.session (plain_input input.entry)) self.old.points self.new.points }
+        // a tick checks nothing, keeps no seed, and counts no hash
+        ensures tick { is_tick (plain_input input.entry) ≡ true
+            → (self.new.checker.memo ≡ self.old.checker.memo) × (self.new.points ≡ self.old.points) × (steps.new ≡ steps.old) }
         ensures reached { IsSeedKept self.old.memory (plain_input input.entry) self.new.points }
     {
         knowledge_is_enough();

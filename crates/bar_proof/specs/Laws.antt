@@ -50,6 +50,10 @@ ProofsAreSpelled =
     (s : Session) (bytes : List ℕ) (proof : Proof) → ((i : ℕ) → slice_index bytes i < 256) → proof_of s bytes ≡ Ok proof
     → IsProofFile s bytes proof
 
+-- The bytes of a proof file that is read are those of its manifests and of its evidence, with no byte besides.
+abbrev pub IsProofSpelled : Session → List ℕ → Type 0
+IsProofSpelled s bytes = (proof : Proof) → proof_of s bytes ≡ Ok proof → IsProofFile s bytes proof
+
 -- What is read as a table file is that of its manifests, with no byte besides.
 abbrev pub TablesAreSpelled : Type 0
 TablesAreSpelled =

@@ -1,8 +1,8 @@
 //! The seeds of a session's peers, and the partners that these choose.
-ghost use Rattle.std.specs.Prelude.{◌≡◌, ◌+◌, ◌≤◌, true, IfOk};
+ghost use Rattle.std.specs.Prelude.{◌≡◌, ℕ, ◌+◌, ◌-◌, ◌≤◌, [], true, unwrap_or, slice_get, None, IfOk};
 ghost use Rattle.bar_seeds.specs.Partners.{partner_of};
 ghost use Rattle.bar_seeds.specs.Seeds.{is_seed};
-ghost use Rattle.bar_seeds.specs.Checkpoints.{kept_round, MovesOn};
+ghost use Rattle.bar_seeds.specs.Checkpoints.{kept_of, kept_round, MovesOn};
 ghost use Rattle.bar_session.specs.Points.{AreSeeds, anchor_in};
 
 use crate::session::Session;
@@ -39,7 +39,8 @@ impl Session {
 
     /// What is kept of the seeds of its peers at first: nothing.
     pub fn checkpoints(&self, alloc: Global) -> Result<Checkpoints, AllocError>
-        ensures { IfOk result (AreSeeds self.now) }
+        ensures seeds { IfOk result (AreSeeds self.now) }
+        ensures empty { IfOk result (λ points. (peer : ℕ) → kept_of points peer ≡ None) }
     {
         let points = Checkpoints::make(alloc, self.shape().peers)?;
         Ok(points)

@@ -1,5 +1,5 @@
 -- What a table file spells, and what is said of evidence and of a proof file.
-use Rattle.std.specs.Prelude.{◌≡◌, ℕ, List, ◌++◌, codes, Result, Ok, Err}
+use Rattle.std.specs.Prelude.{◌≡◌, ◌<◌, ℕ, List, ◌++◌, codes, slice_index, Result, Ok, Err}
 use Rattle.bar_terms.specs.Table.{Table, Lists, digests_of}
 use Rattle.bar_session.specs.SessionData.{SessionData}
 use Rattle.bar_rules.specs.Judge.Verdict.{Verdict, Shown, NotShown}
@@ -10,6 +10,10 @@ use Rattle.bar_judge.specs.TableFile.{table_of}
 use Rattle.bar_judge.specs.Texts.{verdict_text}
 use Rattle.bar_proof.specs.ProofFile.{proof_verdict}
 use Rattle.bar_proof.specs.declared.proof_fault.ProofFault.{ProofFault}
+
+-- each of these is a byte, as what a file holds
+abbrev pub AreBytes : List ℕ → Type 0
+AreBytes bytes = (i : ℕ) → slice_index bytes i < 256
 
 -- the place of a bad entry; no table file wants memory
 abbrev pub place_of : TableFault → ℕ

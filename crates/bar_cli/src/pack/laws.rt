@@ -14,7 +14,7 @@ ghost use Rattle.bar_cli.specs.Pack.{PackFiles, PackAccepted, HasBadTable, HasBa
 ghost use Rattle.bar_cli.specs.Verify.{HasBadSession};
 
 use bar_outside::plans_go_in_order;
-use bar_proof::laws::what_is_shown_is_packed;
+use bar_proof::laws::{tables_are_spelled, what_is_shown_is_packed};
 use bar_roster::laws::accepted_sessions_are_in_range;
 
 /// Where all files are accepted, the status is 0 exactly where the rules show a fault, and 1 exactly where they show none, but for a fault
@@ -30,6 +30,7 @@ pub fn a_proof_is_packed()
         line_at (pack_plan names content) (status_of_verdict (verdict_in names content accepted)) ≡ [] }
 {
     plans_go_in_order();
+    tables_are_spelled();
     what_is_shown_is_packed();
     accepted_sessions_are_in_range();
 }

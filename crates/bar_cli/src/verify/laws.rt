@@ -15,6 +15,7 @@ ghost use Rattle.bar_cli.specs.Refusals.{session_refused, proof_refused};
 ghost use Rattle.bar_cli.specs.Verify.{VerifyFiles, VerifyAccepted, HasBadSession, HasBadProof, Verified, VerifiedFront, IsVerifyCall, verify_plan};
 
 use bar_outside::plans_go_in_order;
+use bar_proof::laws::proofs_are_spelled;
 
 /// Where both files are accepted, the status is 0 exactly where the rules show a fault under the proof file's own table, and 1 exactly where
 /// they show none, but for a fault of the outside or want of memory; and these come only there. Then the line of the verdict was printed, and
@@ -29,6 +30,7 @@ pub fn the_proof_is_judged()
         line_at (verify_plan names content) (status_of_verdict verdict) ≡ [] }
 {
     plans_go_in_order();
+    proofs_are_spelled();
 }
 
 /// Where both files are accepted and no count rose, the status is that of the verdict, but for want of memory. So it is where nothing fails

@@ -74,7 +74,7 @@ said-signed (Kept q f ∷ log) d (inr h) = said-signed log d h
 pub record IsWider (new old : World) : Type 0 where
   pub grown : (p : ℕ) (log : Log) → slice_get new.logs p ≡ Some log → (before : Log) × (slice_get old.logs p ≡ Some before) × IsLater log before
 
-genuine-wider : (setup : Setup) (trusted : ℕ → Bool) (new old : World) (b : List ℕ) → IsWider new old → IsGenuine setup trusted old b → IsGenuine setup trusted new b
+pub genuine-wider : (setup : Setup) (trusted : ℕ → Bool) (new old : World) (b : List ℕ) → IsWider new old → IsGenuine setup trusted old b → IsGenuine setup trusted new b
 genuine-wider setup trusted new old b w g = λ d log reads sign trust accepted at.
     let h = w.grown d.message.from log at in
     has-signed-later log h.0 d h.2 (g d h.0 reads sign trust accepted h.1)
@@ -161,7 +161,7 @@ module _ (setup : Setup) (trusted : ℕ → Bool) (w : World) (p : ℕ) (log : L
   grown-log : IsLater out.state log
   grown-log = record { new = st.adds.new; split = st.adds.split }
 
-  wider : IsWider after w
+  pub wider : IsWider after w
   wider = record { grown = λ q l e. go q l (set-cases w.logs p q out.state l e) }
     where
       go : (q : ℕ) (l : Log) → ((q ≡ p) × (l ≡ out.state)) ⊎ (slice_get w.logs q ≡ Some l) → (before : Log) × (slice_get w.logs q ≡ Some before) × IsLater l before
@@ -299,7 +299,7 @@ takes-sound setup trusted w p i laws sound fresh = go (slice_get w.logs p) refl
         after-sound setup trusted w p log i (party_step setup p log i) sound e fresh
         (laws p log i (sound.peers p log e) (sound.proper p log e))
 
-packets-at : (setup : Setup) (trusted : ℕ → Bool) (w : World) (packets : List (ℕ × List ℕ)) (k : ℕ) (d : ℕ × List ℕ) → AllByRecursion (λ (d : ℕ × List ℕ). IsUnforged setup trusted w d.1) packets → slice_get packets k ≡ Some d → IsUnforged setup trusted w d.1
+pub packets-at : (setup : Setup) (trusted : ℕ → Bool) (w : World) (packets : List (ℕ × List ℕ)) (k : ℕ) (d : ℕ × List ℕ) → AllByRecursion (λ (d : ℕ × List ℕ). IsUnforged setup trusted w d.1) packets → slice_get packets k ≡ Some d → IsUnforged setup trusted w d.1
 packets-at setup trusted w [] k d a e = cc
 packets-at setup trusted w (x ∷ packets) zero d a e = let same : x ≡ d = cc in subst (λ z. IsUnforged setup trusted w z.1) same a.0
 packets-at setup trusted w (x ∷ packets) (suc k) d a e = packets-at setup trusted w packets k d a.1 e

@@ -144,12 +144,12 @@ returns-clause-ruled g c = λ was.
       packed = λ names is told.
           let law = c.plans_go_in_order.ensures in
           let ends = (ends-as _ (pack names) _ _ _ _ _ is code (ran.ends (ap has_plan is))).ends in
-          packed.stands c.what_is_shown_is_packed.ensures c.accepted_sessions_are_in_range.ensures names _ _ c.report.result told
+          packed.stands c.what_is_shown_is_packed.ensures c.tables_are_spelled.ensures c.accepted_sessions_are_in_range.ensures names _ _ c.report.result told
           (packing.outcome law.reads law.ends law.shows names _ _ _ told (law.went (pack_plan names) _ _ _ ends told));
       verified = λ names is told.
           let law = c.plans_go_in_order.ensures in
           let ends = (ends-as _ (verify names) _ _ _ _ _ is code (ran.ends (ap has_plan is))).ends in
-          verifying.stands names _ _ c.report.result
+          verifying.stands c.proofs_are_spelled.ensures names _ _ c.report.result
           (verifying.outcome law.reads law.ends law.shows names _ _ _ told (law.went (verify_plan names) _ _ _ ends told));
       simulated = λ seed is.
           let ends = (ends-as _ (simulate seed) _ _ _ _ _ is code (ran.ends (ap has_plan is))).ends in

@@ -7,6 +7,7 @@ use Rattle.bar_rules.specs.Peer.Rules.{IsObedient}
 use Rattle.bar_rules.specs.Peer.Run.{take_input}
 use Rattle.bar_peer.specs.Memory.{member_of}
 use Rattle.bar_peer.specs.Sending.{Stands}
+use Rattle.bar_peer.specs.Steps.{is_tick}
 use Rattle.bar_rules.specs.Peer.Knowledge.{known}
 use Rattle.bar_laws.specs.Ignoring.{is_ignored, is_unread}
 use Rattle.bar_peer.proofs.steps.take_input.Goals as goal
@@ -31,3 +32,8 @@ pub returns-in-Tick-clause-unread : goal.returns-in-Tick-clause-unread
 returns-in-Tick-clause-unread g c unread =
     let is : plain_input c.args.input ≡ event.Tick = ap plain_input c.in-Tick.is in
     absurd (false≢true (ap (is_unread c.args.memory.now.who.session) (sym is) ∙ unread))
+
+pub returns-in-Datagram-clause-tick : goal.returns-in-Datagram-clause-tick
+returns-in-Datagram-clause-tick g c tick =
+    let is : plain_input c.args.input ≡ event.Datagram c.in-Datagram.bytes.now = ap plain_input c.in-Datagram.is in
+    absurd (false≢true (ap is_tick (sym is) ∙ tick))

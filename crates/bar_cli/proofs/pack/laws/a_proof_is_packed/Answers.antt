@@ -5,7 +5,7 @@ use Rattle.bar_cli.proofs.pack.laws.a_proof_is_packed.Goals as goal
 pub returns-clause-shown : goal.returns-clause-shown
 returns-clause-shown c = λ names old new ends told.
     let law = c.plans_go_in_order.ensures in
-    packed names old new c.what_is_shown_is_packed.ensures c.accepted_sessions_are_in_range.ensures told
+    packed names old new c.what_is_shown_is_packed.ensures c.tables_are_spelled.ensures c.accepted_sessions_are_in_range.ensures told
     (outcome law.reads law.ends law.shows names old new 0 told (law.went (pack_plan names) old new 0 ends told))
 
 pub returns-clause-not_shown : goal.returns-clause-not_shown
