@@ -20,3 +20,4 @@ pub mod EvidenceReads
 pub mod ChoiceLemmas
 pub mod Writes
 pub mod Written
+pub mod ExchangeBy

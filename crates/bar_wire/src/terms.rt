@@ -15,9 +15,7 @@ fn balanced<'a>(bytes: &'a [u8], round: u32, shape: &Shape) -> Option<(Terms, &'
     ensures { ReadsTerms shape.now kinds.Balanced round bytes.now result }
 {
     let (nonce, rest) = split_array(bytes);
-    let Some((ha, hb, rest)) = read_windows(rest, round, shape) else {
-        return None;
-    };
+    let (ha, hb, rest) = read_windows(rest, round, shape)?;
     let terms = Terms::Balanced {
         nonce: *nonce,
         ha,
@@ -30,12 +28,8 @@ fn push<'a>(bytes: &'a [u8], round: u32, shape: &Shape) -> Option<(Terms, &'a [u
     requires { terms_len shape.now 1 ≤ length bytes.now }
     ensures { ReadsTerms shape.now kinds.Push round bytes.now result }
 {
-    let Some((young, aged, rest)) = read_windows(bytes, round, shape) else {
-        return None;
-    };
-    let Some((want, give, rest)) = read_windows(rest, round, shape) else {
-        return None;
-    };
+    let (young, aged, rest) = read_windows(bytes, round, shape)?;
+    let (want, give, rest) = read_windows(rest, round, shape)?;
     let (junk, rest) = split_u8(rest);
     let terms = Terms::Push {
         young,
