@@ -4,7 +4,6 @@ use Rattle.std.specs.Prelude.{option_map, IfSome, if◌then◌else◌}
 use Rattle.std.proofs.lemmas.List.{append-nil}
 use Rattle.std.proofs.lemmas.Bool.{eq-eqb}
 use Rattle.bar_bytes.specs.Bytes.{u16_bytes}
-use Rattle.bar_bytes.proofs.Lengths.{length_u16}
 use Rattle.std.specs.Borrow.{Bor}
 use Rattle.bar_wire.specs.Evidence.{evidence_bytes, other}
 use Rattle.bar_wire.specs.Grammar.{entry, AreDatagramsInRange}
