@@ -15,7 +15,7 @@ walk-preserved c =
 
 pub returns-in_err-x : goal.returns-in_err-x
 returns-in_err-x c =
-    sym (end-of-walk c.walk.after (all_in c.args.self.now) c.walk.number c.args.k c.next_kept.result c.in_err-x c.walk.invariant.0
+    sym (end-of-walk c.walk.after (all_in c.args.self.now) c.walk.number c.args.k c.next_kept.result (λ x e. let none = c.in_err-x.was in cc) c.walk.invariant.0
     c.next_kept.ensures.rest c.walk.invariant.1)
 
 pub returns : goal.returns
