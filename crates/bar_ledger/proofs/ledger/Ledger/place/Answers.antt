@@ -1,4 +1,4 @@
-use Rattle.std.proofs.Common.{subst, sym, arith}
+use Rattle.std.proofs.Common.{◌∙◌, subst, sym, arith}
 use Rattle.bar_ledger.specs.Memory.{all_in}
 use Rattle.bar_ledger.specs.Order.{IsFirstAbove}
 use Rattle.bar_ledger.proofs.Rising.{start-all, step-number, end-of-walk, number-found}
@@ -15,7 +15,8 @@ walk-preserved c =
 
 pub returns-in_err-x : goal.returns-in_err-x
 returns-in_err-x c =
-    sym (end-of-walk c.walk.after (all_in c.args.self.now) c.walk.number c.args.k c.next_kept.result (λ x e. let none = c.in_err-x.was in cc) c.walk.invariant.0
+    c.from_residual.ensures
+    ∙ sym (end-of-walk c.walk.after (all_in c.args.self.now) c.walk.number c.args.k c.next_kept.result (λ x e. let none = c.in_err-x.was in cc) c.walk.invariant.0
     c.next_kept.ensures.rest c.walk.invariant.1)
 
 pub returns : goal.returns
