@@ -7,13 +7,13 @@ from barscript import Refusal, counted, listed
 
 # the faults that the judge tells, in words
 FAULTS = {
-    "F1": "a briefcase that opens badly",
+    "F1": "a bad opening",
     "F2": "bad terms",
     "F3": "a wrong partner",
-    "F4": "two messages of one name",
+    "F4": "an identity twice",
     "F5": "a broken commitment",
     "F6": "another history",
-    "F7": "a leaf that signed twice",
+    "F7": "a leaf twice",
 }
 
 

@@ -26,11 +26,11 @@ EXAMPLE = ROOT / "examples/evidence"
 
 # by what a liar is evicted
 FAULT_OF = {
-    "key": "a briefcase that opens badly",
-    "case": "a briefcase that opens badly",
-    "answers": "two messages of one name",
+    "key": "a bad opening",
+    "case": "a bad opening",
+    "answers": "an identity twice",
     "partner": "a wrong partner",
-    "leaf": "a leaf that signed twice",
+    "leaf": "a leaf twice",
 }
 
 

@@ -32,7 +32,7 @@ def run_with(evictions=(), kept=(), sides=()):
 class Liars(unittest.TestCase):
     def test_a_liar_that_was_evicted(self):
         run = run_with([EvictionRow(5, "F1", 3, 4)], [evidence(0, 5), evidence(2, 5), evidence(1, 5)])
-        told = "was evicted for a briefcase that opens badly, told to 4 peers from round 3 on: evidence of it is kept by peer 1 and peer 2"
+        told = "was evicted for a bad opening, told to 4 peers from round 3 on: evidence of it is kept by peer 1 and peer 2"
         self.assertEqual(barliars.line_of(run, 5, "key"), f"peer 5, which lied (key), {told}")
         self.assertEqual([*barliars.faults_of(run, {5: "key"})], [])
 

@@ -64,9 +64,6 @@ impl Rooms {
     pub fn get(&self, number: usize) -> Option<&[u8]>
         ensures { option_copied result ≡ kept_in self.now number }
     {
-        match self.rooms.get(number) {
-            Some(room) => room.kept(),
-            None => None,
-        }
+        self.rooms.get(number)?.kept()
     }
 }

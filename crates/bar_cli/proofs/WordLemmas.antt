@@ -11,7 +11,8 @@ use Rattle.bar_arguments.specs.Numbers.{id_of, number_in}
 use Rattle.bar_arguments.specs.Options.{texts}
 use Rattle.bar_arguments.specs.declared.options.WordsFault.{WordsFault}
 use Rattle.bar_arguments.specs.declared.options.WordsFault.TheVariants.{Usage}
-use Rattle.bar_cli.specs.Line.{Line, asked_by, audit_line, broadcaster_line, hsskeygen_line, hsskeygen_values, judge_line, keygen, keygen_line, keygen_values, line_of, peer_line, replay_line, session_line, simulate_line, pack_line, verify_line}
+use Rattle.bar_cli.specs.Line.{Line, asked_by, command_named, hsskeygen_values, keygen, keygen_values}
+use Rattle.bar_cli.specs.declared.line.name.CommandName.TheVariants as commands
 
 -- the values are found, and say what is asked for
 pub line-found : {A : Type 0} (view : A → Line) (meant : List (List ℕ) → Option Line) (values : List (List ℕ))
@@ -41,29 +42,29 @@ differs a b h = by_test (bytes_eq a b) refl
     by_test true e = absurd (h ((bytes_eq-Decides a b).0 e))
     by_test false e = e
 
-none-of : (p b r k t u j a v s m : Bool) (P B R K T U J A V S M : Option Line) → p ≡ false → b ≡ false → r ≡ false → k ≡ false →
-    t ≡ false → u ≡ false → j ≡ false → a ≡ false → v ≡ false → s ≡ false → m ≡ false →
-    (if p then P else if b then B else if r then R else if k then K else if t then T else if u then U else if j then J
-    else if a then A else if v then V else if s then S else if m then M
+none-of : (p b r k t u j a v s m : Bool) → p ≡ false → b ≡ false → r ≡ false → k ≡ false → t ≡ false → u ≡ false → j ≡ false → a ≡ false →
+    v ≡ false → s ≡ false → m ≡ false →
+    (if p then Some commands.Peer else if b then Some commands.Broadcaster else if r then Some commands.Replay
+    else if k then Some commands.Keygen else if t then Some commands.HssKeygen else if u then Some commands.Audit
+    else if j then Some commands.Judge else if a then Some commands.Pack else if v then Some commands.Verify
+    else if s then Some commands.Session else if m then Some commands.Simulate
     else None)
     ≡ None
-none-of p b r k t u j a v s m P B R K T U J A V S M e f g h o x i q w l n = rw (e, f, g, h, o, x, i, q, w, l, n) refl
+none-of p b r k t u j a v s m e f g h o x i q w l n = rw (e, f, g, h, o, x, i, q, w, l, n) refl
 
--- another name is none of a command
-pub no-command : (name : List ℕ) (options : List (List ℕ)) → (name ≡ codes "peer" → ⊥) → (name ≡ codes "broadcaster" → ⊥) →
-    (name ≡ codes "replay" → ⊥) → (name ≡ codes "keygen" → ⊥) → (name ≡ codes "hsskeygen" → ⊥) → (name ≡ codes "audit" → ⊥) →
-    (name ≡ codes "judge" → ⊥) → (name ≡ codes "pack" → ⊥) → (name ≡ codes "verify" → ⊥) → (name ≡ codes "session" → ⊥) →
-    (name ≡ codes "simulate" → ⊥) → line_of (name ∷ options) ≡ None
-no-command name options p b r k t u j a v s m =
-    none-of (bytes_eq name (codes "peer")) (bytes_eq name (codes "broadcaster")) (bytes_eq name (codes "replay"))
-    (bytes_eq name (codes "keygen")) (bytes_eq name (codes "hsskeygen")) (bytes_eq name (codes "audit")) (bytes_eq name (codes "judge"))
-    (bytes_eq name (codes "pack")) (bytes_eq name (codes "verify")) (bytes_eq name (codes "session")) (bytes_eq name (codes "simulate"))
-    (peer_line options) (broadcaster_line options) (replay_line options) (keygen_line options) (hsskeygen_line options) (audit_line options)
-    (judge_line options) (pack_line options) (verify_line options) (session_line options) (simulate_line options)
-    (differs name (codes "peer") p) (differs name (codes "broadcaster") b) (differs name (codes "replay") r)
-    (differs name (codes "keygen") k) (differs name (codes "hsskeygen") t) (differs name (codes "audit") u) (differs name (codes "judge") j)
-    (differs name (codes "pack") a) (differs name (codes "verify") v) (differs name (codes "session") s)
-    (differs name (codes "simulate") m)
+-- another word names no command
+pub no-command : (word : List ℕ) → (word ≡ codes "peer" → ⊥) → (word ≡ codes "broadcaster" → ⊥) → (word ≡ codes "replay" → ⊥) →
+    (word ≡ codes "keygen" → ⊥) → (word ≡ codes "hsskeygen" → ⊥) → (word ≡ codes "audit" → ⊥) → (word ≡ codes "judge" → ⊥) →
+    (word ≡ codes "pack" → ⊥) → (word ≡ codes "verify" → ⊥) → (word ≡ codes "session" → ⊥) → (word ≡ codes "simulate" → ⊥) →
+    command_named word ≡ None
+no-command word p b r k t u j a v s m =
+    none-of (bytes_eq word (codes "peer")) (bytes_eq word (codes "broadcaster")) (bytes_eq word (codes "replay"))
+    (bytes_eq word (codes "keygen")) (bytes_eq word (codes "hsskeygen")) (bytes_eq word (codes "audit")) (bytes_eq word (codes "judge"))
+    (bytes_eq word (codes "pack")) (bytes_eq word (codes "verify")) (bytes_eq word (codes "session")) (bytes_eq word (codes "simulate"))
+    (differs word (codes "peer") p) (differs word (codes "broadcaster") b) (differs word (codes "replay") r)
+    (differs word (codes "keygen") k) (differs word (codes "hsskeygen") t) (differs word (codes "audit") u) (differs word (codes "judge") j)
+    (differs word (codes "pack") a) (differs word (codes "verify") v) (differs word (codes "session") s)
+    (differs word (codes "simulate") m)
 
 -- ---- the values of `keygen`
 

@@ -13,6 +13,8 @@ use Rattle.bar_arguments.specs.Options.{values_of}
 use Rattle.bar_child_processes.specs.Names.{SessionNames}
 use Rattle.bar_party_commands.specs.CasterPlan.{CasterNames, caster_plan}
 use Rattle.bar_party_commands.specs.PeerPlan.{PeerNames, peer_plan}
+use Rattle.bar_cli.specs.declared.line.name.CommandName.{CommandName}
+use Rattle.bar_cli.specs.declared.line.name.CommandName.TheVariants as commands
 use Rattle.bar_cli.specs.Keygen.Types.{levels_of, types_of}
 use Rattle.bar_cli.specs.Replay.Plan.{ReplayFiles, replay_plan}
 use Rattle.bar_cli.specs.Keygen.Plan.{Keygen, keygen_plan, leaves_for}
@@ -56,9 +58,6 @@ peer_values (session ∷ key ∷ begin ∷ played ∷ recording ∷ found ∷ []
   Some (peer (record { session = session; key = key; begin_ms = begin_ms; played = played; recording = recording; found = found }))
 peer_values _ = None
 
-abbrev pub peer_line : List (List ℕ) → Option Line
-peer_line words = option_and_then peer_values (values_of peer_options words)
-
 abbrev pub broadcaster_options : List (List ℕ)
 broadcaster_options = codes "session" ∷ codes "key" ∷ codes "begin" ∷ codes "stream" ∷ codes "found" ∷ []
 
@@ -68,9 +67,6 @@ broadcaster_values (session ∷ key ∷ begin ∷ stream ∷ found ∷ []) = do
   Some (broadcaster (record { session = session; key = key; begin_ms = begin_ms; stream = stream; found = found }))
 broadcaster_values _ = None
 
-abbrev pub broadcaster_line : List (List ℕ) → Option Line
-broadcaster_line words = option_and_then broadcaster_values (values_of broadcaster_options words)
-
 abbrev pub replay_options : List (List ℕ)
 replay_options = codes "session" ∷ codes "key" ∷ codes "recording" ∷ codes "played" ∷ codes "found" ∷ []
 
@@ -78,9 +74,6 @@ abbrev pub replay_files : List (List ℕ) → Option Line
 replay_files (session ∷ key ∷ recording ∷ played ∷ found ∷ []) =
     Some (replay (record { session = session; key = key; recording = recording; played = played; found = found }))
 replay_files _ = None
-
-abbrev pub replay_line : List (List ℕ) → Option Line
-replay_line words = option_and_then replay_files (values_of replay_options words)
 
 abbrev pub keygen_options : List (List ℕ)
 keygen_options = codes "party" ∷ codes "id" ∷ codes "rounds" ∷ codes "lms" ∷ codes "ots" ∷ codes "secret" ∷ codes "key" ∷ []
@@ -98,9 +91,6 @@ abbrev pub keygen_values : List (List ℕ) → Option Line
 keygen_values (party ∷ id ∷ rounds ∷ lms ∷ ots ∷ secret ∷ key ∷ []) = asked_by most_rounds (types_of lms ots) party id rounds secret key
 keygen_values _ = None
 
-abbrev pub keygen_line : List (List ℕ) → Option Line
-keygen_line words = option_and_then keygen_values (values_of keygen_options words)
-
 -- a key of two levels
 abbrev pub hsskeygen_options : List (List ℕ)
 hsskeygen_options = codes "party" ∷ codes "id" ∷ codes "rounds" ∷ codes "top" ∷ codes "ots" ∷ codes "secret" ∷ codes "key" ∷ []
@@ -109,9 +99,6 @@ abbrev pub hsskeygen_values : List (List ℕ) → Option Line
 hsskeygen_values (party ∷ id ∷ rounds ∷ top ∷ ots ∷ secret ∷ key ∷ []) =
     asked_by most_long_rounds (levels_of top ots) party id rounds secret key
 hsskeygen_values _ = None
-
-abbrev pub hsskeygen_line : List (List ℕ) → Option Line
-hsskeygen_line words = option_and_then hsskeygen_values (values_of hsskeygen_options words)
 
 abbrev pub audit_options : List (List ℕ)
 audit_options = codes "session" ∷ codes "results" ∷ codes "first" ∷ codes "last" ∷ []
@@ -123,18 +110,12 @@ audit_values (session ∷ results ∷ first_word ∷ last_word ∷ []) = do
   Some (audit (record { session = session; results = results; first = first; last = last }))
 audit_values _ = None
 
-abbrev pub audit_line : List (List ℕ) → Option Line
-audit_line words = option_and_then audit_values (values_of audit_options words)
-
 abbrev pub judge_options : List (List ℕ)
 judge_options = codes "session" ∷ codes "table" ∷ codes "evidence" ∷ []
 
 abbrev pub judge_files : List (List ℕ) → Option Line
 judge_files (session ∷ table ∷ evidence ∷ []) = Some (judge (record { session = session; table = table; evidence = evidence }))
 judge_files _ = None
-
-abbrev pub judge_line : List (List ℕ) → Option Line
-judge_line words = option_and_then judge_files (values_of judge_options words)
 
 abbrev pub pack_options : List (List ℕ)
 pack_options = codes "session" ∷ codes "table" ∷ codes "evidence" ∷ codes "proof" ∷ []
@@ -144,18 +125,12 @@ pack_files (session ∷ table ∷ evidence ∷ proof ∷ []) =
     Some (pack (record { session = session; table = table; evidence = evidence; proof = proof }))
 pack_files _ = None
 
-abbrev pub pack_line : List (List ℕ) → Option Line
-pack_line words = option_and_then pack_files (values_of pack_options words)
-
 abbrev pub verify_options : List (List ℕ)
 verify_options = codes "session" ∷ codes "proof" ∷ []
 
 abbrev pub verify_files : List (List ℕ) → Option Line
 verify_files (session ∷ proof ∷ []) = Some (verify (record { session = session; proof = proof }))
 verify_files _ = None
-
-abbrev pub verify_line : List (List ℕ) → Option Line
-verify_line words = option_and_then verify_files (values_of verify_options words)
 
 abbrev pub session_options : List (List ℕ)
 session_options = codes "session" ∷ codes "keys" ∷ codes "stream" ∷ codes "begin" ∷ codes "results" ∷ codes "program" ∷ []
@@ -167,9 +142,6 @@ session_values (session ∷ keys ∷ stream ∷ begin ∷ results ∷ program �
   Some (session_run (record { session = session; keys = keys; stream = stream; begin = begin; results = results; program = program }))
 session_values _ = None
 
-abbrev pub session_line : List (List ℕ) → Option Line
-session_line words = option_and_then session_values (values_of session_options words)
-
 abbrev pub simulate_options : List (List ℕ)
 simulate_options = codes "seed" ∷ []
 
@@ -179,25 +151,56 @@ simulate_values (seed_word ∷ []) = do
   Some (simulate seed)
 simulate_values _ = None
 
-abbrev pub simulate_line : List (List ℕ) → Option Line
-simulate_line words = option_and_then simulate_values (values_of simulate_options words)
+-- ---- a command by its name, with its options and what their values ask for
+
+abbrev pub command_named : List ℕ → Option CommandName
+command_named word =
+    if bytes_eq word (codes "peer") then Some commands.Peer
+    else if bytes_eq word (codes "broadcaster") then Some commands.Broadcaster
+    else if bytes_eq word (codes "replay") then Some commands.Replay
+    else if bytes_eq word (codes "keygen") then Some commands.Keygen
+    else if bytes_eq word (codes "hsskeygen") then Some commands.HssKeygen
+    else if bytes_eq word (codes "audit") then Some commands.Audit
+    else if bytes_eq word (codes "judge") then Some commands.Judge
+    else if bytes_eq word (codes "pack") then Some commands.Pack
+    else if bytes_eq word (codes "verify") then Some commands.Verify
+    else if bytes_eq word (codes "session") then Some commands.Session
+    else if bytes_eq word (codes "simulate") then Some commands.Simulate
+    else None
+
+abbrev pub options_of : CommandName → List (List ℕ)
+options_of commands.Peer = peer_options
+options_of commands.Broadcaster = broadcaster_options
+options_of commands.Replay = replay_options
+options_of commands.Keygen = keygen_options
+options_of commands.HssKeygen = hsskeygen_options
+options_of commands.Audit = audit_options
+options_of commands.Judge = judge_options
+options_of commands.Pack = pack_options
+options_of commands.Verify = verify_options
+options_of commands.Session = session_options
+options_of commands.Simulate = simulate_options
+
+abbrev pub asked_with : CommandName → List (List ℕ) → Option Line
+asked_with commands.Peer values = peer_values values
+asked_with commands.Broadcaster values = broadcaster_values values
+asked_with commands.Replay values = replay_files values
+asked_with commands.Keygen values = keygen_values values
+asked_with commands.HssKeygen values = hsskeygen_values values
+asked_with commands.Audit values = audit_values values
+asked_with commands.Judge values = judge_files values
+asked_with commands.Pack values = pack_files values
+asked_with commands.Verify values = verify_files values
+asked_with commands.Session values = session_values values
+asked_with commands.Simulate values = simulate_values values
 
 -- the line that the words are, if they are one; the first word names the command
 abbrev pub line_of : List (List ℕ) → Option Line
 line_of [] = None
-line_of (name ∷ options) =
-    if bytes_eq name (codes "peer") then peer_line options
-    else if bytes_eq name (codes "broadcaster") then broadcaster_line options
-    else if bytes_eq name (codes "replay") then replay_line options
-    else if bytes_eq name (codes "keygen") then keygen_line options
-    else if bytes_eq name (codes "hsskeygen") then hsskeygen_line options
-    else if bytes_eq name (codes "audit") then audit_line options
-    else if bytes_eq name (codes "judge") then judge_line options
-    else if bytes_eq name (codes "pack") then pack_line options
-    else if bytes_eq name (codes "verify") then verify_line options
-    else if bytes_eq name (codes "session") then session_line options
-    else if bytes_eq name (codes "simulate") then simulate_line options
-    else None
+line_of (word ∷ words) = do
+  name ← command_named word
+  values ← values_of (options_of name) words
+  asked_with name values
 
 abbrev pub usage : List ℕ
 usage = codes "bar: usage" ++ 10 ∷ []

@@ -89,10 +89,7 @@ fn secret_of(bytes: &[u8]) -> Option<[u8; 32]>
 fn top_number(asked: &KeygenWords<'_>) -> Option<u32>
     ensures { result ≡ option_map lms_type asked.now.types.top }
 {
-    match asked.types.top {
-        Some(height) => Some(height.number()),
-        None => None,
-    }
+    Some(asked.types.top?.number())
 }
 
 // What the key file says of a secret, fresh.

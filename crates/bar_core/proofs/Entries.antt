@@ -4,10 +4,10 @@ use Rattle.std.specs.Prelude.{option_map, IfSome, if◌then◌else◌}
 use Rattle.std.proofs.lemmas.List.{append-nil}
 use Rattle.std.proofs.lemmas.Bool.{eq-eqb}
 use Rattle.bar_bytes.specs.Bytes.{u16_bytes}
-use Rattle.bar_bytes.proofs.Lengths.{length_u16}
 use Rattle.std.specs.Borrow.{Bor}
 use Rattle.bar_wire.specs.Evidence.{evidence_bytes, other}
 use Rattle.bar_wire.specs.Grammar.{entry, AreDatagramsInRange}
+use Rattle.bar_wire.proofs.Lists.{entry_length}
 
 -- one room has something else, and the others have what they had
 abbrev pub IsPut : (ℕ → Option (List ℕ)) → (ℕ → Option (List ℕ)) → ℕ → Option (List ℕ) → Type 0
@@ -46,9 +46,6 @@ entry_put old mid new number len datagram is one two n =
     ∙ ap (λ (o : Option (List ℕ)). if n == number then option_map (λ held. held ++ datagram) o else old n) (put_there old mid number _ one)
     ∙ ap (λ (o : Option (List ℕ)). if n == number then o else old n) (added_twice (old number) len datagram)
     ∙ ap (λ (x : List ℕ). if n == number then option_map (λ held. held ++ (x ++ datagram)) (old number) else old n) is
-
-pub entry_length : (datagram : List ℕ) → length (entry datagram) ≡ 2 + length datagram
-entry_length datagram = omega (arith, length-append (u16_bytes (length datagram)) datagram, length_u16 (length datagram))
 
 -- there is room behind what is kept
 pub leaves_room : (o : Option (List ℕ)) (held : List ℕ) (n size : ℕ) → o ≡ Some held → length held + n ≤ size

@@ -7,7 +7,7 @@ use Rattle.bar_wire.specs.Datagram.{Body, exchange_by, part_of, place_of}
 use Rattle.bar_wire.specs.Datagram as wire
 use Rattle.bar_wire.specs.Sides.{place_in}
 use Rattle.bar_wire.specs.declared.place.Place.{Place}
-use Rattle.bar_exchange.proofs.FourTests.{kind_by}
+use Rattle.bar_wire.proofs.ExchangeBy.{kind-by}
 
 -- a body from this party to that one stands at a place
 abbrev pub BodyStands : ℕ → ℕ → Body → Place → Type 0
@@ -24,7 +24,7 @@ stands from to b p part at told =
 
 -- the kind of its exchange is the one that the part names
 pub kind_at : (from to : ℕ) (b : Body) (p : Place) (part : ℕ × XKind × Role) → BodyStands from to b p → part_of b ≡ Some part → p.x.kind ≡ part.1
-kind_at from to b p part at told = ap (λ (p : Place). p.x.kind) (stands from to b p part at told) ∙ kind_by part.0 part.1 part.2 from to
+kind_at from to b p part at told = ap (λ (p : Place). p.x.kind) (stands from to b p part at told) ∙ kind-by part.0 part.1 part.2 from to
 
 -- The place is that of a part that names this round, kind and side, where its exchange is of a known kind.
 pub record IsPlacedBy (p : Place) (known : XKind) (from to round : ℕ) (kind : XKind) (role : Role) : Type 0 where

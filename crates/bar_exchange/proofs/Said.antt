@@ -20,7 +20,7 @@ use Rattle.bar_rules.specs.Peer.Exchanges.{role_of, committed}
 use Rattle.bar_rules.specs.Peer.Knowledge.{Knowledge, with_said, has_said_of}
 use Rattle.bar_rules.specs.Peer.Terms.{body_on}
 use Rattle.bar_exchange.specs.Keeping.{IsSaidNow}
-use Rattle.bar_exchange.proofs.FourTests.{kind_by}
+use Rattle.bar_wire.proofs.ExchangeBy.{kind-by}
 use Rattle.bar_exchange.proofs.Same.{SameOne}
 use Rattle.bar_bytes.proofs.Options.{or-untold, some-or}
 
@@ -114,4 +114,4 @@ pub placed : (m : Message) (part : ℕ × XKind × Role) (x : Exchange) (role : 
 placed m part x role speaks stands =
     let same : place_by m.from m.to part ≡ record { exchange = x; role = role } =
     same_Some _ _ (ap (option_map (place_by m.from m.to)) (sym speaks) ∙ stands) in
-    (ap (λ (p : Place). p.exchange.kind) (sym same) ∙ kind_by part.0 part.1 part.2 m.from m.to, ap (λ (p : Place). p.role) (sym same))
+    (ap (λ (p : Place). p.exchange.kind) (sym same) ∙ kind-by part.0 part.1 part.2 m.from m.to, ap (λ (p : Place). p.role) (sym same))

@@ -94,14 +94,6 @@ pub fn kept_terms(sources: &Sources<'_>, x: Exchange) -> Option<Terms>
     ensures windows { IfSome result (AreTermWindows sources.now.session.now.shape x.round) }
 {
     let shape = sources.session.shape();
-    match sources.ledger.find(x) {
-        Some(entry) => {
-            if are_windows_in(&entry.terms, &shape, x.round) {
-                Some(entry.terms)
-            } else {
-                None
-            }
-        }
-        None => None,
-    }
+    let entry = sources.ledger.find(x)?;
+    are_windows_in(&entry.terms, &shape, x.round).then_some(entry.terms)
 }

@@ -48,15 +48,11 @@ pub fn has_heard(ledger: &Ledger, x: Exchange, kind: Kind, role: Role) -> bool
 pub fn heard_from(ledger: &Ledger, x: Exchange, kind: Kind, role: Role) -> Option<&[u8]>
     ensures { option_copied result ≡ heard_in ledger.now kind x role }
 {
-    match ledger.find(x) {
-        Some(entry) => {
-            if role == entry.role.other() {
-                ledger.heard(x, kind)
-            } else {
-                None
-            }
-        }
-        None => None,
+    let entry = ledger.find(x)?;
+    if role == entry.role.other() {
+        ledger.heard(x, kind)
+    } else {
+        None
     }
 }
 

@@ -132,20 +132,16 @@ impl Slot {
     pub(crate) fn exchange(&self, life: u8, round: u32) -> Option<Exchange>
         ensures { result ≡ option_and_then (chosen is_any) (live_of life round self.now) }
     {
-        match &self.entry {
-            Some(entry) => self.is_live(life, round).then_some(entry.x),
-            None => None,
-        }
+        let entry = self.entry.as_ref()?;
+        self.is_live(life, round).then_some(entry.x)
     }
 
     /// Its exchange, where this peer said its first message in it and it isn't given up in a round.
     pub(crate) fn open(&self, life: u8, round: u32) -> Option<Exchange>
         ensures { result ≡ option_and_then open_of (live_of life round self.now) }
     {
-        match &self.entry {
-            Some(entry) => (entry.first_said && self.is_live(life, round)).then_some(entry.x),
-            None => None,
-        }
+        let entry = self.entry.as_ref()?;
+        (entry.first_said && self.is_live(life, round)).then_some(entry.x)
     }
 
     /// Gives the slot to another exchange, of which nothing is heard.
@@ -197,9 +193,7 @@ impl Slot {
     pub(crate) fn heard(&self, kind: Kind) -> Option<&[u8]>
         ensures { option_copied result ≡ option_and_then (heard_of kind) (kept_of self.now) }
     {
-        let Some(entry) = &self.entry else {
-            return None;
-        };
+        let entry = self.entry.as_ref()?;
         match kind {
             Kind::Divulge => self.divulge.kept(),
             Kind::Case => self.case.kept(),

@@ -73,10 +73,7 @@ impl MemFiles {
     pub fn get(&self, path: &str) -> Option<&[u8]>
         ensures { option_copied result ≡ (disk_of self.now).content path.now }
     {
-        match self.files.get(path) {
-            Some(file) => Some(file.bytes.as_slice()),
-            None => None,
-        }
+        Some(self.files.get(path)?.bytes.as_slice())
     }
 
     // Counts a fault of this call, and keeps its kind and path.

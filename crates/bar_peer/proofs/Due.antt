@@ -30,7 +30,7 @@ use Rattle.bar_laws.specs.Leaves.{KeepsLeaves}
 use Rattle.bar_laws.specs.Rewriting.{IsRewritten}
 use Rattle.bar_laws.specs.Sizes.{FitsItsRoom}
 use Rattle.bar_laws.specs.Soundness.{IsSound, CanGive}
-use Rattle.bar_exchange.proofs.FourTests.{round_by, kind_by}
+use Rattle.bar_wire.proofs.ExchangeBy.{round-by, kind-by}
 use Rattle.bar_exchange.specs.Writing.{CanWrite, CanSeal, IsSealable}
 use Rattle.bar_peer.specs.Giving.{IsDue, IsSignedFor}
 use Rattle.bar_peer.specs.Sending.{datagram_now, IsTimely}
@@ -93,8 +93,8 @@ part_is x role from to o h =
     let p : ℕ × XKind × Role = some.0 in
     let there : x ≡ exchange_by p.0 p.1 p.2 from to = ap (λ (q : Place). q.exchange) some.2 in
     let side : role ≡ p.2 = ap (λ (q : Place). q.role) some.2 in
-    let round : x.round ≡ p.0 = ap (λ (y : Exchange). y.round) there ∙ round_by p.0 p.1 p.2 from to in
-    let kind : x.kind ≡ p.1 = ap (λ (y : Exchange). y.kind) there ∙ kind_by p.0 p.1 p.2 from to in
+    let round : x.round ≡ p.0 = ap (λ (y : Exchange). y.round) there ∙ round-by p.0 p.1 p.2 from to in
+    let kind : x.kind ≡ p.1 = ap (λ (y : Exchange). y.kind) there ∙ kind-by p.0 p.1 p.2 from to in
     some.1 ∙ (λ i. Some (sym round i, sym kind i, sym side i))
 
 of_part : (kind : Kind) (x : Exchange) (role : Role) (m : Message) → is_of kind x role m ≡ true → IsOfPart x kind role m

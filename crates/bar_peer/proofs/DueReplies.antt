@@ -22,7 +22,7 @@ use Rattle.bar_rules.specs.Peer.Orders.{Order, Ask, Answer, Reveal, GiveCase, As
 use Rattle.bar_rules.specs.Peer.Replies.{orders_for, orders_when}
 use Rattle.bar_exchange.specs.declared.say.Say.{Say}
 use Rattle.bar_exchange.specs.Says.{order_by, Fits}
-use Rattle.bar_exchange.proofs.FourTests.{round_by}
+use Rattle.bar_wire.proofs.ExchangeBy.{round-by}
 use Rattle.bar_peer.specs.Repeats.{is_of_exchange}
 use Rattle.bar_peer.specs.Sending.{IsOwn}
 use Rattle.bar_peer.proofs.Rows.{may_ask_in_time}
@@ -83,14 +83,14 @@ recent-by : (me : Member) (k : Knowledge) (r deadline : ℕ) (kind : XKind) (rol
 recent-by me k r deadline kind role from to few t =
     let by : this_round k ≤ r + deadline = grind (arith, nat_tests, t) in
     let here : IsRecent me k r = omega (arith, few, by) in
-    subst (IsRecent me k) (sym (round_by r kind role from to)) here
+    subst (IsRecent me k) (sym (round-by r kind role from to)) here
 
 soon-by : (k : Knowledge) (r deadline : ℕ) (kind : XKind) (role : Role) (from to : ℕ) → deadline ≤ 2
     → nat_le (this_round k) (r + deadline) ≡ true → this_round k ≤ (exchange_by r kind role from to).round + 2
 soon-by k r deadline kind role from to few t =
     let by : this_round k ≤ r + deadline = grind (arith, nat_tests, t) in
     let here : this_round k ≤ r + 2 = omega (arith, few, by) in
-    subst (λ (n : ℕ). this_round k ≤ n + 2) (sym (round_by r kind role from to)) here
+    subst (λ (n : ℕ). this_round k ≤ n + 2) (sym (round-by r kind role from to)) here
 
 when-due : (me : Member) (k : Knowledge) (b : Bool) (os : List Order) → (b ≡ true → AllByRecursion (IsDue me k) os) → AllByRecursion (IsDue me k) (orders_when b os)
 when-due me k true os all = all refl

@@ -33,7 +33,7 @@ use Rattle.bar_laws.proofs.Keeping.{accepted-of}
 use Rattle.bar_ledger.specs.declared.ledger.Ledger.{Ledger}
 use Rattle.bar_ledger.specs.Lookups.{heard_in}
 use Rattle.bar_ledger.specs.Recalls.{Recalls}
-use Rattle.bar_exchange.proofs.FourTests.{round_by}
+use Rattle.bar_wire.proofs.ExchangeBy.{round-by}
 use Rattle.bar_peer.proofs.Heard.{is_here}
 use Rattle.bar_bytes.proofs.Options.{some-mapped}
 
@@ -77,7 +77,7 @@ round_at m p e = part_round m.body ∙ go (part_of m.body) e
         → option_map_or (λ q. q.0) o (round_of m.body) ≡ p.exchange.round
     go None e = absurd (cc)
     go (Some q) e =
-        sym (round_by q.0 q.1 q.2 m.from m.to) ∙ ap (λ (p : Place). p.exchange.round) (same_Some (place_by m.from m.to q) p e)
+        sym (round-by q.0 q.1 q.2 m.from m.to) ∙ ap (λ (p : Place). p.exchange.round) (same_Some (place_by m.from m.to q) p e)
 
 -- ---- what is accepted
 

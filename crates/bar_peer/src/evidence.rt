@@ -153,9 +153,7 @@ fn earlier_elsewhere<'a, V: Verifier>(
         (datagram who.now.session.shape view.now) (Some (record { exchange = place.x; role = place.role })) }
 {
     others_are_tried_by_leaves();
-    let Some(sig) = view.sig else {
-        return None;
-    };
+    let sig = view.sig?;
     let leaf = verifier.leaf_in(sig);
     naming_elsewhere(verifier, ledger, place.x, view.from, leaf)
 }

@@ -191,10 +191,7 @@ impl Session {
     pub fn top(&self) -> Option<u32>
         ensures { result ≡ option_map lms_type self.now.top }
     {
-        match self.top {
-            Some(height) => Some(height.number()),
-            None => None,
-        }
+        Some(self.top?.number())
     }
 
     /// The types of the upper tree, where signatures have two levels.
@@ -202,10 +199,7 @@ impl Session {
         ensures value { result ≡ option_map (λ height. upper_types height self.now.params) self.now.top }
         ensures session { IsSession self.now }
     {
-        match self.top {
-            Some(height) => Some(upper_types(height, self.params)),
-            None => None,
-        }
+        Some(upper_types(self.top?, self.params))
     }
 
     /// The types of the trees that sign messages.

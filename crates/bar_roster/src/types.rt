@@ -31,10 +31,7 @@ pub(crate) fn top_of(numbers: &Numbers) -> Option<Height>
     requires { AreInRange numbers.now }
     ensures { result ≡ option_map height_of numbers.now.top }
 {
-    match numbers.top {
-        Some(top) => Some(height_of(top)),
-        None => None,
-    }
+    Some(height_of(numbers.top?))
 }
 
 /// The types of the trees that sign messages.

@@ -11,6 +11,7 @@ use Rattle.bar_window.specs.Updates.{same_updates}
 use Rattle.bar_window.specs.Window.{members}
 use Rattle.bar_window.proofs.Equality.{windows-eq}
 use Rattle.bar_terms.proofs.Aligned.{two_aligned}
+use Rattle.bar_terms.proofs.Equal.{and_join}
 use Rattle.bar_wire.specs.Views.{AreTermWindows, IsWindowIn}
 use Rattle.bar_wire.specs.declared.shape.Shape.{Shape}
 use Rattle.bar_rules.specs.Peer.Admission.{same_terms}
@@ -19,12 +20,8 @@ in-round : (s : Shape) (round : ℕ) (w v : Window) → IsWindowIn s round w →
     → (window.ghosts).eq w v ≡ same_updates (members w) (members v)
 in-round s round w v one two = windows-eq w v (two_aligned s.life round w v one.of two.of (one.wide ∙ sym two.wide))
 
-three : (a b c : Bool) → (a && (b && c)) ≡ ((a && b) && c)
-three true b c = refl
-three false b c = refl
-
 four : (a b c d : Bool) → (a && (b && (c && d))) ≡ (((a && b) && c) && d)
-four true b c d = three b c d
+four true b c d = sym (and_join b c d)
 four false b c d = refl
 
 five : (a b c d e : Bool) → (a && (b && (c && (d && e)))) ≡ ((((a && b) && c) && d) && e)
@@ -36,7 +33,7 @@ pub terms-eq : (s : Shape) (round : ℕ) (t u : Terms) → AreTermWindows s roun
     → (terms.ghosts).eq t u ≡ same_terms (plain_terms t) (plain_terms u)
 terms-eq s round (raw.Balanced nonce ha hb) (raw.Balanced nonce' ha' hb') one two =
     (λ i. bytes_eq nonce nonce' && (in-round s round ha ha' one.0 two.0 i && in-round s round hb hb' one.1 two.1 i))
-    ∙ three (bytes_eq nonce nonce') (same_updates (members ha) (members ha')) (same_updates (members hb) (members hb'))
+    ∙ sym (and_join (bytes_eq nonce nonce') (same_updates (members ha) (members ha')) (same_updates (members hb) (members hb')))
 terms-eq s round (raw.Push young aged want give junk) (raw.Push young' aged' want' give' junk') one two =
     (λ i.
     in-round s round young young' one.0 two.0 i

@@ -14,14 +14,6 @@ pub struct KeptBlock {
 pub(crate) fn block_if(id: UpdateId, room: &Option<KeptBlock>) -> Option<&[u8; BLOCK_SIZE]>
     ensures { option_copied result ≡ block_if id room.now }
 {
-    match room {
-        Some(kept) => {
-            if id == kept.id {
-                Some(&kept.block)
-            } else {
-                None
-            }
-        }
-        None => None,
-    }
+    let kept = room.as_ref()?;
+    (id == kept.id).then_some(&kept.block)
 }

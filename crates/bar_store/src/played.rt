@@ -26,9 +26,6 @@ impl Store {
         ensures { option_to_list (option_copied result) ≡
             flat_map content_of (option_to_list (block_in self.now (record { round = round; index = index }))) }
     {
-        match self.kept(UpdateId { round, index }) {
-            Some(block) => content_of(block),
-            None => None,
-        }
+        content_of(self.kept(UpdateId { round, index })?)
     }
 }

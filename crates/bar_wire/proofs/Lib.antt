@@ -19,3 +19,4 @@ pub mod EvidenceReads
 pub mod ChoiceLemmas
 pub mod Writes
 pub mod Written
+pub mod ExchangeBy

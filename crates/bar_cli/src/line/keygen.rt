@@ -1,9 +1,8 @@
 //! The words of `keygen` and `hsskeygen`.
-ghost use Rattle.std.specs.Prelude.{◌≡◌, ◌≤◌, Some, None, Err, IfOk, map, string_bytes};
+ghost use Rattle.std.specs.Prelude.{◌≡◌, ◌≤◌};
 ghost use Rattle.std.specs.Option.{option_map};
 ghost use Rattle.bar_arguments.specs.Options.{texts};
-ghost use Rattle.bar_arguments.specs.declared.options.WordsFault.TheVariants.{Usage};
-ghost use Rattle.bar_cli.specs.Line.{asked_by, hsskeygen_line, hsskeygen_values, keygen_line, keygen_values};
+ghost use Rattle.bar_cli.specs.Line.{asked_by, hsskeygen_values, keygen_values};
 ghost use Rattle.bar_cli.specs.Keygen.Types.{types_view};
 ghost use Rattle.bar_session.specs.Limits.{most_long_rounds};
 ghost use Rattle.bar_cli.specs.Views.{asked_view};
@@ -11,13 +10,12 @@ ghost use Rattle.bar_cli.specs.Views.{asked_view};
 use crate::keygen::key_types::KeyTypes;
 use crate::keygen::types::{levels_of, types_of};
 use crate::keygen::words::KeygenWords;
-use bar_arguments::{WordsFault, id_of, number_in, option_values};
+use bar_arguments::{id_of, number_in};
 use bar_roster::{MOST_LONG_ROUNDS, MOST_PEERS, MOST_ROUNDS};
-use std::alloc::Global;
 
-const KEYGEN_OPTIONS: [&str; 7] = ["party", "id", "rounds", "lms", "ots", "secret", "key"];
+pub(super) const KEYGEN_OPTIONS: [&str; 7] = ["party", "id", "rounds", "lms", "ots", "secret", "key"];
 
-const HSSKEYGEN_OPTIONS: [&str; 7] = ["party", "id", "rounds", "top", "ots", "secret", "key"];
+pub(super) const HSSKEYGEN_OPTIONS: [&str; 7] = ["party", "id", "rounds", "top", "ots", "secret", "key"];
 
 /// The key that is asked for, of signatures of these types and of so many rounds at the most.
 fn asked_of<'a>(
@@ -47,7 +45,7 @@ fn asked_of<'a>(
 }
 
 /// The key that is asked for, from the values of the options of `keygen`.
-fn keygen_of<'a>(values: &[&'a str]) -> Option<KeygenWords<'a>>
+pub(super) fn keygen_of<'a>(values: &[&'a str]) -> Option<KeygenWords<'a>>
     ensures { option_map asked_view result ≡ keygen_values (texts values.now) }
 {
     let [party, id, rounds, lms, ots, secret, key] = *values else {
@@ -64,21 +62,8 @@ fn keygen_of<'a>(values: &[&'a str]) -> Option<KeygenWords<'a>>
     )
 }
 
-/// What the words of `keygen` ask for.
-///
-/// # Errors
-///
-/// `Usage` where they aren't its options with their values, and `NoMemory`.
-pub fn keygen_words(alloc: Global, words: &[String]) -> Result<KeygenWords<'_>, WordsFault>
-    ensures line { IfOk result (λ asked. keygen_line (map string_bytes words.now) ≡ Some (asked_view asked)) }
-    ensures usage { result ≡ Err Usage → keygen_line (map string_bytes words.now) ≡ None }
-{
-    let values = option_values(alloc, &KEYGEN_OPTIONS, words)?;
-    keygen_of(&values).ok_or(WordsFault::Usage)
-}
-
 /// The key that is asked for, from the values of the options of `hsskeygen`.
-fn hsskeygen_of<'a>(values: &[&'a str]) -> Option<KeygenWords<'a>>
+pub(super) fn hsskeygen_of<'a>(values: &[&'a str]) -> Option<KeygenWords<'a>>
     ensures { option_map asked_view result ≡ hsskeygen_values (texts values.now) }
 {
     let [party, id, rounds, top, ots, secret, key] = *values else {
@@ -93,17 +78,4 @@ fn hsskeygen_of<'a>(values: &[&'a str]) -> Option<KeygenWords<'a>>
         secret,
         key,
     )
-}
-
-/// What the words of `hsskeygen` ask for.
-///
-/// # Errors
-///
-/// `Usage` where they aren't its options with their values, and `NoMemory`.
-pub fn hsskeygen_words(alloc: Global, words: &[String]) -> Result<KeygenWords<'_>, WordsFault>
-    ensures line { IfOk result (λ asked. hsskeygen_line (map string_bytes words.now) ≡ Some (asked_view asked)) }
-    ensures usage { result ≡ Err Usage → hsskeygen_line (map string_bytes words.now) ≡ None }
-{
-    let values = option_values(alloc, &HSSKEYGEN_OPTIONS, words)?;
-    hsskeygen_of(&values).ok_or(WordsFault::Usage)
 }

@@ -19,26 +19,11 @@ use Rattle.bar_rules.specs.Peer.Log.{Log, round_now}
 use Rattle.bar_rules.specs.Peer.Rules.{IsObedient}
 use Rattle.bar_laws.specs.Tries.{TriesMissNone}
 use Rattle.bar_laws.proofs.Logs.{first_heard-was, was-heard-own, is_of-part, sender-on, receiver-on, IsOwn}
+use Rattle.bar_laws.proofs.Runs.{any-front, any-back}
 use Rattle.bar_laws.proofs.Keeping.RoomsOf.{has-rooms}
 use Rattle.bar_laws.proofs.Keeping.Few.{kept-near}
 
 -- ---- lists
-
-any-left : (test : Exchange → Bool) (xs ys : List Exchange) → list_any test xs ≡ true → list_any test (xs ++ ys) ≡ true
-any-left test [] ys e = cc
-any-left test (x ∷ xs) ys e = go (test x) e (any-left test xs ys)
-  where
-    go : (b : Bool) → (b || list_any test xs) ≡ true → (list_any test xs ≡ true → list_any test (xs ++ ys) ≡ true) → (b || list_any test (xs ++ ys)) ≡ true
-    go true e k = refl
-    go false e k = k e
-
-any-right : (test : Exchange → Bool) (xs ys : List Exchange) → list_any test ys ≡ true → list_any test (xs ++ ys) ≡ true
-any-right test [] ys e = e
-any-right test (x ∷ xs) ys e = go (test x) (any-right test xs ys e)
-  where
-    go : (b : Bool) → list_any test (xs ++ ys) ≡ true → (b || list_any test (xs ++ ys)) ≡ true
-    go true h = refl
-    go false h = h
 
 two-any : (a b : Bool) → (a ≡ true) ⊎ (b ≡ true) → (a || (b || false)) ≡ true
 two-any true b h = refl
@@ -86,17 +71,17 @@ shared-has x p q round (suc count) sides low high = go (cases_eq x.round round) 
 
     by-kind : (k : XKind) → x.kind ≡ k → x.round ≡ round → list_any (same_exchange x) ((between p q round Balanced ++ between p q round Push) ++ rest) ≡ true
     by-kind Balanced e r =
-        any-left (same_exchange x) (between p q round Balanced ++ between p q round Push) rest
-        (any-left (same_exchange x) (between p q round Balanced) (between p q round Push) (between-has x p q round Balanced sides r e))
+        any-front (same_exchange x) (between p q round Balanced ++ between p q round Push) rest
+        (any-front (same_exchange x) (between p q round Balanced) (between p q round Push) (between-has x p q round Balanced sides r e))
     by-kind Push e r =
-        any-left (same_exchange x) (between p q round Balanced ++ between p q round Push) rest
-        (any-right (same_exchange x) (between p q round Balanced) (between p q round Push) (between-has x p q round Push sides r e))
+        any-front (same_exchange x) (between p q round Balanced ++ between p q round Push) rest
+        (any-back (same_exchange x) (between p q round Balanced) (between p q round Push) (between-has x p q round Push sides r e))
 
     go : (x.round ≡ round) ⊎ (x.round ≡ round → ⊥) → (round + 1 ≤ x.round → x.round < (round + 1) + count → list_any (same_exchange x) rest ≡ true)
         → list_any (same_exchange x) ((between p q round Balanced ++ between p q round Push) ++ rest) ≡ true
     go (inl r) later = by-kind x.kind refl r
     go (inr n) later =
-        any-right (same_exchange x) (between p q round Balanced ++ between p q round Push) rest
+        any-back (same_exchange x) (between p q round Balanced ++ between p q round Push) rest
         (later (omega (arith, low, n)) (omega (arith, high)))
 
 -- ---- what was admitted

@@ -10,6 +10,7 @@ pub use Rattle.bar_seeds.proofs.SeedLemmas.{own_seed, seed_test}
 pub use Rattle.bar_seeds.proofs.PartnerLemmas.{partner_low, partner_high, partner_other}
 pub use Rattle.bar_seeds.proofs.Lengths.{length-chain_back, length-nonce_of, length-briefcase_key, length-commitment_of}
 -- of bar_seal: leaves_are_few, leaves_name_messages, identities_name_messages; LmsScheme's law signed_is_accepted, and the length of what is signed
+pub use Rattle.bar_wire.proofs.ExchangeBy.{round-by}
 pub use Rattle.bar_seal.proofs.Slots.{leaves_few, peers_named, caster_named}
 pub use Rattle.bar_seal.proofs.Named.{same_names}
 pub use Rattle.bar_lms.proofs.SchemeLemmas.{signed_accepted, signed_long, signed_names}

@@ -23,7 +23,7 @@ use Rattle.std.specs.Prelude.{Option, Some, None, ◌⊎◌, option_and_then, op
 use Rattle.std.specs.Bool.{then_some}
 use Rattle.bar_laws.proofs.Logs.FirstFinds.{IsEntry, IsFind, find-of}
 use Rattle.bar_laws.proofs.Logs.Elsewhere.{is_of-is}
-use Rattle.bar_laws.proofs.Logs.Facts.{length-nonce_of}
+use Rattle.bar_laws.proofs.Logs.Facts.{length-nonce_of, round-by}
 use Rattle.bar_laws.proofs.Logs.Grammar.{part-in-range, part-of-peers}
 use Rattle.bar_laws.proofs.Logs.OneIdentity.{part-round}
 use Rattle.bar_laws.proofs.Logs.Spoken.{spoken_in, WasSpoken, said-spoken, heard-spoken, first_on-was}
@@ -63,10 +63,6 @@ formed-between s kind x role m f e =
 pub party-peer : (s : Shape) (x : Exchange) (role : Role) → IsBetween s x → IsPeer s (party_on x role)
 party-peer s x Initiator b = b.initiator
 party-peer s x Responder b = b.responder
-
-pub round-by : (r : ℕ) (k : XKind) (role : Role) (from to : ℕ) → (exchange_by r k role from to).round ≡ r
-round-by r k Initiator from to = refl
-round-by r k Responder from to = refl
 
 -- a message of an exchange is of its round
 pub round-of-exchange : (kind : Kind) (x : Exchange) (role : Role) (m : Message) → is_of kind x role m ≡ true → round_of m.body ≡ x.round

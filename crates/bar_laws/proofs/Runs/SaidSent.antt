@@ -36,10 +36,10 @@ or-left : (a b : Bool) → a ≡ true → (a || b) ≡ true
 or-left true b e = refl
 or-left false b e = cc
 
-any-front : {X : Type 0} (q : X → Bool) (xs ys : List X) → list_any q xs ≡ true → list_any q (xs ++ ys) ≡ true
+pub any-front : {X : Type 0} (q : X → Bool) (xs ys : List X) → list_any q xs ≡ true → list_any q (xs ++ ys) ≡ true
 any-front q xs ys e = list_any-append q xs ys ∙ or-left (list_any q xs) (list_any q ys) e
 
-any-back : {X : Type 0} (q : X → Bool) (xs ys : List X) → list_any q ys ≡ true → list_any q (xs ++ ys) ≡ true
+pub any-back : {X : Type 0} (q : X → Bool) (xs ys : List X) → list_any q ys ≡ true → list_any q (xs ++ ys) ≡ true
 any-back q xs ys e = list_any-append q xs ys ∙ or_comm (list_any q xs) (list_any q ys) ∙ or-left (list_any q ys) (list_any q xs) e
 
 module _ (p : Message → Bool) where

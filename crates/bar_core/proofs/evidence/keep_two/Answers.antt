@@ -2,7 +2,8 @@ use Rattle.std.proofs.Common.{◌∙◌, ◌==◌, ◌+◌, ◌++◌, ◌∷◌,
 use Rattle.std.specs.Prelude.{if◌then◌else◌}
 use Rattle.bar_bytes.specs.Rooms.{kept_in}
 use Rattle.bar_wire.specs.Grammar.{entry}
-use Rattle.bar_core.proofs.Entries.{put_there, put_behind, leaves_room, entry_length, two_spelled}
+use Rattle.bar_wire.proofs.Lists.{entry_length}
+use Rattle.bar_core.proofs.Entries.{put_there, put_behind, leaves_room, two_spelled}
 use Rattle.bar_core.proofs.evidence.keep_two.Goals as goal
 
 pub add_entry-requires-2-clause-fits : goal.add_entry-requires-2-clause-fits

@@ -11,13 +11,14 @@ use Rattle.bar_rules.specs.Peer.Agreement.{IsRecent}
 use Rattle.bar_rules.specs.Peer.Knowledge.{has_said_of, is_in_time}
 use Rattle.bar_rules.specs.Peer.Terms.{terms_of}
 use Rattle.bar_ledger.specs.Lookups.{said_in}
-use Rattle.bar_exchange.proofs.FourTests.{round_by, third_of_four}
+use Rattle.bar_wire.proofs.ExchangeBy.{round-by}
+use Rattle.bar_exchange.proofs.FourTests.{third_of_four}
 use Rattle.bar_exchange.proofs.case.admits_case.Goals as goal
 
 pub returns : goal.returns
 returns c me k from to b h life now is role windows counts terms =
     let x : Exchange = c.args.x in
-    let round : c.args.x.round ≡ b.round = ap (λ (x : Exchange). x.round) is ∙ round_by b.round b.kind c.args.role from to in
+    let round : c.args.x.round ≡ b.round = ap (λ (x : Exchange). x.round) is ∙ round-by b.round b.kind c.args.role from to in
     let same : c.args.x ≡ exchange_by b.round b.kind b.role from to = is ∙ (λ i. exchange_by b.round b.kind (sym role i) from to) in
     let by : c.args.round ≤ c.args.x.round + 2 = grind (arith, nat_tests) in
     let recent : IsRecent me k c.args.x.round = omega arith in

@@ -20,7 +20,7 @@ returns g c k bytes h sound is tried at =
     let named : List ℕ → ℕ = g.V.Verifier.leaf_named c.args.verifier.now in
     let len : ℕ = g.V.Verifier.signature_len c.args.verifier.now in
     let leaf_is : c.leaf_in-leaf.result ≡ leaf_named me.session d =
-    c.leaf_in-leaf.ensures ∙ c.requires.names.names c.in-Some.sig.now ∙ ap (λ o. named_by me.session.top me.session.params (signature_bytes o)) (sym c.in-Some.is)
+    c.leaf_in-leaf.ensures ∙ c.requires.names.names c.in_ok-sig.sig.now ∙ ap (λ o. named_by me.session.top me.session.params (signature_bytes o)) (sym c.in_ok-sig.was)
     in
     let told : IsTriedElsewhere me k l d bytes named len c.leaf_in-leaf.result =
     record { recalls = h; sound = sound; bytes_are = is.spelled.is; law = c.requires.names; leaf_is = leaf_is }
