@@ -223,6 +223,7 @@ class Run:
     """What a run was: the session's numbers, how many bytes were streamed, what the auditor said and whether replays agree, and tables.
 
     `stream` counts updates that nobody held as full. `casts` is whether what the broadcaster sent is known, by its key and the stream.
+    `outside` is how many datagrams were taken on the machine meanwhile that no recording has, if it's known.
     """
 
     session: dict
@@ -240,6 +241,7 @@ class Run:
     evidence: list
     losses: list
     traffic: list
+    outside: int | None = None
 
     def document(self):
         """The run as what JSON has, a table being its columns and its rows."""

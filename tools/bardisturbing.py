@@ -15,12 +15,15 @@ from barwatching import Watch, watched
 
 @dataclasses.dataclass(frozen=True)
 class Ended:
-    """How a run ended: the status of each party and of what ran them all, what each receive buffer lost, and what the network did."""
+    """How a run ended: the status of each party and of what ran them all, what each receive buffer lost, what the network did, and how many
+    datagrams all programs of this machine took, if it's known and none went by a relay.
+    """
 
     statuses: dict
     status: int
     drops: dict = dataclasses.field(default_factory=dict)
     fates: Fates | None = None
+    taken: int | None = None
 
 
 def status_of_all(statuses):
@@ -54,4 +57,4 @@ def run_parties(folder, session, program, network, kill):
         stack.enter_context(watched(watch))
         live = stack.enter_context(started(folder, session, program, begin, ways))
         statuses = {party: ran.status for party, ran in live.ends().items()}
-    return Ended(statuses, status_of_all(statuses), watch.drops, fates)
+    return Ended(statuses, status_of_all(statuses), watch.drops, fates, None if layout else watch.taken)

@@ -1,15 +1,21 @@
-"""Whether somebody flooded a party's port, by what its recording has between two ticks and by what its receive buffer lost.
+"""Whether somebody flooded a party's port, by what its recording has between two ticks and by what its receive buffer lost; and how many
+datagrams were taken on this machine that have no place in a session.
 
-The real link takes so many datagrams and bytes between two ticks, and drops what comes behind them until the next one is due.
+The real link takes so many datagrams and bytes between two ticks, and drops what comes behind them until the next one is due. What it drops
+the program doesn't tell; the system counts what all programs took.
 """
+import collections
 import dataclasses
 import itertools
 
-from barformats import Malformed, entries_of
+from barformats import Malformed, entries_of, head_of
 from barscript import counted, listed
 
 # how many datagrams and bytes the program's link takes between two ticks, and the most bytes of a datagram
 MOST_DATAGRAMS, MOST_BYTES, LARGEST = 16_384, 8 << 20, 65_507
+
+# more datagrams than other programs of a quiet machine take while a session runs, as when they look up names
+CLEAR = 1_000
 
 
 def most_of(session, party):
@@ -40,30 +46,64 @@ def full_ticks_of(taken):
 
 @dataclasses.dataclass(frozen=True)
 class Flood:
-    """What is seen of a flood: the ticks that were full, and the datagrams that a receive buffer lost."""
+    """What is seen of a flood: the ticks that were full, the datagrams that a receive buffer lost, and those that were recorded though no
+    party sent them.
+    """
 
     full: int
     lost: int
+    strange: int = 0
 
     @property
     def told(self):
         """What is seen, in words."""
         parts = [f"{counted(self.full, 'tick')} had no room for more datagrams"] if self.full else []
         parts += [f"its receive buffer lost {counted(self.lost, 'datagram')}"] if self.lost else []
+        parts += [f"it took {counted(self.strange, 'datagram')} that no party sent"] if self.strange else []
         return listed(parts)
 
 
-def floods_of(folder, session, drops):
-    """What is seen of floods, by party: a tick of its recording is full, or its buffer lost more than the session's parties send it."""
-    floods = {}
+def strange_of(run):
+    """How many datagrams each party took that no party sent, or not as often, by the data of a run that no network disturbed."""
+    strange = collections.Counter()
+    for row in run.losses:
+        strange[row.receiver] += row.unsent + row.copies
+    return +strange
+
+
+def outside_of(folder, session, logs, taken):
+    """How many datagrams that were taken on this machine have no place in a session: no recording has them, and they aren't what peers sent
+    the broadcaster. None where it isn't known how many were taken.
+
+    The broadcaster is sent evidence alone. Where a peer has no log, as much as it may send is left out.
+    """
+    if taken is None:
+        return None
+    recorded = 0
+    for party in session.parties[:-1]:
+        try:
+            recorded += sum(entry is not None for entry in entries_of(folder.recording(party).read_bytes())[0])
+        except (OSError, Malformed):
+            recorded += most_of(session, party)
+    heads = (head_of(datagram, session) for log in logs.values() for _, datagram in log.sent)
+    reports = sum(head is not None and head[2] == 0 for head in heads)
+    unknown = session.ends * session.peers * (session.peers - len(logs))
+    return max(0, taken - recorded - reports - unknown)
+
+
+def floods_of(folder, session, drops, strange=None):
+    """What is seen of floods, by party: a tick of its recording is full, its buffer lost more than the session's parties send it, or many of
+    the datagrams that it took were sent by none of them.
+    """
+    floods, strange = {}, strange or {}
     for party in session.parties:
-        full, lost = 0, drops.get(party, 0)
+        full, lost, more = 0, drops.get(party, 0), strange.get(party, 0)
         try:
             full = full_ticks(entries_of(folder.recording(party).read_bytes())[0]) if party else 0
         except (OSError, Malformed):
             pass
-        if full or lost > most_of(session, party):
-            floods[party] = Flood(full, lost)
+        if full or lost > most_of(session, party) or more > CLEAR:
+            floods[party] = Flood(full, lost, more)
     return floods
 
 
@@ -71,6 +111,14 @@ def flood_lines(floods):
     """A line for each party that was flooded."""
     for party, flood in sorted(floods.items()):
         yield f"party {party} was flooded from outside the session: {flood.told}; the rest was dropped"
+
+
+def outside_told(outside):
+    """What is said of datagrams that have no place in a session, or None where they are few."""
+    if not outside or outside <= CLEAR:
+        return None
+    taken = f"{counted(outside, 'datagram')} that no recording has were taken on this machine while the session ran"
+    return f"{taken}: its links dropped them, or other programs took them"
 
 
 def size_faults(folder, session):

@@ -201,11 +201,12 @@ def audit_of_run(audit):
     return told | {"unbalanced": len(audit.unbalanced), "named": named, "cause": cause}
 
 
-def run_of(session, logs, audit=None, casts=None, found=None, verdicts=None, refused=None, differ=(), statuses=None, liars=()):
+def run_of(session, logs, audit=None, casts=None, found=None, verdicts=None, refused=None, differ=(), statuses=None, liars=(), outside=None):
     """A run, by the logs of its peers and what else is known of it.
 
     These are the audit, what the broadcaster sent, the findings of all parties by party, the verdicts on evidence by who keeps it and whom
-    it accuses, why peers have no replay by peer, what differs with its peer, the exit statuses by party, and the peers that lie.
+    it accuses, why peers have no replay by peer, what differs with its peer, the exit statuses by party, the peers that lie, and how many
+    datagrams were taken that have no place in the session.
     """
     found = found if found is not None else {party: log.findings for party, log in logs.items()}
     refused, statuses = refused or {}, statuses or {}
@@ -235,6 +236,7 @@ def run_of(session, logs, audit=None, casts=None, found=None, verdicts=None, ref
         evidence=evidence,
         losses=losses.rows(),
         traffic=losses.traffic_rows(),
+        outside=outside,
     )
 
 

@@ -11,8 +11,9 @@ import barpicture
 import bartimeline
 from baraudits import audit_of
 from barcauses import causes_of
+from bardata import Run
 from bardisturbing import Ended
-from barfloods import flood_lines, floods_of
+from barfloods import flood_lines, floods_of, outside_of, outside_told, strange_of
 from barformats import Malformed, Session
 from bargathering import gathered
 from barprogram import await_end, lines_of, running, status_of
@@ -159,37 +160,64 @@ def draw(folder, run, picture):
     return [], f"page {folder.page}"
 
 
-def compare_and_draw(folder, session, program, audit, picture, statuses=None):
+def outside_before(folder):
+    """How many datagrams from outside an earlier page of this run tells of."""
+    try:
+        return Run.of_json(folder.data.read_text("utf-8")).outside
+    except (OSError, ValueError, Malformed):
+        return None
+
+
+def compare_and_draw(folder, session, program, audit, picture, ran=None):
     """Replays each peer that left a recording and didn't lie, gathers what the run was and draws it, with its audit.
 
-    Prints what came of liars. Returns what differs or fails, and what is said of the page.
+    `ran` is how it ended, where it has just been run. Prints what came of liars. Returns what differs or fails, what is said of the page, and
+    what the run was.
     """
     liars = barliars.liars_in(folder)
     parties = [party for party in session.parties[:-1] if folder.recording(party).exists() and party not in liars]
     try:
         logs, refused, differ = compare(folder, session, program, parties) if parties else ({}, {}, [])
         refused |= {party: f"it lied ({lie}), so its recording isn't replayed" for party, lie in liars.items()}
-        known = {"refused": refused, "differ": differ, "statuses": statuses, "liars": liars}
+        outside = outside_of(folder, session, logs, ran.taken) if ran else outside_before(folder)
+        statuses = ran.statuses if ran else None
+        known = {"refused": refused, "differ": differ, "statuses": statuses, "liars": liars, "outside": outside}
         run = gathered(folder, session, program, logs, audit, **known) if logs else None
     except OSError as error:
-        return [f"the recordings can't be replayed: {told_of(error)}"], "there is no page"
+        return [f"the recordings can't be replayed: {told_of(error)}"], "there is no page", None
     causes = [f"party {party}: {told}" for party, told in [*refused.items(), *differ] if party not in liars]
     if not run:
-        return causes, "there is no page, since nobody left a recording that is replayed"
+        return causes, "there is no page, since nobody left a recording that is replayed", None
     if folder.network.exists():
         for line in barliars.lines_of(run, liars):
             say(line)
         causes += barliars.faults_of(run, liars)
     unwritten, page = draw(folder, run, picture)
-    return [*causes, *unwritten], page
+    return [*causes, *unwritten], page, run
 
 
-def lost_lines(drops, floods=()):
-    """A line for each party whose receive buffer ran over, but for those that were flooded."""
+def lost_lines(drops, floods=(), strange=False):
+    """A line for each party whose receive buffer ran over, but for those that were flooded.
+
+    A longer tick helps a machine that is too slow for a session. It is advised only where no flood was seen, nor anything that is strange.
+    """
+    advice = "" if floods or strange else "; a longer tick (--tick-ms) helps"
     for party, count in sorted(drops.items()):
         if count and party not in floods:
             lost = f"{counted(count, 'datagram')} {'was' if count == 1 else 'were'} lost"
-            yield f"party {party}: its receive buffer ran over, {lost}; a longer tick (--tick-ms) helps"
+            yield f"party {party}: its receive buffer ran over, {lost}{advice}"
+
+
+def outside_lines(folder, session, ran, run):
+    """The lines on floods, on what was lost and on what came from outside a session."""
+    strange = strange_of(run) if run and not ran.fates else {}
+    outside = run.outside if run else None
+    floods = floods_of(folder, session, ran.drops, strange)
+    yield from flood_lines(floods)
+    yield from lost_lines(ran.drops, floods, strange or outside)
+    told = outside_told(outside)
+    if told:
+        yield told
 
 
 # ---- all together
@@ -210,7 +238,7 @@ def run_undisturbed(folder, session, program, kill):
     watch = Watch(session, begin, party_words(folder, program, kill, begin) if kill else None)
     with watched(watch):
         statuses, status = run_parties(folder, program, begin)
-    return Ended(statuses, status, watch.drops)
+    return Ended(statuses, status, watch.drops, taken=watch.taken)
 
 
 def run_disturbed(folder, session, program, network, kill):
@@ -231,9 +259,8 @@ def outcome_of_run(folder, session, program, ran, kill=None, picture=None):
     audit = audit_of(folder, session, program)
     say(audit.line)
     failures = barliars.audit_failures(audit, barliars.liars_in(folder))
-    differ, page = compare_and_draw(folder, session, program, audit, picture, ran.statuses)
-    floods = floods_of(folder, session, ran.drops)
-    for line in [*flood_lines(floods), *lost_lines(ran.drops, floods)]:
+    differ, page, run = compare_and_draw(folder, session, program, audit, picture, ran)
+    for line in outside_lines(folder, session, ran, run):
         say(line)
     if causes or failures or differ:
         say(page)

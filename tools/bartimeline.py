@@ -9,6 +9,7 @@ import json
 import pathlib
 
 from bardata import BALANCED_WAY, BLOCK_WAY, PUSH_WAY, TrafficRow, columns_of
+from barfloods import outside_told
 from barpicture import FONT, tag
 from barscript import counted, listed
 
@@ -203,6 +204,8 @@ def notes(run):
     lines += [(f"Peer {peer.peer}: {listed(peer.differs)}.", True) for peer in run.peers if peer.differs]
     flooded = [peer for peer in run.peers if peer.full]
     lines += [(f"Peer {it.peer} was flooded: {counted(it.full, 'tick')} had no room for more datagrams.", True) for it in flooded]
+    outside = outside_told(run.outside)
+    lines += [(f"{outside}.", True)] if outside else []
     liars = [f"peer {peer.peer}" for peer in run.peers if peer.lies]
     lines += [(f"{listed(liars)} lied on purpose.".capitalize(), True)] if liars else []
     return [tag("p", html.escape(said), class_="warn") if warns else tag("p", html.escape(said)) for said, warns in lines]

@@ -22,6 +22,8 @@ LOOK, LINE, WAIT = 0.25, 1, 10
 FLOOD, FLOOD_LOOK = 1, 0.002
 
 SOCKETS = pathlib.Path("/proc/net/udp")
+# what the system counts, with the datagrams that programs have taken
+COUNTS = pathlib.Path("/proc/net/snmp")
 # the loopback address as that file has it
 ADDRESS = f"{int.from_bytes(socket.inet_aton(LOOPBACK), sys.byteorder):08X}"
 
@@ -57,6 +59,20 @@ def drops_of(text, ports):
     return {parties[fields[1]]: int(fields[-1]) for fields in sockets if len(fields) > 2 and fields[1] in parties}
 
 
+def taken_of(text):
+    """How many datagrams all programs of this machine have taken over UDP, by the text of /proc/net/snmp."""
+    names, numbers = (line.split() for line in text.splitlines() if line.startswith("Udp: "))
+    return int(dict(zip(names, numbers))["InDatagrams"])
+
+
+def count_taken():
+    """How many they have taken so far, or None where the system doesn't tell."""
+    try:
+        return taken_of(COUNTS.read_text("utf-8"))
+    except (OSError, ValueError, KeyError):
+        return None
+
+
 def find_process(words):
     """The number of the process that was started with these words, or None. Its own name may be another."""
     wanted = "".join(f"{word}\0" for word in words[1:]).encode()
@@ -70,13 +86,14 @@ def find_process(words):
 class Watch:
     """Looks at a session that runs. `victim` has the words of the party that is killed in the middle, if there is one.
 
-    The parties take the session's ports, or these.
+    The parties take the session's ports, or these. `taken` is how many datagrams all programs of this machine took meanwhile, if it's known.
     """
 
     def __init__(self, session, begin, victim=None, ports=None):
         self.session, self.clock, self.victim, self.drops = session, Clock(session, begin), victim, {}
         self.ports = ports or ports_of(session)
         self.middle = (begin + SLOTS * session.rounds * session.tick_ms / 2) / 1000
+        self.before, self.taken = count_taken(), None
 
     def look(self, now):
         """One look at this time, in seconds."""
@@ -97,12 +114,14 @@ class Watch:
             self.victim = None
 
     def looks(self, ended):
-        """Looks until the end."""
+        """Looks until the end, and counts then what was taken."""
         pause = 0
         while not ended.wait(pause):
             now = time.time()
             self.look(now)
             pause = min(LOOK, self.middle - now) if now < self.middle else LOOK
+        after = count_taken()
+        self.taken = None if self.before is None or after is None else after - self.before
 
 
 class Growing:

@@ -1,4 +1,5 @@
 """What is told of floods, and audits that go on without a recording that is refused."""
+import dataclasses
 import pathlib
 import socket
 import threading
@@ -11,9 +12,13 @@ import barattacks
 import baraudits
 import barfloods
 import barrunning
-from barfloods import MOST_DATAGRAMS, Flood
-from barformats import KEY, KEYREQ, entries_of, recording_of
+import barwatching
+from bardisturbing import Ended
+from barfloods import CLEAR, MOST_DATAGRAMS, Flood
+from barformats import EVIDENCE, KEY, KEYREQ, entries_of, recording_of
+from bargathering import run_of
 from barprogram import Ran
+from barreplays import Log
 from barsession import LOOPBACK
 
 SHORT = datagram(KEYREQ, 1, 2, bytes(6))
@@ -44,13 +49,59 @@ class Floods(RoomCase):
         self.assertEqual(floods, {2: Flood(0, most + 1)})
         told = f"party 2 was flooded from outside the session: its receive buffer lost {most + 1:,} datagrams; the rest was dropped"
         self.assertEqual([*barfloods.flood_lines(floods)], [told])
-        lost = [*barrunning.lost_lines({1: 3, 2: most + 1}, floods)]
-        self.assertEqual(lost, ["party 1: its receive buffer ran over, 3 datagrams were lost; a longer tick (--tick-ms) helps"])
+        lost = "party 1: its receive buffer ran over, 3 datagrams were lost"
+        self.assertEqual([*barrunning.lost_lines({1: 3})], [f"{lost}; a longer tick (--tick-ms) helps"])
+        # no longer tick is advised where a flood was seen
+        self.assertEqual([*barrunning.lost_lines({1: 3, 2: most + 1}, floods)], [lost])
+        self.assertEqual([*barrunning.lost_lines({1: 3}, strange=True)], [lost])
 
     def test_a_recording_with_a_full_tick_is_one(self):
         self.record(1, [None, *[SHORT] * MOST_DATAGRAMS])
         self.assertEqual(barfloods.floods_of(self.folder, self.session, {}), {1: Flood(1, 0)})
         self.assertEqual([*barfloods.size_faults(self.folder, self.session)], [])
+
+    def run_of(self, taken, sent=()):
+        """A run in which peer 1 took datagrams of peer 2, and this one sent some."""
+        logs = {1: Log(True, 1, [(1, datagram) for datagram in taken], [], b"", {})}
+        logs[2] = Log(True, 1, [], [(1, datagram) for datagram in sent], b"", {})
+        return run_of(self.session, logs), logs
+
+    def test_many_datagrams_that_nobody_sent_are_a_flood(self):
+        key = datagram(KEYREQ, 2, 1, bytes(6), self.session.id)
+        run, _ = self.run_of([key] * 3, [key])
+        self.assertEqual(barfloods.strange_of(run), {1: 2})
+        self.assertEqual(barfloods.strange_of(self.run_of([key], [key])[0]), {})
+        self.assertEqual(barfloods.floods_of(self.folder, self.session, {}, {1: CLEAR}), {})
+        floods = barfloods.floods_of(self.folder, self.session, {1: 4}, {1: CLEAR + 1})
+        self.assertEqual(floods, {1: Flood(0, 4, CLEAR + 1)})
+        told = "its receive buffer lost 4 datagrams and it took 1,001 datagrams that no party sent; the rest was dropped"
+        self.assertEqual([*barfloods.flood_lines(floods)], [f"party 1 was flooded from outside the session: {told}"])
+
+    def test_what_no_recording_has_came_from_outside(self):
+        report = datagram(EVIDENCE, 2, 0, bytes(20), self.session.id)
+        run, logs = self.run_of([], [report])
+        # a datagram in each recording, and one to the broadcaster
+        self.assertEqual(barfloods.outside_of(self.folder, self.session, logs, 3), 0)
+        self.assertEqual(barfloods.outside_of(self.folder, self.session, logs, 5), 2)
+        self.assertIsNone(barfloods.outside_of(self.folder, self.session, logs, None))
+        # a peer without a log may have sent the broadcaster as much as it may
+        most = self.session.ends * self.session.peers
+        self.assertEqual(barfloods.outside_of(self.folder, self.session, {2: logs[2]}, 5 + most), 2)
+        self.assertIsNone(barfloods.outside_told(CLEAR))
+        lines = [*barrunning.outside_lines(self.folder, self.session, Ended({}, 0, {1: 7}), dataclasses.replace(run, outside=1234))]
+        told = "1,234 datagrams that no recording has were taken on this machine while the session ran"
+        lost = "party 1: its receive buffer ran over, 7 datagrams were lost"
+        self.assertEqual(lines, [lost, f"{told}: its links dropped them, or other programs took them"])
+
+    def test_the_system_counts_what_is_taken(self):
+        text = "Ip: A B\nIp: 1 2\nUdp: InDatagrams NoPorts\nUdp: 15 3\nUdpLite: InDatagrams\nUdpLite: 0\n"
+        self.assertEqual(barwatching.taken_of(text), 15)
+        with mock.patch("barwatching.COUNTS", self.room / "none"):
+            self.assertIsNone(barwatching.count_taken())
+            watch, ended = barwatching.Watch(self.session, 0), threading.Event()
+        ended.set()
+        watch.looks(ended)
+        self.assertIsNone(watch.taken)
 
     def test_a_flood_comes_to_all_peers(self):
         with socket.socket(socket.AF_INET, socket.SOCK_DGRAM) as taker:

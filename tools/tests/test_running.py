@@ -35,6 +35,10 @@ class SessionCase(RoomCase):
 
     def setUp(self):
         super().setUp()
+        # what other programs take is no matter of these tests
+        counts = mock.patch("barwatching.COUNTS", self.room / "none")
+        counts.start()
+        self.addCleanup(counts.stop)
         shutil.copytree(self.made / "session", self.room / "session")
         self.folder = barsession.Folder(self.room / "session")
         self.session = barrunning.session_of(self.folder)
@@ -306,7 +310,7 @@ class Outcomes(SessionCase):
 
     def test_what_was_lost_is_told_before_the_last_line(self):
         with mock.patch("barrunning.Watch") as watch:
-            watch.return_value.drops = {2: 31}
+            watch.return_value.drops, watch.return_value.taken = {2: 31}, None
             watch.return_value.looks = lambda ended: ended.wait()
             outcome, out, _ = self.run_session()
         self.assertEqual(out[-1], "party 2: its receive buffer ran over, 31 datagrams were lost; a longer tick (--tick-ms) helps")
