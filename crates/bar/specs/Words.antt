@@ -4,7 +4,7 @@ use Rattle.bar_outside.specs.Plan.{Outside}
 use Rattle.bar_outside.specs.Children.{Children}
 
 -- no file was read or changed, nothing printed, nothing done over the link and no child started
-pub record IsUntouched (old new : Outside) (kids kids_new : Children) : Type 0 where
+pub record NothingHappened (old new : Outside) (kids kids_new : Children) : Type 0 where
   pub files : new.files ≡ old.files
   pub out : new.out ≡ old.out
   pub wire : new.wire ≡ old.wire

@@ -6,7 +6,7 @@ ghost use Rattle.bar_outside.specs.Disk.{Content};
 ghost use Rattle.bar_outside.specs.Plan.{outside};
 ghost use Rattle.bar_cli.specs.Line.{line_of};
 ghost use Rattle.bar_cli.specs.Ran.{WasDone, ByTheRules, WasSaid};
-ghost use Rattle.bar.specs.Words.{IsUntouched};
+ghost use Rattle.bar.specs.Words.{NothingHappened};
 
 mod streams;
 
@@ -61,7 +61,7 @@ fn run_words<F: Files, L: Link, K: Sink, S: Spawner>(
 
     // words that aren't text are no line
     ensures no_text { IfErr words (λ _. (result ≡ 2) ⊎ (result ≡ 70)) }
-    ensures untouched { (was : Content) → IfErr words (λ _. IsUntouched
+    ensures untouched { (was : Content) → IfErr words (λ _. NothingHappened
         (outside (F.disk files.old was) (K.stream out.old) (L.wire link.old))
         (outside (F.disk files.new was) (K.stream out.new) (L.wire link.new)) (S.children spawn.old) (S.children spawn.new)) }
 {

@@ -5,7 +5,7 @@ use Rattle.std.specs.Option.{option_map_or, option_or}
 use Rattle.std.specs.Ordering.{nat_cmp}
 use Rattle.std.proofs.Common.{arith}
 use Rattle.std.proofs.lemmas.Bool.Decides.{nat_tests}
-use Rattle.bar_audit.proofs.Sides.{Tells}
+use Rattle.bar_audit.proofs.Sides.{DecidesEquality}
 use Rattle.std.proofs.lemmas.Bool.{and_parts, and_from, both_ways, eq-eqb, eqb-true}
 use Rattle.std.proofs.lemmas.Map.Views.{Contains-from_any}
 use Rattle.bar_window.specs.declared.exchange.Exchange.{Exchange}
@@ -185,7 +185,7 @@ audits-more s recordings a b party inputs at fresh added gives-cases gives-keys 
 -- ---- what is answered
 
 -- the order of numbers tells them apart
-pub nat-tells : Tells nat_cmp eqb
+pub nat-tells : DecidesEquality nat_cmp eqb
 nat-tells a b = grind (arith, nat_tests)
 
 -- a party that wasn't given yet isn't there twice

@@ -6,14 +6,14 @@ ghost use Rattle.bar_rules.specs.Member.{Member};
 ghost use Rattle.bar_rules.specs.Peer.Agreement.{IsRecent};
 ghost use Rattle.bar_rules.specs.Peer.Knowledge.{Knowledge};
 ghost use Rattle.bar_rules.specs.Peer.Writing.{answer_of};
-ghost use Rattle.bar_exchange.specs.Writing.{Tells};
+ghost use Rattle.bar_exchange.specs.Writing.{AreSourcesOf};
 
 use bar_exchange::{Sources, kept_terms, knows_answer, knows_commit};
 use bar_window::{Exchange, Terms, Window};
 
 /// The nonce and the history that the initiator commits to, where they are known.
 pub(crate) fn revealed(sources: &Sources<'_>, x: Exchange) -> Option<([u8; 32], Window)>
-    ensures known { (me : Member) (k : Knowledge) → Tells me k sources.now → IsRecent me k x.round
+    ensures known { (me : Member) (k : Knowledge) → AreSourcesOf me k sources.now → IsRecent me k x.round
         → option_map (λ c. (c.0, members c.1)) result ≡ k.revealed x }
     ensures windows { IfSome result (λ c. IsWindowIn sources.now.session.now.shape x.round c.1) }
 {
@@ -28,7 +28,7 @@ pub(crate) fn revealed(sources: &Sources<'_>, x: Exchange) -> Option<([u8; 32], 
 
 /// The history that the responder answers with, where it is known.
 pub(crate) fn answered(sources: &Sources<'_>, x: Exchange) -> Option<Window>
-    ensures known { (me : Member) (k : Knowledge) → Tells me k sources.now → IsRecent me k x.round
+    ensures known { (me : Member) (k : Knowledge) → AreSourcesOf me k sources.now → IsRecent me k x.round
         → option_map members result ≡ answer_of me k x }
     ensures windows { IfSome result (IsWindowIn sources.now.session.now.shape x.round) }
 {

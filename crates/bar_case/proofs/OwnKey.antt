@@ -15,7 +15,7 @@ use Rattle.bar_terms.specs.Terms.{promise, promised_updates, promised_junk}
 use Rattle.bar_case.specs.declared.findings.Finding.{Finding}
 use Rattle.bar_case.specs.Keystream.{keystream, xor_bytes}
 use Rattle.bar_case.specs.Items.{item_len, items_len, item_bytes, plaintext, junk_key, junk_item, promised_len}
-use Rattle.bar_case.specs.Sealed.{sealed, IsTold}
+use Rattle.bar_case.specs.Sealed.{sealed, MatchesTable}
 use Rattle.bar_case.specs.Opened.{digest_finding, item_finding, findings, is_broken, is_untold, opening_by, opening_of, opened, opening, is_bad, sound_if}
 use Rattle.bar_case.proofs.Stream.{length_keystream}
 use Rattle.bar_case.proofs.Xor.{xor_twice, length_xor}
@@ -25,7 +25,7 @@ use Rattle.bar_bytes.proofs.Tests.{bytes_eq-refl}
 
 -- an item is held and told, where it is an update
 abbrev IsToldItem : Table → (UpdateId → Option (List ℕ)) → Item → Type 0
-IsToldItem table blocks (Update u) = IsTold table blocks u
+IsToldItem table blocks (Update u) = MatchesTable table blocks u
 IsToldItem table blocks (Junk t) = Unit {0}
 
 told_len : (table : Table) (blocks : UpdateId → Option (List ℕ)) (junk : List ℕ) (item : Item) → IsToldItem table blocks item → length (item_bytes junk blocks item) ≡ item_len item
@@ -67,7 +67,7 @@ by_not_bad : (untold : Option ℕ) (n : ℕ) → is_bad (opening_by None untold 
 by_not_bad (Some i) n = refl
 by_not_bad None n = refl
 
-told_items : (table : Table) (blocks : UpdateId → Option (List ℕ)) (us : List UpdateId) (ts : List ℕ) → AllByRecursion (IsTold table blocks) us
+told_items : (table : Table) (blocks : UpdateId → Option (List ℕ)) (us : List UpdateId) (ts : List ℕ) → AllByRecursion (MatchesTable table blocks) us
     → AllByRecursion (IsToldItem table blocks) (map Update us ++ map Junk ts)
 told_items table blocks [] [] h = tt
 told_items table blocks [] (t ∷ ts) h = (tt, told_items table blocks [] ts h)
@@ -87,7 +87,7 @@ back : (key plain : List ℕ) → opened key (xor_bytes plain (keystream key (le
 back key plain = rw (length_sealed_bytes key plain) (xor_twice plain (keystream key (length plain)) (sym (length_keystream key (length plain))))
 
 pub own_key : (id : List ℕ) (x : Exchange) (cap : ℕ) (terms : Terms) (role : Role) (key : List ℕ) (table : Table) (blocks : UpdateId → Option (List ℕ))
-    → AllByRecursion (IsTold table blocks) (promised_updates cap terms role) → is_bad (opening id x cap terms role (sealed id x cap terms role key blocks) key table) ≡ false
+    → AllByRecursion (MatchesTable table blocks) (promised_updates cap terms role) → is_bad (opening id x cap terms role (sealed id x cap terms role key blocks) key table) ≡ false
 unfolding sealed opening
 own_key id x cap terms role key table blocks told =
     let items = promise cap terms role in
@@ -100,7 +100,7 @@ own_key id x cap terms role key table blocks told =
     ∙ (ap (λ p. is_bad (opening_by p (position is_untold fs) (length fs))) none ∙ by_not_bad (position is_untold fs) (length fs))
 
 pub length_sealed : (id : List ℕ) (x : Exchange) (cap : ℕ) (terms : Terms) (role : Role) (key : List ℕ) (table : Table) (blocks : UpdateId → Option (List ℕ))
-    → AllByRecursion (IsTold table blocks) (promised_updates cap terms role) → length (sealed id x cap terms role key blocks) ≡ promised_len cap terms role
+    → AllByRecursion (MatchesTable table blocks) (promised_updates cap terms role) → length (sealed id x cap terms role key blocks) ≡ promised_len cap terms role
 unfolding sealed
 length_sealed id x cap terms role key table blocks told =
     let all = told_items table blocks (promised_updates cap terms role) (range_with_len 0 (promised_junk terms role)) told in

@@ -8,7 +8,7 @@ use Rattle.bar_window.specs.Terms.{Terms}
 use Rattle.bar_terms.specs.Table.{Table, Extends}
 use Rattle.bar_terms.specs.Terms.{promised_updates}
 use Rattle.bar_case.specs.Items.{promised_len}
-use Rattle.bar_case.specs.Sealed.{sealed, IsTold}
+use Rattle.bar_case.specs.Sealed.{sealed, MatchesTable}
 use Rattle.bar_case.specs.declared.findings.Opening.TheVariants.{Good}
 use Rattle.bar_case.specs.Opened.{opening, opened_blocks, is_bad, AreTold}
 
@@ -17,7 +17,7 @@ abbrev pub SealedHasItsLength : Type 0
 SealedHasItsLength =
     (id : List ℕ) (x : Exchange) (cap : ℕ) (terms : Terms) (role : Role) (key : List ℕ) (table : Table)
     (blocks : UpdateId → Option (List ℕ))
-    → AllByRecursion (IsTold table blocks) (promised_updates cap terms role)
+    → AllByRecursion (MatchesTable table blocks) (promised_updates cap terms role)
     → length (sealed id x cap terms role key blocks) ≡ promised_len cap terms role
 
 -- What was sealed never opens badly with its own key, where the table has the digest of the block of each promised update whose round it
@@ -26,7 +26,7 @@ abbrev pub OwnKeyNeverOpensBadly : Type 0
 OwnKeyNeverOpensBadly =
     (id : List ℕ) (x : Exchange) (cap : ℕ) (terms : Terms) (role : Role) (key : List ℕ) (table : Table)
     (blocks : UpdateId → Option (List ℕ))
-    → AllByRecursion (IsTold table blocks) (promised_updates cap terms role)
+    → AllByRecursion (MatchesTable table blocks) (promised_updates cap terms role)
     → is_bad (opening id x cap terms role (sealed id x cap terms role key blocks) key table) ≡ false
 
 -- What opens badly under a table opens badly under each table that has its lists and more.

@@ -25,7 +25,7 @@ IsHeldItem blocks (Update u) = IsSome (blocks u)
 IsHeldItem blocks (Junk t) = Unit {0}
 
 -- The update is held with a block of 1,024 bytes, and the table has the digest of this block or lacks the round.
-pub record IsTold (table : Table) (blocks : UpdateId → Option (List ℕ)) (u : UpdateId) : Type 0 where
+pub record MatchesTable (table : Table) (blocks : UpdateId → Option (List ℕ)) (u : UpdateId) : Type 0 where
   pub block : List ℕ
   pub held : blocks u ≡ Some block
   pub whole : length block ≡ block_size

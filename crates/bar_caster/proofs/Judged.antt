@@ -40,7 +40,7 @@ use Rattle.bar_laws.specs.Ignoring.{evicts, is_news}
 use Rattle.bar_caster.specs.declared.evictions.Evictions.{Evictions}
 use Rattle.bar_caster.specs.declared.memory.Memory.{Memory}
 use Rattle.bar_caster.specs.Evictions.{AreOfLog}
-use Rattle.bar_caster.specs.Memory.{Tells, IsOfTheSame, member_of, said_of, stream_of}
+use Rattle.bar_caster.specs.Memory.{Represents, IsOfTheSame, member_of, said_of, stream_of}
 
 -- A memory has what another has, but for the evictions.
 pub record HasOtherEvictions (m n : Memory) : Type 0 where
@@ -56,8 +56,8 @@ table_at s stream now r = then_some (nat_le 1 r && (nat_le r now && nat_le r s.s
 
 -- A memory tells as much of a log at the same time, in which the same was said, where its evictions are those of that log.
 pub tells_with : (log new : Log) (m n : Memory) → HasOtherEvictions m n → ticks new ≡ ticks log
-    → ((kind : Kind) (round : ℕ) → said_of kind round new ≡ said_of kind round log) → AreOfLog m.session n.evictions new → Tells log m
-    → Tells new n
+    → ((kind : Kind) (round : ℕ) → said_of kind round new ≡ said_of kind round log) → AreOfLog m.session n.evictions new → Represents log m
+    → Represents new n
 tells_with log new m n h time said evictions tells =
     let session : m.session ≡ n.session = sym h.same.session in
     record {
@@ -75,13 +75,13 @@ tells_with log new m n h time said evictions tells =
       evictions = subst (λ (s : Session). AreOfLog s n.evictions new) session evictions;
     }
 
-tells_kept : (log : Log) (m n : Memory) (party : ℕ) (evidence : List (List ℕ)) → HasOtherEvictions m n → Tells log m
-    → AreOfLog m.session n.evictions (Kept party evidence ∷ log) → Tells (Kept party evidence ∷ log) n
+tells_kept : (log : Log) (m n : Memory) (party : ℕ) (evidence : List (List ℕ)) → HasOtherEvictions m n → Represents log m
+    → AreOfLog m.session n.evictions (Kept party evidence ∷ log) → Represents (Kept party evidence ∷ log) n
 tells_kept log m n party evidence h tells evictions =
     tells_with log (Kept party evidence ∷ log) m n h (omega arith) (λ kind round. or-none (said_of kind round log)) evictions tells
 
 -- the same evictions are those of the same log
-pub tells_still : (log : Log) (m n : Memory) → HasOtherEvictions m n → n.evictions ≡ m.evictions → Tells log m → Tells log n
+pub tells_still : (log : Log) (m n : Memory) → HasOtherEvictions m n → n.evictions ≡ m.evictions → Represents log m → Represents log n
 tells_still log m n h same tells =
     tells_with log log m n h refl (λ kind round. refl) (subst (λ (e : Evictions). AreOfLog m.session e log) (sym same) tells.evictions) tells
 
@@ -91,23 +91,23 @@ pub record Evicts (log : Log) (m n : Memory) (party : ℕ) (evidence : List (Lis
       → length (evidence_bytes evidence) ≤ m.evictions.evidence.size → AreOfLog m.session n.evictions (Kept party evidence ∷ log)
   pub again : AreOfLog m.session m.evictions log → is_some (kept log party) ≡ true → n.evictions ≡ m.evictions
 
-evicted_by : (log : Log) (m n : Memory) (party : ℕ) (evidence : List (List ℕ)) → HasOtherEvictions m n → Tells log m
+evicted_by : (log : Log) (m n : Memory) (party : ℕ) (evidence : List (List ℕ)) → HasOtherEvictions m n → Represents log m
     → Evicts log m n party evidence → AreDatagramsInRange evidence → length (evidence_bytes evidence) ≤ m.evictions.evidence.size
-    → (o : Option (List (List ℕ))) → kept log party ≡ o → Tells (if is_some o then log else Kept party evidence ∷ log) n
+    → (o : Option (List (List ℕ))) → kept log party ≡ o → Represents (if is_some o then log else Kept party evidence ∷ log) n
 evicted_by log m n party evidence h tells evicts range short None is =
     tells_kept log m n party evidence h tells (evicts.kept_now tells.evictions is range short)
 evicted_by log m n party evidence h tells evicts range short (Some old) is =
     tells_still log m n h (evicts.again tells.evictions (ap is_some is)) tells
 
 -- the verdict under the table of the log
-told_verdict : (log : Log) (m : Memory) (evidence : List (List ℕ)) → Tells log m
+told_verdict : (log : Log) (m : Memory) (evidence : List (List ℕ)) → Represents log m
     → verdict m.session (digests_of m.table.lists) evidence ≡ verdict m.session (caster_table (member_of m) (stream_of m) log) evidence
 told_verdict log m evidence tells = λ i. verdict m.session (λ r. tells.table r i) evidence
 
 pub shown : (log : Log) (m n : Memory) (party : ℕ) (fault : Fault) (evidence : List (List ℕ)) → ShownIsShort → HasOtherEvictions m n
-    → Tells log m → Evicts log m n party evidence → AreDatagramsInRange evidence
+    → Represents log m → Evicts log m n party evidence → AreDatagramsInRange evidence
     → Shown party fault ≡ verdict m.session (digests_of m.table.lists) evidence
-    → Tells (judge_body (member_of m) (stream_of m) log (Evidence evidence)) n
+    → Represents (judge_body (member_of m) (stream_of m) log (Evidence evidence)) n
 shown log m n party fault evidence law h tells evicts range is =
     let now : verdict m.session (caster_table (member_of m) (stream_of m) log) evidence ≡ Shown party fault =
     sym (is ∙ told_verdict log m evidence tells) in
@@ -117,7 +117,7 @@ shown log m n party fault evidence law h tells evicts range is =
       law m.session (caster_table (member_of m) (stream_of m) log) evidence party fault m.is_broadcaster.session now,
       m.evidence_size,
     ) in
-    subst (λ v. Tells (evict_by log evidence v) n) (sym now)
+    subst (λ v. Represents (evict_by log evidence v) n) (sym now)
     (evicted_by log m n party evidence h tells evicts range short (kept log party) refl)
 
 silent : (log : Log) (evidence : List (List ℕ)) (v : CodeVerdict) → ((party : ℕ) (fault : CodeFault) → v ≡ verdicts.Shown party fault → ⊥)
@@ -126,20 +126,20 @@ silent log evidence (verdicts.Shown party fault) none = absurd (none party fault
 silent log evidence (verdicts.NotShown why) none = refl
 
 pub not_shown : (log : Log) (m n : Memory) (v : CodeVerdict) (evidence : List (List ℕ)) → HasOtherEvictions m n → n.evictions ≡ m.evictions
-    → Tells log m → plain_verdict v ≡ verdict m.session (digests_of m.table.lists) evidence
+    → Represents log m → plain_verdict v ≡ verdict m.session (digests_of m.table.lists) evidence
     → ((party : ℕ) (fault : CodeFault) → v ≡ verdicts.Shown party fault → ⊥)
-    → Tells (judge_body (member_of m) (stream_of m) log (Evidence evidence)) n
+    → Represents (judge_body (member_of m) (stream_of m) log (Evidence evidence)) n
 not_shown log m n v evidence h same tells is none =
     let log_is : log ≡ evict_by log evidence (verdict m.session (caster_table (member_of m) (stream_of m) log) evidence) =
     sym (silent log evidence v none) ∙ ap (evict_by log evidence) (is ∙ told_verdict log m evidence tells) in
-    subst (λ (l : Log). Tells l n) log_is (tells_still log m n h same tells)
+    subst (λ (l : Log). Represents l n) log_is (tells_still log m n h same tells)
 
 some_there : (o : Option (List (List ℕ))) → is_none o ≡ false → is_some o ≡ true
 some_there None e = absurd (cc)
 some_there (Some evidence) e = refl
 
 -- evidence that is shown and no news is against a party that is evicted
-pub evicted_before : (log : Log) (m : Memory) (party : ℕ) (fault : Fault) (evidence : List (List ℕ)) → Tells log m
+pub evicted_before : (log : Log) (m : Memory) (party : ℕ) (fault : Fault) (evidence : List (List ℕ)) → Represents log m
     → Shown party fault ≡ verdict m.session (digests_of m.table.lists) evidence
     → is_news (member_of m) (stream_of m) log (Evidence evidence) ≡ false → is_some (kept log party) ≡ true
 evicted_before log m party fault evidence tells is quiet =

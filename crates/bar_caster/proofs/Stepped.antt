@@ -13,8 +13,8 @@ use Rattle.bar_rules.specs.Runs.{Outcome, begun}
 use Rattle.bar_rules.proofs.LongerRuns.{state_after_both}
 use Rattle.bar_caster.specs.declared.memory.Memory.{Memory}
 use Rattle.bar_caster.specs.declared.order.Order.{Order}
-use Rattle.bar_caster.specs.Memory.{Tells, IsOfTheSame, member_of, stream_of}
-use Rattle.bar_caster.specs.Orders.{Orders, AreFor, Stands, order_now}
+use Rattle.bar_caster.specs.Memory.{Represents, IsOfTheSame, member_of, stream_of}
+use Rattle.bar_caster.specs.Orders.{Orders, AreFor, HasOutcome, order_now}
 use Rattle.bar_caster.specs.StandsFor.{StandsFor, AreLeft, log_of}
 
 -- ---- one input more
@@ -56,10 +56,10 @@ module _ (m n : Memory) (inputs : List Input) (input : Input) (same : IsOfTheSam
   after =
       log_same m n (inputs ++ input ∷ []) same ∙ log_more (member_of m) (stream_of m) inputs input ∙ ap (λ (out : Outcome Log). out.state) now
 
-  pub then_stands : Tells taken.state n → StandsFor n (inputs ++ input ∷ [])
-  then_stands tells = subst (λ (log : Log). Tells log n) (sym after) tells
+  pub then_stands : Represents taken.state n → StandsFor n (inputs ++ input ∷ [])
+  then_stands tells = subst (λ (log : Log). Represents log n) (sym after) tells
 
-  pub then_sends : (o : Orders) → Stands taken n o → left_in o ≡ o.list.items
+  pub then_sends : (o : Orders) → HasOutcome taken n o → left_in o ≡ o.list.items
       → AreLeft n o (inputs ++ input ∷ []) (caster_step (member_of m) (stream_of m) (log_of m inputs) input).sends
   then_sends o stands all =
       let one : AreFor (member_of n) (stream_of n) (log_of n (inputs ++ input ∷ [])) o.list.items taken.sends =
@@ -86,7 +86,7 @@ over_is m inputs input over stood =
 pub over_stands : (m : Memory) (inputs : List Input) (input : Input) → nat_le (last_tick m.session) m.ticks ≡ true → StandsFor m inputs
     → StandsFor m (inputs ++ input ∷ [])
 over_stands m inputs input over stood =
-    subst (λ (log : Log). Tells log m)
+    subst (λ (log : Log). Represents log m)
     (sym (log_more (member_of m) (stream_of m) inputs input ∙ ap (λ (out : Outcome Log). out.state) (over_is m inputs input over stood)))
     stood
 

@@ -21,8 +21,8 @@ use Rattle.bar_laws.specs.Broadcasting.{SignsOnce, manifest_of}
 use Rattle.bar_caster.specs.declared.item.Item.TheVariants as items
 use Rattle.bar_caster.specs.declared.memory.Memory.{Memory}
 use Rattle.bar_caster.specs.declared.order.Order.{Order}
-use Rattle.bar_caster.specs.Memory.{IsOfTheSame, Tells, member_of, said_of, stream_of}
-use Rattle.bar_caster.specs.Orders.{AreFor, Orders, Stands, order_now, orders_to}
+use Rattle.bar_caster.specs.Memory.{IsOfTheSame, Represents, member_of, said_of, stream_of}
+use Rattle.bar_caster.specs.Orders.{AreFor, Orders, HasOutcome, order_now, orders_to}
 use Rattle.bar_caster.specs.Ticking.{begins_round, begun_round, block_orders, notice_now}
 use Rattle.bar_caster.proofs.Grown.{not_said_yet, same_said, same_served}
 use Rattle.bar_caster.proofs.Flat.{all-flat, blocks_from, blocks-flat, for-blocks, for-both, for-each, to_each, with_sends}
@@ -37,10 +37,10 @@ same-stream old new same = λ i. (same.stream i).bytes.items
 
 -- the member and the stream of a tick are those of the memory after it
 pub stands-so : (old new : Memory) (o : Orders) (at : Log) → IsOfTheSame old new
-    → Stands (caster_tick (member_of new) (stream_of new) (begun at)) new o
-    → Stands (caster_tick (member_of old) (stream_of old) (begun at)) new o
+    → HasOutcome (caster_tick (member_of new) (stream_of new) (begun at)) new o
+    → HasOutcome (caster_tick (member_of old) (stream_of old) (begun at)) new o
 stands-so old new o at same stands =
-    subst (λ (out : Outcome Log). Stands out new o)
+    subst (λ (out : Outcome Log). HasOutcome out new o)
     (λ i. caster_tick (same-member old new same i) (same-stream old new same i) (begun at))
     stands
 
@@ -68,7 +68,7 @@ tick-is : (me : Member) (stream : List ℕ) (at : Log) (low first fourth middle 
     → caster_tick me stream (begun at) ≡ tick_by me stream at low first fourth middle
 tick-is me stream at low first fourth middle a b c d = λ i. tick_by me stream at (a i) (b i) (c i) (d i)
 
-module _ (n : Memory) (o : Orders) (at : Log) (tells : Tells at n) where
+module _ (n : Memory) (o : Orders) (at : Log) (tells : Represents at n) where
   abbrev me : Member
   me = member_of n
 
@@ -79,12 +79,12 @@ module _ (n : Memory) (o : Orders) (at : Log) (tells : Tells at n) where
   out = caster_tick me stream (begun at)
 
   -- what is sent is a list, and the orders are for it
-  stand-for : (sends : List (ℕ × Datagram)) → out ≡ with_sends (begun at) sends → AreFor me stream at o.list.items sends → Stands out n o
+  stand-for : (sends : List (ℕ × Datagram)) → out ≡ with_sends (begun at) sends → AreFor me stream at o.list.items sends → HasOutcome out n o
   stand-for sends is for =
-      subst (λ (out : Outcome Log). Stands out n o) (sym is)
-      (let r : Stands (with_sends (begun at) sends) n o = record { tells = tells; orders = for } in r)
+      subst (λ (out : Outcome Log). HasOutcome out n o) (sym is)
+      (let r : HasOutcome (with_sends (begun at) sends) n o = record { tells = tells; orders = for } in r)
 
-  none-stand : out ≡ begun at → o.list.items ≡ [] → Stands out n o
+  none-stand : out ≡ begun at → o.list.items ≡ [] → HasOutcome out n o
   none-stand is empty = stand-for [] is (ap (map (order_now me stream at)) empty)
 
   round-is : round_now at ≡ round_after n.ticks
@@ -93,7 +93,7 @@ module _ (n : Memory) (o : Orders) (at : Log) (tells : Tells at n) where
   slot-is : slot at ≡ slot_after n.ticks
   slot-is = ap slot_after tells.time
 
-  pub past-stands : n.session.shape.rounds < round_after n.ticks → o.list.items ≡ [] → Stands out n o
+  pub past-stands : n.session.shape.rounds < round_after n.ticks → o.list.items ≡ [] → HasOutcome out n o
   past-stands past empty =
       let low : nat_le (round_now at) n.session.shape.rounds ≡ false = grind (arith, nat_tests, past, round-is) in
       none-stand (tick-is me stream at false _ _ _ low refl refl refl) empty
@@ -102,7 +102,7 @@ module _ (n : Memory) (o : Orders) (at : Log) (tells : Tells at n) where
   low-is high = grind (arith, nat_tests, high, round-is)
 
   pub idle-stands : round_after n.ticks ≤ n.session.shape.rounds → (slot_after n.ticks == 0) ≡ false → (slot_after n.ticks == 1) ≡ false
-      → (slot_after n.ticks == 4) ≡ false → (slot_after n.ticks == 5) ≡ false → o.list.items ≡ [] → Stands out n o
+      → (slot_after n.ticks == 4) ≡ false → (slot_after n.ticks == 5) ≡ false → o.list.items ≡ [] → HasOutcome out n o
   idle-stands high zeroth first fourth fifth empty =
       none-stand
       (tick-is me stream at true false false false (low-is high)
@@ -113,7 +113,7 @@ module _ (n : Memory) (o : Orders) (at : Log) (tells : Tells at n) where
 
   blocks-stand-at : (s : ℕ) → slot_after n.ticks ≡ s → (s == 0) ≡ false → (s == 4) ≡ false → ((s == 1) || (s == 5)) ≡ true
       → round_after n.ticks ≤ n.session.shape.rounds
-      → o.list.items ≡ block_orders me at 0 (length (round_blocks n.session stream (round_now at))) → Stands out n o
+      → o.list.items ≡ block_orders me at 0 (length (round_blocks n.session stream (round_now at))) → HasOutcome out n o
   blocks-stand-at s is zeroth fourth middle high orders =
       let blocks : List (List ℕ) = round_blocks n.session stream (round_now at) in
       stand-for (blocks_from me at (round_now at) 0 blocks)
@@ -126,13 +126,13 @@ module _ (n : Memory) (o : Orders) (at : Log) (tells : Tells at n) where
       ∙ for-blocks me stream at 0 blocks (λ k. let same : k ≡ 0 + k = omega arith in ap (slice_get blocks) same))
 
   pub blocks-stand : (slot_after n.ticks ≡ 1) ⊎ (slot_after n.ticks ≡ 5) → round_after n.ticks ≤ n.session.shape.rounds
-      → o.list.items ≡ block_orders me at 0 (length (round_blocks n.session stream (round_now at))) → Stands out n o
+      → o.list.items ≡ block_orders me at 0 (length (round_blocks n.session stream (round_now at))) → HasOutcome out n o
   blocks-stand (inl one) high orders = blocks-stand-at 1 one refl refl refl high orders
   blocks-stand (inr five) high orders = blocks-stand-at 5 five refl refl refl high orders
 
   -- the manifest goes out again
   pub manifest-stands : said_of kinds.Manifest (round_now at) at ≡ Some (manifest_of me stream (round_now at)) → slot_after n.ticks ≡ 4
-      → round_after n.ticks ≤ n.session.shape.rounds → o.list.items ≡ orders_to items.Manifest (served n.session at) → Stands out n o
+      → round_after n.ticks ≤ n.session.shape.rounds → o.list.items ≡ orders_to items.Manifest (served n.session at) → HasOutcome out n o
   manifest-stands said is high orders =
       let m : ℕ = round_now at in
       let d : Datagram = manifest_of me stream m in
@@ -281,10 +281,10 @@ module _ (me : Member) (stream : List ℕ) (log : Log) (signs : SignsOnce me str
       (for-each me stream told items.Evictions (λ p. notice) (served me.session said) (λ p. notice-said))
 
 -- orders and sends of a member are those of its memory
-stands-with : (old n : Memory) (o : Orders) (before after : Outcome Log) → IsOfTheSame old n → before ≡ after → Tells after.state n
-    → AreFor (member_of old) (stream_of old) after.state o.list.items after.sends → Stands before n o
+stands-with : (old n : Memory) (o : Orders) (before after : Outcome Log) → IsOfTheSame old n → before ≡ after → Represents after.state n
+    → AreFor (member_of old) (stream_of old) after.state o.list.items after.sends → HasOutcome before n o
 stands-with old n o before after same is tells for =
-    subst (λ (out : Outcome Log). Stands out n o) (sym is)
+    subst (λ (out : Outcome Log). HasOutcome out n o) (sym is)
     (record {
       tells = tells;
       orders = subst (λ (w : Member × List ℕ). AreFor w.0 w.1 after.state o.list.items after.sends)
@@ -293,9 +293,9 @@ stands-with old n o before after same is tells for =
 
 pub alone-stands : (old n : Memory) (o : Orders) (log : Log) → IsOfTheSame old n → SignsOnce (member_of old) (stream_of old) log
     → slot_after (ticks log + 1) ≡ 0 → round_after (ticks log + 1) ≤ old.session.shape.rounds
-    → Tells (begun_round (member_of old) (stream_of old) log) n → n.evictions.list.items ≡ []
+    → Represents (begun_round (member_of old) (stream_of old) log) n → n.evictions.list.items ≡ []
     → o.list.items ≡ orders_to items.Manifest (served n.session (begun_round (member_of old) (stream_of old) log))
-    → Stands (caster_tick (member_of old) (stream_of old) (begun (Ticked ∷ log))) n o
+    → HasOutcome (caster_tick (member_of old) (stream_of old) (begun (Ticked ∷ log))) n o
 alone-stands old n o log same signs first high tells none is =
     let me : Member = member_of old in
     let stream : List ℕ = stream_of old in
@@ -318,13 +318,13 @@ same-both old m n first second = record {
 -- the memory when the manifest was signed, and when the notice was
 pub both-stand : (old m n : Memory) (o : Orders) (list : List Order) (log : Log) → IsOfTheSame old m → IsOfTheSame m n
     → SignsOnce (member_of old) (stream_of old) log → slot_after (ticks log + 1) ≡ 0
-    → round_after (ticks log + 1) ≤ old.session.shape.rounds → Tells (begun_round (member_of old) (stream_of old) log) m
+    → round_after (ticks log + 1) ≤ old.session.shape.rounds → Represents (begun_round (member_of old) (stream_of old) log) m
     → (length m.evictions.list.items == 0) ≡ false
     → (let said : Log = begun_round (member_of old) (stream_of old) log in
     let told : Log = Said (notice_now (member_of m) said) ∷ said in
-    Tells told n → list ≡ orders_to items.Manifest (served m.session said)
+    Represents told n → list ≡ orders_to items.Manifest (served m.session said)
     → o.list.items ≡ list ++ orders_to items.Evictions (served n.session told)
-    → Stands (caster_tick (member_of old) (stream_of old) (begun (Ticked ∷ log))) n o)
+    → HasOutcome (caster_tick (member_of old) (stream_of old) (begun (Ticked ∷ log))) n o)
 both-stand old m n o list log same later signs first high knows some tells first-orders later-orders =
     let me : Member = member_of old in
     let stream : List ℕ = stream_of old in
@@ -346,5 +346,5 @@ both-stand old m n o list log same later signs first high knows some tells first
     (with_sends (begun told) (sends ++ to_each (served old.session said) notice))
     whole
     (both-are me stream log signs first high any)
-    (subst (λ (d : Datagram). Tells (Said d ∷ said) n) noticed tells)
+    (subst (λ (d : Datagram). Represents (Said d ∷ said) n) noticed tells)
     (ap (map (order_now me stream told)) is ∙ both-for me stream log signs first high)

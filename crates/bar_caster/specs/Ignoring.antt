@@ -5,7 +5,7 @@ use Rattle.bar_wire.specs.Inputs.{Input}
 use Rattle.bar_laws.specs.Ignoring.{is_ignored_by_caster}
 use Rattle.bar_rules.specs.Peer.Log.{Log}
 use Rattle.bar_caster.specs.declared.memory.Memory.{Memory}
-use Rattle.bar_caster.specs.Memory.{Tells, member_of, stream_of}
+use Rattle.bar_caster.specs.Memory.{Represents, member_of, stream_of}
 use Rattle.bar_caster.specs.Orders.{Orders}
 use Rattle.bar_caster.specs.StandsFor.{Inputs, StandsFor, log_of}
 
@@ -23,10 +23,10 @@ pub record IsAsBefore (old new : Memory) : Type 0 where
 -- an input that is ignored leaves the memory as it was
 abbrev pub IgnoresInput : Input → Memory → Memory → Type 0
 IgnoresInput input m n =
-    (log : Log) → Tells log m → is_ignored_by_caster (member_of m) (stream_of m) log input ≡ true → IsAsBefore m n
+    (log : Log) → Represents log m → is_ignored_by_caster (member_of m) (stream_of m) log input ≡ true → IsAsBefore m n
 
 -- The memory is as it was, and nothing is left to be given out.
-pub record IsUntouched (old new : Memory) (o : Orders) : Type 0 where
+pub record StaysAsBefore (old new : Memory) (o : Orders) : Type 0 where
   pub memory : IsAsBefore old new
   pub sends : left_in o ≡ []
 
@@ -34,4 +34,4 @@ pub record IsUntouched (old new : Memory) (o : Orders) : Type 0 where
 abbrev pub Ignores : Memory → Input → Memory → Orders → Type 0
 Ignores m input n o =
     (inputs : Inputs) → StandsFor m inputs → is_ignored_by_caster (member_of m) (stream_of m) (log_of m inputs) input ≡ true
-    → IsUntouched m n o
+    → StaysAsBefore m n o

@@ -27,7 +27,7 @@ said_of kind round log = first_said (has_kind_and_round kind round) log
 
 -- The memory holds what the log tells: the time, the lists of the rounds so far, the manifests that were signed, the notice of this round
 -- where one was signed, and whom the broadcaster evicted.
-pub record Tells (log : Log) (m : Memory) : Type 0 where
+pub record Represents (log : Log) (m : Memory) : Type 0 where
   pub time : ticks log ≡ m.ticks
   pub table : (round : ℕ) → digests_of m.table.lists round ≡ caster_table (member_of m) (stream_of m) log round
   pub manifests : (round : ℕ) → kept_in m.manifests round ≡ option_map (datagram_bytes m.session) (said_of kinds.Manifest round log)

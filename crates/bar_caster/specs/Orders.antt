@@ -13,7 +13,7 @@ use Rattle.bar_caster.specs.declared.item.Item.{Item}
 use Rattle.bar_caster.specs.declared.item.Item.TheVariants as items
 use Rattle.bar_caster.specs.declared.memory.Memory.{Memory}
 use Rattle.bar_caster.specs.declared.order.Order.{Order}
-use Rattle.bar_caster.specs.Memory.{Tells, member_of, said_of, stream_of}
+use Rattle.bar_caster.specs.Memory.{Represents, member_of, said_of, stream_of}
 
 abbrev pub Orders : Type 0
 Orders = store.Orders Order
@@ -38,8 +38,8 @@ abbrev pub AreFor : Member → List ℕ → Log → List Order → List (ℕ × 
 AreFor me stream log list sends = map (order_now me stream log) list ≡ map (λ send. Some send) sends
 
 -- The memory holds what the log tells, and the orders are those of what was sent.
-pub record Stands (out : Outcome Log) (m : Memory) (o : Orders) : Type 0 where
-  pub tells : Tells out.state m
+pub record HasOutcome (out : Outcome Log) (m : Memory) (o : Orders) : Type 0 where
+  pub tells : Represents out.state m
   pub orders : AreFor (member_of m) (stream_of m) out.state o.list.items out.sends
 
 -- an item for each of some peers

@@ -6,7 +6,7 @@ use Rattle.bar_wire.specs.Inputs.{Input}
 use Rattle.bar_rules.specs.Broadcaster.Sending.{caster_log_after}
 use Rattle.bar_rules.specs.Peer.Log.{Log}
 use Rattle.bar_caster.specs.declared.memory.Memory.{Memory}
-use Rattle.bar_caster.specs.Memory.{Tells, member_of, stream_of}
+use Rattle.bar_caster.specs.Memory.{Represents, member_of, stream_of}
 use Rattle.bar_caster.specs.Orders.{Orders, AreFor}
 
 abbrev pub Inputs : Type 0
@@ -18,7 +18,7 @@ log_of m inputs = caster_log_after (member_of m) (stream_of m) inputs
 
 -- the memory is that of a broadcaster which took these inputs
 abbrev pub StandsFor : Memory → Inputs → Type 0
-StandsFor m inputs = Tells (log_of m inputs) m
+StandsFor m inputs = Represents (log_of m inputs) m
 
 -- these are the datagrams that are still to be given out, each with its receiver
 abbrev pub AreLeft : Memory → Orders → Inputs → List (ℕ × Datagram) → Type 0

@@ -6,7 +6,7 @@ ghost use Rattle.bar_wire.specs.Limits.{largest_datagram};
 ghost use Rattle.bar_rules.specs.Giving.{IsGiven, GivesNext};
 ghost use Rattle.bar_rules.specs.Peer.Log.{Log};
 ghost use Rattle.bar_rules.specs.Values.{datagram_bytes};
-ghost use Rattle.bar_caster.specs.Memory.{Tells, member_of, stream_of};
+ghost use Rattle.bar_caster.specs.Memory.{Represents, member_of, stream_of};
 ghost use Rattle.bar_caster.specs.Orders.{datagram_now};
 ghost use Rattle.bar_caster.specs.StandsFor.{Inputs, StandsFor, AreLeft};
 ghost use Rattle.bar_caster.specs.declared.item.Item.TheVariants.{Block};
@@ -25,7 +25,7 @@ impl Memory {
     /// Writes the block with this index of this round's, for a peer, to the front of a buffer, and answers the length of the datagram.
     fn write_block(&self, peer: u16, index: u8, buf: &mut [u8]) -> usize
         requires room { largest_datagram ≤ length buf.old }
-        ensures { (log : Log) (d : Datagram) → Tells log self.now
+        ensures { (log : Log) (d : Datagram) → Represents log self.now
             → datagram_now (member_of self.now) (stream_of self.now) log peer (Block index) ≡ Some d
             → IsGiven self.now.session d (Some result) buf.new }
     {
@@ -43,7 +43,7 @@ impl Memory {
     /// Writes the datagram of an order to the front of a buffer, and answers its length, or `None` where there is none.
     fn write(&self, order: Order, buf: &mut [u8]) -> Option<usize>
         requires room { largest_datagram ≤ length buf.old }
-        ensures { (log : Log) (d : Datagram) → Tells log self.now
+        ensures { (log : Log) (d : Datagram) → Represents log self.now
             → datagram_now (member_of self.now) (stream_of self.now) log order.peer order.item ≡ Some d
             → length (datagram_bytes self.now.session d) ≤ largest_datagram → IsGiven self.now.session d result buf.new }
     {

@@ -5,7 +5,7 @@ ghost use Rattle.bar_rules.specs.Broadcaster.Sending.{served};
 ghost use Rattle.bar_rules.specs.Broadcaster.Stream.{is_in_fanout, round_blocks};
 ghost use Rattle.bar_rules.specs.Peer.Log.{Log, round_now};
 ghost use Rattle.bar_caster.specs.Fanout.{AreRanksOf};
-ghost use Rattle.bar_caster.specs.Memory.{Tells, member_of, stream_of};
+ghost use Rattle.bar_caster.specs.Memory.{Represents, member_of, stream_of};
 ghost use Rattle.bar_caster.specs.Orders.{orders_to};
 ghost use Rattle.bar_caster.specs.Ticking.{block_orders, update_now};
 ghost use Rattle.bar_caster.specs.declared.item.Item.TheVariants as items;
@@ -21,7 +21,7 @@ use std::sync::ledger::Ledger;
 
 /// Sends an item to each peer that isn't evicted.
 pub fn send_to_all(memory: &Memory, orders: &mut Orders<Order>, item: Item)
-    ensures sent { (log : Log) → Tells log memory.now → length orders.old.list.items + memory.now.session.shape.peers ≤ orders.old.room
+    ensures sent { (log : Log) → Represents log memory.now → length orders.old.list.items + memory.now.session.shape.peers ≤ orders.old.room
         → orders.new.list.items ≡ orders.old.list.items ++ orders_to item (served memory.now.session log) }
     ensures few { length orders.new.list.items ≤ length orders.old.list.items + memory.now.session.shape.peers }
     ensures room { HasSameRoom orders.old orders.new }
@@ -37,7 +37,7 @@ pub fn send_to_all(memory: &Memory, orders: &mut Orders<Order>, item: Item)
 /// Sends the block of the update whose ranks these are to the peers of its fan-out that aren't evicted.
 fn send_block(memory: &Memory, ranks: &Ranks, orders: &mut Orders<Order>, index: u8)
     requires { length ranks.now ≡ memory.now.session.shape.peers }
-    ensures sent { (log : Log) → Tells log memory.now → AreRanksOf (member_of memory.now) (update_now log index) ranks.now
+    ensures sent { (log : Log) → Represents log memory.now → AreRanksOf (member_of memory.now) (update_now log index) ranks.now
         → length orders.old.list.items + memory.now.session.shape.peers ≤ orders.old.room
         → orders.new.list.items ≡ orders.old.list.items ++ orders_to (items.Block index)
         (filter (is_in_fanout (member_of memory.now) (update_now log index)) (served memory.now.session log)) }
@@ -61,7 +61,7 @@ pub fn send_blocks<L: Ledger>(
     steps: &mut Steps<L>,
 )
     requires { length ranks.old ≡ memory.now.session.shape.peers }
-    ensures sent { (log : Log) → Tells log memory.now
+    ensures sent { (log : Log) → Represents log memory.now
         → length orders.old.list.items + memory.now.session.shape.per_round * memory.now.session.shape.peers ≤ orders.old.room
         → orders.new.list.items ≡ orders.old.list.items ++ block_orders (member_of memory.now) log 0
         (length (round_blocks memory.now.session (stream_of memory.now) (round_now log))) }

@@ -4,7 +4,7 @@ ghost use Rattle.bar_core.specs.Orders.{left_in};
 ghost use Rattle.bar_wire.specs.Inputs.{plain_input};
 ghost use Rattle.bar_rules.specs.Broadcaster.Sending.{caster_step};
 ghost use Rattle.bar_laws.specs.Ignoring.{is_unread};
-ghost use Rattle.bar_caster.specs.Ignoring.{Ignores, IsUntouched};
+ghost use Rattle.bar_caster.specs.Ignoring.{Ignores, StaysAsBefore};
 ghost use Rattle.bar_caster.specs.Memory.{IsOfTheSame, member_of, stream_of};
 ghost use Rattle.bar_caster.specs.StandsFor.{Inputs, StandsFor, AreLeft, log_of};
 
@@ -34,7 +34,7 @@ impl<S: Scheme> Caster<S> {
             (plain_input input.entry)).sends }
         // what isn't read changes nothing, nor does what shows no fault of a party that isn't evicted yet
         ensures unread { is_unread self.old.memory.session (plain_input input.entry) ≡ true
-            → IsUntouched self.old.memory self.new.memory self.new.orders }
+            → StaysAsBefore self.old.memory self.new.memory self.new.orders }
         ensures ignored { Ignores self.old.memory (plain_input input.entry) self.new.memory self.new.orders }
         ensures same { IsOfTheSame self.old.memory self.new.memory }
         ensures scheme { self.new.scheme ≡ self.old.scheme }

@@ -11,8 +11,8 @@ ghost use Rattle.bar_rules.specs.Values.{datagram_of};
 ghost use Rattle.bar_rules.specs.Verifiers.{IsVerifierOf, NamesLeavesOf};
 ghost use Rattle.bar_laws.specs.Ignoring.{is_news, is_unread};
 ghost use Rattle.bar_caster.specs.Ignoring.{IgnoresInput, IsAsBefore};
-ghost use Rattle.bar_caster.specs.Memory.{Tells, IsOfTheSame, member_of, stream_of};
-ghost use Rattle.bar_caster.specs.Orders.{Stands};
+ghost use Rattle.bar_caster.specs.Memory.{Represents, IsOfTheSame, member_of, stream_of};
+ghost use Rattle.bar_caster.specs.Orders.{HasOutcome};
 ghost use Rattle.bar_caster.specs.StandsFor.{Inputs, StandsFor, log_of};
 ghost use Rattle.bar_caster.specs.Ticking.{begins_round};
 
@@ -39,9 +39,9 @@ impl Memory {
     )
         requires verifier { IsVerifierOf self.old.session (V.is_accepted verifier.now) }
         requires names { NamesLeavesOf self.old.session (V.leaf_named verifier.now) (V.signature_len verifier.now) }
-        ensures judged { (log : Log) (evidence : List (List ℕ)) → Tells log self.old → IsEvidence bytes.now evidence
-            → Tells (judge_body (member_of self.old) (stream_of self.old) log (Evidence evidence)) self.new }
-        ensures no_news { (log : Log) (evidence : List (List ℕ)) → Tells log self.old → IsEvidence bytes.now evidence
+        ensures judged { (log : Log) (evidence : List (List ℕ)) → Represents log self.old → IsEvidence bytes.now evidence
+            → Represents (judge_body (member_of self.old) (stream_of self.old) log (Evidence evidence)) self.new }
+        ensures no_news { (log : Log) (evidence : List (List ℕ)) → Represents log self.old → IsEvidence bytes.now evidence
             → is_news (member_of self.old) (stream_of self.old) log (Evidence evidence) ≡ false → IsAsBefore self.old self.new }
         ensures ticks { self.new.ticks ≡ self.old.ticks }
         ensures same { IsOfTheSame self.old self.new }
@@ -71,8 +71,8 @@ impl Memory {
     )
         requires verifier { IsVerifierOf self.old.session (V.is_accepted verifier.now) }
         requires names { NamesLeavesOf self.old.session (V.leaf_named verifier.now) (V.signature_len verifier.now) }
-        ensures judged { (log : Log) → Tells log self.old
-            → Tells (judge_datagram (member_of self.old) (stream_of self.old) log (datagram_of self.old.session bytes.now)) self.new }
+        ensures judged { (log : Log) → Represents log self.old
+            → Represents (judge_datagram (member_of self.old) (stream_of self.old) log (datagram_of self.old.session bytes.now)) self.new }
         ensures ignored { IgnoresInput (Arrival bytes.now) self.old self.new }
         ensures unread { is_unread self.old.session (Arrival bytes.now) ≡ true → IsAsBefore self.old self.new }
         ensures ticks { self.new.ticks ≡ self.old.ticks }
@@ -97,7 +97,7 @@ impl<S: Scheme> Caster<S> {
         requires begins { begins_round self.old.memory.session self.old.memory.ticks ≡ true }
         requires empty { self.old.orders.list.items ≡ [] }
         ensures stands { (inputs : Inputs) → StandsFor self.old.memory inputs
-            → Stands (caster_take (member_of self.old.memory) (stream_of self.old.memory) (log_of self.old.memory inputs) Tick)
+            → HasOutcome (caster_take (member_of self.old.memory) (stream_of self.old.memory) (log_of self.old.memory inputs) Tick)
             self.new.memory self.new.orders }
         ensures given { self.new.orders.given ≡ self.old.orders.given }
         ensures same { IsOfTheSame self.old.memory self.new.memory }
@@ -120,7 +120,7 @@ impl<S: Scheme> Caster<S> {
         requires begins { begins_round self.old.memory.session self.old.memory.ticks ≡ false }
         requires empty { self.old.orders.list.items ≡ [] }
         ensures stands { (inputs : Inputs) → StandsFor self.old.memory inputs
-            → Stands (caster_take (member_of self.old.memory) (stream_of self.old.memory) (log_of self.old.memory inputs) Tick)
+            → HasOutcome (caster_take (member_of self.old.memory) (stream_of self.old.memory) (log_of self.old.memory inputs) Tick)
             self.new.memory self.new.orders }
         ensures given { self.new.orders.given ≡ self.old.orders.given }
         ensures same { IsOfTheSame self.old.memory self.new.memory }
@@ -145,7 +145,7 @@ impl<S: Scheme> Caster<S> {
         requires time { self.old.memory.ticks < last_tick self.old.memory.session }
         requires empty { self.old.orders.list.items ≡ [] }
         ensures stands { (inputs : Inputs) → StandsFor self.old.memory inputs
-            → Stands (caster_take (member_of self.old.memory) (stream_of self.old.memory) (log_of self.old.memory inputs) Tick)
+            → HasOutcome (caster_take (member_of self.old.memory) (stream_of self.old.memory) (log_of self.old.memory inputs) Tick)
             self.new.memory self.new.orders }
         ensures given { self.new.orders.given ≡ self.old.orders.given }
         ensures same { IsOfTheSame self.old.memory self.new.memory }

@@ -16,8 +16,8 @@ use Rattle.bar_child_processes.proofs.MoreChildren.{take-nil, whole_lines-append
 
 -- ---- each has a status, and its line wasn't broken
 
-abbrev IsTold : Child → Type 0
-IsTold child = (has_status child.ended ≡ true) × (is_broken child.shown ≡ false)
+abbrev HasStatusShown : Child → Type 0
+HasStatusShown child = (has_status child.ended ≡ true) × (is_broken child.shown ≡ false)
 
 shown-one : (shown : Shown) (ended : Result ℤ ChildFault) → has_status ended ≡ true → is_broken shown ≡ false →
     IsTrue (if has_status ended then is_tried shown else not (is_tried shown)) → (status : ℤ) × (ended ≡ Ok status) × (shown ≡ Whole)
@@ -28,13 +28,13 @@ shown-one Wanting (Ok status) h k tried = absurd (true≢false k)
 shown-one _ (Err f) h k tried = absurd (true≢false (sym h))
 
 -- then each was printed
-pub all-shown : (family : List Child) → IsTrue (is_in_order true family) → All IsTold family → All IsShown family
+pub all-shown : (family : List Child) → IsTrue (is_in_order true family) → All HasStatusShown family → All IsShown family
 all-shown [] in_order told = All-nil IsShown
 all-shown (child ∷ family) in_order told =
-    let here = All-head IsTold child family told in
+    let here = All-head HasStatusShown child family told in
     let parts = and_parts (if has_status child.ended then is_tried child.shown else not (is_tried child.shown)) _ in_order in
     All-cons IsShown child family (shown-one child.shown child.ended here.0 here.1 parts.0)
-    (all-shown family (ap (λ b. is_in_order (not b) family) (sym here.1) ∙ parts.1) (All-tail IsTold child family told))
+    (all-shown family (ap (λ b. is_in_order (not b) family) (sym here.1) ∙ parts.1) (All-tail HasStatusShown child family told))
 
 wait-zero : (ended : Result ℤ ChildFault) → code_of_wait ended ≡ 0 → has_status ended ≡ true
 wait-zero (Ok status) h = refl
@@ -52,12 +52,12 @@ EndsWithZero child = code_of_end child.shown child.ended ≡ 0
 
 pub record Zero (so_far : ℕ) (family : List Child) : Type 0 where
   pub before : so_far ≡ 0
-  pub told : All IsTold family
+  pub told : All HasStatusShown family
   pub ends : All EndsWithZero family
 
 -- at 0 nothing was refused
 pub zero-told : (so_far : ℕ) (family : List Child) → with_children so_far family ≡ 0 → Zero so_far family
-zero-told so_far [] h = record { before = h; told = All-nil IsTold; ends = All-nil EndsWithZero }
+zero-told so_far [] h = record { before = h; told = All-nil HasStatusShown; ends = All-nil EndsWithZero }
 zero-told so_far (child ∷ family) h =
     let rest = zero-told (with_child so_far child) family h in
     let last = joined-zero _ (code_of_end child.shown child.ended) rest.before in
@@ -65,7 +65,7 @@ zero-told so_far (child ∷ family) h =
     let wait = joined-zero so_far (code_of_wait child.ended) line.0 in
     record {
       before = wait.0;
-      told = All-cons IsTold child family (wait-zero child.ended wait.1, line-zero child.shown line.1) rest.told;
+      told = All-cons HasStatusShown child family (wait-zero child.ended wait.1, line-zero child.shown line.1) rest.told;
       ends = All-cons EndsWithZero child family last.1 rest.ends;
     }
 
@@ -83,8 +83,8 @@ line-kept Untried h k = refl
 -- so it is where nothing is refused and memory is not wanting
 pub kept-told : (so_far : ℕ) (family : List Child) → with_children so_far family ≢ 70 →
     list_any (λ child. is_refused_wait child.ended) family ≡ false → list_any (λ child. is_refused child.shown) family ≡ false →
-    (so_far ≢ 70) × All IsTold family
-kept-told so_far [] h waits lines = (h, All-nil IsTold)
+    (so_far ≢ 70) × All HasStatusShown family
+kept-told so_far [] h waits lines = (h, All-nil HasStatusShown)
 kept-told so_far (child ∷ family) h waits lines =
     let wait = or_parts (is_refused_wait child.ended) (list_any (λ child. is_refused_wait child.ended) family) waits in
     let line = or_parts (is_refused child.shown) (list_any (λ child. is_refused child.shown) family) lines in
@@ -93,7 +93,7 @@ kept-told so_far (child ∷ family) h waits lines =
     let shown = joined-memory _ (code_of_shown child.shown) ended.0 in
     let before = joined-memory so_far (code_of_wait child.ended) shown.0 in (
       before.0,
-      All-cons IsTold child family (wait-kept child.ended before.1 wait.0, line-kept child.shown shown.1 line.0) rest.1,
+      All-cons HasStatusShown child family (wait-kept child.ended before.1 wait.0, line-kept child.shown shown.1 line.0) rest.1,
     )
 
 -- ---- lines

@@ -6,14 +6,14 @@ use Rattle.bar_outside.specs.Stages.{IsUnchanged}
 use Rattle.bar_roster.specs.KeyText.{key_text_of}
 use Rattle.bar_cli.specs.Keygen.Plan.{Keygen, KeygenAccepted, KeyWritten, KeyBegun, key_made, lines_of}
 use Rattle.bar_cli.proofs.KeygenRows.{Outcome}
-use Rattle.bar_cli.proofs.MadeFiles.{IsBegun, made-so-far}
+use Rattle.bar_cli.proofs.MadeFiles.{IsPartlyMade, made-so-far}
 
 -- nothing was changed or printed; or the key was begun, and where a write failed, its whole text stands
 abbrev KeyStopped : Keygen → ℕ → Outside → Outside → Type 0
 KeyStopped asked status old new =
     IsUnchanged status old new
     ⊎ ((a : KeygenAccepted asked old.files.content)
-    × IsBegun asked.key (key_text_of (key_made asked a.secret)) (lines_of asked a.secret) status old new)
+    × IsPartlyMade asked.key (key_text_of (key_made asked a.secret)) (lines_of asked a.secret) status old new)
 
 module _ (asked : Keygen) (old new : Outside) (status : ℕ) (told : IsTrue new.files.told) where
   stopped-at : Outcome asked old new status → KeyStopped asked status old new

@@ -110,7 +110,7 @@ module _ (text lines : List ℕ) (file : Option (List ℕ)) (bytes : List ℕ) (
 
 -- the file has a front of the text, and behind all of it a front of the lines was printed; where a write to the output failed, all of the text
 -- stands
-pub record IsBegun (path text lines : List ℕ) (status : ℕ) (old new : Outside) : Type 0 where
+pub record IsPartlyMade (path text lines : List ℕ) (status : ℕ) (old new : Outside) : Type 0 where
   pub written_count : ℕ
   pub printed_count : ℕ
   pub written : new.files.content path ≡ Some (take written_count text)
@@ -121,7 +121,7 @@ pub record IsBegun (path text lines : List ℕ) (status : ℕ) (old new : Outsid
 module _ (path text lines : List ℕ) (old new : Outside) (status : ℕ) (told : IsTrue new.files.told)
     (d : Reached (making path text lines) status old new) where
   begun : IsMaking text lines (content_after d.done old.files.content path) (shown d.done) d.begun.rest →
-      IsBegun path text lines status old new
+      IsPartlyMade path text lines status old new
   begun m =
       let file = ap (λ (holds : Content). holds path) d.ran.files ∙ m.file_is in
       record {
@@ -134,12 +134,12 @@ module _ (path text lines : List ℕ) (old new : Outside) (status : ℕ) (told :
       }
 
   stopped : IsStopped path (one-turn text lines ∷ []) old.files.content (content_after d.done old.files.content) (shown d.done) d.begun.rest →
-      IsUnchanged status old new ⊎ IsBegun path text lines status old new
+      IsUnchanged status old new ⊎ IsPartlyMade path text lines status old new
   unfolding IsStopped
   stopped (inl quiet) = inl (unchanged-by (making path text lines) status old new told tt d quiet)
   stopped (inr (inl m)) = inr (begun (making-none _ _ _ _ _ m))
   stopped (inr (inr u)) = inr (begun (making-some _ _ _ _ _ u))
 
   -- nothing was changed and printed, or the file was begun
-  pub made-so-far : IsUnchanged status old new ⊎ IsBegun path text lines status old new
+  pub made-so-far : IsUnchanged status old new ⊎ IsPartlyMade path text lines status old new
   made-so-far = stopped (stopped-played path (one-turn text lines ∷ []) old.files.content d.done d.begun)

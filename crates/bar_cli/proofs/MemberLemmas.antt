@@ -15,7 +15,7 @@ use Rattle.bar_rules.specs.Peer.Log.{Log, kept}
 use Rattle.bar_rules.specs.Peer.Run.{log_after, sends_of}
 use Rattle.std.specs.List.{AllByRecursion}
 use Rattle.bar_laws.specs.Always.{OfEachPeer}
-use Rattle.bar_laws.specs.Balance.{GoesToPartner, IsEven, totals_of}
+use Rattle.bar_laws.specs.Balance.{GoesToPartner, IsBalanced, totals_of}
 use Rattle.bar_laws.specs.Framing.{IsNotFramed}
 use Rattle.bar_laws.specs.Leaves.{KeepsLeaves}
 use Rattle.bar_laws.specs.Obedience.{IsRuled}
@@ -72,7 +72,7 @@ pub at-each_moment : AreHeld → AreInRange → (P : Member → List Input → T
 at-each_moment held ranged P always names content s k accepted inputs = λ earlier later front.
     always (member_by s k) (is-live_member held ranged names content s k accepted) earlier
 
-pub keeps-rules : OfEachPeer IsRuled → OfEachPeer (λ me inputs. (x : Exchange) → IsEven (totals_of me inputs x)) →
+pub keeps-rules : OfEachPeer IsRuled → OfEachPeer (λ me inputs. (x : Exchange) → IsBalanced (totals_of me inputs x)) →
     OfEachPeer (λ me inputs. AllByRecursion (GoesToPartner me) (sends_of me inputs)) → BadKeysLeaveEvidence → KeptEvidenceIsShown →
     OfEachPeer (λ me inputs. IsNotFramed me (log_after me [] inputs)) → OfEachPeer (λ me inputs. KeepsLeaves me (log_after me [] inputs)) →
     OfEachPeer KeepsTheRules

@@ -4,12 +4,12 @@ use Rattle.bar_outside.specs.Plan.{Outside}
 use Rattle.bar_outside.specs.Stages.{IsUnchanged}
 use Rattle.bar_proof.specs.Packing.{ShownIsPacked}
 use Rattle.bar_cli.specs.Pack.{PackFiles, HasShownOne, NotPackedFront, ProofWritten, PackFront, PackStands, packed_line, file_of}
-use Rattle.bar_cli.proofs.MadeFiles.{IsBegun, made-so-far}
+use Rattle.bar_cli.proofs.MadeFiles.{IsPartlyMade, made-so-far}
 use Rattle.bar_session_files.proofs.Accepted.{AreInRange}
-use Rattle.bar_cli.proofs.PackRows.{IsMaking, IsTold, Outcome, not-packed, other-untouched, packed}
+use Rattle.bar_cli.proofs.PackRows.{IsMaking, HasPrintedReason, Outcome, not-packed, other-untouched, packed}
 
 -- of the reason a front was printed
-told-front : (names : PackFiles) (old new : Outside) (status : ℕ) → IsTrue new.files.told → IsTold names old new status →
+told-front : (names : PackFiles) (old new : Outside) (status : ℕ) → IsTrue new.files.told → HasPrintedReason names old new status →
     NotPackedFront names old new
 told-front names old new status told t = record {
   accepted = t.accepted;
@@ -24,7 +24,7 @@ abbrev ProofSoFar : PackFiles → ℕ → Outside → Outside → Type 0
 ProofSoFar names status old new =
     IsUnchanged status old new
     ⊎ ((one : HasShownOne names old.files.content)
-    × IsBegun names.proof (file_of names old.files.content one) (packed_line (file_of names old.files.content one)) status old new)
+    × IsPartlyMade names.proof (file_of names old.files.content one) (packed_line (file_of names old.files.content one)) status old new)
 
 so-far : (names : PackFiles) (old new : Outside) (status : ℕ) → IsTrue new.files.told → IsMaking names old new status →
     ProofSoFar names status old new

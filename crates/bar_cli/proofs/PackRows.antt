@@ -62,7 +62,7 @@ IsRefused names content status =
     ⊎ ((status ≡ 8) × (((at : ℕ) × HasBadTable names content at) ⊎ HasBadEvidence names content))
 
 -- all were accepted, nothing is shown, and its reason was printed
-pub record IsTold (names : PackFiles) (old new : Outside) (status : ℕ) : Type 0 where
+pub record HasPrintedReason (names : PackFiles) (old new : Outside) (status : ℕ) : Type 0 where
   pub accepted : PackAccepted names old.files.content
   pub why : Why
   pub is : verdict_in names old.files.content accepted ≡ NotShown why
@@ -77,7 +77,7 @@ pub record IsMaking (names : PackFiles) (old new : Outside) (status : ℕ) : Typ
 abbrev pub Outcome : PackFiles → Outside → Outside → ℕ → Type 0
 Outcome names old new status =
     (IsUnchanged status old new × ((is_stop status ≡ true) ⊎ IsRefused names old.files.content status))
-    ⊎ (IsTold names old new status ⊎ IsMaking names old new status)
+    ⊎ (HasPrintedReason names old new status ⊎ IsMaking names old new status)
 
 module _ (reads : ReadsFirst) (ends : EndsThere) (shows : ShowsThere) (names : PackFiles) (old new : Outside) (status : ℕ)
     (told : IsTrue new.files.told) where

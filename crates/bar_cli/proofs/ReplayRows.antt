@@ -27,7 +27,7 @@ use Rattle.bar_cli.specs.Refusals.{session_refused, key_refused, recording_refus
 use Rattle.bar_session_files.specs.Accepting.{secrets_of_key, session_of}
 use Rattle.bar_cli.specs.Replay.Recordings.{recording_of}
 use Rattle.bar_cli.specs.Replay.Turns.{Turn, shown_bytes, turns_actions}
-use Rattle.bar_cli.specs.Replay.Plan.{ReplayFiles, SessionAccepted, SessionRefused, KeyAccepted, KeyRefused, InputRefused, Accepted, Replayed, PlayedFront, PlayedUpTo, FoundUpTo, HasOwnNames, OthersAreSame, IsUntouched, IsMade, IsReplayCall, found_in, peer_of, turns_in, turns_of, transcript_of, replay_plan, key_plan, recording_plan, run_plan, playing_actions, replay_actions}
+use Rattle.bar_cli.specs.Replay.Plan.{ReplayFiles, SessionAccepted, SessionRefused, KeyAccepted, KeyRefused, InputRefused, Accepted, Replayed, PlayedFront, PlayedUpTo, FoundUpTo, HasOwnNames, OthersAreSame, ChangesNothing, IsMade, IsReplayCall, found_in, peer_of, turns_in, turns_of, transcript_of, replay_plan, key_plan, recording_plan, run_plan, playing_actions, replay_actions}
 use Rattle.bar_cli.proofs.EndLemmas.{differ, go-on}
 use Rattle.bar_session_files.proofs.Accepted.{AreHeld, AreInRange, held-here, in-range_here}
 use Rattle.bar_laws.proofs.Logs.{all-map}
@@ -234,11 +234,11 @@ module _ (names : ReplayFiles) (old new : Outside) where
         | inr two ↦ elim two [ inl k ↦ absurd (differ 8 5 refl k.0) | inr k ↦ k.1 ]
       ]
 
-pub as-untouched : (status : ℕ) (old new : Outside) → IsUnchanged status old new → IsUntouched old new
+pub as-untouched : (status : ℕ) (old new : Outside) → IsUnchanged status old new → ChangesNothing old new
 as-untouched status old new same = record { files = same.files; out = same.out }
 
 pub refused-untouched : (names : ReplayFiles) (old new : Outside) (status : ℕ) → (status == 0) ≡ false → is_stop status ≡ false →
-    Outcome names old new status → IsUntouched old new
+    Outcome names old new status → ChangesNothing old new
 refused-untouched names old new status other go o = as-untouched status old new (refused_so names old new status other go o).0
 
 -- the turns touch the played file alone
@@ -381,7 +381,7 @@ stopped-at ranged names old new status told (inr p) =
 -- how far a replay came
 pub stopped-replay : AreInRange → (names : ReplayFiles) (old new : Outside) (status : ℕ) → IsTrue new.files.told →
     Outcome names old new status →
-    IsUntouched old new ⊎ (IsMade names old new ⊎ (PlayedUpTo names status old new ⊎ FoundUpTo names status old new))
+    ChangesNothing old new ⊎ (IsMade names old new ⊎ (PlayedUpTo names status old new ⊎ FoundUpTo names status old new))
 stopped-replay ranged names old new status told o =
     elim (stopped-at ranged names old new status told o) [
       | inl same ↦ inl (as-untouched status old new same)
@@ -430,7 +430,7 @@ front-found names old new status up =
 
 -- whatever the status, all is as it was, or a front was played and a front shown
 pub a_front : AreInRange → (names : ReplayFiles) (old new : Outside) (status : ℕ) → IsTrue new.files.told → Outcome names old new status →
-    IsUntouched old new ⊎ PlayedFront names old new
+    ChangesNothing old new ⊎ PlayedFront names old new
 a_front ranged names old new status told o =
     elim (stopped-at ranged names old new status told o) [
       | inl same ↦ inl (as-untouched status old new same)

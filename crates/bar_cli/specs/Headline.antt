@@ -18,7 +18,7 @@ use Rattle.bar_rules.specs.Members.{member_by}
 use Rattle.bar_rules.specs.Peer.Exchanges.{partner_in}
 use Rattle.bar_rules.specs.Peer.Log.{Log, kept, table}
 use Rattle.bar_rules.specs.Peer.Run.{log_after, sends_of}
-use Rattle.bar_laws.specs.Balance.{GoesToPartner, IsEven, totals_of}
+use Rattle.bar_laws.specs.Balance.{GoesToPartner, IsBalanced, totals_of}
 use Rattle.bar_laws.specs.Evidence.{KeepsGoodEvidence, OpensBadly}
 use Rattle.bar_laws.specs.Framing.{IsNotFramed}
 use Rattle.bar_laws.specs.Leaves.{KeepsLeaves}
@@ -49,7 +49,7 @@ pub record KeepsTheRules (me : Member) (inputs : List Input) : Type 0 where
   -- it sent is one of these
   pub signed : IsRuled me inputs
   -- in each exchange it opened nothing, or as much as it promised and as the partner's briefcase that it holds promises
-  pub balance : (x : Exchange) → IsEven (totals_of me inputs x)
+  pub balance : (x : Exchange) → IsBalanced (totals_of me inputs x)
   -- each key that it sent went to its partner in the exchange
   pub keys : AllByRecursion (GoesToPartner me) (sends_of me inputs)
   -- where a key was admitted that opens the partner's briefcase badly, it has proof against the partner

@@ -20,7 +20,7 @@ use Rattle.bar_rules.specs.Peer.Knowledge.{Knowledge, has_said_of}
 use Rattle.bar_rules.specs.Peer.Sizes.{largest}
 use Rattle.bar_ledger.specs.declared.ledger.Ledger.{Ledger}
 use Rattle.bar_ledger.specs.Hearing.{hears}
-use Rattle.bar_ledger.specs.Kept.{Kept, IsOwn, heard_of}
+use Rattle.bar_ledger.specs.Kept.{Kept, IsKeptFor, heard_of}
 use Rattle.bar_ledger.specs.Lookups.{heard_by, said_by}
 use Rattle.bar_ledger.specs.Memory.{MayHear, find_in, bytes_in, can_hear}
 use Rattle.bar_ledger.specs.Recalls.{Recalls, IsKeptBy}
@@ -52,7 +52,7 @@ pub record IsThere (me : Member) (k : Knowledge) (l : Ledger) (y : Exchange) (ke
 pub there : (me : Member) (k : Knowledge) (l : Ledger) (y : Exchange) → Recalls me k l → is_some (find_in l y) ≡ true → (kept : Kept) × IsThere me k l y kept
 there me k l y h some = go (find_in l y) refl some (h.kept y) (found-own y l.shape.life l.round l.slots.items)
   where
-    go : (o : Option Kept) → find_in l y ≡ o → is_some o ≡ true → IfSome o (IsKeptBy me y) → IfSome o (IsOwn y l.shape.life l.round) → (kept : Kept) × IsThere me k l y kept
+    go : (o : Option Kept) → find_in l y ≡ o → is_some o ≡ true → IfSome o (IsKeptBy me y) → IfSome o (IsKeptFor y l.shape.life l.round) → (kept : Kept) × IsThere me k l y kept
     go None e some by own = absurd (false≢true some)
     go (Some kept) e some by own =
         let recent : IsRecent me k y.round =

@@ -27,7 +27,7 @@ use Rattle.bar_rules.specs.Peer.Terms.{body_on, terms_of, terms_by, trade_terms,
 use Rattle.bar_ledger.specs.declared.entry.Entry.{Entry}
 use Rattle.bar_ledger.specs.declared.ledger.Ledger.{Ledger}
 use Rattle.bar_ledger.specs.Hearing.{is_opening}
-use Rattle.bar_ledger.specs.Kept.{Kept, IsOwn, with_new, heard_of}
+use Rattle.bar_ledger.specs.Kept.{Kept, IsKeptFor, with_new, heard_of}
 use Rattle.bar_ledger.specs.Lookups.{heard_by, is_said, knows_commit, knows_answer, knows_offer, if_known, commit_of, history_of, offer_of, reply_of}
 use Rattle.bar_ledger.specs.Memory.{find_in}
 use Rattle.bar_ledger.specs.Recalls.{Recalls, IsKeptBy}
@@ -53,8 +53,8 @@ found_by l x e same = go (find_in l x) refl same
     go (Some kept) at s =
         let entry : kept.entry ≡ e = cc in
         let is : find_in l x ≡ Some (with_new e kept) = at ∙ (λ i. Some (with_new (entry i) kept)) in
-        let own : IsOwn x l.shape.life l.round (with_new e kept) =
-        subst (λ (o : Option Kept). IfSome o (IsOwn x l.shape.life l.round)) is (found-own x l.shape.life l.round l.slots.items) in
+        let own : IsKeptFor x l.shape.life l.round (with_new e kept) =
+        subst (λ (o : Option Kept). IfSome o (IsKeptFor x l.shape.life l.round)) is (found-own x l.shape.life l.round l.slots.items) in
         record { rest = kept; is = is; named = own.named }
 
 -- what is recalled of it

@@ -11,20 +11,20 @@ use Rattle.bar_window.proofs.Exchanges.{same_exchange-is}
 use Rattle.bar_wire.specs.declared.kind.Kind.{Kind}
 use Rattle.bar_ledger.specs.declared.entry.Entry.{Entry}
 use Rattle.bar_ledger.specs.declared.ledger.Ledger.{Ledger}
-use Rattle.bar_ledger.specs.Kept.{Kept, IsOwn, with_bytes, with_new}
+use Rattle.bar_ledger.specs.Kept.{Kept, IsKeptFor, with_bytes, with_new}
 use Rattle.bar_ledger.specs.Memory.{HasSame, IsAsBefore, find_in, asked_in, opens_in}
 use Rattle.bar_exchange.specs.Parts.{ChangesKept, with_heard_part}
 
 -- The entry that is found is set with other terms.
 pub record SetsTerms (old new : Ledger) (x : Exchange) (e set : Entry) : Type 0 where
   pub entry : Some e ≡ option_map (λ (k : Kept). k.entry) (find_in old x)
-  pub own : IfSome (find_in old x) (IsOwn x old.shape.life old.round)
+  pub own : IfSome (find_in old x) (IsKeptFor x old.shape.life old.round)
   pub found : (y : Exchange) → find_in new y ≡ (if same_exchange set.x y then option_map (with_new set) (find_in old y) else find_in old y)
   pub counted : IfSome (find_in old set.x) (IsAsBefore set) → (kind : XKind) (round : ℕ) → asked_in new kind round ≡ asked_in old kind round
   pub opened : IfSome (find_in old set.x) (IsAsBefore set) → opens_in new ≡ opens_in old
   pub same : HasSame old new
 
-is_named : (x : Exchange) (life now : ℕ) (e : Entry) (o : Option Kept) → Some e ≡ option_map (λ (k : Kept). k.entry) o → IfSome o (IsOwn x life now) → e.x ≡ x
+is_named : (x : Exchange) (life now : ℕ) (e : Entry) (o : Option Kept) → Some e ≡ option_map (λ (k : Kept). k.entry) o → IfSome o (IsKeptFor x life now) → e.x ≡ x
 is_named x life now e None is own = absurd (none-some e (sym is))
 is_named x life now e (Some k) is own = ap (λ (e : Entry). e.x) (same_Some _ _ is) ∙ own.named
 

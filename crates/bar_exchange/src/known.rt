@@ -8,7 +8,7 @@ ghost use Rattle.bar_rules.specs.Peer.Exchanges.{opening_kind};
 ghost use Rattle.bar_rules.specs.Peer.Knowledge.{Knowledge};
 ghost use Rattle.bar_ledger.specs.Lookups.{knows_answer, knows_commit, knows_offer};
 ghost use Rattle.bar_ledger.specs.Memory.{find_in};
-ghost use Rattle.bar_exchange.specs.Writing.{Tells, complete_by, is_known_in};
+ghost use Rattle.bar_exchange.specs.Writing.{AreSourcesOf, complete_by, is_known_in};
 
 use crate::aligned::are_windows_in;
 use crate::sources::Sources;
@@ -89,7 +89,7 @@ pub(crate) fn is_complete(ledger: &Ledger, x: Exchange) -> bool
 
 /// The terms that are kept of an exchange, as far as they are known, where their windows are those of its round.
 pub fn kept_terms(sources: &Sources<'_>, x: Exchange) -> Option<Terms>
-    ensures kept { (me : Member) (k : Knowledge) → Tells me k sources.now
+    ensures kept { (me : Member) (k : Knowledge) → AreSourcesOf me k sources.now
         → result ≡ option_map (λ kept. kept.entry.terms) (find_in sources.now.ledger.now x) }
     ensures windows { IfSome result (AreTermWindows sources.now.session.now.shape x.round) }
 {

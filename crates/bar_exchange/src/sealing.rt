@@ -14,7 +14,7 @@ ghost use Rattle.bar_rules.specs.Peer.Knowledge.{Knowledge};
 ghost use Rattle.bar_rules.specs.Peer.Terms.{terms_of};
 ghost use Rattle.bar_rules.specs.Peer.Writing.{body_now};
 ghost use Rattle.bar_store.specs.Held.{block_in};
-ghost use Rattle.bar_exchange.specs.Writing.{Tells, CanSeal, IsSealable, IsWritten, LeavesRest};
+ghost use Rattle.bar_exchange.specs.Writing.{AreSourcesOf, CanSeal, IsSealable, IsWritten, LeavesRest};
 
 use crate::known::{is_complete, kept_terms};
 use crate::recall::side;
@@ -28,7 +28,7 @@ use bar_wire::Body;
 
 /// The terms of an exchange, where both sides' parts are known.
 fn complete_terms(sources: &Sources<'_>, x: Exchange) -> Option<Terms>
-    ensures known { (me : Member) (k : Knowledge) → Tells me k sources.now → IsRecent me k x.round
+    ensures known { (me : Member) (k : Knowledge) → AreSourcesOf me k sources.now → IsRecent me k x.round
         → option_map plain_terms result ≡ terms_of me k x }
     ensures windows { IfSome result (AreTermWindows sources.now.session.now.shape x.round) }
 {
@@ -78,7 +78,7 @@ fn can_seal(store: &Store, terms: &Terms, role: Role, cap: u8) -> bool
 #[tactic(auto, using(crate::proofs::Messages::window_short))]
 pub fn write_case(sources: &Sources<'_>, x: Exchange, out: &mut [u8]) -> Option<usize>
     requires room { largest_datagram ≤ length out.old }
-    ensures written { (me : Member) (k : Knowledge) → Tells me k sources.now → IsRecent me k x.round → CanSeal me k x
+    ensures written { (me : Member) (k : Knowledge) → AreSourcesOf me k sources.now → IsRecent me k x.round → CanSeal me k x
         → IsWritten me x (body_now me k kinds.Case x) result out.new }
     ensures front { LeavesRest out.old result out.new }
 {

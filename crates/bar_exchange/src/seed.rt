@@ -4,13 +4,13 @@ ghost use Rattle.bar_wire.specs.Grammar.{IsRound};
 ghost use Rattle.bar_rules.specs.Member.{Member};
 ghost use Rattle.bar_rules.specs.Secrets.{seed_of};
 ghost use Rattle.bar_rules.specs.Peer.Knowledge.{Knowledge};
-ghost use Rattle.bar_exchange.specs.Writing.{Tells};
+ghost use Rattle.bar_exchange.specs.Writing.{AreSourcesOf};
 
 use crate::sources::Sources;
 
 /// This peer's seed of a round of the session, or `None` for any other round.
 pub fn seed_of(sources: &Sources<'_>, round: u32) -> Option<[u8; 32]>
-    ensures { (me : Member) (k : Knowledge) → Tells me k sources.now → IsRound me.session.shape round
+    ensures { (me : Member) (k : Knowledge) → AreSourcesOf me k sources.now → IsRound me.session.shape round
         → result ≡ Some (seed_of me round) }
 {
     if round < 1 || round > sources.chain.rounds() {

@@ -7,7 +7,7 @@ ghost use Rattle.bar_wire.specs.declared.kind.Kind.TheVariants as kinds;
 ghost use Rattle.bar_rules.specs.Member.{Member};
 ghost use Rattle.bar_rules.specs.Peer.Knowledge.{Knowledge};
 ghost use Rattle.bar_rules.specs.Peer.Writing.{body_now};
-ghost use Rattle.bar_exchange.specs.Writing.{Tells, IsWritten, LeavesRest, bytes_to, largest_message};
+ghost use Rattle.bar_exchange.specs.Writing.{AreSourcesOf, IsWritten, LeavesRest, bytes_to, largest_message};
 
 use crate::recall::side;
 use crate::sources::Sources;
@@ -20,7 +20,7 @@ pub fn write_message(sources: &Sources<'_>, x: Exchange, body: &Body<'_>, out: &
     requires body { IsBody sources.now.session.now.shape body.now }
     requires short { header_len + body_written sources.now.session.now.shape body.now ≤ largest_message }
     requires room { largest_datagram ≤ length out.old }
-    ensures written { (me : Member) (k : Knowledge) → Tells me k sources.now → take result out.new ≡ bytes_to me x (plain body.now) }
+    ensures written { (me : Member) (k : Knowledge) → AreSourcesOf me k sources.now → take result out.new ≡ bytes_to me x (plain body.now) }
     ensures front { LeavesRest out.old (Some result) out.new }
 {
     let shape = sources.session.shape();
@@ -37,7 +37,7 @@ pub fn write_message(sources: &Sources<'_>, x: Exchange, body: &Body<'_>, out: &
 /// Writes the message that asks for the key of the other side's briefcase, and answers its length.
 pub fn write_key_request(sources: &Sources<'_>, x: Exchange, out: &mut [u8]) -> usize
     requires room { largest_datagram ≤ length out.old }
-    ensures written { (me : Member) (k : Knowledge) → Tells me k sources.now
+    ensures written { (me : Member) (k : Knowledge) → AreSourcesOf me k sources.now
         → IsWritten me x (body_now me k kinds.KeyReq x) (Some result) out.new }
     ensures front { LeavesRest out.old (Some result) out.new }
 {
@@ -53,7 +53,7 @@ pub fn write_key_request(sources: &Sources<'_>, x: Exchange, out: &mut [u8]) -> 
 /// Writes the message that gives the key of this side's briefcase, and answers its length.
 pub fn write_key(sources: &Sources<'_>, x: Exchange, out: &mut [u8]) -> usize
     requires room { largest_datagram ≤ length out.old }
-    ensures written { (me : Member) (k : Knowledge) → Tells me k sources.now
+    ensures written { (me : Member) (k : Knowledge) → AreSourcesOf me k sources.now
         → IsWritten me x (body_now me k kinds.Key x) (Some result) out.new }
     ensures front { LeavesRest out.old (Some result) out.new }
 {

@@ -2,7 +2,7 @@
 
 ghost use Rattle.std.specs.Prelude.{◌≡◌, ℕ, ◌*◌, ◌+◌, ◌<◌, List, [], take, slice_index, slice_index_or};
 ghost use Rattle.sha2.specs.Sha256.{word_at, compress, initial_hash_256, rounds, schedule, sha256};
-ghost use Rattle.bar_lanes.specs.Lane.{hash_lane, IsScheduled, IsBegun, late_at};
+ghost use Rattle.bar_lanes.specs.Lane.{hash_lane, IsScheduled, IsHeadState, late_at};
 
 use crate::eight::{block, digest_at, initial_hash, lanes_of, words_at};
 use crate::rounds::{Words, fill_words, last_steps, small_sigma0, small_sigma1, step};
@@ -21,13 +21,13 @@ pub struct Head {
 
 impl Model for Head {
     ghost use Rattle.std.specs.Prelude.{◌≡◌, ℕ, List, take};
-    ghost use Rattle.bar_lanes.specs.Lane.{IsBegun};
+    ghost use Rattle.bar_lanes.specs.Lane.{IsHeadState};
 
     ghost Value = { List ℕ };
 
     ghost view = { λ h. h.bytes };
 
-    ghost invariant = { λ h. (block : List ℕ) → take 20 block ≡ h.bytes → IsBegun block h.late h.working };
+    ghost invariant = { λ h. (block : List ℕ) → take 20 block ≡ h.bytes → IsHeadState block h.late h.working };
 }
 
 // Word k of what messages begin with, in each lane.

@@ -16,8 +16,8 @@ use Rattle.bar_window.specs.Exchange.{same_exchange}
 use Rattle.bar_window.proofs.Exchanges.{same_exchange-is}
 use Rattle.bar_ledger.specs.declared.entry.Entry.{Entry}
 use Rattle.bar_ledger.specs.declared.slot.Slot.{Slot}
-use Rattle.bar_ledger.specs.Kept.{Kept, IsOwn, kept_of, newly, with_bytes, is_for, is_recent, if_recent, live_of}
-use Rattle.bar_ledger.specs.Slots.{HasRooms, entries_of, exchanges_of}
+use Rattle.bar_ledger.specs.Kept.{Kept, IsKeptFor, kept_of, newly, with_bytes, is_for, is_recent, if_recent, live_of}
+use Rattle.bar_ledger.specs.Slots.{HasSlotRooms, entries_of, exchanges_of}
 use Rattle.bar_ledger.proofs.Slots.{with_part, entries-at, entries-set}
 use Rattle.bar_ledger.proofs.Finds.{IsNamed, found-this, found-changed, none-parts}
 use Rattle.bar_ledger.proofs.Distinct.{apart-parts, exchanges-part, length-part, distinct-part}
@@ -135,10 +135,10 @@ change-distinct x life now slots place s changed f c =
     subst (IsDistinct same_exchange) (sym (change-kept x life now slots place s changed f c)) c.at.distinct
 
 -- the rooms stay as large
-pub rooms-set : (shape : Shape) (slots : List Slot) (place : ℕ) (s changed : Slot) → place < length slots → s ≡ get_or slots place s → All (HasRooms shape) slots → (HasRooms shape s → HasRooms shape changed)
-    → All (HasRooms shape) (set slots place changed)
+pub rooms-set : (shape : Shape) (slots : List Slot) (place : ℕ) (s changed : Slot) → place < length slots → s ≡ get_or slots place s → All (HasSlotRooms shape) slots → (HasSlotRooms shape s → HasSlotRooms shape changed)
+    → All (HasSlotRooms shape) (set slots place changed)
 rooms-set shape slots place s changed inside read all keep =
-    All-set (HasRooms shape) slots place changed (keep (subst (HasRooms shape) (sym read) (all place s inside))) all
+    All-set (HasSlotRooms shape) slots place changed (keep (subst (HasSlotRooms shape) (sym read) (all place s inside))) all
 
 -- ---- an exchange more
 
@@ -199,20 +199,20 @@ given-distinct life now slots place s given e g d =
 
 -- ---- what is found has the exchange, and isn't given up
 
-own-one : (x : Exchange) (life now : ℕ) (k : Kept) → is_recent life now k.entry.x ≡ true → is_for x k ≡ true → IsOwn x life now k
+own-one : (x : Exchange) (life now : ℕ) (k : Kept) → is_recent life now k.entry.x ≡ true → is_for x k ≡ true → IsKeptFor x life now k
 own-one x life now k t same =
     let named : k.entry.x ≡ x = same_exchange-is k.entry.x x same in
     record { named = named; recent = leb-true now (x.round + life) (subst (λ z. is_recent life now z ≡ true) named t) }
 
-own-slot : (x : Exchange) (life now : ℕ) (o : Option Kept) (rest : List Kept) → IfSome (find (is_for x) rest) (IsOwn x life now)
-    → IfSome (find (is_for x) (option_to_list (option_and_then (if_recent life now) o) ++ rest)) (IsOwn x life now)
+own-slot : (x : Exchange) (life now : ℕ) (o : Option Kept) (rest : List Kept) → IfSome (find (is_for x) rest) (IsKeptFor x life now)
+    → IfSome (find (is_for x) (option_to_list (option_and_then (if_recent life now) o) ++ rest)) (IsKeptFor x life now)
 own-slot x life now None rest own = own
 own-slot x life now (Some k) rest own = elim (cases_Bool (is_recent life now k.entry.x)) [
   | inl t ↦ elim (cases_Bool (is_for x k)) [ inl same ↦ rw (t, same) (own-one x life now k t same) | inr other ↦ rw (t, other) own ]
   | inr f ↦ rw f own
 ]
 
-pub found-own : (x : Exchange) (life now : ℕ) (slots : List Slot) → IfSome (find (is_for x) (entries_of life now slots)) (IsOwn x life now)
+pub found-own : (x : Exchange) (life now : ℕ) (slots : List Slot) → IfSome (find (is_for x) (entries_of life now slots)) (IsKeptFor x life now)
 unfolding entries_of
 found-own x life now [] = tt
 found-own x life now (s ∷ ss) = own-slot x life now (kept_of s) (entries_of life now ss) (found-own x life now ss)

@@ -7,13 +7,13 @@ use Rattle.bar_window.specs.Exchange.{same_exchange}
 use Rattle.bar_wire.specs.declared.shape.Shape.{Shape}
 use Rattle.bar_ledger.specs.declared.slot.Slot.{Slot}
 use Rattle.bar_ledger.specs.Kept.{live_of, if_recent, with_rooms}
-use Rattle.bar_ledger.specs.Slots.{HasRooms, entries_of, exchanges_of}
+use Rattle.bar_ledger.specs.Slots.{HasSlotRooms, entries_of, exchanges_of}
 use Rattle.bar_ledger.proofs.Slots.{entries-none, entries-push}
 
 -- So many slots are made, and keep nothing.
 pub record AreMade (shape : Shape) (slots : List Slot) (n : ℕ) : Type 0 where
   pub count : length slots ≡ n
-  pub rooms : All (HasRooms shape) slots
+  pub rooms : All (HasSlotRooms shape) slots
   pub empty : entries_of shape.life 0 slots ≡ []
 
 pub made-none : (shape : Shape) (slots : List Slot) → slots ≡ [] → AreMade shape slots 0
@@ -26,10 +26,10 @@ made-none shape slots e = subst (λ slots. AreMade shape slots 0) (sym e) (recor
 empty-live : (life : ℕ) (s : Slot) → s.entry ≡ None → live_of life 0 s ≡ None
 empty-live life s e = ap (λ o. option_and_then (if_recent life 0) (option_map (with_rooms s) o)) e
 
-pub made-more : (shape : Shape) (slots new : List Slot) (n : ℕ) (s : Slot) → AreMade shape slots n → new ≡ slots ++ s ∷ [] → s.entry ≡ None → HasRooms shape s → AreMade shape new (n + 1)
+pub made-more : (shape : Shape) (slots new : List Slot) (n : ℕ) (s : Slot) → AreMade shape slots n → new ≡ slots ++ s ∷ [] → s.entry ≡ None → HasSlotRooms shape s → AreMade shape new (n + 1)
 made-more shape slots new n s m e none rooms = subst (λ slots. AreMade shape slots (n + 1)) (sym e) (record {
   count = omega (arith, length-append slots (s ∷ []), m.count);
-  rooms = All-push (HasRooms shape) slots s m.rooms rooms;
+  rooms = All-push (HasSlotRooms shape) slots s m.rooms rooms;
   empty = entries-push shape.life 0 slots s ∙ (λ i. m.empty i ++ option_to_list (empty-live shape.life s none i));
 })
 

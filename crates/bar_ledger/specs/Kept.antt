@@ -79,6 +79,6 @@ abbrev pub keeps : Exchange → ℕ → ℕ → Slot → Bool
 keeps x life now s = option_map_or (is_for x) (live_of life now s) false
 
 -- It is of the exchange, and may still be asked about.
-pub record IsOwn (x : Exchange) (life now : ℕ) (k : Kept) : Type 0 where
+pub record IsKeptFor (x : Exchange) (life now : ℕ) (k : Kept) : Type 0 where
   pub named : k.entry.x ≡ x
   pub recent : now ≤ x.round + life

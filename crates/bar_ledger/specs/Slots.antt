@@ -19,7 +19,7 @@ abbrev pub exchanges_of : List Kept → List Exchange
 exchanges_of ks = map (λ k. k.entry.x) ks
 
 -- Each room of a slot has room for the largest datagram that it is for.
-pub record HasRooms (shape : Shape) (s : Slot) : Type 0 where
+pub record HasSlotRooms (shape : Shape) (s : Slot) : Type 0 where
   pub first : s.first.size ≡ most_first shape
   pub divulge : s.divulge.size ≡ largest shape kinds.Divulge
   pub case : s.case.size ≡ largest shape kinds.Case

@@ -10,7 +10,7 @@ ghost use Rattle.bar_wire.specs.declared.shape.Shape.{Shape};
 ghost use Rattle.bar_ledger.specs.Hearing.{is_opening};
 ghost use Rattle.bar_ledger.specs.Naming.{names, shares_leaf};
 ghost use Rattle.bar_ledger.specs.Asking.{chosen, is_any, is_asked, open_of};
-ghost use Rattle.bar_ledger.specs.Slots.{HasRooms, size_for};
+ghost use Rattle.bar_ledger.specs.Slots.{HasSlotRooms, size_for};
 ghost use Rattle.bar_ledger.specs.Totals.{totals_by, no_totals, CanTotal, AreSound};
 
 use crate::entry::Entry;
@@ -39,7 +39,7 @@ impl Slot {
     pub(crate) fn make(alloc: Global, shape: &Shape) -> Result<Slot, AllocError>
         requires { shape.now.sig_len ≤ largest_datagram }
         ensures empty { IfOk result (λ s. s.entry ≡ None) }
-        ensures rooms { IfOk result (HasRooms shape.now) }
+        ensures rooms { IfOk result (HasSlotRooms shape.now) }
     {
         Ok(Slot {
             entry: None,
@@ -147,7 +147,7 @@ impl Slot {
     /// Gives the slot to another exchange, of which nothing is heard.
     pub(crate) fn renew(&mut self, entry: Entry)
         ensures kept { kept_of self.new ≡ Some (newly entry) }
-        ensures rooms { (shape : Shape) → HasRooms shape self.old → HasRooms shape self.new }
+        ensures rooms { (shape : Shape) → HasSlotRooms shape self.old → HasSlotRooms shape self.new }
     {
         self.entry = Some(entry);
         self.first.empty();
@@ -160,7 +160,7 @@ impl Slot {
     /// Changes the entry, where there is one.
     pub(crate) fn put(&mut self, entry: Entry)
         ensures kept { kept_of self.new ≡ option_map (with_new entry) (kept_of self.old) }
-        ensures rooms { (shape : Shape) → HasRooms shape self.old → HasRooms shape self.new }
+        ensures rooms { (shape : Shape) → HasSlotRooms shape self.old → HasSlotRooms shape self.new }
     {
         if self.entry.is_some() {
             self.entry = Some(entry);
@@ -171,7 +171,7 @@ impl Slot {
     pub(crate) fn hear(&mut self, kind: Kind, bytes: &[u8])
         requires { length bytes.now ≤ size_for kind self.old }
         ensures kept { kept_of self.new ≡ option_map (with_bytes kind bytes.now) (kept_of self.old) }
-        ensures rooms { (shape : Shape) → HasRooms shape self.old → HasRooms shape self.new }
+        ensures rooms { (shape : Shape) → HasSlotRooms shape self.old → HasSlotRooms shape self.new }
     {
         match kind {
             Kind::Divulge => self.divulge.keep(bytes),

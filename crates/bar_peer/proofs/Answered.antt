@@ -26,9 +26,9 @@ use Rattle.bar_exchange.specs.declared.says.Says.{Says}
 use Rattle.bar_exchange.specs.Says.{orders_of_reply, says_in, AreFitting}
 use Rattle.bar_peer.specs.declared.memory.Memory.{Memory}
 use Rattle.bar_peer.specs.Orders.{Orders}
-use Rattle.bar_peer.specs.Memory.{Tells, IsMemoryOf, member_of}
+use Rattle.bar_peer.specs.Memory.{Represents, IsMemoryOf, member_of}
 use Rattle.bar_peer.specs.Repeats.{IsInTime, is_of_exchange}
-use Rattle.bar_peer.specs.Sending.{Stands, IsOwn}
+use Rattle.bar_peer.specs.Sending.{HasOutcome, MaySayNow}
 use Rattle.bar_peer.proofs.Keys.{admitted_row, admitted_for}
 use Rattle.bar_peer.proofs.Rows.{in_time as row_in_time}
 use Rattle.bar_peer.proofs.Again.{SpellOne}
@@ -68,21 +68,21 @@ answered-again me log d e = ap (answered-by me log d) e
 -- what carrying out replies does
 abbrev pub CarriesOut : Memory → Orders → Says → Memory → Orders → Type 0
 CarriesOut m o says n p =
-    (out : Out) → IsObedient (member_of m.who) (perform_all (member_of m.who) out (orders_of_reply says)).state → Stands out m o
-    → AllByRecursion (IsOwn (member_of m.who) (known (member_of m.who) out.state)) (says_in says) → length o.list.items + 2 ≤ o.room
-    → Stands (perform_all (member_of m.who) out (orders_of_reply says)) n p
+    (out : Out) → IsObedient (member_of m.who) (perform_all (member_of m.who) out (orders_of_reply says)).state → HasOutcome out m o
+    → AllByRecursion (MaySayNow (member_of m.who) (known (member_of m.who) out.state)) (says_in says) → length o.list.items + 2 ≤ o.room
+    → HasOutcome (perform_all (member_of m.who) out (orders_of_reply says)) n p
 
 pub replied : (log : Log) (m n : Memory) (o p : Orders) (says : Says) (os : List Order) → 2 ≤ m.who.session.shape.life → AreFitting says
-    → CarriesOut m o says n p → orders_of_reply says ≡ os → Tells log m → o.list.items ≡ [] → 2 ≤ o.room → AllByRecursion (IsDue (member_of m.who) (known (member_of m.who) log)) os
-    → IsObedient (member_of m.who) (perform_all (member_of m.who) (begun log) os).state → Stands (perform_all (member_of m.who) (begun log) os) n p
+    → CarriesOut m o says n p → orders_of_reply says ≡ os → Represents log m → o.list.items ≡ [] → 2 ≤ o.room → AllByRecursion (IsDue (member_of m.who) (known (member_of m.who) log)) os
+    → IsObedient (member_of m.who) (perform_all (member_of m.who) (begun log) os).state → HasOutcome (perform_all (member_of m.who) (begun log) os) n p
 replied log m n o p says os life fits does same tells empty room due obeys =
     let me : Member = member_of m.who in
-    let own : AllByRecursion (IsOwn me (known me log)) (says_in says) =
+    let own : AllByRecursion (MaySayNow me (known me log)) (says_in says) =
     says-due me (known me log) (says_in says) life fits (subst (AllByRecursion (IsDue me (known me log))) (sym same) due)
     in
     let before : IsObedient me (perform_all me (begun log) (orders_of_reply says)).state = subst (λ os. IsObedient me (perform_all me (begun log) os).state) (sym same) obeys in
     let none : length o.list.items ≡ 0 = ap length empty in
-    subst (λ os. Stands (perform_all me (begun log) os) n p) same
+    subst (λ os. HasOutcome (perform_all me (begun log) os) n p) same
     (does (begun log) before (none_stand log m o tells empty) own (omega (arith, none, room)))
 
 -- ---- time
@@ -152,11 +152,11 @@ Tell m d is_new says =
 -- a datagram that is admitted is answered
 pub new-replied : (log : Log) (d : Datagram) (before m n : Memory) (o p : Orders) (says : Says) → IsMember (member_of before.who) → AreFitting says
     → (is_of_exchange d.message.body ≡ true → d.message.from ≡ before.who.secrets.party → ⊥) → m.who ≡ before.who
-    → is_admitted (member_of before.who) (known (member_of before.who) log) d ≡ true → Tells (Heard d ∷ log) m → Tell m d true says
+    → is_admitted (member_of before.who) (known (member_of before.who) log) d ≡ true → Represents (Heard d ∷ log) m → Tell m d true says
     → CarriesOut m o says n p → o.list.items ≡ [] → 2 ≤ o.room
     → IsObedient (member_of before.who)
     (perform_all (member_of before.who) (begun (Heard d ∷ log)) (reply_orders (member_of before.who) (known (member_of before.who) (Heard d ∷ log)) true d)).state
-    → Stands (perform_all (member_of before.who) (begun (Heard d ∷ log)) (reply_orders (member_of before.who) (known (member_of before.who) (Heard d ∷ log)) true d)) n p
+    → HasOutcome (perform_all (member_of before.who) (begun (Heard d ∷ log)) (reply_orders (member_of before.who) (known (member_of before.who) (Heard d ∷ log)) true d)) n p
 new-replied log d before m n o p says is_member fits other who admitted tells tell does empty room obeys =
     let me : Member = member_of before.who in
     let k : Knowledge = known me (Heard d ∷ log) in
@@ -170,7 +170,7 @@ new-replied log d before m n o p says is_member fits other who admitted tells te
     orders-due me k true d.message.from d.message.to d.message.body (λ x. (received me (known me log) d admitted x, other x)) life (λ n x. soon x)
     in
     let in_time : IsInTime me k d.message = in-time-kept me log d (row_in_time me (known me log) d.message.from d.message.to d.message.body life row) in
-    subst (λ (me : Member). Stands (perform_all me (begun (Heard d ∷ log)) (reply_orders me (known me (Heard d ∷ log)) true d)) n p) same
+    subst (λ (me : Member). HasOutcome (perform_all me (begun (Heard d ∷ log)) (reply_orders me (known me (Heard d ∷ log)) true d)) n p) same
     (replied (Heard d ∷ log) m n o p says _ (subst (λ (me : Member). 2 ≤ me.session.shape.life) (sym same) life) fits does
     (tell (known (member_of m.who) (Heard d ∷ log)) tells (λ n. subst (λ (me : Member). IsInTime me (known me (Heard d ∷ log)) d.message) (sym same) in_time))
     tells empty room
@@ -195,10 +195,10 @@ stale-repeat me log d bytes one spelled spells life t = go (repeated me (known m
 -- a repeat is answered again
 pub again-replied : (log : Log) (d : Datagram) (m n : Memory) (o p : Orders) (says : Says) → 2 ≤ m.who.session.shape.life
     → AreFitting says → (is_of_exchange d.message.body ≡ true → (d.message.to ≡ m.who.secrets.party) × (d.message.from ≡ m.who.secrets.party → ⊥))
-    → Tells log m → Tell m d false says → CarriesOut m o says n p
+    → Represents log m → Tell m d false says → CarriesOut m o says n p
     → o.list.items ≡ [] → 2 ≤ o.room
     → IsObedient (member_of m.who) (perform_all (member_of m.who) (begun log) (reply_orders (member_of m.who) (known (member_of m.who) log) false d)).state
-    → Stands (perform_all (member_of m.who) (begun log) (reply_orders (member_of m.who) (known (member_of m.who) log) false d)) n p
+    → HasOutcome (perform_all (member_of m.who) (begun log) (reply_orders (member_of m.who) (known (member_of m.who) log) false d)) n p
 again-replied log d m n o p says life fits mine tells tell does empty room obeys =
     let me : Member = member_of m.who in
     replied log m n o p says (reply_orders me (known me log) false d) life fits does (tell (known me log) tells (λ n. absurd (false≢true n))) tells empty room
@@ -246,20 +246,20 @@ not-repeated me log d bytes is_member sound one spells unless = elim (cases_Bool
 pub repeat-answered : (log : Log) (d : Datagram) (m n : Memory) (o p : Orders) (says : Says) (bytes : List ℕ) → IsMember (member_of m.who)
     → IsSound (member_of m.who) (known (member_of m.who) log) → SpellOne → SpellsDatagram m.who.session.shape d bytes → AreFitting says → Tell m d false says
     → CarriesOut m o says n p → (IsInTime (member_of m.who) (known (member_of m.who) log) d.message → repeated (member_of m.who) (known (member_of m.who) log) d ≡ Some d)
-    → Tells log m → o.list.items ≡ [] → 2 ≤ o.room
+    → Represents log m → o.list.items ≡ [] → 2 ≤ o.room
     → IsObedient (member_of m.who) (answer_repeat (member_of m.who) log (repeated (member_of m.who) (known (member_of m.who) log) d)).state
-    → Stands (answer_repeat (member_of m.who) log (repeated (member_of m.who) (known (member_of m.who) log) d)) n p
+    → HasOutcome (answer_repeat (member_of m.who) log (repeated (member_of m.who) (known (member_of m.who) log) d)) n p
 repeat-answered log d m n o p says bytes is_member sound one spells fits tell does again tells empty room obeys =
     elim (cases_Bool (nat_le (this_round (known me log)) (round_of d.message.body + me.session.shape.life))) [
       | inl t ↦
           let is : repeated me (known me log) d ≡ Some d = again (in-time-by me (known me log) d.message.from d.message.to d.message.body t) in
           let mine = repeated-received me (known me log) d sound is in
-          subst (λ o'. Stands (answer_repeat me log o') n p) (sym is)
+          subst (λ o'. HasOutcome (answer_repeat me log o') n p) (sym is)
           (again-replied log d m n o p says life fits (λ x. (mine x, apart me.session.shape d me.party spells.fits mine x)) tells tell does empty room
           (subst (λ o'. IsObedient me (answer_repeat me log o').state) is obeys))
       | inr f ↦
           let none = stale-orders me (known me log) d.message.from d.message.to d.message.body life f in
-          subst (λ out. Stands out n p) (sym (stale-repeat me log d bytes one (spelled-of me (known me log) sound) spells life f))
+          subst (λ out. HasOutcome out n p) (sym (stale-repeat me log d bytes one (spelled-of me (known me log) sound) spells life f))
           (replied log m n o p says [] life fits does (tell (known me log) tells (λ n. absurd (false≢true n)) ∙ none) tells empty room tt
           (repeat-before me log (repeated me (known me log) d) obeys))
     ]
@@ -274,7 +274,7 @@ repeat-answered log d m n o p says bytes is_member sound one spells fits tell do
 pub nothing-changed : (log : Log) (d : Datagram) (m n : Memory) (says : Says) → IsMember (member_of m.who) → Tell m d false says
     → (orders_of_reply says ≡ [] → n ≡ m)
     → (IsInTime (member_of m.who) (known (member_of m.who) log) d.message → repeated (member_of m.who) (known (member_of m.who) log) d ≡ Some d)
-    → Tells log m → repeated (member_of m.who) (known (member_of m.who) log) d ≡ None → n ≡ m
+    → Represents log m → repeated (member_of m.who) (known (member_of m.who) log) d ≡ None → n ≡ m
 nothing-changed log d m n says is_member tell nothing again tells none =
     elim (cases_Bool (nat_le (this_round (known me log)) (round_of d.message.body + me.session.shape.life))) [
       | inl t ↦

@@ -21,7 +21,7 @@ use Rattle.bar_peer.specs.declared.memory.Memory.{Memory}
 use Rattle.bar_peer.specs.declared.order.Order.TheVariants as queued
 use Rattle.bar_peer.specs.Orders.{Orders}
 use Rattle.bar_peer.specs.Memory.{member_of}
-use Rattle.bar_peer.specs.Sending.{IsTimely, AreFor, IsCarriedOut, Stands}
+use Rattle.bar_peer.specs.Sending.{IsTimely, AreFor, IsCarriedOut, HasOutcome}
 use Rattle.bar_peer.proofs.Growing.{Grows, timely_still}
 use Rattle.bar_peer.proofs.Standing.{orders_stay, orders_pushed}
 use Rattle.bar_peer.proofs.Timely.{timely_request}
@@ -81,9 +81,9 @@ asks_timely me k x now = timely_request me k x.kind x.round (omega arith)
 
 pub carried_stands : (m n : Memory) (o p : Orders) (out after : Out) (say : Say) (is_sent : Bool) → n.who ≡ m.who
     → Grows (known (member_of m.who) out.state) (known (member_of m.who) after.state)
-    → IsTimely (member_of m.who) (known (member_of m.who) out.state) say → Stands out m o
+    → IsTimely (member_of m.who) (known (member_of m.who) out.state) say → HasOutcome out m o
     → IsCarriedOut (member_of m.who) say out after is_sent n
-    → p.list.items ≡ (if is_sent then o.list.items ++ queued.Say say ∷ [] else o.list.items) → Stands after n p
+    → p.list.items ≡ (if is_sent then o.list.items ++ queued.Say say ∷ [] else o.list.items) → HasOutcome after n p
 carried_stands m n o p out after say true who g timely h done pushed =
     let me : Member = member_of m.who in
     let k : Knowledge = known me out.state in

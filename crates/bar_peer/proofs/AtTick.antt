@@ -15,7 +15,7 @@ use Rattle.bar_peer.specs.declared.credentials.Credentials.{Credentials}
 use Rattle.bar_peer.specs.declared.memory.Memory.{Memory}
 use Rattle.bar_peer.specs.Orders.{Orders}
 use Rattle.bar_peer.specs.Memory.{member_of}
-use Rattle.bar_peer.specs.Sending.{Stands}
+use Rattle.bar_peer.specs.Sending.{HasOutcome}
 use Rattle.bar_peer.specs.Ticking.{orders_of_opens, is_first_slot, AsksPartners, Reports}
 use Rattle.bar_laws.proofs.Fitting.{perform_all-before}
 use Rattle.bar_peer.proofs.Later.{announced_after, evidence_after}
@@ -41,7 +41,7 @@ at_tick me log is_first is_last first last =
 abbrev pub StandsAsked : Memory → Log → Memory → Orders → Type 0
 StandsAsked m log n p =
     let me : Member = member_of m.who in
-    Stands (perform_all me (begun log) (first_orders me (known me log) (is_first_slot me.session m.ticks))) n p
+    HasOutcome (perform_all me (begun log) (first_orders me (known me log) (is_first_slot me.session m.ticks))) n p
 
 -- So it is, the peer and its time are the same, and two orders were added at most.
 pub record IsAsked (m n : Memory) (o p : Orders) (log : Log) : Type 0 where
@@ -53,7 +53,7 @@ pub record IsAsked (m n : Memory) (o p : Orders) (log : Log) : Type 0 where
 
 pub asked_at_tick : (m n : Memory) (o p : Orders) (log : Log) → (known (member_of m.who) log).ticks ≡ m.ticks
     → is_first_slot m.who.session m.ticks ≡ true → AsksPartners m.who (round_after m.ticks) m o n p → length o.list.items + 2 ≤ o.room
-    → Stands (perform_all (member_of m.who) (begun log) (orders_of_opens (member_of m.who) (known (member_of m.who) log))) m o
+    → HasOutcome (perform_all (member_of m.who) (begun log) (orders_of_opens (member_of m.who) (known (member_of m.who) log))) m o
     → IsObedient (member_of m.who)
     (perform_all (member_of m.who) (begun log) (orders_at_tick (member_of m.who) (known (member_of m.who) log))).state
     → StandsAsked m log n p
@@ -72,19 +72,19 @@ asked_at_tick m n o p log time first asks room h obedient =
     all_append me (begun log) (orders_of_opens me k) (new_requests me k (this_round k))
     ∙ (λ i. perform_all me before (new_requests me (known me (sym state i)) (round_after (time i))))
     in
-    let asked : Stands between n p =
-    subst (λ (out : Out). Stands out n p) (sym same)
+    let asked : HasOutcome between n p =
+    subst (λ (out : Out). HasOutcome out n p) (sym same)
     (asks before (subst (λ (out : Out). IsObedient me out.state) same allowed) h room)
     in
-    subst (λ (is_first : Bool). Stands (perform_all me (begun log) (first_orders me k is_first)) n p) (sym first) asked
+    subst (λ (is_first : Bool). HasOutcome (perform_all me (begun log) (first_orders me k is_first)) n p) (sym first) asked
 
 pub unasked_at_tick : (m : Memory) (o : Orders) (log : Log) → is_first_slot m.who.session m.ticks ≡ false
-    → Stands (perform_all (member_of m.who) (begun log) (orders_of_opens (member_of m.who) (known (member_of m.who) log))) m o
+    → HasOutcome (perform_all (member_of m.who) (begun log) (orders_of_opens (member_of m.who) (known (member_of m.who) log))) m o
     → StandsAsked m log m o
 unasked_at_tick m o log other h =
     let me : Member = member_of m.who in
     let k : Knowledge = known me log in
-    subst (λ (os : List Order). Stands (perform_all me (begun log) os) m o)
+    subst (λ (os : List Order). HasOutcome (perform_all me (begun log) os) m o)
     (sym (append-nil (orders_of_opens me k))
     ∙ (λ i. first_orders me k (sym other i)))
     h
@@ -94,20 +94,20 @@ abbrev ReportsOf : Credentials → Memory → Orders → Orders → Type 0
 ReportsOf who n p q =
     (out : Out) (before : Knowledge)
     → ((party : ℕ) → before.is_announced party ≡ (known (member_of who) out.state).is_announced party)
-    → ((party : ℕ) → before.evidence party ≡ (known (member_of who) out.state).evidence party) → Stands out n p
+    → ((party : ℕ) → before.evidence party ≡ (known (member_of who) out.state).evidence party) → HasOutcome out n p
     → length p.list.items + who.session.shape.peers ≤ p.room
-    → Stands (perform_all (member_of who) out (reports (member_of who) before)) n q
+    → HasOutcome (perform_all (member_of who) out (reports (member_of who) before)) n q
 
 pub reported_at_tick : (m n : Memory) (p q : Orders) (log : Log) → n.who ≡ m.who → (known (member_of m.who) log).ticks ≡ m.ticks
     → (slot_after m.ticks == 7) ≡ true → Reports n p q → length p.list.items + m.who.session.shape.peers ≤ p.room → StandsAsked m log n p
-    → Stands (perform_all (member_of m.who) (begun log) (orders_at_tick (member_of m.who) (known (member_of m.who) log))) n q
+    → HasOutcome (perform_all (member_of m.who) (begun log) (orders_at_tick (member_of m.who) (known (member_of m.who) log))) n q
 reported_at_tick m n p q log who time last all room h =
     let me : Member = member_of m.who in
     let k : Knowledge = known me log in
     let is_first : Bool = is_first_slot me.session m.ticks in
     let os : List Order = first_orders me k is_first in
     let told : ReportsOf m.who n p q = subst (λ (w : Credentials). ReportsOf w n p q) who all in
-    subst (λ (out : Out). Stands out n q)
+    subst (λ (out : Out). HasOutcome out n q)
     (at_tick me log is_first true (ap (is_first_slot me.session) time) (ap (λ (ticks : ℕ). slot_after ticks == 7) time ∙ last))
     (told (perform_all me (begun log) os) k (λ party. sym (announced_after me (begun log) os party))
     (λ party. sym (evidence_after me (begun log) os party))
@@ -116,10 +116,10 @@ reported_at_tick m n p q log who time last all room h =
 
 pub unreported_at_tick : (m n : Memory) (p : Orders) (log : Log) → (known (member_of m.who) log).ticks ≡ m.ticks
     → (slot_after m.ticks == 7) ≡ false → StandsAsked m log n p
-    → Stands (perform_all (member_of m.who) (begun log) (orders_at_tick (member_of m.who) (known (member_of m.who) log))) n p
+    → HasOutcome (perform_all (member_of m.who) (begun log) (orders_at_tick (member_of m.who) (known (member_of m.who) log))) n p
 unreported_at_tick m n p log time other h =
     let me : Member = member_of m.who in
     let is_first : Bool = is_first_slot me.session m.ticks in
-    subst (λ (out : Out). Stands out n p)
+    subst (λ (out : Out). HasOutcome out n p)
     (at_tick me log is_first false (ap (is_first_slot me.session) time) (ap (λ (ticks : ℕ). slot_after ticks == 7) time ∙ other))
     h

@@ -24,7 +24,7 @@ use Rattle.bar_exchange.specs.declared.say.Say.{Say}
 use Rattle.bar_exchange.specs.Says.{order_by, Fits}
 use Rattle.bar_wire.proofs.ExchangeBy.{round-by}
 use Rattle.bar_peer.specs.Repeats.{is_of_exchange}
-use Rattle.bar_peer.specs.Sending.{IsOwn}
+use Rattle.bar_peer.specs.Sending.{MaySayNow}
 use Rattle.bar_peer.proofs.Rows.{may_ask_in_time}
 use Rattle.bar_bytes.proofs.Tests.{and-second}
 
@@ -44,7 +44,7 @@ IsDue me k (Resend kind x) = ⊥
 IsDue me k (Report q) = ⊥
 
 say-due : (me : Member) (k : Knowledge) (kind : Kind) (x : Exchange) → 2 ≤ me.session.shape.life → Fits kind x.kind → IsDue me k (order_by kind x)
-    → IsOwn me k (record { kind = kind; x = x })
+    → MaySayNow me k (record { kind = kind; x = x })
 say-due me k kinds.Response x life fits d = record { ours = d.0; timely = omega (arith, life, d.1.1); answers = record { kind_is = fits; side = d.1.0; early = d.1.1 } }
 say-due me k kinds.Reply x life fits d = record { ours = d.0; timely = omega (arith, life, d.1.1); answers = record { kind_is = fits; side = d.1.0; early = d.1.1 } }
 say-due me k kinds.Divulge x life fits d = record { ours = d.0; timely = d.1; answers = tt }
@@ -59,7 +59,7 @@ say-due me k kinds.Evidence x life fits d = absurd d
 say-due me k kinds.Evict x life fits d = absurd d
 
 pub says-due : (me : Member) (k : Knowledge) (says : List Say) → 2 ≤ me.session.shape.life → AllByRecursion (λ say. Fits say.kind say.x.kind) says
-    → AllByRecursion (IsDue me k) (map (λ say. order_by say.kind say.x) says) → AllByRecursion (IsOwn me k) says
+    → AllByRecursion (IsDue me k) (map (λ say. order_by say.kind say.x) says) → AllByRecursion (MaySayNow me k) says
 says-due me k [] life fits all = tt
 says-due me k (say ∷ says) life fits all = (say-due me k say.kind say.x life fits.0 all.0, says-due me k says life fits.1 all.1)
 

@@ -26,7 +26,7 @@ use Rattle.bar_exchange.specs.Keeping.{IsSaidNow}
 use Rattle.bar_exchange.specs.Says.{order_by}
 use Rattle.bar_peer.specs.declared.memory.Memory.{Memory}
 use Rattle.bar_peer.specs.Memory.{IsMemoryOf, member_of, HasOtherLedger}
-use Rattle.bar_peer.specs.Sending.{send_now, IsOwn, IsCarriedOut}
+use Rattle.bar_peer.specs.Sending.{send_now, MaySayNow, IsCarriedOut}
 use Rattle.bar_peer.proofs.Recent.{recent_by_time}
 use Rattle.bar_peer.proofs.Sends.{say_of, carried_not, carried_first, unsaid, placed, said_memory, kept_memory, IsToldAsSaid}
 
@@ -40,7 +40,7 @@ CarriesOut old m x result kind =
     (out : Out) → is_some (send_now (member_of m.who) (known (member_of m.who) out.state) (say_of kind x)) ≡ false
     → IsObedient (member_of m.who) (perform (member_of m.who) out (order_by kind x)).state
     → IsMemoryOf (member_of m.who) (known (member_of m.who) out.state) old
-    → IsOwn (member_of m.who) (known (member_of m.who) out.state) (say_of kind x)
+    → MaySayNow (member_of m.who) (known (member_of m.who) out.state) (say_of kind x)
     → IsCarriedOut (member_of m.who) (say_of kind x) out (perform (member_of m.who) out (order_by kind x)) result m
 
 pub at_kind : (old m : Memory) (x : Exchange) (result : Bool) (kind now : Kind) → kind ≡ now → CarriesOut old m x result now

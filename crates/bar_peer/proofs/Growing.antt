@@ -22,7 +22,7 @@ use Rattle.bar_exchange.specs.declared.say.Say.{Say}
 use Rattle.bar_laws.proofs.Logs.{option_or-some}
 use Rattle.bar_peer.specs.declared.order.Order.{Order as Queued}
 use Rattle.bar_peer.specs.declared.order.Order.TheVariants as queued
-use Rattle.bar_peer.specs.Sending.{send_now, order_now, report_of, IsTimely, IsOrderTimely, Answers, IsOwn}
+use Rattle.bar_peer.specs.Sending.{send_now, order_now, report_of, IsTimely, IsOrderTimely, Answers, MaySayNow}
 use Rattle.bar_bytes.proofs.Options.{or-none}
 
 -- ---- the log after an order
@@ -151,7 +151,7 @@ answers_still me old new g kinds.Key x a = a
 answers_still me old new g kinds.Evidence x a = a
 answers_still me old new g kinds.Evict x a = a
 
-pub own_still : (me : Member) (old new : Knowledge) → Grows old new → (say : Say) → IsOwn me old say → IsOwn me new say
+pub own_still : (me : Member) (old new : Knowledge) → Grows old new → (say : Say) → MaySayNow me old say → MaySayNow me new say
 own_still me old new g say own = record {
   ours = own.ours;
   timely = timely_still me old new g say own.timely;

@@ -17,7 +17,7 @@ use Rattle.bar_rules.specs.Peer.Run.{Out, say, say_or_repeat, perform}
 use Rattle.bar_rules.specs.Peer.Terms.{terms_of}
 use Rattle.bar_exchange.specs.Says.{order_by}
 use Rattle.bar_peer.specs.declared.memory.Memory.{Memory}
-use Rattle.bar_peer.specs.Memory.{Tells, member_of}
+use Rattle.bar_peer.specs.Memory.{Represents, member_of}
 use Rattle.bar_peer.specs.Sending.{send_now, Answers, IsCarriedOut}
 use Rattle.bar_peer.proofs.Sends.{say_of, carried_again, carried_not, said_again, unsaid}
 
@@ -30,7 +30,7 @@ divulged me x o =
 abbrev send_divulged : Member → Exchange → Out → Option (List ℕ × List UpdateId) → Out
 send_divulged me x out o = send_if me out (partner_in me x) (option_map (λ a. Divulge x.round a.0 a.1) o)
 
-revealed_again : (x : Exchange) (out : Out) (m : Memory) (o : Option (List ℕ × List UpdateId)) → Tells out.state m
+revealed_again : (x : Exchange) (out : Out) (m : Memory) (o : Option (List ℕ × List UpdateId)) → Represents out.state m
     → (known (member_of m.who) out.state).revealed x ≡ o
     → is_some (send_now (member_of m.who) (known (member_of m.who) out.state) (say_of kinds.Divulge x)) ≡ true
     → IsCarriedOut (member_of m.who) (say_of kinds.Divulge x) out (perform (member_of m.who) out (order_by kinds.Divulge x)) true m
@@ -48,7 +48,7 @@ revealed_again x out m (Some a) tells e has =
     (ap (divulged me x) e)
 
 -- what there is to send is sent
-pub repeated : (kind : Kind) (x : Exchange) (out : Out) (m : Memory) → Tells out.state m
+pub repeated : (kind : Kind) (x : Exchange) (out : Out) (m : Memory) → Represents out.state m
     → Answers (member_of m.who) (known (member_of m.who) out.state) kind x
     → is_some (send_now (member_of m.who) (known (member_of m.who) out.state) (say_of kind x)) ≡ true
     → IsCarriedOut (member_of m.who) (say_of kind x) out (perform (member_of m.who) out (order_by kind x)) true m
@@ -98,7 +98,7 @@ not_revealed me x out (Some a) e lacks =
     absurd (false≢true (sym lacks ∙ has))
 
 -- nothing is said, where there is nothing to send again
-pub nothing_said : (kind : Kind) (x : Exchange) (out : Out) (m : Memory) → IsOther kind → Tells out.state m
+pub nothing_said : (kind : Kind) (x : Exchange) (out : Out) (m : Memory) → IsOther kind → Represents out.state m
     → is_some (send_now (member_of m.who) (known (member_of m.who) out.state) (say_of kind x)) ≡ false
     → IsCarriedOut (member_of m.who) (say_of kind x) out (perform (member_of m.who) out (order_by kind x)) false m
 nothing_said kinds.Response x out m other tells lacks = absurd (other.0 refl)

@@ -15,7 +15,7 @@ use Rattle.bar_peer.specs.declared.memory.Memory.{Memory}
 use Rattle.bar_peer.specs.declared.order.Order.TheVariants as queued
 use Rattle.bar_peer.specs.Orders.{Orders}
 use Rattle.bar_peer.specs.Memory.{member_of}
-use Rattle.bar_peer.specs.Sending.{report_now, Stands}
+use Rattle.bar_peer.specs.Sending.{report_now, HasOutcome}
 use Rattle.bar_peer.specs.Ticking.{is_reported}
 use Rattle.bar_peer.proofs.Later.{evidence_after, announced_after}
 use Rattle.bar_peer.proofs.Sent.{all_append, sent_report, stands_with, pushed}
@@ -71,9 +71,9 @@ not_due o party is_due is = record {
 -- one report more stands, where it is due
 pub one_reported : (m : Memory) (o p : Orders) (out : Out) (before : Knowledge) (done party : ℕ) (is_due : Bool) → 1 + done ≡ party
     → before.evidence party ≡ (known (member_of m.who) out.state).evidence party → is_reported before party ≡ is_due
-    → Stands (perform_all (member_of m.who) out (reports_to before done)) m o
+    → HasOutcome (perform_all (member_of m.who) out (reports_to before done)) m o
     → p.list.items ≡ (if is_due then o.list.items ++ queued.Report party ∷ [] else o.list.items)
-    → Stands (perform_all (member_of m.who) out (reports_to before (done + 1))) m p
+    → HasOutcome (perform_all (member_of m.who) out (reports_to before (done + 1))) m p
 one_reported m o p out before done party true at same due h e =
     let me : Member = member_of m.who in
     let between : Out = perform_all me out (reports_to before done) in
@@ -83,7 +83,7 @@ one_reported m o p out before done party true at same due h e =
     some-mapped _ ((known me between.state).evidence party) ∙ ap (λ o. is_some o) now
     ∙ (and_parts (is_some (before.evidence party)) (not (before.is_announced party)) due).0
     in
-    subst (λ (after : Out). Stands after m p)
+    subst (λ (after : Out). HasOutcome after m p)
     (sym (sent_report me between party)
     ∙ sym (all_append me out (reports_to before done) (Report party ∷ []))
     ∙ ap (perform_all me out) (sym (reports_more before done party true at due)))
@@ -93,7 +93,7 @@ one_reported m o p out before done party false at same due h e =
     let is : reports_to before done ≡ reports_to before (done + 1) =
     sym (append-nil (reports_to before done)) ∙ sym (reports_more before done party false at due)
     in
-    let stays : Stands (perform_all me out (reports_to before (done + 1))) m o =
-    subst (λ (os : List Order). Stands (perform_all me out os) m o) is h
+    let stays : HasOutcome (perform_all me out (reports_to before (done + 1))) m o =
+    subst (λ (os : List Order). HasOutcome (perform_all me out os) m o) is h
     in
     record { tells = stays.tells; orders = rw e stays.orders }

@@ -23,7 +23,7 @@ use Rattle.bar_laws.specs.Soundness.{LogIsSound}
 use Rattle.bar_exchange.specs.declared.say.Say.{Say}
 use Rattle.bar_exchange.specs.Keeping.{IsSaidNow, HasRoomLeft}
 use Rattle.bar_peer.specs.declared.memory.Memory.{Memory}
-use Rattle.bar_peer.specs.Memory.{IsMemoryOf, Tells, member_of, HasOtherLedger}
+use Rattle.bar_peer.specs.Memory.{IsMemoryOf, Represents, member_of, HasOtherLedger}
 use Rattle.bar_peer.specs.Sending.{send_now, IsCarriedOut}
 use Rattle.bar_peer.proofs.Firsts.{Learns, signed_in, said_new, says_now, carried_new}
 use Rattle.bar_peer.proofs.Rooms.{room-left, kept_asked}
@@ -33,7 +33,7 @@ told_request : (kind : XKind) → IsToldAsSaid (request_kind kind)
 told_request Balanced = λ me k x. refl
 told_request Push = λ me k x. refl
 
-pub asked_again : (x : Exchange) (out : Out) (m : Memory) → Tells out.state m
+pub asked_again : (x : Exchange) (out : Out) (m : Memory) → Represents out.state m
     → is_some (send_now (member_of m.who) (known (member_of m.who) out.state) (say_of (request_kind x.kind) x)) ≡ true
     → IsCarriedOut (member_of m.who) (say_of (request_kind x.kind) x) out (perform (member_of m.who) out (Ask x)) true m
 asked_again x out m tells has =

@@ -14,7 +14,7 @@ use Rattle.bar_peer.specs.declared.credentials.Credentials.{Credentials}
 use Rattle.bar_peer.specs.declared.memory.Memory.{Memory}
 use Rattle.bar_peer.specs.Orders.{Orders}
 use Rattle.bar_peer.specs.Memory.{member_of}
-use Rattle.bar_peer.specs.Sending.{Stands}
+use Rattle.bar_peer.specs.Sending.{HasOutcome}
 use Rattle.bar_peer.specs.Ticking.{AsksPartner}
 use Rattle.bar_laws.proofs.Fitting.{perform_all-before}
 use Rattle.bar_peer.proofs.Later.{announced_after}
@@ -25,8 +25,8 @@ pub both_asked : (who : Credentials) (round : ℕ) (m n q : Memory) (o p r : Ord
     → nat_lt 0 (length (young_of (member_of who) (known (member_of who) out.state) round)) ≡ true
     → IsObedient (member_of who)
     (perform_all (member_of who) out (new_requests (member_of who) (known (member_of who) out.state) round)).state
-    → Stands out m o → length o.list.items + 2 ≤ o.room
-    → Stands (perform_all (member_of who) out (new_requests (member_of who) (known (member_of who) out.state) round)) q r
+    → HasOutcome out m o → length o.list.items + 2 ≤ o.room
+    → HasOutcome (perform_all (member_of who) out (new_requests (member_of who) (known (member_of who) out.state) round)) q r
 both_asked who round m n q o p r first second few same out some obedient h room =
     let me : Member = member_of who in
     let k : Knowledge = known me out.state in
@@ -37,18 +37,18 @@ both_asked who round m n q o p r first second few same out some obedient h room 
     sym (all_append me out os ps) ∙ (λ i. perform_all me out (os ++ orders_when (sym some i) ps))
     in
     let allowed : IsObedient me (perform_all me between ps).state = subst (λ (after : Out). IsObedient me after.state) (sym all) obedient in
-    let one : Stands between n p =
+    let one : HasOutcome between n p =
     first out k (λ party. refl) (perform_all-before me ps between allowed) h (omega arith)
     in
-    subst (λ (after : Out). Stands after q r) all
+    subst (λ (after : Out). HasOutcome after q r) all
     (second between k (λ party. sym (announced_after me out os party)) allowed one (omega arith))
 
 pub balanced_asked : (who : Credentials) (round : ℕ) (m n : Memory) (o p : Orders) → AsksPartner who round Balanced m o n p → (out : Out)
     → nat_lt 0 (length (young_of (member_of who) (known (member_of who) out.state) round)) ≡ false
     → IsObedient (member_of who)
     (perform_all (member_of who) out (new_requests (member_of who) (known (member_of who) out.state) round)).state
-    → Stands out m o → length o.list.items + 2 ≤ o.room
-    → Stands (perform_all (member_of who) out (new_requests (member_of who) (known (member_of who) out.state) round)) n p
+    → HasOutcome out m o → length o.list.items + 2 ≤ o.room
+    → HasOutcome (perform_all (member_of who) out (new_requests (member_of who) (known (member_of who) out.state) round)) n p
 balanced_asked who round m n o p first out none obedient h room =
     let me : Member = member_of who in
     let k : Knowledge = known me out.state in
@@ -58,4 +58,4 @@ balanced_asked who round m n o p first out none obedient h room =
     ap (perform_all me out) (sym (append-nil os)) ∙ (λ i. perform_all me out (os ++ orders_when (sym none i) ps))
     in
     let allowed : IsObedient me (perform_all me out os).state = subst (λ (after : Out). IsObedient me after.state) (sym all) obedient in
-    subst (λ (after : Out). Stands after n p) all (first out k (λ party. refl) allowed h (omega arith))
+    subst (λ (after : Out). HasOutcome after n p) all (first out k (λ party. refl) allowed h (omega arith))

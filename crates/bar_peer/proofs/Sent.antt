@@ -19,8 +19,8 @@ use Rattle.bar_exchange.specs.Says.{order_again}
 use Rattle.bar_peer.specs.declared.memory.Memory.{Memory}
 use Rattle.bar_peer.specs.declared.order.Order.{Order as Queued}
 use Rattle.bar_peer.specs.Orders.{Orders}
-use Rattle.bar_peer.specs.Memory.{member_of, Tells}
-use Rattle.bar_peer.specs.Sending.{send_now, report_of, report_now, order_now, IsOrderTimely, AreFor, Stands}
+use Rattle.bar_peer.specs.Memory.{member_of, Represents}
+use Rattle.bar_peer.specs.Sending.{send_now, report_of, report_now, order_now, IsOrderTimely, AreFor, HasOutcome}
 use Rattle.bar_peer.proofs.Standing.{orders_pushed}
 
 -- an outcome with one datagram more, where there is one
@@ -101,7 +101,7 @@ not_pushed order (Some send) list h = absurd (cc)
 pub stands_with : (m : Memory) (o p : Orders) (out : Out) (order : Queued) (s : Option (ℕ × Datagram))
     → order_now (member_of m.who) (known (member_of m.who) out.state) order ≡ s
     → IsOrderTimely (member_of m.who) (known (member_of m.who) out.state) order
-    → Stands out m o → p.list.items ≡ with_order order s o.list.items → Stands (sent out s) m p
+    → HasOutcome out m o → p.list.items ≡ with_order order s o.list.items → HasOutcome (sent out s) m p
 stands_with m o p out order None is timely h e = record {
   tells = h.tells;
   orders = subst (λ list. AreFor (member_of m.who) (known (member_of m.who) out.state) list out.sends) (sym e) h.orders;
@@ -113,7 +113,7 @@ stands_with m o p out order (Some send) is timely h e = record {
 }
 
 -- nothing is sent yet
-pub none_stand : (log : Log) (m : Memory) (o : Orders) → Tells log m → o.list.items ≡ [] → Stands (begun log) m o
+pub none_stand : (log : Log) (m : Memory) (o : Orders) → Represents log m → o.list.items ≡ [] → HasOutcome (begun log) m o
 none_stand log m o h none = record {
   tells = h;
   orders = subst (λ list. AreFor (member_of m.who) (known (member_of m.who) log) list []) (sym none) (record { same = refl; timely = tt });

@@ -18,7 +18,7 @@ use Rattle.bar_peer.specs.declared.order.Order.{Order}
 use Rattle.bar_peer.specs.declared.order.Order.TheVariants as queued
 use Rattle.bar_peer.specs.Orders.{Orders}
 use Rattle.bar_peer.specs.Memory.{member_of}
-use Rattle.bar_peer.specs.Sending.{order_now, IsOrderTimely, IsOwn, AreFor, IsCarriedOut, Stands}
+use Rattle.bar_peer.specs.Sending.{order_now, IsOrderTimely, MaySayNow, AreFor, IsCarriedOut, HasOutcome}
 use Rattle.bar_laws.proofs.Fitting.{perform-before}
 use Rattle.bar_peer.proofs.Growing.{Grows, grows, sends_stay, timely_still, all_timely_still, own_still}
 
@@ -44,14 +44,14 @@ orders_pushed me k list sends order send h is timely = record {
 -- An order is carried out, and put behind the others.
 abbrev pub Replies : Credentials → Memory → Orders → Memory → Orders → Say → Type 0
 Replies who old orders new pushed say =
-    (out : Out) → IsObedient (member_of who) (perform (member_of who) out (order_by say.kind say.x)).state → Stands out old orders
-    → IsOwn (member_of who) (known (member_of who) out.state) say → length orders.list.items + 1 ≤ orders.room
-    → Stands (perform (member_of who) out (order_by say.kind say.x)) new pushed
+    (out : Out) → IsObedient (member_of who) (perform (member_of who) out (order_by say.kind say.x)).state → HasOutcome out old orders
+    → MaySayNow (member_of who) (known (member_of who) out.state) say → length orders.list.items + 1 ≤ orders.room
+    → HasOutcome (perform (member_of who) out (order_by say.kind say.x)) new pushed
 
-pub stands_sent : (old new : Memory) (orders pushed : Orders) (say : Say) (out : Out) → new.who ≡ old.who → Stands out old orders
-    → IsOwn (member_of old.who) (known (member_of old.who) out.state) say → pushed.list.items ≡ orders.list.items ++ queued.Say say ∷ []
+pub stands_sent : (old new : Memory) (orders pushed : Orders) (say : Say) (out : Out) → new.who ≡ old.who → HasOutcome out old orders
+    → MaySayNow (member_of old.who) (known (member_of old.who) out.state) say → pushed.list.items ≡ orders.list.items ++ queued.Say say ∷ []
     → IsCarriedOut (member_of old.who) say out (perform (member_of old.who) out (order_by say.kind say.x)) true new
-    → Stands (perform (member_of old.who) out (order_by say.kind say.x)) new pushed
+    → HasOutcome (perform (member_of old.who) out (order_by say.kind say.x)) new pushed
 stands_sent old new orders pushed say out same stands own put carried = record {
   tells = carried.tells;
   orders =
@@ -73,9 +73,9 @@ stands_sent old new orders pushed say out same stands own put carried = record {
     g : Grows (known me out.state) (known me after.state)
     g = grows me out (order_by say.kind say.x)
 
-pub stands_unsent : (old new : Memory) (orders : Orders) (say : Say) (out : Out) → new.who ≡ old.who → Stands out old orders
+pub stands_unsent : (old new : Memory) (orders : Orders) (say : Say) (out : Out) → new.who ≡ old.who → HasOutcome out old orders
     → IsCarriedOut (member_of old.who) say out (perform (member_of old.who) out (order_by say.kind say.x)) false new
-    → Stands (perform (member_of old.who) out (order_by say.kind say.x)) new orders
+    → HasOutcome (perform (member_of old.who) out (order_by say.kind say.x)) new orders
 stands_unsent old new orders say out same stands carried = record {
   tells = carried.tells;
   orders =
@@ -99,16 +99,16 @@ stands_unsent old new orders say out same stands carried = record {
 pub two_stand : (old mid new : Memory) (orders put pushed : Orders) (first second : Say) (says : Says) (out : Out) → says ≡ Two first second
     → mid.who ≡ old.who → put.room ≡ orders.room → length put.list.items ≤ length orders.list.items + 1
     → Replies old.who old orders mid put first → Replies mid.who mid put new pushed second
-    → IsObedient (member_of old.who) (perform_all (member_of old.who) out (orders_of_reply says)).state → Stands out old orders
-    → AllByRecursion (IsOwn (member_of old.who) (known (member_of old.who) out.state)) (says_in says)
+    → IsObedient (member_of old.who) (perform_all (member_of old.who) out (orders_of_reply says)).state → HasOutcome out old orders
+    → AllByRecursion (MaySayNow (member_of old.who) (known (member_of old.who) out.state)) (says_in says)
     → length orders.list.items + 2 ≤ orders.room
-    → Stands (perform_all (member_of old.who) out (orders_of_reply says)) new pushed
+    → HasOutcome (perform_all (member_of old.who) out (orders_of_reply says)) new pushed
 two_stand old mid new orders put pushed first second says out is who room short one two =
     subst
     (λ (says : Says).
-    IsObedient me (perform_all me out (orders_of_reply says)).state → Stands out old orders
-    → AllByRecursion (IsOwn me (known me out.state)) (says_in says) → length orders.list.items + 2 ≤ orders.room
-    → Stands (perform_all me out (orders_of_reply says)) new pushed)
+    IsObedient me (perform_all me out (orders_of_reply says)).state → HasOutcome out old orders
+    → AllByRecursion (MaySayNow me (known me out.state)) (says_in says) → length orders.list.items + 2 ≤ orders.room
+    → HasOutcome (perform_all me out (orders_of_reply says)) new pushed)
     (sym is)
     (λ obeys stands own left.
     subst (λ (who : Credentials). Replies who mid put new pushed second) who two after obeys

@@ -28,9 +28,9 @@ use Rattle.bar_peer.specs.declared.memory.Memory.{Memory}
 use Rattle.bar_peer.specs.declared.order.Order.{Order}
 use Rattle.bar_peer.specs.Orders.{Orders}
 use Rattle.bar_peer.specs.declared.playing.Playing.{Playing}
-use Rattle.bar_peer.specs.Memory.{member_of, Tells}
+use Rattle.bar_peer.specs.Memory.{member_of, Represents}
 use Rattle.bar_core.specs.Orders.{left_in}
-use Rattle.bar_peer.specs.Sending.{AreFor, IsOrderTimely, Stands, order_now}
+use Rattle.bar_peer.specs.Sending.{AreFor, IsOrderTimely, HasOutcome, order_now}
 use Rattle.bar_peer.specs.StandsFor.{StandsFor, AreLeft, contents_left}
 use Rattle.bar_peer.specs.Steps.{is_tick}
 use Rattle.bar_peer.specs.Playing.{contents_in}
@@ -53,7 +53,7 @@ step-is me log input over e = ap (step-by me log input) e
 -- ---- before the last tick is over
 
 module _ (m n : Memory) (p : Orders) (inputs : List Input) (input : Input) (who : n.who ≡ m.who) (go : nat_le (last_tick m.who.session) m.ticks ≡ false)
-    (stood : StandsFor m inputs) (stands : Stands (take_input (member_of m.who) (log_after (member_of m.who) [] inputs) input) n p) where
+    (stood : StandsFor m inputs) (stands : HasOutcome (take_input (member_of m.who) (log_after (member_of m.who) [] inputs) input) n p) where
   abbrev pub me : Member
   me = member_of m.who
 
@@ -67,7 +67,7 @@ module _ (m n : Memory) (p : Orders) (inputs : List Input) (input : Input) (who 
   after = ap (λ (w : Credentials). log_after (member_of w) [] (inputs ++ input ∷ [])) who ∙ log-more me [] inputs input ∙ ap (λ (out : Out). out.state) now
 
   pub then-stands : StandsFor n (inputs ++ input ∷ [])
-  then-stands = subst (λ (l : Log). Tells l n) (sym after) stands.tells
+  then-stands = subst (λ (l : Log). Represents l n) (sym after) stands.tells
 
   pub then-sends : left_in p ≡ p.list.items → AreLeft n p (inputs ++ input ∷ []) (step me log input).sends
   then-sends all =
@@ -79,8 +79,8 @@ module _ (m n : Memory) (p : Orders) (inputs : List Input) (input : Input) (who 
   then-silent contents e = e ∙ ap (λ (out : Out). out.contents) (sym now)
 
 -- what a tick plays, by the memory after it
-pub tick-plays : EntryIsLearned → (m n : Memory) (playing : Playing) (log : Log) → n.who ≡ m.who → Tells (take_input (member_of m.who) log event.Tick).state n
-    → ((log : Log) → Tells log n → contents_left n.store playing ≡ contents_at_tick (member_of n.who) (known (member_of n.who) log))
+pub tick-plays : EntryIsLearned → (m n : Memory) (playing : Playing) (log : Log) → n.who ≡ m.who → Represents (take_input (member_of m.who) log event.Tick).state n
+    → ((log : Log) → Represents log n → contents_left n.store playing ≡ contents_at_tick (member_of n.who) (known (member_of n.who) log))
     → contents_left n.store playing ≡ (take_input (member_of m.who) log event.Tick).contents
 tick-plays learned m n playing log who tells plays =
     let me : Member = member_of m.who in
@@ -133,11 +133,11 @@ none-left me k left sends e f = record {
 -- ---- what a step plays
 
 abbrev pub PlaysNow : Memory → Playing → Type 0
-PlaysNow n playing = (log : Log) → Tells log n → contents_left n.store playing ≡ contents_at_tick (member_of n.who) (known (member_of n.who) log)
+PlaysNow n playing = (log : Log) → Represents log n → contents_left n.store playing ≡ contents_at_tick (member_of n.who) (known (member_of n.who) log)
 
 pub tick-step : EntryIsLearned → (m n : Memory) (p : Orders) (playing : Playing) (inputs : List Input) (input : Input) → n.who ≡ m.who
     → nat_le (last_tick m.who.session) m.ticks ≡ false → StandsFor m inputs
-    → Stands (take_input (member_of m.who) (log_after (member_of m.who) [] inputs) input) n p → is_tick input ≡ true → PlaysNow n playing
+    → HasOutcome (take_input (member_of m.who) (log_after (member_of m.who) [] inputs) input) n p → is_tick input ≡ true → PlaysNow n playing
     → contents_left n.store playing ≡ (step (member_of m.who) (log_after (member_of m.who) [] inputs) input).contents
 tick-step learned m n p playing inputs event.Tick who go stood stands t plays =
     then-silent m n p inputs event.Tick who go stood stands (contents_left n.store playing)
@@ -146,7 +146,7 @@ tick-step learned m n p playing inputs (event.Datagram bytes) who go stood stand
 
 pub datagram-step : EntryIsLearned → (m n : Memory) (p : Orders) (playing : Playing) (inputs : List Input) (input : Input) → n.who ≡ m.who
     → nat_le (last_tick m.who.session) m.ticks ≡ false → StandsFor m inputs
-    → Stands (take_input (member_of m.who) (log_after (member_of m.who) [] inputs) input) n p → is_tick input ≡ false
+    → HasOutcome (take_input (member_of m.who) (log_after (member_of m.who) [] inputs) input) n p → is_tick input ≡ false
     → contents_left n.store playing ≡ [] → contents_left n.store playing ≡ (step (member_of m.who) (log_after (member_of m.who) [] inputs) input).contents
 datagram-step learned m n p playing inputs (event.Datagram bytes) who go stood stands t none =
     then-silent m n p inputs (event.Datagram bytes) who go stood stands (contents_left n.store playing)

@@ -30,14 +30,14 @@ use Rattle.bar_laws.specs.Rewriting.{IsRewritten}
 use Rattle.bar_laws.specs.Soundness.{IsSound}
 use Rattle.bar_ledger.specs.declared.entry.Entry.{Entry}
 use Rattle.bar_ledger.specs.declared.ledger.Ledger.{Ledger}
-use Rattle.bar_ledger.specs.Kept.{Kept, IsOwn}
+use Rattle.bar_ledger.specs.Kept.{Kept, IsKeptFor}
 use Rattle.bar_ledger.specs.Lookups.{is_said, said_by, heard_by}
 use Rattle.bar_ledger.specs.Memory.{find_in}
 use Rattle.bar_ledger.specs.Recalls.{Recalls, IsKeptBy, complete_terms}
 use Rattle.bar_ledger.specs.Totals.{AreSound, totals_by}
 use Rattle.bar_ledger.specs.declared.totals.Totals.{Totals as Told}
 use Rattle.bar_laws.proofs.Logs.{some-is}
-use Rattle.bar_peer.specs.Telling.{IsTold, AreTotals, no_totals}
+use Rattle.bar_peer.specs.Telling.{HasTotals, AreTotals, no_totals}
 use Rattle.bar_peer.proofs.Keys.{is_case}
 use Rattle.bar_bytes.proofs.Options.{some-mapped, none-of, then-value}
 
@@ -89,7 +89,7 @@ if_zero false n zero = refl
 -- nothing was promised, received or opened
 nothing_told : (me : Member) (k : Knowledge) (x : Exchange) (told : Told) → IsSound me k
     → has_said_of k kinds.Case x (role_of me x) ≡ false → told ≡ record { promised = 0; received = 0; opened = 0 }
-    → IsTold (totals me k x) told
+    → HasTotals (totals me k x) told
 nothing_told me k x told sound none zeros =
     let mine : promise_size me.session (case_said me k x) ≡ 0 =
     ap (λ o. promise_size me.session (case_in o)) (none-of (k.said kinds.Case x (role_of me x)) none)
@@ -105,12 +105,12 @@ nothing_told me k x told sound none zeros =
     }
 
 recent_told : (me : Member) (k : Knowledge) (x : Exchange) (told : Told) (b : Bool)
-    → nat_le (this_round k) (x.round + me.session.shape.life) ≡ b → (b ≡ true → IsTold (totals me k x) told)
-    → (b ≡ false → IsTold no_totals told) → AreTotals me k x told
+    → nat_le (this_round k) (x.round + me.session.shape.life) ≡ b → (b ≡ true → HasTotals (totals me k x) told)
+    → (b ≡ false → HasTotals no_totals told) → AreTotals me k x told
 recent_told me k x told true e recent past =
-    subst (λ (b : Bool). IsTold (if b then totals me k x else no_totals) told) (sym e) (recent refl)
+    subst (λ (b : Bool). HasTotals (if b then totals me k x else no_totals) told) (sym e) (recent refl)
 recent_told me k x told false e recent past =
-    subst (λ (b : Bool). IsTold (if b then totals me k x else no_totals) told) (sym e) (past refl)
+    subst (λ (b : Bool). HasTotals (if b then totals me k x else no_totals) told) (sym e) (past refl)
 
 -- zeros are told of an exchange whose CASE wasn't said
 pub none_told : (me : Member) (k : Knowledge) (x : Exchange) (told : Told) → IsSound me k
@@ -137,7 +137,7 @@ pub record IsFound (me : Member) (k : Knowledge) (l : Ledger) (x : Exchange) (e 
   pub own : IsKeptBy me x kept
 
 found_by : (me : Member) (k : Knowledge) (l : Ledger) (x : Exchange) (e : Entry) (o : Option Kept) → find_in l x ≡ o → Recalls me k l
-    → Some e ≡ option_map (λ kept. kept.entry) o → IfSome o (IsOwn x l.shape.life l.round) → IfSome o (IsKeptBy me x) → IsFound me k l x e
+    → Some e ≡ option_map (λ kept. kept.entry) o → IfSome o (IsKeptFor x l.shape.life l.round) → IfSome o (IsKeptBy me x) → IsFound me k l x e
 found_by me k l x e None is recalls entry live own = absurd (cc)
 found_by me k l x e (Some kept) is recalls entry live own =
     let life : l.shape.life ≡ me.session.shape.life = ap (λ (s : Shape). s.life) recalls.shape in
@@ -150,7 +150,7 @@ found_by me k l x e (Some kept) is recalls entry live own =
     }
 
 pub found : (me : Member) (k : Knowledge) (l : Ledger) (x : Exchange) (e : Entry) → Recalls me k l
-    → Some e ≡ option_map (λ kept. kept.entry) (find_in l x) → IfSome (find_in l x) (IsOwn x l.shape.life l.round) → IsFound me k l x e
+    → Some e ≡ option_map (λ kept. kept.entry) (find_in l x) → IfSome (find_in l x) (IsKeptFor x l.shape.life l.round) → IsFound me k l x e
 found me k l x e recalls entry live = found_by me k l x e (find_in l x) refl recalls entry live (recalls.kept x)
 
 said_kept : (me : Member) (k : Knowledge) (l : Ledger) (x : Exchange) (e : Entry) (kind : Kind) → Recalls me k l → (f : IsFound me k l x e)
@@ -233,7 +233,7 @@ kept_told me k l x e told recalls sound rewritten f said is =
     as_kept : told ≡ totals_by l.cap kept
     as_kept = is ∙ ap (λ o. option_map_or (totals_by l.cap) o (record { promised = 0; received = 0; opened = 0 })) f.found
 
-    all : IsTold (totals me k x) told
+    all : HasTotals (totals me k x) told
     all = record {
       promised = ap (λ (t : Told). t.promised) as_kept
           ∙ ap (λ (b : Bool). if b then length (promise l.cap (plain_terms kept.entry.terms) kept.entry.role) else 0) here

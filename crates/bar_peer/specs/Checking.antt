@@ -18,7 +18,7 @@ use Rattle.bar_rules.specs.Peer.Rules.{IsObedient}
 use Rattle.bar_rules.specs.Peer.Run.{log_after}
 use Rattle.bar_seal.specs.Memo.{Pair, Memo, has_pair, with_pair}
 use Rattle.bar_peer.specs.declared.memory.Memory.{Memory}
-use Rattle.bar_peer.specs.Memory.{Tells, member_of}
+use Rattle.bar_peer.specs.Memory.{Represents, member_of}
 use Rattle.bar_peer.specs.StandsFor.{Inputs, StandsFor}
 
 -- The memo is as it was, or as after one check of this pair.
@@ -65,13 +65,13 @@ admits me k input = option_map_or (is_admitted me k) (datagram_in me.session inp
 -- a signed datagram is checked
 abbrev pub AdmitsChecked : Memory → Input → Memo → Memo → Type 0
 AdmitsChecked m input old new =
-    (log : Log) → IsObedient (member_of m.who) log → Tells log m → admits (member_of m.who) (known (member_of m.who) log) input ≡ true
+    (log : Log) → IsObedient (member_of m.who) log → Represents log m → admits (member_of m.who) (known (member_of m.who) log) input ≡ true
     → is_signed_in m.who.session input ≡ true → new ≡ with_pair (checked_in m.who.session input) old
 
 -- of the sender of a REQUEST or a QUERY the seed of its round or of a later one is kept
 abbrev pub AdmitsKept : Memory → Input → Checkpoints → Type 0
 AdmitsKept m input points =
-    (log : Log) → IsObedient (member_of m.who) log → Tells log m → admits (member_of m.who) (known (member_of m.who) log) input ≡ true
+    (log : Log) → IsObedient (member_of m.who) log → Represents log m → admits (member_of m.who) (known (member_of m.who) log) input ≡ true
     → choice_round_in m.who.session input ≤ kept_round points (sender_in m.who.session input)
 
 -- whether a peer with this memory that took these inputs admits the next one, which comes before its last tick

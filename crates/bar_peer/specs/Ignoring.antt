@@ -10,24 +10,24 @@ use Rattle.bar_rules.specs.Peer.Rules.{IsObedient}
 use Rattle.bar_rules.specs.Peer.Run.{log_after}
 use Rattle.bar_peer.specs.declared.memory.Memory.{Memory}
 use Rattle.bar_peer.specs.declared.playing.Playing.{Playing}
-use Rattle.bar_peer.specs.Memory.{Tells, member_of}
+use Rattle.bar_peer.specs.Memory.{Represents, member_of}
 use Rattle.bar_peer.specs.Orders.{Orders}
 use Rattle.bar_peer.specs.StandsFor.{Inputs, StandsFor, contents_left}
 
 -- a datagram that tells nothing new leaves the memory as it was
 abbrev pub LeavesMemory : Datagram → Memory → Memory → Type 0
 LeavesMemory d m n =
-    (log : Log) → IsObedient (member_of m.who) log → Tells log m → tells_nothing (member_of m.who) (known (member_of m.who) log) d ≡ true
+    (log : Log) → IsObedient (member_of m.who) log → Represents log m → tells_nothing (member_of m.who) (known (member_of m.who) log) d ≡ true
     → n ≡ m
 
 -- so does an input that is ignored
 abbrev pub IgnoresInput : Input → Memory → Memory → Type 0
 IgnoresInput input m n =
-    (log : Log) → IsObedient (member_of m.who) log → Tells log m → is_ignored (member_of m.who) (known (member_of m.who) log) input ≡ true
+    (log : Log) → IsObedient (member_of m.who) log → Represents log m → is_ignored (member_of m.who) (known (member_of m.who) log) input ≡ true
     → n ≡ m
 
 -- The memory is as it was, and nothing is left to be given out.
-pub record IsUntouched (old new : Memory) (o : Orders) (p : Playing) : Type 0 where
+pub record StaysAsBefore (old new : Memory) (o : Orders) (p : Playing) : Type 0 where
   pub memory : new ≡ old
   pub sends : left_in o ≡ []
   pub contents : contents_left new.store p ≡ []
@@ -37,4 +37,4 @@ abbrev pub Ignores : Memory → Input → Memory → Orders → Playing → Type
 Ignores m input n o p =
     (inputs : Inputs) → StandsFor m inputs
     → is_ignored (member_of m.who) (known (member_of m.who) (log_after (member_of m.who) [] inputs)) input ≡ true
-    → IsUntouched m n o p
+    → StaysAsBefore m n o p

@@ -28,8 +28,8 @@ pub record IsMemoryOf (me : Member) (k : Knowledge) (m : Memory) : Type 0 where
   pub evidence : (party : ℕ) → option_map evidence_bytes (k.evidence party) ≡ kept_in m.evidence party
 
 -- the memory holds what the log tells
-abbrev pub Tells : Log → Memory → Type 0
-Tells log m = IsMemoryOf (member_of m.who) (known (member_of m.who) log) m
+abbrev pub Represents : Log → Memory → Type 0
+Represents log m = IsMemoryOf (member_of m.who) (known (member_of m.who) log) m
 
 -- The memory is that of the same peer at the same time.
 pub record IsSameParty (old new : Memory) : Type 0 where

@@ -22,7 +22,7 @@ use Rattle.bar_peer.specs.declared.memory.Memory.{Memory}
 use Rattle.bar_peer.specs.declared.order.Order.{Order}
 use Rattle.bar_peer.specs.declared.order.Order.TheVariants as orders
 use Rattle.bar_peer.specs.Orders.{Orders}
-use Rattle.bar_peer.specs.Memory.{Tells, member_of}
+use Rattle.bar_peer.specs.Memory.{Represents, member_of}
 
 -- a message of an exchange that isn't signed
 abbrev pub unsigned_now : Member → Knowledge → Kind → Exchange → Option Datagram
@@ -77,7 +77,7 @@ Answers me k kinds.Reply x = IsAnswer me k x Push
 Answers me k kind x = Unit {0}
 
 -- The order is of an exchange of this member's, and what it says may be sent now. An answer fits its exchange.
-pub record IsOwn (me : Member) (k : Knowledge) (say : Say) : Type 0 where
+pub record MaySayNow (me : Member) (k : Knowledge) (say : Say) : Type 0 where
   pub ours : party_on say.x (role_of me say.x) ≡ me.party
   pub timely : IsTimely me k say
   pub answers : Answers me k say.kind say.x
@@ -89,10 +89,10 @@ Adds me k say old new false = new ≡ old
 
 -- The memory holds what the log tells after an order, and the answer tells whether it sent its datagram.
 pub record IsCarriedOut (me : Member) (say : Say) (old new : Out) (is_sent : Bool) (m : Memory) : Type 0 where
-  pub tells : Tells new.state m
+  pub tells : Represents new.state m
   pub sends : Adds me (known me new.state) say old.sends new.sends is_sent
 
 -- The memory holds what the log tells, and the orders are those of what was sent.
-pub record Stands (out : Out) (m : Memory) (o : Orders) : Type 0 where
-  pub tells : Tells out.state m
+pub record HasOutcome (out : Out) (m : Memory) (o : Orders) : Type 0 where
+  pub tells : Represents out.state m
   pub orders : AreFor (member_of m.who) (known (member_of m.who) out.state) o.list.items out.sends

@@ -12,7 +12,7 @@ use Rattle.bar_store.specs.Held.{block_in}
 use Rattle.bar_peer.specs.declared.memory.Memory.{Memory}
 use Rattle.bar_peer.specs.Orders.{Orders}
 use Rattle.bar_peer.specs.declared.playing.Playing.{Playing}
-use Rattle.bar_peer.specs.Memory.{Tells, member_of}
+use Rattle.bar_peer.specs.Memory.{Represents, member_of}
 use Rattle.bar_core.specs.Orders.{left_in}
 use Rattle.bar_peer.specs.Sending.{AreFor}
 
@@ -21,7 +21,7 @@ Inputs = List Input
 
 -- the memory is that of a peer which took these inputs
 abbrev pub StandsFor : Memory → List Input → Type 0
-StandsFor m inputs = Tells (log_after (member_of m.who) [] inputs) m
+StandsFor m inputs = Represents (log_after (member_of m.who) [] inputs) m
 
 -- these are the datagrams that are still to be given out, each with its receiver
 abbrev pub AreLeft : Memory → Orders → List Input → List (ℕ × Datagram) → Type 0

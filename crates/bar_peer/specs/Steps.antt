@@ -12,8 +12,8 @@ use Rattle.bar_rules.specs.Peer.Run.{Out, perform_all, take_datagram, take_input
 use Rattle.bar_rules.specs.Peer.Ticks.{orders_at_tick}
 use Rattle.bar_peer.specs.declared.memory.Memory.{Memory}
 use Rattle.bar_peer.specs.Orders.{Orders}
-use Rattle.bar_peer.specs.Memory.{member_of, Tells}
-use Rattle.bar_peer.specs.Sending.{Stands}
+use Rattle.bar_peer.specs.Memory.{member_of, Represents}
+use Rattle.bar_peer.specs.Sending.{HasOutcome}
 use Rattle.bar_peer.specs.Ticking.{most_orders}
 
 -- what a tick leaves, and sends
@@ -23,22 +23,22 @@ ticked me log = perform_all me (begun (Ticked ∷ log)) (orders_at_tick me (know
 abbrev pub TakesTick : Memory → Orders → Memory → Orders → Type 0
 TakesTick m o n p =
     let me : Member = member_of m.who in
-    (log : Log) → IsObedient me (ticked me log).state → Tells log m → o.list.items ≡ [] → most_orders m.who.session ≤ o.room
-    → Stands (ticked me log) n p
+    (log : Log) → IsObedient me (ticked me log).state → Represents log m → o.list.items ≡ [] → most_orders m.who.session ≤ o.room
+    → HasOutcome (ticked me log) n p
 
 -- so of a datagram that comes as these bytes
 abbrev pub TakesDatagram : List ℕ → Memory → Orders → Memory → Orders → Type 0
 TakesDatagram bytes m o n p =
     let me : Member = member_of m.who in
-    (log : Log) → IsObedient me (take_datagram me log (datagram_of me.session bytes)).state → Tells log m → o.list.items ≡ [] → 3 ≤ o.room
-    → Stands (take_datagram me log (datagram_of me.session bytes)) n p
+    (log : Log) → IsObedient me (take_datagram me log (datagram_of me.session bytes)).state → Represents log m → o.list.items ≡ [] → 3 ≤ o.room
+    → HasOutcome (take_datagram me log (datagram_of me.session bytes)) n p
 
 -- an input before the last tick is taken
 abbrev pub TakesInput : Input → Memory → Orders → Memory → Orders → Type 0
 TakesInput input m o n p =
     let me : Member = member_of m.who in
-    (log : Log) → IsObedient me (take_input me log input).state → Tells log m → o.list.items ≡ [] → most_orders m.who.session ≤ o.room
-    → Stands (take_input me log input) n p
+    (log : Log) → IsObedient me (take_input me log input).state → Represents log m → o.list.items ≡ [] → most_orders m.who.session ≤ o.room
+    → HasOutcome (take_input me log input) n p
 
 abbrev pub is_tick : Input → Bool
 is_tick event.Tick = true

@@ -17,14 +17,14 @@ abbrev pub totals_now : Member → Knowledge → Exchange → Totals
 totals_now me k x = if nat_le (this_round k) (x.round + me.session.shape.life) then totals me k x else no_totals
 
 -- Told are these totals.
-pub record IsTold (t : Totals) (told : Told) : Type 0 where
+pub record HasTotals (t : Totals) (told : Told) : Type 0 where
   pub promised : told.promised ≡ t.promised
   pub received : told.received ≡ t.received
   pub opened : told.opened ≡ t.opened
 
 -- told is what is known of the exchange now
 abbrev pub AreTotals : Member → Knowledge → Exchange → Told → Type 0
-AreTotals me k x told = IsTold (totals_now me k x) told
+AreTotals me k x told = HasTotals (totals_now me k x) told
 
 -- The totals of an exchange after a list of inputs, by the KEY that was sent, as balance has them; and zeros once the exchange can't be asked
 -- about any more.
@@ -34,4 +34,4 @@ totals_after me inputs x =
 
 -- told is what was promised, received and sent a key for
 abbrev pub AreTotalsAfter : Member → Inputs → Exchange → Told → Type 0
-AreTotalsAfter me inputs x told = IsTold (totals_after me inputs x) told
+AreTotalsAfter me inputs x told = HasTotals (totals_after me inputs x) told

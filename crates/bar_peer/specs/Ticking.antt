@@ -18,8 +18,8 @@ use Rattle.bar_rules.specs.Runs.{begun}
 use Rattle.bar_peer.specs.declared.credentials.Credentials.{Credentials}
 use Rattle.bar_peer.specs.declared.memory.Memory.{Memory}
 use Rattle.bar_peer.specs.Orders.{Orders}
-use Rattle.bar_peer.specs.Memory.{member_of, Tells}
-use Rattle.bar_peer.specs.Sending.{Stands}
+use Rattle.bar_peer.specs.Memory.{member_of, Represents}
+use Rattle.bar_peer.specs.Sending.{HasOutcome}
 
 -- what is sent again for an open exchange whose partner isn't announced evicted
 abbrev pub orders_of_open : Member → Knowledge → Exchange → List Order
@@ -42,15 +42,15 @@ abbrev pub AsksPartner : Credentials → ℕ → XKind → Memory → Orders →
 AsksPartner who round kind m o n p =
     let me : Member = member_of who in
     (out : Out) (before : Knowledge) → ((party : ℕ) → before.is_announced party ≡ (known me out.state).is_announced party)
-    → IsObedient me (perform_all me out (asking_partner me before round kind)).state → Stands out m o
-    → length o.list.items + 1 ≤ o.room → Stands (perform_all me out (asking_partner me before round kind)) n p
+    → IsObedient me (perform_all me out (asking_partner me before round kind)).state → HasOutcome out m o
+    → length o.list.items + 1 ≤ o.room → HasOutcome (perform_all me out (asking_partner me before round kind)) n p
 
 -- so are the partners of a round
 abbrev pub AsksPartners : Credentials → ℕ → Memory → Orders → Memory → Orders → Type 0
 AsksPartners who round m o n p =
     let me : Member = member_of who in
-    (out : Out) → IsObedient me (perform_all me out (new_requests me (known me out.state) round)).state → Stands out m o
-    → length o.list.items + 2 ≤ o.room → Stands (perform_all me out (new_requests me (known me out.state) round)) n p
+    (out : Out) → IsObedient me (perform_all me out (new_requests me (known me out.state) round)).state → HasOutcome out m o
+    → length o.list.items + 2 ≤ o.room → HasOutcome (perform_all me out (new_requests me (known me out.state) round)) n p
 
 -- whether a report is due of the evidence against a party
 abbrev pub is_reported : Knowledge → ℕ → Bool
@@ -61,13 +61,13 @@ abbrev pub Reports : Memory → Orders → Orders → Type 0
 Reports m o p =
     let me : Member = member_of m.who in
     (out : Out) (before : Knowledge) → ((party : ℕ) → before.is_announced party ≡ (known me out.state).is_announced party)
-    → ((party : ℕ) → before.evidence party ≡ (known me out.state).evidence party) → Stands out m o
-    → length o.list.items + m.who.session.shape.peers ≤ o.room → Stands (perform_all me out (reports me before)) m p
+    → ((party : ℕ) → before.evidence party ≡ (known me out.state).evidence party) → HasOutcome out m o
+    → length o.list.items + m.who.session.shape.peers ≤ o.room → HasOutcome (perform_all me out (reports me before)) m p
 
 -- what a tick sends stands
 abbrev pub Acts : Memory → Orders → Memory → Orders → Type 0
 Acts m o n p =
     let me : Member = member_of m.who in
     (log : Log) → let out : Out = perform_all me (begun log) (orders_at_tick me (known me log)) in
-    IsObedient me out.state → Tells log m → o.list.items ≡ [] → most_orders m.who.session ≤ o.room
-    → Stands out n p
+    IsObedient me out.state → Represents log m → o.list.items ≡ [] → most_orders m.who.session ≤ o.room
+    → HasOutcome out n p

@@ -22,8 +22,8 @@ ghost use Rattle.bar_rules.specs.Verifiers.{IsVerifierOf, NamesLeavesOf};
 ghost use Rattle.bar_laws.specs.Ignoring.{is_unread, tells_nothing};
 ghost use Rattle.bar_peer.specs.Ignoring.{IgnoresInput, LeavesMemory};
 ghost use Rattle.bar_peer.specs.Arrivals.{IsReadBy, datagram_by, checked_by};
-ghost use Rattle.bar_peer.specs.Memory.{member_of, HasOtherEvidence, Tells, IsSameParty};
-ghost use Rattle.bar_peer.specs.Sending.{Stands};
+ghost use Rattle.bar_peer.specs.Memory.{member_of, HasOtherEvidence, Represents, IsSameParty};
+ghost use Rattle.bar_peer.specs.Sending.{HasOutcome};
 ghost use Rattle.bar_peer.specs.Steps.{TakesTick, TakesDatagram};
 ghost use Rattle.bar_core.specs.Orders.{HasSameRoom};
 
@@ -71,10 +71,10 @@ impl Memory {
         requires points { AreSeeds self.old.who.session points.old }
         requires signed { is_peer_kind (plain arrival.now.view.body) ≡ true }
         ensures kept { (log : Log) → let me : Member = member_of self.old.who in let d : Datagram = datagram_by self.old.who arrival.now in
-            IsObedient me (with_evidence me log d.message.from (new_evidence me (known me log) d)) → IsObedient me log → Tells log self.old
+            IsObedient me (with_evidence me log d.message.from (new_evidence me (known me log) d)) → IsObedient me log → Represents log self.old
             → is_tried me (known me log) d ≡ true
             → (result ≡ is_some (new_evidence me (known me log) d))
-            × Tells (with_evidence me log d.message.from (new_evidence me (known me log) d)) self.new }
+            × Represents (with_evidence me log d.message.from (new_evidence me (known me log) d)) self.new }
         ensures none { result ≡ false → self.new ≡ self.old }
         ensures rest { HasOtherEvidence self.old self.new }
         ensures cost { steps.new ≤ steps.old + choice_round (plain arrival.now.view.body) }
@@ -109,12 +109,12 @@ fn answer(memory: &mut Memory, orders: &mut Orders<Order>, arrival: &Arrival<'_>
     ensures stands { (log : Log)
         → IsObedient (member_of memory.old.who)
         (answered_to (member_of memory.old.who) log (datagram_by memory.old.who arrival.now)).state
-        → Tells log memory.old
+        → Represents log memory.old
         → is_admitted ≡ admitted (member_of memory.old.who) (known (member_of memory.old.who) log)
         (datagram_by memory.old.who arrival.now)
         → orders.old.list.items ≡ [] → 2 ≤ orders.old.room
-        → Stands (answered_to (member_of memory.old.who) log (datagram_by memory.old.who arrival.now)) memory.new orders.new }
-    ensures idle { (log : Log) → IsObedient (member_of memory.old.who) log → Tells log memory.old → is_admitted ≡ false
+        → HasOutcome (answered_to (member_of memory.old.who) log (datagram_by memory.old.who arrival.now)) memory.new orders.new }
+    ensures idle { (log : Log) → IsObedient (member_of memory.old.who) log → Represents log memory.old → is_admitted ≡ false
         → repeated (member_of memory.old.who) (known (member_of memory.old.who) log) (datagram_by memory.old.who arrival.now) ≡ None
         → memory.new ≡ memory.old }
     ensures length { orders.old.list.items ≡ [] → length orders.new.list.items ≤ 2 }
@@ -151,14 +151,14 @@ fn answer_tried<V: Verifier, L: StepLedger>(
     ensures stands { (log : Log)
         → IsObedient (member_of memory.old.who)
         (take_datagram (member_of memory.old.who) log (Some (datagram_by memory.old.who arrival.now))).state
-        → Tells log memory.old
+        → Represents log memory.old
         → is_tried (member_of memory.old.who) (known (member_of memory.old.who) log) (datagram_by memory.old.who arrival.now) ≡ true
         → is_admitted ≡ admitted (member_of memory.old.who) (known (member_of memory.old.who) log)
         (datagram_by memory.old.who arrival.now)
         → orders.old.list.items ≡ [] → 3 ≤ orders.old.room
-        → Stands (take_datagram (member_of memory.old.who) log (Some (datagram_by memory.old.who arrival.now)))
+        → HasOutcome (take_datagram (member_of memory.old.who) log (Some (datagram_by memory.old.who arrival.now)))
         memory.new orders.new }
-    ensures idle { is_admitted ≡ false → (log : Log) → IsObedient (member_of memory.old.who) log → Tells log memory.old
+    ensures idle { is_admitted ≡ false → (log : Log) → IsObedient (member_of memory.old.who) log → Represents log memory.old
         → is_tried (member_of memory.old.who) (known (member_of memory.old.who) log) (datagram_by memory.old.who arrival.now) ≡ true
         → tells_nothing (member_of memory.old.who) (known (member_of memory.old.who) log) (datagram_by memory.old.who arrival.now) ≡ true
         → memory.new ≡ memory.old }
@@ -194,8 +194,8 @@ fn take_arrival<V: Verifier, L: StepLedger>(
     ensures stands { (log : Log)
         → IsObedient (member_of memory.old.who)
         (take_datagram (member_of memory.old.who) log (Some (datagram_by memory.old.who arrival.now))).state
-        → Tells log memory.old → orders.old.list.items ≡ [] → 3 ≤ orders.old.room
-        → Stands (take_datagram (member_of memory.old.who) log (Some (datagram_by memory.old.who arrival.now)))
+        → Represents log memory.old → orders.old.list.items ≡ [] → 3 ≤ orders.old.room
+        → HasOutcome (take_datagram (member_of memory.old.who) log (Some (datagram_by memory.old.who arrival.now)))
         memory.new orders.new }
     ensures idle { LeavesMemory (datagram_by memory.old.who arrival.now) memory.old memory.new }
     ensures room { HasSameRoom orders.old orders.new }
@@ -205,10 +205,10 @@ fn take_arrival<V: Verifier, L: StepLedger>(
         → steps.new ≤ steps.old + 2 * choice_round (plain arrival.now.view.body) }
     ensures seeds { AreSeeds memory.old.who.session points.new }
     ensures moves { MovesOn arrival.now.view.from points.old points.new }
-    ensures reached { (log : Log) → IsObedient (member_of memory.old.who) log → Tells log memory.old
+    ensures reached { (log : Log) → IsObedient (member_of memory.old.who) log → Represents log memory.old
         → admitted (member_of memory.old.who) (known (member_of memory.old.who) log) (datagram_by memory.old.who arrival.now) ≡ true
         → choice_round (plain arrival.now.view.body) ≤ kept_round points.new arrival.now.view.from }
-    ensures first { (log : Log) → IsObedient (member_of memory.old.who) log → Tells log memory.old
+    ensures first { (log : Log) → IsObedient (member_of memory.old.who) log → Represents log memory.old
         → admitted (member_of memory.old.who) (known (member_of memory.old.who) log) (datagram_by memory.old.who arrival.now) ≡ true
         → is_signed (plain arrival.now.view.body) ≡ true
         → checker.new.memo ≡ with_pair (checked_by memory.old.who arrival.now) checker.old.memo }

@@ -9,7 +9,7 @@ ghost use Rattle.bar_rules.specs.Peer.Rules.{IsObedient};
 ghost use Rattle.bar_laws.specs.Soundness.{IsSound};
 ghost use Rattle.bar_exchange.specs.Keeping.{IsAdmittedNow};
 ghost use Rattle.bar_peer.specs.Arrivals.{IsReadBy, datagram_by};
-ghost use Rattle.bar_peer.specs.Memory.{member_of, HasOtherLedger, IsMemoryOf, Tells, IsSameParty};
+ghost use Rattle.bar_peer.specs.Memory.{member_of, HasOtherLedger, IsMemoryOf, Represents, IsSameParty};
 ghost use Rattle.bar_peer.specs.Hearing.{RecallsHeard};
 
 use crate::arrival::Arrival;
@@ -102,7 +102,7 @@ impl Memory {
     pub fn hear(&mut self, arrival: &Arrival<'_>)
         requires view { IsReadBy self.old.who arrival.now }
         ensures learns { (log : Log) → IsObedient (member_of self.old.who) (Heard (datagram_by self.old.who arrival.now) ∷ log)
-            → Tells log self.old → Tells (Heard (datagram_by self.old.who arrival.now) ∷ log) self.new }
+            → Represents log self.old → Represents (Heard (datagram_by self.old.who arrival.now) ∷ log) self.new }
         ensures party { IsSameParty self.old self.new }
     {
         knowledge_is_enough();

@@ -6,7 +6,7 @@ ghost use Rattle.bar_rules.specs.Peer.Rules.{IsObedient};
 ghost use Rattle.bar_rules.specs.Peer.Run.{Out, perform, perform_all};
 ghost use Rattle.bar_exchange.specs.Says.{order_by, orders_of_reply, says_in};
 ghost use Rattle.bar_peer.specs.Memory.{member_of, IsSameParty};
-ghost use Rattle.bar_peer.specs.Sending.{IsOwn, Stands};
+ghost use Rattle.bar_peer.specs.Sending.{MaySayNow, HasOutcome};
 ghost use Rattle.bar_core.specs.Orders.{HasSameRoom};
 
 use crate::memory::Memory;
@@ -18,9 +18,9 @@ use bar_exchange::{Say, Says};
 fn reply_once(memory: &mut Memory, orders: &mut Orders<Order>, say: Say)
     ensures stands { (out : Out)
         → IsObedient (member_of memory.old.who) (perform (member_of memory.old.who) out (order_by say.kind say.x)).state
-        → Stands out memory.old orders.old → IsOwn (member_of memory.old.who) (known (member_of memory.old.who) out.state) say
+        → HasOutcome out memory.old orders.old → MaySayNow (member_of memory.old.who) (known (member_of memory.old.who) out.state) say
         → length orders.old.list.items + 1 ≤ orders.old.room
-        → Stands (perform (member_of memory.old.who) out (order_by say.kind say.x)) memory.new orders.new }
+        → HasOutcome (perform (member_of memory.old.who) out (order_by say.kind say.x)) memory.new orders.new }
     ensures length { length orders.new.list.items ≤ length orders.old.list.items + 1 }
     ensures room { HasSameRoom orders.old orders.new }
     ensures party { IsSameParty memory.old memory.new }
@@ -34,10 +34,10 @@ fn reply_once(memory: &mut Memory, orders: &mut Orders<Order>, say: Say)
 pub fn reply(memory: &mut Memory, orders: &mut Orders<Order>, says: Says)
     ensures stands { (out : Out)
         → IsObedient (member_of memory.old.who) (perform_all (member_of memory.old.who) out (orders_of_reply says)).state
-        → Stands out memory.old orders.old
-        → AllByRecursion (IsOwn (member_of memory.old.who) (known (member_of memory.old.who) out.state)) (says_in says)
+        → HasOutcome out memory.old orders.old
+        → AllByRecursion (MaySayNow (member_of memory.old.who) (known (member_of memory.old.who) out.state)) (says_in says)
         → length orders.old.list.items + 2 ≤ orders.old.room
-        → Stands (perform_all (member_of memory.old.who) out (orders_of_reply says)) memory.new orders.new }
+        → HasOutcome (perform_all (member_of memory.old.who) out (orders_of_reply says)) memory.new orders.new }
     ensures nothing { orders_of_reply says ≡ [] → memory.new ≡ memory.old }
     ensures length { length orders.new.list.items ≤ length orders.old.list.items + 2 }
     ensures room { HasSameRoom orders.old orders.new }

@@ -8,8 +8,8 @@ ghost use Rattle.bar_rules.specs.Peer.Orders.{Ask};
 ghost use Rattle.bar_rules.specs.Peer.Rules.{IsObedient};
 ghost use Rattle.bar_rules.specs.Peer.Run.{Out, perform};
 ghost use Rattle.bar_exchange.specs.Says.{order_by};
-ghost use Rattle.bar_peer.specs.Memory.{member_of, IsMemoryOf, Tells, IsSameParty};
-ghost use Rattle.bar_peer.specs.Sending.{send_now, IsOwn, IsCarriedOut};
+ghost use Rattle.bar_peer.specs.Memory.{member_of, IsMemoryOf, Represents, IsSameParty};
+ghost use Rattle.bar_peer.specs.Sending.{send_now, MaySayNow, IsCarriedOut};
 
 use crate::memory::Memory;
 use bar_exchange::{Say, has_said, knows_commit, knows_offer, say_case, say_key, side};
@@ -58,7 +58,7 @@ impl Memory {
     pub fn say(&mut self, say: Say) -> bool
         ensures carried_out { (out : Out)
             → IsObedient (member_of self.old.who) (perform (member_of self.old.who) out (order_by say.kind say.x)).state
-            → Tells out.state self.old → IsOwn (member_of self.old.who) (known (member_of self.old.who) out.state) say
+            → Represents out.state self.old → MaySayNow (member_of self.old.who) (known (member_of self.old.who) out.state) say
             → IsCarriedOut (member_of self.old.who) say out
             (perform (member_of self.old.who) out (order_by say.kind say.x)) result self.new }
         ensures party { IsSameParty self.old self.new }
@@ -88,7 +88,7 @@ impl Memory {
     pub fn ask(&mut self, x: Exchange) -> bool
         ensures carried_out { (out : Out)
             → IsObedient (member_of self.old.who) (perform (member_of self.old.who) out (Ask x)).state
-            → Tells out.state self.old → x.round ≡ this_round (known (member_of self.old.who) out.state)
+            → Represents out.state self.old → x.round ≡ this_round (known (member_of self.old.who) out.state)
             → role_of (member_of self.old.who) x ≡ Initiator
             → IsCarriedOut (member_of self.old.who) (record { kind = request_kind x.kind; x = x }) out
             (perform (member_of self.old.who) out (Ask x)) result self.new }

@@ -13,8 +13,8 @@ ghost use Rattle.bar_rules.specs.Verifiers.{IsVerifierOf, NamesLeavesOf};
 ghost use Rattle.bar_peer.specs.Checking.{IsCheckedOnce, AdmitsChecked, AdmitsKept, StandsFirst, IsSeedKept};
 ghost use Rattle.bar_peer.specs.Checking.{checked_in, choice_round_in, round_in, sender_in, shows_seed};
 ghost use Rattle.bar_laws.specs.Ignoring.{is_unread};
-ghost use Rattle.bar_peer.specs.Ignoring.{Ignores, IgnoresInput, IsUntouched};
-ghost use Rattle.bar_peer.specs.Memory.{member_of, Tells};
+ghost use Rattle.bar_peer.specs.Ignoring.{Ignores, IgnoresInput, StaysAsBefore};
+ghost use Rattle.bar_peer.specs.Memory.{member_of, Represents};
 ghost use Rattle.bar_core.specs.Orders.{left_in, HasSameRoom};
 ghost use Rattle.bar_peer.specs.StandsFor.{Inputs, StandsFor, AreLeft, contents_left};
 ghost use Rattle.bar_peer.specs.Steps.{TakesInput, is_tick};
@@ -96,7 +96,7 @@ fn take_input<V: Verifier, L: StepLedger>(
 impl Memory {
     /// What the tick that was taken last plays: at the first slot of a round the updates of the round that a life ended.
     fn played_now(&self) -> Playing
-        ensures { (log : Log) → Tells log self.now
+        ensures { (log : Log) → Represents log self.now
             → contents_left self.now.store result ≡ contents_at_tick (member_of self.now.who) (known (member_of self.now.who) log) }
     {
         let session = &self.who.session;
@@ -136,7 +136,7 @@ impl<S: Scheme> Peer<S> {
             (plain_input input.entry)).contents }
         // what isn't read changes nothing, and what is ignored at most what is remembered and kept of seeds
         ensures unread { is_unread self.old.memory.who.session (plain_input input.entry) ≡ true
-            → IsUntouched self.old.memory self.new.memory self.new.orders self.new.playing
+            → StaysAsBefore self.old.memory self.new.memory self.new.orders self.new.playing
             × (self.new.checker.memo ≡ self.old.checker.memo) × (self.new.points ≡ self.old.points) }
         ensures ignored { Ignores self.old.memory (plain_input input.entry) self.new.memory self.new.orders self.new.playing }
         ensures who { self.new.memory.who ≡ self.old.memory.who }

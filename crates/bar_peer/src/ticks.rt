@@ -7,9 +7,9 @@ ghost use Rattle.bar_rules.specs.Peer.Log.{Log, Ticked};
 ghost use Rattle.bar_rules.specs.Peer.Run.{Out, perform, perform_all};
 ghost use Rattle.bar_rules.specs.Runs.{begun};
 ghost use Rattle.bar_exchange.specs.Says.{order_again, orders_at_tick};
-ghost use Rattle.bar_peer.specs.Memory.{member_of, IsMemoryOf, Tells, IsSameParty};
+ghost use Rattle.bar_peer.specs.Memory.{member_of, IsMemoryOf, Represents, IsSameParty};
 ghost use Rattle.bar_peer.specs.Ticking.{orders_of_open, orders_of_opens, most_orders, is_first_slot, Acts};
-ghost use Rattle.bar_peer.specs.Sending.{IsTimely, Stands};
+ghost use Rattle.bar_peer.specs.Sending.{IsTimely, HasOutcome};
 ghost use Rattle.bar_core.specs.Orders.{HasSameRoom};
 
 use crate::memory::Memory;
@@ -27,7 +27,7 @@ impl Memory {
     /// Takes a tick: the next slot, and at its first one the next round, for which what can't be asked about any more is given up.
     pub fn tick(&mut self)
         requires { self.old.ticks < last_tick self.old.who.session }
-        ensures learns { (log : Log) → Tells log self.old → Tells (Ticked ∷ log) self.new }
+        ensures learns { (log : Log) → Represents log self.old → Represents (Ticked ∷ log) self.new }
         ensures ticks { self.new.ticks ≡ self.old.ticks + 1 }
         ensures who { self.new.who ≡ self.old.who }
     {
@@ -70,10 +70,10 @@ impl Memory {
 
 /// Sends again what was said of a kind, or what isn't signed, where there is such.
 fn repeat(memory: &Memory, orders: &mut Orders<Order>, say: Say)
-    ensures stands { (out : Out) → Stands out memory.now orders.old
+    ensures stands { (out : Out) → HasOutcome out memory.now orders.old
         → IsTimely (member_of memory.now.who) (known (member_of memory.now.who) out.state) say
         → length orders.old.list.items + 1 ≤ orders.old.room
-        → Stands (perform (member_of memory.now.who) out (order_again say.kind say.x)) memory.now orders.new }
+        → HasOutcome (perform (member_of memory.now.who) out (order_again say.kind say.x)) memory.now orders.new }
     ensures length { length orders.new.list.items ≤ length orders.old.list.items + 1 }
     ensures room { HasSameRoom orders.old orders.new }
 {
@@ -84,10 +84,10 @@ fn repeat(memory: &Memory, orders: &mut Orders<Order>, say: Say)
 
 /// Says again what an open exchange lacks, where its partner isn't announced evicted.
 fn repeat_once(memory: &Memory, orders: &mut Orders<Order>, x: Exchange)
-    ensures stands { (out : Out) → Stands out memory.now orders.old
+    ensures stands { (out : Out) → HasOutcome out memory.now orders.old
         → IsRecent (member_of memory.now.who) (known (member_of memory.now.who) out.state) x.round
         → length orders.old.list.items + 2 ≤ orders.old.room
-        → Stands (perform_all (member_of memory.now.who) out
+        → HasOutcome (perform_all (member_of memory.now.who) out
         (orders_of_open (member_of memory.now.who) (known (member_of memory.now.who) out.state) x)) memory.now orders.new }
     ensures length { length orders.new.list.items ≤ length orders.old.list.items + 2 }
     ensures room { HasSameRoom orders.old orders.new }
@@ -104,11 +104,11 @@ fn repeat_once(memory: &Memory, orders: &mut Orders<Order>, x: Exchange)
 
 /// Says again what the open exchanges lack, in order.
 fn repeat_all(memory: &Memory, orders: &mut Orders<Order>)
-    ensures stands { (log : Log) → Tells log memory.now → orders.old.list.items ≡ []
+    ensures stands { (log : Log) → Represents log memory.now → orders.old.list.items ≡ []
         → most_orders memory.now.who.session ≤ orders.old.room
-        → Stands (perform_all (member_of memory.now.who) (begun log)
+        → HasOutcome (perform_all (member_of memory.now.who) (begun log)
         (orders_of_opens (member_of memory.now.who) (known (member_of memory.now.who) log))) memory.now orders.new }
-    ensures length { (log : Log) → Tells log memory.now → orders.old.list.items ≡ []
+    ensures length { (log : Log) → Represents log memory.now → orders.old.list.items ≡ []
         → length orders.new.list.items + 2 + memory.now.who.session.shape.peers ≤ most_orders memory.now.who.session }
     ensures room { HasSameRoom orders.old orders.new }
 {

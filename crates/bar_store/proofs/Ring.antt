@@ -14,7 +14,7 @@ use Rattle.bar_window.specs.declared.update.UpdateId.{UpdateId}
 use Rattle.bar_window.specs.Updates.{same_update}
 use Rattle.bar_window.proofs.Sets.{same_is, one_update}
 use Rattle.bar_store.specs.declared.kept_block.KeptBlock.{KeptBlock}
-use Rattle.bar_store.specs.Rooms.{room_of, block_if, block_at, HasRooms}
+use Rattle.bar_store.specs.Rooms.{room_of, block_if, block_at, HasBlockRooms}
 
 -- a quotient that is smaller makes the number smaller by the divisor
 less : (n a b : ℕ) → a % n ≡ b % n → a / n < b / n → a + n ≤ b
@@ -55,7 +55,7 @@ pub room_inside : (life per_round : ℕ) (u : UpdateId) → u.index < per_round 
 room_inside life per_round u index = omega (arith, mul-add-lt (u.round % (life + 3)) per_round u.index (life + 3) (mod_below u.round (life + 3) (omega arith)) index)
 
 -- where the room of an update that isn't held serves another one too, it has no block of that one
-no_other : (life per_round round : ℕ) (rooms : List (Option KeptBlock)) (id u : UpdateId) (o : Option KeptBlock) → HasRooms life per_round round rooms → IsInTime life per_round round id
+no_other : (life per_round round : ℕ) (rooms : List (Option KeptBlock)) (id u : UpdateId) (o : Option KeptBlock) → HasBlockRooms life per_round round rooms → IsInTime life per_round round id
     → block_at life per_round round rooms id ≡ None → room_of life per_round u ≡ room_of life per_round id → round ≤ u.round + life + 1
     → get_or rooms (room_of life per_round u) None ≡ o → block_if u o ≡ None
 no_other life per_round round rooms id u None has time none e fresh is = refl
@@ -84,7 +84,7 @@ if_none true o none = none refl
 if_none false o none = refl
 
 -- a block that wasn't held is added to what is held
-pub after_hold : (life per_round round : ℕ) (rooms : List (Option KeptBlock)) (id : UpdateId) (block : List ℕ) → HasRooms life per_round round rooms → IsInTime life per_round round id
+pub after_hold : (life per_round round : ℕ) (rooms : List (Option KeptBlock)) (id : UpdateId) (block : List ℕ) → HasBlockRooms life per_round round rooms → IsInTime life per_round round id
     → block_at life per_round round rooms id ≡ None → (u : UpdateId)
     → block_at life per_round round (set rooms (room_of life per_round id) (Some (record { id = id; block = block }))) u
     ≡ option_or (block_at life per_round round rooms u) (then_some (same_update u id) block)
@@ -117,8 +117,8 @@ after_hold life per_round round rooms id block has time none u =
     ]
 
 -- the rooms after it
-pub rooms_after : (life per_round round : ℕ) (rooms : List (Option KeptBlock)) (id : UpdateId) (block : List ℕ) → HasRooms life per_round round rooms → IsInTime life per_round round id
-    → HasRooms life per_round round (set rooms (room_of life per_round id) (Some (record { id = id; block = block })))
+pub rooms_after : (life per_round round : ℕ) (rooms : List (Option KeptBlock)) (id : UpdateId) (block : List ℕ) → HasBlockRooms life per_round round rooms → IsInTime life per_round round id
+    → HasBlockRooms life per_round round (set rooms (room_of life per_round id) (Some (record { id = id; block = block })))
 rooms_after life per_round round rooms id block has time =
     let i : ℕ = room_of life per_round id in
     let k : KeptBlock = record { id = id; block = block } in
@@ -154,7 +154,7 @@ after_forget life per_round round now rooms u le = elim (cases_Bool (nat_le now 
   | inr f ↦ rw f refl
 ]
 
-pub rooms_later : (life per_round round now : ℕ) (rooms : List (Option KeptBlock)) → round ≤ now → HasRooms life per_round round rooms → HasRooms life per_round now rooms
+pub rooms_later : (life per_round round now : ℕ) (rooms : List (Option KeptBlock)) → round ≤ now → HasBlockRooms life per_round round rooms → HasBlockRooms life per_round now rooms
 rooms_later life per_round round now rooms le has = record {
   count = has.count;
   near = λ room k is. omega (arith, has.near room k is, le);

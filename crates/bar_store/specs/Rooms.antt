@@ -20,7 +20,7 @@ block_at life per_round round rooms u =
     if nat_le round (u.round + life + 1) then block_if u (slice_index_or rooms (room_of life per_round u) None) else None
 
 -- There are rooms for so many updates of each of life + 3 rounds, and none has a block of a round after the next one.
-pub record HasRooms (life per_round now : ℕ) (rooms : List (Option KeptBlock)) : Type 0 where
+pub record HasBlockRooms (life per_round now : ℕ) (rooms : List (Option KeptBlock)) : Type 0 where
   pub count : length rooms ≡ (life + 3) * per_round
   pub near : (room : ℕ) (k : KeptBlock) → slice_index_or rooms room None ≡ Some k → k.id.round ≤ now + 1
   pub few : (room : ℕ) (k : KeptBlock) → slice_index_or rooms room None ≡ Some k → k.id.index < per_round

@@ -157,7 +157,7 @@ pub record PlayedFront (names : ReplayFiles) (old new : Outside) : Type 0 where
   pub shown : new.out.bytes ≡ old.out.bytes ++ take shown_count (transcript_of names old.files.content accepted)
 
 -- no file holds anything else than before, and nothing was printed
-pub record IsUntouched (old new : Outside) : Type 0 where
+pub record ChangesNothing (old new : Outside) : Type 0 where
   pub files : SameFiles old new
   pub out : NothingPrinted old new
 

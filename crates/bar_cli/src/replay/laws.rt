@@ -15,7 +15,7 @@ ghost use Rattle.bar_cli.specs.Replay.Finished.{IsReplayed};
 ghost use Rattle.bar_cli.specs.Headline.{ReplayHeadline};
 ghost use Rattle.bar_cli.specs.Line.{usage};
 ghost use Rattle.bar_cli.specs.Refusals.{session_refused, key_refused, recording_refused};
-ghost use Rattle.bar_cli.specs.Replay.Plan.{ReplayFiles, SessionAccepted, SessionRefused, KeyAccepted, KeyRefused, InputRefused, Accepted, Replayed, PlayedFront, PlayedUpTo, FoundUpTo, IsUntouched, IsMade, IsReplayCall, replay_plan};
+ghost use Rattle.bar_cli.specs.Replay.Plan.{ReplayFiles, SessionAccepted, SessionRefused, KeyAccepted, KeyRefused, InputRefused, Accepted, Replayed, PlayedFront, PlayedUpTo, FoundUpTo, ChangesNothing, IsMade, IsReplayCall, replay_plan};
 
 use bar_laws::balance::balanced;
 use bar_laws::evidence::{bad_keys_leave_evidence, kept_evidence_is_shown};
@@ -121,7 +121,7 @@ pub fn output_failed_only()
 /// order.
 pub fn a_replay_stops_in_order()
     ensures { (names : ReplayFiles) → OfEachEnd (replay_plan names) (λ old new status.
-        IsUntouched old new ⊎ (IsMade names old new ⊎ (PlayedUpTo names status old new ⊎ FoundUpTo names status old new))) }
+        ChangesNothing old new ⊎ (IsMade names old new ⊎ (PlayedUpTo names status old new ⊎ FoundUpTo names status old new))) }
 {
     accepted_sessions_are_in_range();
     plans_go_in_order();
@@ -137,10 +137,10 @@ pub fn only_its_files_are_changed()
 
 /// After a refusal, and where the words aren't a line, every file is as it was, and nothing is printed.
 pub fn refusals_change_nothing()
-    ensures usage { OfEachEnd (ending 2 usage) (λ old new status. IsUntouched old new) }
-    ensures session { (names : ReplayFiles) → AtEnd 4 (replay_plan names) IsUntouched }
-    ensures key { (names : ReplayFiles) → AtEnd 5 (replay_plan names) IsUntouched }
-    ensures input { (names : ReplayFiles) → AtEnd 8 (replay_plan names) IsUntouched }
+    ensures usage { OfEachEnd (ending 2 usage) (λ old new status. ChangesNothing old new) }
+    ensures session { (names : ReplayFiles) → AtEnd 4 (replay_plan names) ChangesNothing }
+    ensures key { (names : ReplayFiles) → AtEnd 5 (replay_plan names) ChangesNothing }
+    ensures input { (names : ReplayFiles) → AtEnd 8 (replay_plan names) ChangesNothing }
 {
     plans_go_in_order();
 }
@@ -149,7 +149,7 @@ pub fn refusals_change_nothing()
 /// transcript a front of what they send.
 pub fn a_front_is_played()
     ensures { (names : ReplayFiles) → OfEachEnd (replay_plan names) (λ old new status.
-        IsUntouched old new ⊎ PlayedFront names old new) }
+        ChangesNothing old new ⊎ PlayedFront names old new) }
 {
     accepted_sessions_are_in_range();
     plans_go_in_order();

@@ -39,9 +39,9 @@ own-inside s stream (Evidence ds) h = absurd h
 own-inside s stream _ h = refl
 
 -- a manifest is of a round that has begun
-abbrev pub IsBegun : Log → Body → Type 0
-IsBegun log (Manifest r ds) = r ≤ round_now log
-IsBegun log _ = Unit {0}
+abbrev pub IsOfBegunRound : Log → Body → Type 0
+IsOfBegunRound log (Manifest r ds) = r ≤ round_now log
+IsOfBegunRound log _ = Unit {0}
 
 -- what a party signs is its own, and in the grammar
 pub record IsOwnMessage (s : Session) (stream : List ℕ) (party : ℕ) (d : Datagram) : Type 0 where
@@ -52,7 +52,7 @@ pub record IsOwnMessage (s : Session) (stream : List ℕ) (party : ℕ) (d : Dat
 
 -- the broadcaster's own messages
 abbrev pub AreOwn : Session → List ℕ → Log → Type 0
-AreOwn s stream log = (d : Datagram) → SaidIn log d → IsOwnMessage s stream 0 d × IsBegun log d.message.body
+AreOwn s stream log = (d : Datagram) → SaidIn log d → IsOwnMessage s stream 0 d × IsOfBegunRound log d.message.body
 
 -- each piece of evidence that is kept was shown under the table of its moment
 abbrev pub IsFair : Member → List ℕ → Log → Type 0
@@ -78,7 +78,7 @@ round-grows (Heard d) log = omega arith
 round-grows (Said d) log = omega arith
 round-grows (Kept q e) log = omega arith
 
-begun-grows : (x : Entry) (log : Log) (b : Body) → IsBegun log b → IsBegun (x ∷ log) b
+begun-grows : (x : Entry) (log : Log) (b : Body) → IsOfBegunRound log b → IsOfBegunRound (x ∷ log) b
 begun-grows x log (Manifest r ds) h = let g : round_now log ≤ round_now (x ∷ log) = round-grows x log in omega (arith, h, g)
 begun-grows x log _ h = tt
 
@@ -94,7 +94,7 @@ casts-all : (me : Member) (stream : List ℕ) (log : Log) (o : Option Datagram) 
 casts-all me stream log o [] out d a s = a
 casts-all me stream log o (p ∷ ps) out d a s = casts-all me stream log o ps (sending out p d) d (casts-send me stream log o out p d a (inl s) (a.own d s).0.fits) s
 
-casts-announce : (me : Member) (stream : List ℕ) (log : Log) (o : Option Datagram) (out : Out) (leaf round : ℕ) (body : Body) → IsOwnBody me.session stream body → IsBegun out.state body → IsDatagram me.session.shape (caster_signed me leaf body) → is_signed_by me.session (caster_signed me leaf body) ≡ true
+casts-announce : (me : Member) (stream : List ℕ) (log : Log) (o : Option Datagram) (out : Out) (leaf round : ℕ) (body : Body) → IsOwnBody me.session stream body → IsOfBegunRound out.state body → IsDatagram me.session.shape (caster_signed me leaf body) → is_signed_by me.session (caster_signed me leaf body) ≡ true
     → Casts me stream log o out → Casts me stream log o (announce me out leaf round body)
 casts-announce me stream log o out leaf round body plain begun fits accepted a = go (first_said (has_kind_and_round (kind_of body) round) out.state) refl
   where
@@ -107,7 +107,7 @@ casts-announce me stream log o out leaf round body plain begun fits accepted a =
     own : AreOwn me.session stream (Said d ∷ out.state)
     own e (inl h) =
         let same : d ≡ e = cc in
-        subst (λ z. IsOwnMessage me.session stream 0 z × IsBegun (Said d ∷ out.state) z.message.body) same
+        subst (λ z. IsOwnMessage me.session stream 0 z × IsOfBegunRound (Said d ∷ out.state) z.message.body) same
         (record { from = refl; body = plain; fits = fits; accepted = accepted }, begun-grows (Said d) out.state body begun)
     own e (inr h) = let o = a.own e h in (o.0, begun-grows (Said d) out.state e.message.body o.1)
 

@@ -2,7 +2,7 @@
 use Rattle.bar_session.specs.Limits.{most_long_rounds}
 use Rattle.bar_wire.specs.Bodies.{briefcase_in, history_in, offer_in, reply_in}
 use Rattle.bar_wire.specs.declared.kind.Kind.{Kind}
-use Rattle.bar_case.specs.Sealed.{IsTold}
+use Rattle.bar_case.specs.Sealed.{MatchesTable}
 use Rattle.bar_rules.specs.Peer.Choices.{wanted_of}
 use Rattle.bar_rules.specs.Peer.Holdings.{history, block_of, is_held}
 use Rattle.bar_rules.specs.Peer.Knowledge.{known}
@@ -123,7 +123,7 @@ terms-formed me log x (forms.Push young aged want give junk) all e =
 -- ---- a CASE
 
 -- held blocks are whole, so that they are sealed in their length
-held-told : (me : Member) (log : Log) (us : List UpdateId) → IsObedient me log → AllHeld me.session log us → AllByRecursion (IsTold no_lists (block_of me.session log)) us
+held-told : (me : Member) (log : Log) (us : List UpdateId) → IsObedient me log → AllHeld me.session log us → AllByRecursion (MatchesTable no_lists (block_of me.session log)) us
 held-told me log [] h e = tt
 held-told me log (u ∷ us) h e =
     let p = and_parts _ _ e in

@@ -35,7 +35,7 @@ use Rattle.std.specs.List.{AllByRecursion, range_with_len}
 use Rattle.std.proofs.lemmas.Bool.{and_parts, and_from, eq-eqb, both_ways, cases_Bool, not_from_false}
 use Rattle.bar_laws.specs.Evidence.{OpensBadly}
 use Rattle.bar_laws.specs.Growing.{IsLater}
-use Rattle.bar_laws.proofs.Logs.{IsEntry, allowed-at, WasHeard, WasSaid, later-entry, find-later, first_heard-was, first_said-was, said-rule, some-is, terms_of-later, table-later, within-extends, known-digest-extends, admitted-row, all-take, all-filtered, IsOwn, heard-own, inside-all, IsCaseOf, is_of-case, sender-on, receiver-on, party-on, party-over, receiver-role, receiver-partner}
+use Rattle.bar_laws.proofs.Logs.{IsEntry, allowed-at, WasHeard, WasSaid, later-entry, find-later, first_heard-was, first_said-was, said-rule, some-is, terms_of-later, table-later, within-extends, known-digest-extends, admitted-row, all-take, all-filtered, IsForOneMember, heard-own, inside-all, IsCaseOf, is_of-case, sender-on, receiver-on, party-on, party-over, receiver-role, receiver-partner}
 use Rattle.bar_laws.proofs.Judging.ShownStays.{terms_ok-extends}
 use Rattle.bar_laws.proofs.Judging.Accuses.{IsBadPair, bad-completed}
 use Rattle.bar_laws.proofs.Judging.KeptEvidence.{IsWatchful, watchful-at}
@@ -185,7 +185,7 @@ key-row me before e k admitted is =
 key-tried : (me : Member) (before : Log) (e : Datagram) (k : KeyGiven) → Allows me before (Heard e) → e.message.body ≡ Key k → is_some (kept before e.message.from) ≡ false
     → is_tried me (known me before) e ≡ true
 key-tried me before e k al is none =
-    let mine : IsOwn me e = heard-own me before e (k.round, k.kind, k.role) al (ap part_of is) in
+    let mine : IsForOneMember me e = heard-own me before e (k.round, k.kind, k.role) al (ap part_of is) in
     let recent : nat_le (round_now before) (round_of e.message.body + me.session.shape.life) ≡ true = rw is (key-row me before e k al.0 is).1 in
     and_from _ _
     (and_from _ _
@@ -277,7 +277,7 @@ opens-badly-kept me log x d h watchful o =
     let k : KeyGiven = o.key in
     let own : Exchange = exchange_by k.round k.kind k.role d.message.from d.message.to in
     let al : Allows me w.before (Heard d) = (allowed-at me log w.before (Heard d) w.place h).0 in
-    let mine : IsOwn me d = heard-own me w.before d (k.round, k.kind, k.role) al (ap part_of o.is_key) in
+    let mine : IsForOneMember me d = heard-own me w.before d (k.round, k.kind, k.role) al (ap part_of o.is_key) in
     let named : exchange_of d.message ≡ Some own = ap (λ b. option_map (λ (q : Place). q.exchange) (option_map (place_by d.message.from d.message.to) (part_of b))) o.is_key in
     let same : x ≡ own = (let e = o.of_exchange in cc) in
     let side : other_role (role_of me own) ≡ k.role = ap other_role (receiver-role me k.round k.kind k.role d.message.from d.message.to mine.to mine.other) ∙ other-other k.role in

@@ -4,7 +4,7 @@ use Rattle.bar_wire.specs.Bodies.{briefcase_in, choice_in, key_in}
 use Rattle.bar_laws.specs.Framing.{accuses_by_words}
 use Rattle.bar_case.specs.Opened.{is_bad}
 use Rattle.bar_case.specs.Opened as opening
-use Rattle.bar_case.specs.Sealed.{IsTold}
+use Rattle.bar_case.specs.Sealed.{MatchesTable}
 use Rattle.bar_rules.specs.Peer.Holdings.{block_of, is_held}
 use Rattle.bar_rules.specs.Peer.Knowledge.{known}
 use Rattle.bar_rules.specs.Peer.Log.{Log, Ticked, Heard, Said, Kept, table, HasSaid, HasSigned}
@@ -49,7 +49,7 @@ agrees-known one two u d h e = go (one u.round) (two u.round) refl refl e
     go (Some ds) (Some es) f g e = let same : ds ≡ es = h.same u.round ds es f g in inr (subst (λ z. digest_in (Some z) u.index ≡ Known d) same e)
 
 -- a held update is told by each table that agrees
-held-told : (me : Member) (log : Log) (two : Table) (u : UpdateId) → IsObedient me log → Agrees (table log) two → is_held me.session log u ≡ true → IsTold two (block_of me.session log) u
+held-told : (me : Member) (log : Log) (two : Table) (u : UpdateId) → IsObedient me log → Agrees (table log) two → is_held me.session log u ≡ true → MatchesTable two (block_of me.session log) u
 held-told me log two u h agree e =
     let b = some-is (block_of me.session log u) e in
     record {
@@ -59,7 +59,7 @@ held-told me log two u h agree e =
       told = agrees-known (table log) two u (sha256 b.0) agree (held-known me log u b.0 h b.1);
     }
 
-all-told : (me : Member) (log : Log) (two : Table) (us : List UpdateId) → IsObedient me log → Agrees (table log) two → AllHeld me.session log us → AllByRecursion (IsTold two (block_of me.session log)) us
+all-told : (me : Member) (log : Log) (two : Table) (us : List UpdateId) → IsObedient me log → Agrees (table log) two → AllHeld me.session log us → AllByRecursion (MatchesTable two (block_of me.session log)) us
 all-told me log two [] h agree e = tt
 all-told me log two (u ∷ us) h agree e = let p = and_parts _ _ e in (held-told me log two u h agree p.0, all-told me log two us h agree p.1)
 

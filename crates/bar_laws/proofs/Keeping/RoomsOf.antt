@@ -29,7 +29,7 @@ use Rattle.std.specs.Str.{bytes_eq}
 use Rattle.std.proofs.lemmas.Bool.{and_parts, eqb-true}
 use Rattle.bar_laws.specs.Rooms.{Asking, Own, Room, asking_at, asking_of, room_of, AreInRooms}
 use Rattle.bar_laws.specs.Growing.{IsLater}
-use Rattle.bar_laws.proofs.Logs.{no-value, allowed-at, is_of-is, IsOwn, heard-own, WasHeard, later-entry, find-later, map-later, then-later, first_said-was, first_heard-was, some-is, parts-of, IsSaying, names-exchange, saying, is_of-part, receiver-role, admitted-row}
+use Rattle.bar_laws.proofs.Logs.{no-value, allowed-at, is_of-is, IsForOneMember, heard-own, WasHeard, later-entry, find-later, map-later, then-later, first_said-was, first_heard-was, some-is, parts-of, IsSaying, names-exchange, saying, is_of-part, receiver-role, admitted-row}
 use Rattle.bar_laws.proofs.Runs.{said-more, heard-more, Placed, placed, seat-of, seat-few, begun-in, one-request, seat-unique}
 
 -- ---- an exchange whose request was said or admitted has a room
@@ -155,13 +155,13 @@ heard-placed me log kind x role h e =
     at d w i =
         let al = allowed-at me log w.before (Heard d) w.place h in
         let part = is_of-part kind x role d.message i in
-        let own : IsOwn me d = heard-own me w.before d (x.round, x.kind, role) al.0 part in
+        let own : IsForOneMember me d = heard-own me w.before d (x.round, x.kind, role) al.0 part in
         go own (row-placed me w.before d.message.from d.message.to d.message.body (x.round, x.kind, role) al.1 own.to own.other part (admitted-row me w.before d al.0.0))
       where
         named : exchange_by x.round x.kind role d.message.from d.message.to ≡ x
         named = names-exchange kind x role d.message i
 
-        go : IsOwn me d → IsPlaced me w.before (kind_number d.message.body) (x.round, x.kind, role) d.message.from d.message.to → HasRoom me log x
+        go : IsForOneMember me d → IsPlaced me w.before (kind_number d.message.body) (x.round, x.kind, role) d.message.from d.message.to → HasRoom me log x
         go own (inr there) = place-later me log w.before x (later-entry log w.before (Heard d) w.place) (subst (λ y. HasRoom me w.before y) named there)
         go own (inl here) =
             let number : code_of kind ≡ code_of (request_kind x.kind) = sym (is_of-is kind x role d.message i).number ∙ here.0 in

@@ -18,7 +18,7 @@ use Rattle.bar_rules.specs.Peer.Knowledge.{known}
 use Rattle.bar_rules.specs.Peer.Log.{Log, round_now}
 use Rattle.bar_rules.specs.Peer.Rules.{IsObedient}
 use Rattle.bar_laws.specs.Tries.{TriesMissNone}
-use Rattle.bar_laws.proofs.Logs.{first_heard-was, was-heard-own, is_of-part, sender-on, receiver-on, IsOwn}
+use Rattle.bar_laws.proofs.Logs.{first_heard-was, was-heard-own, is_of-part, sender-on, receiver-on, IsForOneMember}
 use Rattle.bar_laws.proofs.Runs.{any-front, any-back}
 use Rattle.bar_laws.proofs.Keeping.RoomsOf.{has-rooms}
 use Rattle.bar_laws.proofs.Keeping.Few.{kept-near}
@@ -97,7 +97,7 @@ sides-of me x Responder q to from = inl (to, from)
 pub tries-miss-none : (me : Member) (log : Log) → IsObedient me log → TriesMissNone me (known me log)
 tries-miss-none me log h kind x role d e recent =
     let was = first_heard-was (is_of kind x role) log d e in
-    let own : IsOwn me d = was-heard-own me log d (x.round, x.kind, role) was.0 h (is_of-part kind x role d.message was.1) in
+    let own : IsForOneMember me d = was-heard-own me log d (x.round, x.kind, role) was.0 h (is_of-part kind x role d.message was.1) in
     let from : party_on x role ≡ d.message.from = sym (sender-on kind x role d.message was.1) in
     let to : party_on x (other_role role) ≡ me.party = sym (receiver-on kind x role d.message was.1) ∙ own.to in
     let near : x.round ≤ round_now log + 1 = kept-near me log x h ((has-rooms me log h).heard kind x role (ap is_some e)) in

@@ -197,7 +197,7 @@ both-at-key me log x role h e = go (some-is (first_said (is_of kinds.Key x role)
     go : (d : Datagram) × (first_said (is_of kinds.Key x role) log ≡ Some d) → HasBoth me log x role
     go f = let was = first_said-was (is_of kinds.Key x role) log f.0 f.1 in at f.0 was.0 (is_of-key x role f.0.message was.1)
 
-pub record IsBalanced (me : Member) (log : Log) (x : Exchange) : Type 0 where
+pub record HasEvenBriefcases (me : Member) (log : Log) (x : Exchange) : Type 0 where
   pub promised : (totals me (known me log) x).promised ≡ (totals me (known me log) x).opened
   pub received : (totals me (known me log) x).received ≡ (totals me (known me log) x).opened
 
@@ -206,16 +206,16 @@ size-equal : (s : Session) (x : Exchange) (role : Role) (mine theirs : Briefcase
 size-equal s x role mine theirs t a b c ok = rw (a, b, c) (sym (promises-by-role s t x mine.terms role ok))
 
 -- what is opened is nothing, or what was promised and what was received
-pub balance : (me : Member) (log : Log) (x : Exchange) → IsObedient me log → ((totals me (known me log) x).opened ≡ 0) ⊎ IsBalanced me log x
+pub balance : (me : Member) (log : Log) (x : Exchange) → IsObedient me log → ((totals me (known me log) x).opened ≡ 0) ⊎ HasEvenBriefcases me log x
 balance me log x h = go (has_said (is_of kinds.Key x (role_of me x)) log) refl
   where
-    with_both : has_said (is_of kinds.Key x (role_of me x)) log ≡ true → HasBoth me log x (role_of me x) → IsBalanced me log x
+    with_both : has_said (is_of kinds.Key x (role_of me x)) log ≡ true → HasBoth me log x (role_of me x) → HasEvenBriefcases me log x
     with_both e b =
         record {
           promised = rw e refl;
           received = rw (e, b.said, b.heard) (size-equal me.session x (role_of me x) b.mine b.theirs b.valid.0 b.side (heard-side log x (other_role (role_of me x)) b.theirs b.heard) b.terms b.valid.1);
         }
 
-    go : (b : Bool) → has_said (is_of kinds.Key x (role_of me x)) log ≡ b → ((totals me (known me log) x).opened ≡ 0) ⊎ IsBalanced me log x
+    go : (b : Bool) → has_said (is_of kinds.Key x (role_of me x)) log ≡ b → ((totals me (known me log) x).opened ≡ 0) ⊎ HasEvenBriefcases me log x
     go false e = inl (rw e refl)
     go true e = inr (with_both e (both-at-key me log x (role_of me x) h e))

@@ -76,7 +76,7 @@ part-to-one (Key k) p e = refl
 part-to-one _ p e = cc
 
 -- a datagram that stands in the log for this member alone
-pub record IsOwn (me : Member) (d : Datagram) : Type 0 where
+pub record IsForOneMember (me : Member) (d : Datagram) : Type 0 where
   pub to : d.message.to ≡ me.party
   pub other : d.message.from ≡ me.party → ⊥
 
@@ -88,13 +88,13 @@ pub for-me : (me : Member) (m : Message) → is_to_all m.body ≡ false → is_f
 for-me me m one own = for-one (is_to_all m.body) m.to me.party one own
 
 -- an admitted message of an exchange is to this member, and not from it
-pub heard-own : (me : Member) (before : Log) (d : Datagram) (p : ℕ × XKind × Role) → Allows me before (Heard d) → part_of d.message.body ≡ Some p → IsOwn me d
+pub heard-own : (me : Member) (before : Log) (d : Datagram) (p : ℕ × XKind × Role) → Allows me before (Heard d) → part_of d.message.body ≡ Some p → IsForOneMember me d
 heard-own me before d p a e =
     let to : d.message.to ≡ me.party = for-me me d.message (part-to-one d.message.body p e) (admitted-for me before d a.0) in
     let peers = part-of-peers me.session.shape d.message.body p d.message.from d.message.to e (heard-fits me before d a).may_send in
     record { to = to; other = λ z. peers.2 (z ∙ sym to) }
 
-pub was-heard-own : (me : Member) (log : Log) (d : Datagram) (p : ℕ × XKind × Role) → WasHeard log d → IsObedient me log → part_of d.message.body ≡ Some p → IsOwn me d
+pub was-heard-own : (me : Member) (log : Log) (d : Datagram) (p : ℕ × XKind × Role) → WasHeard log d → IsObedient me log → part_of d.message.body ≡ Some p → IsForOneMember me d
 was-heard-own me log d p w h e = heard-own me w.before d p (allowed-at me log w.before (Heard d) w.place h).0 e
 
 pub heard-round : (me : Member) (before : Log) (d : Datagram) (p : ℕ × XKind × Role) → Allows me before (Heard d) → part_of d.message.body ≡ Some p → (1 ≤ p.0) × (p.0 ≤ me.session.shape.rounds)

@@ -42,7 +42,7 @@ use Rattle.std.specs.Bool.{then_some}
 use Rattle.std.specs.Option.{option_map_or}
 use Rattle.std.proofs.lemmas.Bool.{and_parts, and_from, eqb-true, both_ways, ltb-true}
 use Rattle.bar_laws.specs.Growing.{IsLater}
-use Rattle.bar_laws.proofs.Logs.{terms-valid, IsValid, allowed-at, IsOwn, heard-own, heard-round, part-round, once-whole, is_whole, said-found, later-entry, some-is, WasHeard, first_heard-was, first_said-was, said-rule, find-later, terms_of-later, said-later, IsCaseOf, is_of-case, said-case, some-same, same_terms-is, admitted-row, role-initiator, round-by, receiver-role}
+use Rattle.bar_laws.proofs.Logs.{terms-valid, IsValid, allowed-at, IsForOneMember, heard-own, heard-round, part-round, once-whole, is_whole, said-found, later-entry, some-is, WasHeard, first_heard-was, first_said-was, said-rule, find-later, terms_of-later, said-later, IsCaseOf, is_of-case, said-case, some-same, same_terms-is, admitted-row, role-initiator, round-by, receiver-role}
 use Rattle.bar_bytes.proofs.Tests.{eqb_refl}
 use Rattle.bar_bytes.proofs.Options.{or-none}
 
@@ -75,12 +75,12 @@ pub record IsRequest (me : Member) (log : Log) (x : Exchange) : Type 0 where
   pub some_young : x.kind ≡ Push → 0 < length (young_of me (known me log) x.round)
 
 -- what may be ordered: it stands while more is said
-abbrev pub Stands : Member → Log → Order → Type 0
-Stands me log (Ask x) = (has_said (is_of (request_kind x.kind) x (role_of me x)) log ≡ true) ⊎ IsRequest me log x
-Stands me log (Answer x) = IsParty me x × (role_of me x ≡ Responder) × (has_heard (is_of (request_kind x.kind) x Initiator) log ≡ true)
-Stands me log (GiveCase x) = IsParty me x × ((x.kind ≡ Push) ⊎ (is_trade_worth me.session (terms_of me (known me log) x) ≡ true))
-Stands me log (GiveKey x) = IsParty me x × (has_said (is_of kinds.Case x (role_of me x)) log ≡ true) × (has_heard (is_of kinds.Case x (other_role (role_of me x))) log ≡ true)
-Stands me log _ = Unit {0}
+abbrev pub MayBeOrdered : Member → Log → Order → Type 0
+MayBeOrdered me log (Ask x) = (has_said (is_of (request_kind x.kind) x (role_of me x)) log ≡ true) ⊎ IsRequest me log x
+MayBeOrdered me log (Answer x) = IsParty me x × (role_of me x ≡ Responder) × (has_heard (is_of (request_kind x.kind) x Initiator) log ≡ true)
+MayBeOrdered me log (GiveCase x) = IsParty me x × ((x.kind ≡ Push) ⊎ (is_trade_worth me.session (terms_of me (known me log) x) ≡ true))
+MayBeOrdered me log (GiveKey x) = IsParty me x × (has_said (is_of kinds.Case x (role_of me x)) log ≡ true) × (has_heard (is_of kinds.Case x (other_role (role_of me x))) log ≡ true)
+MayBeOrdered me log _ = Unit {0}
 
 -- a new message of an order met its rule
 record MayOrder (me : Member) (log : Log) (x : Exchange) (kind : Kind) (b : Body) : Type 0 where
@@ -119,7 +119,7 @@ worth-of : (me : Member) (log : Log) (x : Exchange) (t : Terms) → (x.kind ≡ 
 worth-of me log x t (inl k) e = offer-worth me.session _ _ t (subst (λ z. terms_by z me (known me log) x ≡ Some t) k e)
 worth-of me log x t (inr w) e = subst (λ o. is_trade_worth me.session o ≡ true) e w
 
-give_case-rule : (me : Member) (log : Log) (x : Exchange) (b : Body) → IsObedient me log → Stands me log (GiveCase x) → option_map (case_body me (known me log) x) (terms_of me (known me log) x) ≡ Some b → MayOrder me log x kinds.Case b
+give_case-rule : (me : Member) (log : Log) (x : Exchange) (b : Body) → IsObedient me log → MayBeOrdered me log (GiveCase x) → option_map (case_body me (known me log) x) (terms_of me (known me log) x) ≡ Some b → MayOrder me log x kinds.Case b
 give_case-rule me log x b h s e = go (terms_of me (known me log) x) refl e
   where
     go : (o : Option Terms) → terms_of me (known me log) x ≡ o → option_map (case_body me (known me log) x) o ≡ Some b → MayOrder me log x kinds.Case b
@@ -190,7 +190,7 @@ heard-case me log x role h e = go (some-is (first_heard (is_of kinds.Case x role
     go : (d : Datagram) × (first_heard (is_of kinds.Case x role) log ≡ Some d) → HeardCase me log x role
     go f = let was = first_heard-was (is_of kinds.Case x role) log f.0 f.1 in at f.0 f.1 was.0 (is_of-case x role f.0.message was.1)
 
-give_key-rule : (me : Member) (log : Log) (x : Exchange) (b : Body) → IsObedient me log → Stands me log (GiveKey x) → Some (key_body me x) ≡ Some b → MayOrder me log x kinds.Key b
+give_key-rule : (me : Member) (log : Log) (x : Exchange) (b : Body) → IsObedient me log → MayBeOrdered me log (GiveKey x) → Some (key_body me x) ≡ Some b → MayOrder me log x kinds.Key b
 give_key-rule me log x b h s e =
     let same : key_body me x ≡ b = cc in
     let c : HeardCase me log x (other_role (role_of me x)) = heard-case me log x (other_role (role_of me x)) h s.2 in
@@ -248,7 +248,7 @@ reply-rule me log x b q true p r k h f w e =
       };
     })
 
-answer-rule : (me : Member) (log : Log) (x : Exchange) (b : Body) → IsObedient me log → Stands me log (Answer x) → answer_body me (known me log) x x.kind ≡ Some b → MayOrder me log x (answer_kind x.kind) b
+answer-rule : (me : Member) (log : Log) (x : Exchange) (b : Body) → IsObedient me log → MayBeOrdered me log (Answer x) → answer_body me (known me log) x x.kind ≡ Some b → MayOrder me log x (answer_kind x.kind) b
 answer-rule me log x b h s e = go x.kind refl e
   where
     reply : x.kind ≡ Push → (o : Option (List UpdateId × List UpdateId)) → option_and_then offer_in (body_on me (known me log) kinds.Query x Initiator) ≡ o → option_and_then (reply_to me (known me log) x.round) o ≡ Some b → MayOrder me log x kinds.Reply b
@@ -347,7 +347,7 @@ ask-rule me log x q = go x.kind refl
         }
     go Push e = record { now = q.now; seeded = refl; chosen = chosen Push e; offers = refl; asks = refl; some_young = q.some_young e }
 
-ask-obedient : (me : Member) (out : Out) (x : Exchange) → IsObedient me out.state → Stands me out.state (Ask x) → IsObedient me (perform me out (Ask x)).state
+ask-obedient : (me : Member) (out : Out) (x : Exchange) → IsObedient me out.state → MayBeOrdered me out.state (Ask x) → IsObedient me (perform me out (Ask x)).state
 ask-obedient me out x h (inl said) = go (first_said (is_of (request_kind x.kind) x (role_of me x)) out.state) refl
   where
     go : (o : Option Datagram) → first_said (is_of (request_kind x.kind) x (role_of me x)) out.state ≡ o → IsObedient me (say_or_repeat me out x o (Some (ask_body me (known me out.state) x x.kind))).state
@@ -376,7 +376,7 @@ resend-obedient me out kind x h = go (first_said (is_of kind x (role_of me x)) o
     go (Some d) = h
     go None = h
 
-perform-obedient : (me : Member) (out : Out) (o : Order) → IsObedient me out.state → Stands me out.state o → IsObedient me (perform me out o).state
+perform-obedient : (me : Member) (out : Out) (o : Order) → IsObedient me out.state → MayBeOrdered me out.state o → IsObedient me (perform me out o).state
 perform-obedient me out (Ask x) h s = ask-obedient me out x h s
 perform-obedient me out (Answer x) h s = say-obedient me out (answer_kind x.kind) x _ h (λ b e. answer-rule me out.state x b h s e)
 perform-obedient me out (GiveCase x) h s = say-obedient me out kinds.Case x _ h (λ b e. give_case-rule me out.state x b h s e)
@@ -437,7 +437,7 @@ worth-said me log d x e = go (terms_of me (known me log) x) refl e
         let g : terms_of me (known me (Said d ∷ log)) x ≡ Some t = terms_of-later me (Said d ∷ log) log x t (record { new = Said d ∷ []; split = refl }) f in
         subst (λ o. is_trade_worth me.session o ≡ true) (sym g) e
 
-stands-said : (me : Member) (log : Log) (d : Datagram) (o : Order) → Stands me log o → Stands me (Said d ∷ log) o
+stands-said : (me : Member) (log : Log) (d : Datagram) (o : Order) → MayBeOrdered me log o → MayBeOrdered me (Said d ∷ log) o
 stands-said me log d (Ask x) (inl s) = inl (some-more _ _ s)
 stands-said me log d (Ask x) (inr q) = inr (request-said me log d x q)
 stands-said me log d (Answer x) s = (s.0, s.1, some-more _ _ s.2)
@@ -449,15 +449,15 @@ stands-said me log d (Resend kind x) s = s
 stands-said me log d (AskKey x) s = s
 stands-said me log d (Report q) s = s
 
-stands-one : (me : Member) (old new : Log) (o : Order) → SaysOne old new → Stands me old o → Stands me new o
-stands-one me old new o (inl e) s = subst (λ l. Stands me l o) (sym e) s
-stands-one me old new o (inr g) s = subst (λ l. Stands me l o) (sym g.1) (stands-said me old g.0 o s)
+stands-one : (me : Member) (old new : Log) (o : Order) → SaysOne old new → MayBeOrdered me old o → MayBeOrdered me new o
+stands-one me old new o (inl e) s = subst (λ l. MayBeOrdered me l o) (sym e) s
+stands-one me old new o (inr g) s = subst (λ l. MayBeOrdered me l o) (sym g.1) (stands-said me old g.0 o s)
 
-all-one : (me : Member) (old new : Log) (os : List Order) → SaysOne old new → AllByRecursion (Stands me old) os → AllByRecursion (Stands me new) os
+all-one : (me : Member) (old new : Log) (os : List Order) → SaysOne old new → AllByRecursion (MayBeOrdered me old) os → AllByRecursion (MayBeOrdered me new) os
 all-one me old new [] g s = tt
 all-one me old new (o ∷ os) g s = (stands-one me old new o g s.0, all-one me old new os g s.1)
 
-pub perform_all-obedient : (me : Member) (os : List Order) (out : Out) → IsObedient me out.state → AllByRecursion (Stands me out.state) os → IsObedient me (perform_all me out os).state
+pub perform_all-obedient : (me : Member) (os : List Order) (out : Out) → IsObedient me out.state → AllByRecursion (MayBeOrdered me out.state) os → IsObedient me (perform_all me out os).state
 perform_all-obedient me [] out h s = h
 perform_all-obedient me (o ∷ os) out h s =
     perform_all-obedient me os (perform me out o) (perform-obedient me out o h s.0) (all-one me out.state (perform me out o).state os (perform-grows me out o) s.1)
@@ -471,7 +471,7 @@ partner-party me r k role f t e n b = record { on = go role (receiver-role me r 
     go Initiator q = rw q e
     go Responder q = rw q e
 
-when-stands : (me : Member) (log : Log) (b : Bool) (os : List Order) → (b ≡ true → AllByRecursion (Stands me log) os) → AllByRecursion (Stands me log) (orders_when b os)
+when-stands : (me : Member) (log : Log) (b : Bool) (os : List Order) → (b ≡ true → AllByRecursion (MayBeOrdered me log) os) → AllByRecursion (MayBeOrdered me log) (orders_when b os)
 when-stands me log true os f = f refl
 when-stands me log false os f = tt
 
@@ -497,7 +497,7 @@ key_request-row : (me : Member) (before : Log) (from to r : ℕ) (k : XKind) (ro
     → (has_said (is_of kinds.Case (exchange_by r k role from to) (other_role role)) before ≡ true) × (has_heard (is_of kinds.Case (exchange_by r k role from to) role) before ≡ true)
 key_request-row me before from to r k role row = let p = and_parts _ _ (and_parts _ _ (and_parts _ _ row).0).0 in p
 
-pub orders-stand : (me : Member) (log : Log) (is_new : Bool) (d : Datagram) → IsObedient me log → WasHeard log d → AllByRecursion (Stands me log) (reply_orders me (known me log) is_new d)
+pub orders-stand : (me : Member) (log : Log) (is_new : Bool) (d : Datagram) → IsObedient me log → WasHeard log d → AllByRecursion (MayBeOrdered me log) (reply_orders me (known me log) is_new d)
 orders-stand me log is_new d h w = go d.message.body refl
   where
     later : IsLater log w.before
@@ -509,15 +509,15 @@ orders-stand me log is_new d h w = go d.message.body refl
     allowed : Allows me w.before (Heard d)
     allowed = (allowed-at me log w.before (Heard d) w.place h).0
 
-    own : (b : Body) (p : ℕ × XKind × Role) → d.message.body ≡ b → part_of b ≡ Some p → IsOwn me d
+    own : (b : Body) (p : ℕ × XKind × Role) → d.message.body ≡ b → part_of b ≡ Some p → IsForOneMember me d
     own b p e f = heard-own me w.before d p allowed (ap part_of e ∙ f)
 
     bounds : (b : Body) (p : ℕ × XKind × Role) → d.message.body ≡ b → part_of b ≡ Some p → (1 ≤ p.0) × (p.0 ≤ me.session.shape.rounds)
     bounds b p e f = heard-round me w.before d p allowed (ap part_of e ∙ f)
 
-    go : (b : Body) → d.message.body ≡ b → AllByRecursion (Stands me log) (orders_for me (known me log) is_new d.message.from d.message.to b)
+    go : (b : Body) → d.message.body ≡ b → AllByRecursion (MayBeOrdered me log) (orders_for me (known me log) is_new d.message.from d.message.to b)
     go (Request r seed c) e =
-        let o : IsOwn me d = own (Request r seed c) (r, Balanced, Initiator) e refl in
+        let o : IsForOneMember me d = own (Request r seed c) (r, Balanced, Initiator) e refl in
         when-stands me log _ (Answer (exchange_by r Balanced Initiator d.message.from d.message.to) ∷ []) (λ z. (
           (
             partner-party me r Balanced Initiator d.message.from d.message.to o.to o.other (bounds (Request r seed c) (r, Balanced, Initiator) e refl),
@@ -527,13 +527,13 @@ orders-stand me log is_new d h w = go d.message.body refl
           tt,
         ))
     go (Response r hb) e =
-        let o : IsOwn me d = own (Response r hb) (r, Balanced, Responder) e refl in
+        let o : IsForOneMember me d = own (Response r hb) (r, Balanced, Responder) e refl in
         when-stands me log _ (Reveal (exchange_by r Balanced Responder d.message.from d.message.to) ∷ GiveCase (exchange_by r Balanced Responder d.message.from d.message.to) ∷ []) (λ z. (tt, ((partner-party me r Balanced Responder d.message.from d.message.to o.to o.other (bounds (Response r hb) (r, Balanced, Responder) e refl), inr (and_parts _ _ z).1), tt)))
     go (Divulge r nonce ha) e =
-        let o : IsOwn me d = own (Divulge r nonce ha) (r, Balanced, Initiator) e refl in
+        let o : IsForOneMember me d = own (Divulge r nonce ha) (r, Balanced, Initiator) e refl in
         when-stands me log _ (GiveCase (exchange_by r Balanced Initiator d.message.from d.message.to) ∷ []) (λ z. ((partner-party me r Balanced Initiator d.message.from d.message.to o.to o.other (bounds (Divulge r nonce ha) (r, Balanced, Initiator) e refl), inr (and_parts _ _ z).1), tt))
     go (Query r seed young aged) e =
-        let o : IsOwn me d = own (Query r seed young aged) (r, Push, Initiator) e refl in
+        let o : IsForOneMember me d = own (Query r seed young aged) (r, Push, Initiator) e refl in
         when-stands me log _ (Answer (exchange_by r Push Initiator d.message.from d.message.to) ∷ GiveCase (exchange_by r Push Initiator d.message.from d.message.to) ∷ []) (λ z. (
           (
             partner-party me r Push Initiator d.message.from d.message.to o.to o.other (bounds (Query r seed young aged) (r, Push, Initiator) e refl),
@@ -543,11 +543,11 @@ orders-stand me log is_new d h w = go d.message.body refl
           ((partner-party me r Push Initiator d.message.from d.message.to o.to o.other (bounds (Query r seed young aged) (r, Push, Initiator) e refl), inl refl), tt),
         ))
     go (Reply r want give junk) e =
-        let o : IsOwn me d = own (Reply r want give junk) (r, Push, Responder) e refl in
+        let o : IsForOneMember me d = own (Reply r want give junk) (r, Push, Responder) e refl in
         when-stands me log _ (GiveCase (exchange_by r Push Responder d.message.from d.message.to) ∷ []) (λ z. ((partner-party me r Push Responder d.message.from d.message.to o.to o.other (bounds (Reply r want give junk) (r, Push, Responder) e refl), inl refl), tt))
     go (Case c) e = when-stands me log _ (AskKey (exchange_by c.round c.kind c.role d.message.from d.message.to) ∷ []) (λ z. (tt, tt))
     go (KeyReq r k role) e =
-        let o : IsOwn me d = own (KeyReq r k role) (r, k, role) e refl in
+        let o : IsForOneMember me d = own (KeyReq r k role) (r, k, role) e refl in
         let row = key_request-row me w.before d.message.from d.message.to r k role (subst (λ b. is_row_met me (known me w.before) d.message.from d.message.to b ≡ true) e (admitted-row me w.before d admitted)) in
         let side : role_of me (exchange_by r k role d.message.from d.message.to) ≡ other_role role = receiver-role me r k role d.message.from d.message.to o.to o.other in
         when-stands me log _ (GiveKey (exchange_by r k role d.message.from d.message.to) ∷ []) (λ z. (

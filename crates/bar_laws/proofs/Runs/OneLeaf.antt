@@ -102,25 +102,25 @@ seat_by-below me log (Some p) h = go (seat log p.exchange) refl
 -- ---- what stands before a message
 
 -- the first message of this member's side of an exchange is said
-abbrev pub IsBegun : Log → ℕ → XKind → Role → ℕ → ℕ → Type 0
-IsBegun log r k role f t = has_said (is_of (opening_kind k role) (exchange_by r k role f t) role) log ≡ true
+abbrev pub IsExchangeOpened : Log → ℕ → XKind → Role → ℕ → ℕ → Type 0
+IsExchangeOpened log r k role f t = has_said (is_of (opening_kind k role) (exchange_by r k role f t) role) log ≡ true
 
 -- a briefcase that may be given
-case-begun : (me : Member) (before : Log) (r : ℕ) (k : XKind) (role : Role) (to : ℕ) (t : Terms) → IsObedient me before → (to ≡ me.party → ⊥) → terms_of me (known me before) (exchange_by r k role me.party to) ≡ Some t → IsBegun before r k role me.party to
+case-begun : (me : Member) (before : Log) (r : ℕ) (k : XKind) (role : Role) (to : ℕ) (t : Terms) → IsObedient me before → (to ≡ me.party → ⊥) → terms_of me (known me before) (exchange_by r k role me.party to) ≡ Some t → IsExchangeOpened before r k role me.party to
 case-begun me before r k role to t h other e =
     let x : Exchange = exchange_by r k role me.party to in
     subst (λ z. has_said (is_of (opening_kind z role) x role) before ≡ true) (kind-on r k role me.party to)
     (terms-said me before x role t h (party-on r k role me.party to) (role-own me r k role to other) e)
 
 -- a key that may be given: its briefcase was begun
-key-begun : (me : Member) (before : Log) (r : ℕ) (k : XKind) (role : Role) (to : ℕ) → IsObedient me before → (w : (c : _) × CaseMoment before (exchange_by r k role me.party to) role c) → IsBegun before r k role me.party to
+key-begun : (me : Member) (before : Log) (r : ℕ) (k : XKind) (role : Role) (to : ℕ) → IsObedient me before → (w : (c : _) × CaseMoment before (exchange_by r k role me.party to) role c) → IsExchangeOpened before r k role me.party to
 key-begun me before r k role to h w =
     let x : Exchange = exchange_by r k role me.party to in
     let c = w.0 in
     let d : Datagram = w.1.datagram in
     let al = allowed-at me before w.1.was.before (Said d) w.1.was.place h in
     let rule = subst (λ b. MaySay me (known me w.1.was.before) d.message.to b) w.1.body al.0.rule.rule in
-    let begun : IsBegun w.1.was.before c.round c.kind c.role me.party d.message.to = case-begun me w.1.was.before c.round c.kind c.role d.message.to c.terms al.1 (sign-elsewhere me w.1.was.before d.message al.1 al.0.rule) rule.terms in
+    let begun : IsExchangeOpened w.1.was.before c.round c.kind c.role me.party d.message.to = case-begun me w.1.was.before c.round c.kind c.role d.message.to c.terms al.1 (sign-elsewhere me w.1.was.before d.message al.1 al.0.rule) rule.terms in
     let of = is_of-is kinds.Case x role d.message w.1.of in
     let part = parts-of (c.round, c.kind, c.role) (of.round, of.sort, role) (sym (ap part_of w.1.body) ∙ of.part) in
     let same : exchange_by c.round c.kind c.role me.party d.message.to ≡ x =
@@ -131,7 +131,7 @@ key-begun me before r k role to h w =
     (sym (λ i. has_said (is_of (opening_kind (sort i) (part.2 i)) (same i) (part.2 i)) w.1.was.before) ∙ begun)
 
 -- a responder's first message is said where the request is heard
-first-asked : (me : Member) (log : Log) (r : ℕ) (k : XKind) (to : ℕ) → IsObedient me log → IsBegun log r k Responder me.party to → has_heard (is_of (request_kind k) (exchange_by r k Responder me.party to) Initiator) log ≡ true
+first-asked : (me : Member) (log : Log) (r : ℕ) (k : XKind) (to : ℕ) → IsObedient me log → IsExchangeOpened log r k Responder me.party to → has_heard (is_of (request_kind k) (exchange_by r k Responder me.party to) Initiator) log ≡ true
 first-asked me log r k to h e = at (some-is _ e)
   where
     x : Exchange
@@ -166,12 +166,12 @@ pub record Placed (me : Member) (before : Log) (m : Message) : Type 0 where
   pub role : Role
   pub part : part_of m.body ≡ Some (round, kind, role)
   pub signed : is_signed m.body ≡ true
-  pub first : (kind_number m.body ≡ code_of (opening_kind kind role)) ⊎ IsBegun before round kind role me.party m.to
+  pub first : (kind_number m.body ≡ code_of (opening_kind kind role)) ⊎ IsExchangeOpened before round kind role me.party m.to
   pub asked : role ≡ Responder → has_heard (is_of (request_kind kind) (exchange_by round kind Responder me.party m.to) Initiator) before ≡ true
 
 -- a message after the first one of its side
-later-placed : (me : Member) (before : Log) (m : Message) (r : ℕ) (k : XKind) (role : Role) → IsObedient me before → part_of m.body ≡ Some (r, k, role) → is_signed m.body ≡ true → IsBegun before r k role me.party m.to → Placed me before m
-later-placed me before m r k role h part signed begun = record { round = r; kind = k; role = role; part = part; signed = signed; first = inr begun; asked = λ e. first-asked me before r k m.to h (subst (λ z. IsBegun before r k z me.party m.to) e begun) }
+later-placed : (me : Member) (before : Log) (m : Message) (r : ℕ) (k : XKind) (role : Role) → IsObedient me before → part_of m.body ≡ Some (r, k, role) → is_signed m.body ≡ true → IsExchangeOpened before r k role me.party m.to → Placed me before m
+later-placed me before m r k role h part signed begun = record { round = r; kind = k; role = role; part = part; signed = signed; first = inr begun; asked = λ e. first-asked me before r k m.to h (subst (λ z. IsExchangeOpened before r k z me.party m.to) e begun) }
 
 pub placed : (me : Member) (before : Log) (m : Message) → IsObedient me before → MaySign me before m → Placed me before m
 placed me before m h sign = go m.body refl sign.rule
@@ -188,7 +188,7 @@ placed me before m h sign = go m.body refl sign.rule
 -- ---- one partner
 
 -- the first message of the side of a message that was said
-pub begun-in : (me : Member) (log : Log) (d : Datagram) (r : ℕ) (k : XKind) (role : Role) → IsObedient me log → WasSaid log d → part_of d.message.body ≡ Some (r, k, role) → IsBegun log r k role me.party d.message.to
+pub begun-in : (me : Member) (log : Log) (d : Datagram) (r : ℕ) (k : XKind) (role : Role) → IsObedient me log → WasSaid log d → part_of d.message.body ≡ Some (r, k, role) → IsExchangeOpened log r k role me.party d.message.to
 begun-in me log d r k role h w part = go place.first
   where
     al : Allows me w.before (Said d) × IsObedient me w.before
@@ -200,7 +200,7 @@ begun-in me log d r k role h w part = go place.first
     same : (place.round ≡ r) × (place.kind ≡ k) × (place.role ≡ role)
     same = parts-of (place.round, place.kind, place.role) (r, k, role) (sym place.part ∙ part)
 
-    go : (kind_number d.message.body ≡ code_of (opening_kind place.kind place.role)) ⊎ IsBegun w.before place.round place.kind place.role me.party d.message.to → IsBegun log r k role me.party d.message.to
+    go : (kind_number d.message.body ≡ code_of (opening_kind place.kind place.role)) ⊎ IsExchangeOpened w.before place.round place.kind place.role me.party d.message.to → IsExchangeOpened log r k role me.party d.message.to
     go (inl n) =
         let number : kind_number d.message.body ≡ code_of (opening_kind k role) = n ∙ (λ i. code_of (opening_kind (same.1 i) (same.2 i))) in
         let m = d.message in
@@ -210,11 +210,11 @@ begun-in me log d r k role h w part = go place.first
     go (inr b) = said-more _ log w.before (later-entry log w.before (Said d) w.place) (sym (λ i. has_said (is_of (opening_kind (same.1 i) (same.2 i)) (exchange_by (same.0 i) (same.1 i) (same.2 i) me.party d.message.to) (same.2 i)) w.before) ∙ b)
 
 -- one request of a round and kind
-pub one-request : (me : Member) (log : Log) (r : ℕ) (k : XKind) (s t : ℕ) → IsObedient me log → IsBegun log r k Initiator me.party s → IsBegun log r k Initiator me.party t → s ≡ t
+pub one-request : (me : Member) (log : Log) (r : ℕ) (k : XKind) (s t : ℕ) → IsObedient me log → IsExchangeOpened log r k Initiator me.party s → IsExchangeOpened log r k Initiator me.party t → s ≡ t
 one-request me log r k s t h a b = go k a b
   where
     -- a request of the exchange that was said, with its name
-    request : (k : XKind) (u : ℕ) → IsBegun log r k Initiator me.party u
+    request : (k : XKind) (u : ℕ) → IsExchangeOpened log r k Initiator me.party u
         → (d : Datagram) × SaidIn log d × (is_of (request_kind k) (exchange_by r k Initiator me.party u) Initiator d.message ≡ true)
     request k u e =
         let g = some-is _ e in
@@ -240,7 +240,7 @@ one-request me log r k s t h a b = go k a b
     parts Balanced u m b n e = absurd (other-kind b (request_kind Balanced) refl n)
     parts Push u m b n e = absurd (other-kind b (request_kind Push) refl n)
 
-    go : (k : XKind) → IsBegun log r k Initiator me.party s → IsBegun log r k Initiator me.party t → s ≡ t
+    go : (k : XKind) → IsExchangeOpened log r k Initiator me.party s → IsExchangeOpened log r k Initiator me.party t → s ≡ t
     go k a b =
         let d = request k s a in
         let e = request k t b in
@@ -254,7 +254,7 @@ pub has-seat : (me : Member) (log : Log) (r : ℕ) (k : XKind) (to : ℕ) → ha
 has-seat me log r k to e = some-is _ (seat-of log (exchange_by r k Responder me.party to) e)
 
 -- two messages of one round, kind and side that were said went to one partner, where a responder's have one seat
-one-partner : (me : Member) (log : Log) (s t : ℕ) (r : ℕ) (k : XKind) (role : Role) → IsObedient me log → IsBegun log r k role me.party s → IsBegun log r k role me.party t
+one-partner : (me : Member) (log : Log) (s t : ℕ) (r : ℕ) (k : XKind) (role : Role) → IsObedient me log → IsExchangeOpened log r k role me.party s → IsExchangeOpened log r k role me.party t
     → (role ≡ Responder → unwrap_or (seat log (exchange_by r k role me.party s)) 0 ≡ unwrap_or (seat log (exchange_by r k role me.party t)) 0) → s ≡ t
 one-partner me log s t r k Initiator h p q same = one-request me log r k s t h p q
 one-partner me log s t r k Responder h p q same =

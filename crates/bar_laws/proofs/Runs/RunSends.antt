@@ -18,7 +18,7 @@ use Rattle.bar_rules.specs.Peer.Ticks.{orders_at_tick}
 use Rattle.bar_rules.specs.Values.{datagram_of, unsigned}
 use Rattle.bar_rules.specs.Peer.Machine as machine
 use Rattle.bar_laws.specs.Obedience.{IsSentByRule}
-use Rattle.bar_laws.specs.Balance.{key_was_sent, totals_of, IsEven}
+use Rattle.bar_laws.specs.Balance.{key_was_sent, totals_of, IsBalanced}
 use Rattle.bar_window.specs.declared.exchange.Exchange.{Exchange}
 use Rattle.bar_window.specs.declared.exchange.Role.{Role}
 use Rattle.bar_wire.specs.declared.kind.Kind.TheVariants as kinds
@@ -32,7 +32,7 @@ use Rattle.std.specs.List.{AllByRecursion, list_any}
 use Rattle.std.proofs.lemmas.Bool.{or_cases, both_ways}
 use Rattle.bar_wire.proofs.Lists.{AllByRecursion-push}
 use Rattle.bar_laws.specs.Growing.{IsLater}
-use Rattle.bar_laws.proofs.Logs.{later-same, first_said-was, SaidIn, was-said, said-found, IsKeyOf, is_of-key, IsBalanced, balance, all-both, all-map, receiver-on}
+use Rattle.bar_laws.proofs.Logs.{later-same, first_said-was, SaidIn, was-said, said-found, IsKeyOf, is_of-key, HasEvenBriefcases, balance, all-both, all-map, receiver-on}
 use Rattle.bar_laws.proofs.Runs.StepAdds.{SentBy, IsPlain, step-adds}
 
 -- ---- logs grow
@@ -178,19 +178,19 @@ any-said log x role (s ∷ sends) a e = go (or_cases _ _ e) (any-said log x role
     go (inr there) f = f there
 
 -- a key that was sent was said: then both briefcases stand
-pub run-balanced : (me : Member) (inputs : List Input) (x : Exchange) → IsObedient me (log_after me [] inputs) → IsEven (totals_of me inputs x)
+pub run-balanced : (me : Member) (inputs : List Input) (x : Exchange) → IsObedient me (log_after me [] inputs) → IsBalanced (totals_of me inputs x)
 run-balanced me inputs x h = go (key_was_sent me x (sends_of me inputs)) refl
   where
     log : Log
     log = log_after me [] inputs
 
-    even : has_said (is_of kinds.Key x (role_of me x)) log ≡ true → IsEven (totals me (known me log) x) → IsEven (totals_with me (known me log) x true)
-    even said e = subst (λ b. IsEven (totals_with me (known me log) x b)) said e
+    even : has_said (is_of kinds.Key x (role_of me x)) log ≡ true → IsBalanced (totals me (known me log) x) → IsBalanced (totals_with me (known me log) x true)
+    even said e = subst (λ b. IsBalanced (totals_with me (known me log) x b)) said e
 
-    by : ((totals me (known me log) x).opened ≡ 0) ⊎ IsBalanced me log x → IsEven (totals me (known me log) x)
+    by : ((totals me (known me log) x).opened ≡ 0) ⊎ HasEvenBriefcases me log x → IsBalanced (totals me (known me log) x)
     by (inl z) = inl z
     by (inr b) = inr (b.promised, b.received)
 
-    go : (b : Bool) → key_was_sent me x (sends_of me inputs) ≡ b → IsEven (totals_of me inputs x)
+    go : (b : Bool) → key_was_sent me x (sends_of me inputs) ≡ b → IsBalanced (totals_of me inputs x)
     go false e = inl (rw e refl)
     go true e = rw e (even (any-said log x (role_of me x) (sends_of me inputs) (run-sent me [] 1 inputs) e) (by (balance me log x h)))

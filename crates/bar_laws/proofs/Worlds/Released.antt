@@ -9,7 +9,7 @@ use Rattle.std.proofs.Common.{◌≡◌, ◌∙◌, ℕ, ◌≤◌, Bool, true, 
 use Rattle.std.specs.Prelude.{Some, slice_get, nat_le}
 use Rattle.std.specs.Bool.{then_some}
 use Rattle.std.proofs.lemmas.Bool.{le-leb}
-use Rattle.bar_laws.proofs.Fitting.{IsOwnMessage, IsBegun, IsOwnBody}
+use Rattle.bar_laws.proofs.Fitting.{IsOwnMessage, IsOfBegunRound, IsOwnBody}
 use Rattle.bar_laws.proofs.Worlds.SoundWorlds.{IsSound}
 use Rattle.bar_laws.proofs.Worlds.Evictions.{list-said}
 
@@ -20,14 +20,14 @@ pub record IsReleased (setup : Setup) (log0 : Log) (r : ℕ) (ds : List (List �
   pub high : r ≤ setup.session.shape.rounds
   pub begun : r ≤ round_now log0
 
-released-by : (setup : Setup) (log0 : Log) (r : ℕ) (ds : List (List ℕ)) (d : Datagram) → IsOwnMessage setup.session setup.stream 0 d → IsBegun log0 d.message.body → d.message.body ≡ Manifest r ds → IsReleased setup log0 r ds
+released-by : (setup : Setup) (log0 : Log) (r : ℕ) (ds : List (List ℕ)) (d : Datagram) → IsOwnMessage setup.session setup.stream 0 d → IsOfBegunRound log0 d.message.body → d.message.body ≡ Manifest r ds → IsReleased setup log0 r ds
 released-by setup log0 r ds d own begun e =
     let range : IsRound setup.session.shape r = (subst (λ b. InRange setup.session.shape b) e own.fits.range).0 in
     record {
       list = subst (λ b. IsOwnBody setup.session setup.stream b) e own.body;
       low = omega (arith, range.0);
       high = range.1;
-      begun = subst (λ b. IsBegun log0 b) e begun;
+      begun = subst (λ b. IsOfBegunRound log0 b) e begun;
     }
 
 pub list-released : (setup : Setup) (trusted : ℕ → Bool) (w : World) (q : ℕ) (log log0 : Log) (r : ℕ) (ds : List (List ℕ)) → IsSound setup trusted w → trusted 0 ≡ true → eqb q 0 ≡ false

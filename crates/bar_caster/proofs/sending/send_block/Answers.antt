@@ -8,7 +8,7 @@ use Rattle.bar_rules.specs.Peer.Log.{Log, kept}
 use Rattle.bar_caster.specs.declared.item.Item.{Item}
 use Rattle.bar_caster.specs.declared.item.Item.TheVariants as items
 use Rattle.bar_caster.specs.Fanout.{AreRanksOf}
-use Rattle.bar_caster.specs.Memory.{Tells, member_of}
+use Rattle.bar_caster.specs.Memory.{Represents, member_of}
 use Rattle.bar_caster.specs.Orders.{Orders, orders_to}
 use Rattle.bar_caster.specs.Ticking.{update_now}
 use Rattle.bar_caster.proofs.Pushed.{IsPushed, gets_block, is-served, not_pushed, pushed-more, pushed_to}
@@ -26,11 +26,11 @@ loop-before-preserved c =
     let new : Orders = c.if-not-is_evicted.orders in
     let peers : c.shape-before-end.result.peers ≡ m.session.shape.peers = ap (λ (s : Shape). s.peers) c.shape-before-end.ensures.value in
     let high : peer ≤ m.session.shape.peers = omega (arith, c.loop-before-test.true, peers) in
-    let served : (log : Log) → Tells log m → is_none (kept log peer) ≡ not c.is_evicted.result =
+    let served : (log : Log) → Represents log m → is_none (kept log peer) ≡ not c.is_evicted.result =
     λ log tells. is-served m.session m.evictions log peer c.is_evicted.result tells.evictions (omega arith, high) c.is_evicted.ensures in
     let step :
     (b : Bool) × (IsPushed l.orders new item peer b
-    × ((log : Log) → Tells log m → AreRanksOf me (update_now log c.args.index) c.args.ranks.now
+    × ((log : Log) → Represents log m → AreRanksOf me (update_now log c.args.index) c.args.ranks.now
     → gets_block me log c.args.index peer ≡ b)) =
     elim c.if-not-is_evicted.branch [
       | then-not-is_evicted+then-is_sent_to w ↦ (

@@ -1,6 +1,6 @@
 use Rattle.std.proofs.Common.{◌≡◌, ◌+◌, ◌*◌, ◌≤◌, ◌++◌, length}
 use Rattle.bar_rules.specs.Peer.Log.{Log}
-use Rattle.bar_caster.specs.Memory.{Tells, member_of}
+use Rattle.bar_caster.specs.Memory.{Represents, member_of}
 use Rattle.bar_caster.specs.Ticking.{block_orders}
 use Rattle.bar_caster.proofs.sending.send_blocks.Given as goal
 
@@ -12,7 +12,7 @@ invariant-loop-index g l = record {
   few : length l.orders.list.items ≤ length l.initial.orders.list.items + l.index * l.memory.session.shape.peers;
   room : l.orders.room ≡ l.initial.orders.room;
   given : l.orders.given ≡ l.initial.orders.given;
-  sent : (log : Log) → Tells log l.memory
+  sent : (log : Log) → Represents log l.memory
       → length l.initial.orders.list.items + l.memory.session.shape.per_round * l.memory.session.shape.peers ≤ l.initial.orders.room
       → l.orders.list.items ≡ l.initial.orders.list.items ++ block_orders (member_of l.memory) log 0 l.index;
 }

@@ -13,7 +13,7 @@ use Rattle.std.specs.Bool.{then_some}
 use Rattle.bar_laws.specs.Soundness.{IsSound}
 use Rattle.bar_balanced.specs.Balanced.{AreSpelled}
 use Rattle.bar_peer.specs.Memory.{member_of}
-use Rattle.bar_peer.specs.Sending.{Stands}
+use Rattle.bar_peer.specs.Sending.{HasOutcome}
 use Rattle.bar_peer.proofs.Answered.{nothing-changed, answered-before, answered-new, answered-again, new-replied, repeat-answered, not-repeated, apart, received}
 use Rattle.bar_laws.proofs.Fitting.{perform_all-before}
 use Rattle.bar_peer.proofs.Sent.{none_stand}
@@ -29,7 +29,7 @@ returns-then-is_admitted-clause-stands c log obeys tells weighed empty room =
     let heard : IsObedient me (Heard d ∷ log) =
     perform_all-before me (reply_orders me (known me (Heard d ∷ log)) true d) (begun (Heard d ∷ log)) now
     in
-    subst (λ out. Stands out c.reply.new.memory c.reply.new.orders) (sym is)
+    subst (λ out. HasOutcome out c.reply.new.memory c.reply.new.orders) (sym is)
     (new-replied log d c.args.memory.now c.hear.new.self c.reply.new.memory c.args.orders.now c.reply.new.orders c.says_to-says.result
     c.args.memory.now.who.is_member c.says_to-says.ensures.fitting (apart c.args.memory.now.who.session.shape d me.party c.requires.view.spelled.fits (received me (known me log) d admitted)) c.hear.ensures.party.who admitted (c.hear.ensures.learns log heard tells) c.says_to-says.ensures.orders c.reply.ensures.stands empty room now)
 
@@ -42,7 +42,7 @@ returns-then-is_repeat-clause-stands c log obeys tells weighed empty room =
     let spelled : AreSpelled me (known me log) = record { spelled = sound.spelled } in
     let refused : is_admitted me (known me log) d ≡ false = sym weighed ∙ c.if-is_admitted.false in
     let is = answered-again me log d refused in
-    subst (λ out. Stands out c.reply-then-is_repeat.new.memory c.reply-then-is_repeat.new.orders) (sym is)
+    subst (λ out. HasOutcome out c.reply-then-is_repeat.new.memory c.reply-then-is_repeat.new.orders) (sym is)
     (repeat-answered log d c.args.memory.now c.reply-then-is_repeat.new.memory c.args.orders.now c.reply-then-is_repeat.new.orders
     c.says_to-says-then-is_repeat.result c.args.arrival.now.bytes.now c.args.memory.now.who.is_member sound c.bytes_spell_one.ensures c.requires.view.spelled
     c.says_to-says-then-is_repeat.ensures.fitting c.says_to-says-then-is_repeat.ensures.orders c.reply-then-is_repeat.ensures.stands
@@ -58,7 +58,7 @@ returns-else-is_repeat-clause-stands c log obeys tells weighed empty room =
     let spelled : AreSpelled me (known me log) = record { spelled = sound.spelled } in
     let refused : is_admitted me (known me log) d ≡ false = sym weighed ∙ c.if-is_admitted.false in
     let is = answered-again me log d refused in
-    subst (λ out. Stands out c.args.memory.now c.args.orders.now) (sym (is ∙ not-repeated me log d c.args.arrival.now.bytes.now c.args.memory.now.who.is_member sound
+    subst (λ out. HasOutcome out c.args.memory.now c.args.orders.now) (sym (is ∙ not-repeated me log d c.args.arrival.now.bytes.now c.args.memory.now.who.is_member sound
     c.bytes_spell_one.ensures c.requires.view.spelled
     (λ in_time. c.is_repeat.ensures (known me log) tells spelled in_time ∙ ap (λ b. then_some b d) c.if-is_repeat.false)))
     (none_stand log c.args.memory.now c.args.orders.now tells empty)

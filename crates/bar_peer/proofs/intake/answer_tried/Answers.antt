@@ -8,11 +8,11 @@ use Rattle.bar_rules.specs.Peer.Knowledge.{known}
 use Rattle.bar_rules.specs.Peer.Run.{answered_to, with_evidence}
 use Rattle.bar_peer.specs.declared.credentials.Credentials.{Credentials}
 use Rattle.bar_peer.specs.Memory.{member_of}
-use Rattle.bar_peer.specs.Sending.{Stands}
+use Rattle.bar_peer.specs.Sending.{HasOutcome}
 use Rattle.bar_rules.specs.Peer.Replies.{repeated}
 use Rattle.bar_rules.specs.Peer.Rules.{IsObedient}
 use Rattle.bar_peer.specs.declared.memory.Memory.{Memory}
-use Rattle.bar_peer.specs.Memory.{Tells}
+use Rattle.bar_peer.specs.Memory.{Represents}
 use Rattle.bar_peer.proofs.Ignored.{TellsNothing, nothing-told}
 use Rattle.bar_peer.proofs.Taken.{AreObedient, Answers, admitted-still, obeyed, tried-stands, untried-stands}
 use Rattle.bar_peer.proofs.intake.answer_tried.Goals as goal
@@ -27,7 +27,7 @@ returns-then-is_found-clause-stands g c log obeys tells tried weighed empty room
     let all : AreObedient me log d v.from ev = obeyed me log d v.from ev obeys in
     let kept = c.keep_found-is_found.ensures.kept log all.kept all.first tells tried in
     let same = c.keep_found-is_found.ensures.rest.who in
-    let stands : Stands (answered_to me (with_evidence me log v.from ev) d) c.answer.new.memory c.answer.new.orders =
+    let stands : HasOutcome (answered_to me (with_evidence me log v.from ev) d) c.answer.new.memory c.answer.new.orders =
     subst (λ (w : Credentials). Answers w v c.keep_found-is_found.new.self c.args.orders.now c.args.is_admitted c.answer.new.memory c.answer.new.orders) same
     c.answer.ensures.stands
     (with_evidence me log v.from ev)
@@ -54,7 +54,7 @@ returns-else-is_found-clause-stands g c log obeys tells tried weighed empty room
     let all : AreObedient me log d v.from ev = obeyed me log d v.from ev obeys in
     let kept = c.keep_found-is_found.ensures.kept log all.kept all.first tells tried in
     let same = c.keep_found-is_found.ensures.rest.who in
-    let stands : Stands (answered_to me (with_evidence me log v.from ev) d) c.answer.new.memory c.answer.new.orders =
+    let stands : HasOutcome (answered_to me (with_evidence me log v.from ev) d) c.answer.new.memory c.answer.new.orders =
     subst (λ (w : Credentials). Answers w v c.keep_found-is_found.new.self c.args.orders.now c.args.is_admitted c.answer.new.memory c.answer.new.orders) same
     c.answer.ensures.stands
     (with_evidence me log v.from ev)
@@ -88,7 +88,7 @@ returns-else-is_found-clause-idle g c refused log obeys tells tried idle =
     let same : c.keep_found-is_found.new.self ≡ c.args.memory.now = c.keep_found-is_found.ensures.none c.if-is_found.false in
     c.answer.ensures.idle log
     (subst (λ (m : Memory). IsObedient (member_of m.who) log) (sym same) obeys)
-    (subst (λ (m : Memory). Tells log m) (sym same) tells)
+    (subst (λ (m : Memory). Represents log m) (sym same) tells)
     refused
     (ap (λ (m : Memory). repeated (member_of m.who) (known (member_of m.who) log) (datagram m.who.session.shape v)) same ∙ none.unlike)
     ∙ same

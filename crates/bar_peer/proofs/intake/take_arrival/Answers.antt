@@ -8,7 +8,7 @@ use Rattle.bar_rules.specs.Peer.Rules.{IsObedient}
 use Rattle.bar_rules.specs.Peer.Run.{answered_to, report_new, with_evidence}
 use Rattle.bar_laws.specs.Soundness.{IsSound}
 use Rattle.bar_peer.specs.Memory.{member_of}
-use Rattle.bar_peer.specs.Sending.{Stands}
+use Rattle.bar_peer.specs.Sending.{HasOutcome}
 use Rattle.bar_peer.proofs.Ignored.{TellsNothing, nothing-told}
 use Rattle.bar_peer.proofs.Taken.{AreObedient, obeyed, none-new}
 use Rattle.bar_peer.proofs.intake.take_arrival.Goals as goal
@@ -40,7 +40,7 @@ returns-else-weighed-clause-stands g c log obeys tells empty room =
     subst (λ (e : Option (List (List ℕ))). IsObedient me (answered_to me (with_evidence me log q e) d).state) none all.answered
     in
     subst
-    (λ (e : Option (List (List ℕ))). Stands (report_new me (answered_to me (with_evidence me log q e) d) q e) c.answer.new.memory c.answer.new.orders)
+    (λ (e : Option (List (List ℕ))). HasOutcome (report_new me (answered_to me (with_evidence me log q e) d) q e) c.answer.new.memory c.answer.new.orders)
     (sym none)
     (c.answer.ensures.stands log answered tells (c.weigh-weighed.ensures.admitted k tells sound) empty (omega (arith, room)))
 

@@ -11,7 +11,7 @@ use Rattle.bar_rules.specs.Values.{datagram_of}
 use Rattle.bar_rules.specs.Peer.Rules.{IsObedient}
 use Rattle.bar_rules.specs.Peer.Run.{take_datagram}
 use Rattle.bar_peer.specs.Memory.{member_of}
-use Rattle.bar_peer.specs.Sending.{Stands}
+use Rattle.bar_peer.specs.Sending.{HasOutcome}
 use Rattle.bar_rules.specs.Peer.Knowledge.{known}
 use Rattle.bar_laws.specs.Ignoring.{tells_nothing}
 use Rattle.bar_peer.proofs.intake.take_datagram.Goals as goal
@@ -23,7 +23,7 @@ returns-in-Ok-clause-stands g c log obeys tells empty room =
     let read : Some d ≡ datagram_of me.session c.args.bytes.now =
     c.in-Ok.ensures.told ∙ ap (λ (shape : Shape). places.datagram_of shape c.args.bytes.now) c.shape-shape.ensures.value
     in
-    subst (λ (o : Option Datagram). Stands (take_datagram me log o) c.take_arrival.new.memory c.take_arrival.new.orders) read
+    subst (λ (o : Option Datagram). HasOutcome (take_datagram me log o) c.take_arrival.new.memory c.take_arrival.new.orders) read
     (c.take_arrival.ensures.stands log (subst (λ (o : Option Datagram). IsObedient me (take_datagram me log o).state) (sym read) obeys) tells empty room)
 
 pub returns-in-Ok-clause-ignored : goal.returns-in-Ok-clause-ignored

@@ -13,7 +13,7 @@ use Rattle.bar_rules.specs.Secrets.{partner_of, seed_of}
 use Rattle.bar_laws.proofs.Logs.{role-initiator}
 use Rattle.bar_peer.specs.declared.order.Order.TheVariants as queued
 use Rattle.bar_peer.specs.Memory.{member_of}
-use Rattle.bar_peer.specs.Sending.{IsTimely, IsCarriedOut, Stands}
+use Rattle.bar_peer.specs.Sending.{IsTimely, IsCarriedOut, HasOutcome}
 use Rattle.bar_peer.proofs.Asked.{partner_is, none_asked, one_asked, asks_timely, carried_stands}
 use Rattle.bar_peer.proofs.Growing.{grows}
 use Rattle.bar_peer.proofs.partners.ask_partner.Goals as goal
@@ -32,7 +32,7 @@ returns-then-is_named-clause-stands c = λ out before same obedient h room.
     let named : before.is_announced c.partner-to.result ≡ true =
     same c.partner-to.result ∙ h.tells.announced c.partner-to.result ∙ sym c.is_named.ensures ∙ c.if-is_named.true
     in
-    subst (λ (os : List Order). Stands (perform_all me out os) m c.args.orders.now)
+    subst (λ (os : List Order). HasOutcome (perform_all me out os) m c.args.orders.now)
     (none_asked me before (round_after m.ticks) c.args.kind c.partner-to.result to named)
     h
 
@@ -75,7 +75,7 @@ returns-then-ask-clause-stands c = λ out before same obedient h room.
     let done : IsCarriedOut me (record { kind = request_kind x.kind; x = x }) out after c.ask.result c.ask.new.self =
     c.ask.ensures.carried_out out allowed h.tells now (role-initiator me x first)
     in
-    subst (λ (os : List Order). Stands (perform_all me out os) c.ask.new.self c.push.new.self) is
+    subst (λ (os : List Order). HasOutcome (perform_all me out os) c.ask.new.self c.push.new.self) is
     (carried_stands m c.ask.new.self c.args.orders.now c.push.new.self out after
     (record { kind = request_kind x.kind; x = x })
     c.ask.result
@@ -129,7 +129,7 @@ returns-else-ask-clause-stands c = λ out before same obedient h room.
     let done : IsCarriedOut me (record { kind = request_kind x.kind; x = x }) out after c.ask.result c.ask.new.self =
     c.ask.ensures.carried_out out allowed h.tells now (role-initiator me x first)
     in
-    subst (λ (os : List Order). Stands (perform_all me out os) c.ask.new.self c.args.orders.now) is
+    subst (λ (os : List Order). HasOutcome (perform_all me out os) c.ask.new.self c.args.orders.now) is
     (carried_stands m c.ask.new.self c.args.orders.now c.args.orders.now out after
     (record { kind = request_kind x.kind; x = x })
     c.ask.result

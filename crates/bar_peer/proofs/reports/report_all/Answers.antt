@@ -7,7 +7,7 @@ use Rattle.bar_rules.specs.Peer.Run.{perform_all}
 use Rattle.bar_peer.specs.declared.order.Order.TheVariants as queued
 use Rattle.bar_peer.specs.Orders.{Orders}
 use Rattle.bar_peer.specs.Memory.{member_of}
-use Rattle.bar_peer.specs.Sending.{Stands}
+use Rattle.bar_peer.specs.Sending.{HasOutcome}
 use Rattle.bar_peer.specs.Ticking.{is_reported}
 use Rattle.bar_peer.proofs.Reported.{reports_to, same_reported, one_reported, not_due, IsPushed}
 use Rattle.bar_peer.proofs.reports.report_all.Goals as goal
@@ -42,7 +42,7 @@ loop-party-preserved c =
       room = step.room ∙ l.invariant.room;
       given = step.given ∙ l.invariant.given;
       stands = λ out before announced evidence h room.
-          let between : Stands (perform_all me out (reports_to before done)) m l.orders =
+          let between : HasOutcome (perform_all me out (reports_to before done)) m l.orders =
           l.invariant.stands out before announced evidence h room
           in
           let due : is_reported before l.party ≡ c.is_reported.result =
@@ -77,13 +77,13 @@ returns-after-is_reported-clause-stands c = λ out before announced evidence h r
     let peers : c.shape-party-end.result.peers ≡ m.who.session.shape.peers = ap (λ (s : Shape). s.peers) c.shape-party-end.ensures.value in
     let last : c.shape-party-end.result.peers ≤ l.party = grind arith in
     let all : done + 1 ≡ m.who.session.shape.peers = omega (arith, l.invariant.at, last, peers, c.loop-party-test.true) in
-    let between : Stands (perform_all me out (reports_to before done)) m l.orders =
+    let between : HasOutcome (perform_all me out (reports_to before done)) m l.orders =
     l.invariant.stands out before announced evidence h room
     in
     let due : is_reported before l.party ≡ c.is_reported.result =
     same_reported me out before (reports_to before done) l.party (announced l.party) (evidence l.party)
     ∙ sym (c.is_reported.ensures (known me (perform_all me out (reports_to before done)).state) between.tells)
     in
-    subst (λ (peers : ℕ). Stands (perform_all me out (reports_to before peers)) m c.if-is_reported.orders) all
+    subst (λ (peers : ℕ). HasOutcome (perform_all me out (reports_to before peers)) m c.if-is_reported.orders) all
     (one_reported m l.orders c.if-is_reported.orders out before done l.party c.is_reported.result l.invariant.at (evidence l.party) due between
     (step.list (omega (arith, l.invariant.few, l.invariant.room, l.invariant.at, room, c.loop-party-test.true, peers))))

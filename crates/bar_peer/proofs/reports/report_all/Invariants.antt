@@ -2,7 +2,7 @@ use Rattle.std.proofs.Common.{◌≡◌, ◌+◌, ◌≤◌, ℕ, length}
 use Rattle.bar_rules.specs.Peer.Knowledge.{Knowledge, known}
 use Rattle.bar_rules.specs.Peer.Run.{Out, perform_all}
 use Rattle.bar_peer.specs.Memory.{member_of}
-use Rattle.bar_peer.specs.Sending.{Stands}
+use Rattle.bar_peer.specs.Sending.{HasOutcome}
 use Rattle.bar_peer.proofs.Reported.{reports_to}
 use Rattle.bar_peer.proofs.reports.report_all.Given as goal
 
@@ -17,7 +17,7 @@ invariant-loop-party l = record {
   stands : (out : Out) (before : Knowledge)
       → ((party : ℕ) → before.is_announced party ≡ (known (member_of l.memory.who) out.state).is_announced party)
       → ((party : ℕ) → before.evidence party ≡ (known (member_of l.memory.who) out.state).evidence party)
-      → Stands out l.memory l.initial.orders
+      → HasOutcome out l.memory l.initial.orders
       → length l.initial.orders.list.items + l.memory.who.session.shape.peers ≤ l.initial.orders.room
-      → Stands (perform_all (member_of l.memory.who) out (reports_to before done)) l.memory l.orders;
+      → HasOutcome (perform_all (member_of l.memory.who) out (reports_to before done)) l.memory l.orders;
 }

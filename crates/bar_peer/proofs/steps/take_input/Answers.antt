@@ -6,7 +6,7 @@ use Rattle.bar_rules.specs.Member.{Member}
 use Rattle.bar_rules.specs.Peer.Rules.{IsObedient}
 use Rattle.bar_rules.specs.Peer.Run.{take_input}
 use Rattle.bar_peer.specs.Memory.{member_of}
-use Rattle.bar_peer.specs.Sending.{Stands}
+use Rattle.bar_peer.specs.Sending.{HasOutcome}
 use Rattle.bar_peer.specs.Steps.{is_tick}
 use Rattle.bar_rules.specs.Peer.Knowledge.{known}
 use Rattle.bar_laws.specs.Ignoring.{is_ignored, is_unread}
@@ -19,7 +19,7 @@ returns-in-Tick-clause-stands g c log obeys tells empty room =
     let stands =
     c.take_tick.ensures.stands log (subst (λ (input : Input). IsObedient me (take_input me log input).state) is obeys) tells empty room
     in
-    subst (λ (input : Input). Stands (take_input me log input) c.take_tick.new.memory c.take_tick.new.orders) (sym is)
+    subst (λ (input : Input). HasOutcome (take_input me log input) c.take_tick.new.memory c.take_tick.new.orders) (sym is)
     (record { tells = stands.tells; orders = stands.orders })
 
 pub returns-in-Tick-clause-ignored : goal.returns-in-Tick-clause-ignored

@@ -14,7 +14,7 @@ use Rattle.bar_rules.specs.Peer.Orders.{Order}
 use Rattle.bar_rules.specs.Peer.Run.{Out, perform_all}
 use Rattle.bar_rules.specs.Runs.{begun}
 use Rattle.bar_peer.specs.Memory.{member_of}
-use Rattle.bar_peer.specs.Sending.{Stands}
+use Rattle.bar_peer.specs.Sending.{HasOutcome}
 use Rattle.bar_peer.specs.Ticking.{orders_of_open}
 use Rattle.bar_peer.proofs.Opens.{one_done, open_is_recent}
 use Rattle.bar_peer.proofs.Sent.{all_append, none_stand}
@@ -62,12 +62,12 @@ loop-preserved c =
           let room : length c.loop.orders.list.items + 2 ≤ c.loop.orders.room =
           omega (arith, c.loop.invariant.few, c.loop.invariant.room, ap length none, most, c.len-end.ensures.most, c.loop-test.true, life)
           in
-          let one : Stands (perform_all me before (orders_of_open me (known me before.state) x)) m c.repeat_once.new.orders =
+          let one : HasOutcome (perform_all me before (orders_of_open me (known me before.state) x)) m c.repeat_once.new.orders =
           c.repeat_once.ensures.stands before (c.loop.invariant.stands log h none most)
           (subst (λ (l : Log). IsRecent me (known me l) x.round) (sym state) recent)
           room
           in
-          subst (λ (o : Out). Stands o m c.repeat_once.new.orders)
+          subst (λ (o : Out). HasOutcome o m c.repeat_once.new.orders)
           ((λ i. perform_all me before (orders_of_open me (known me (state i)) x))
           ∙ sym (all_append me (begun log) (flat_map f done) (f x))
           ∙ ap (perform_all me (begun log)) (flat_map_more f [] done x))

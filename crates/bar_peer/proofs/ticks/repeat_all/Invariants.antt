@@ -7,8 +7,8 @@ use Rattle.bar_rules.specs.Peer.Knowledge.{known}
 use Rattle.bar_rules.specs.Peer.Log.{Log}
 use Rattle.bar_rules.specs.Peer.Run.{perform_all}
 use Rattle.bar_rules.specs.Runs.{begun}
-use Rattle.bar_peer.specs.Memory.{member_of, Tells}
-use Rattle.bar_peer.specs.Sending.{Stands}
+use Rattle.bar_peer.specs.Memory.{member_of, Represents}
+use Rattle.bar_peer.specs.Sending.{HasOutcome}
 use Rattle.bar_peer.specs.Ticking.{orders_of_open, most_orders}
 use Rattle.bar_peer.proofs.ticks.repeat_all.Given as goal
 
@@ -21,7 +21,7 @@ invariant-loop l = record {
   few : length l.orders.list.items ≤ length l.initial.orders.list.items + 2 * l.counter;
   room : l.orders.room ≡ l.initial.orders.room;
   given : l.orders.given ≡ l.initial.orders.given;
-  stands : (log : Log) → Tells log l.memory → l.initial.orders.list.items ≡ [] → most_orders l.memory.who.session ≤ l.initial.orders.room
-      → Stands (perform_all (member_of l.memory.who) (begun log)
+  stands : (log : Log) → Represents log l.memory → l.initial.orders.list.items ≡ [] → most_orders l.memory.who.session ≤ l.initial.orders.room
+      → HasOutcome (perform_all (member_of l.memory.who) (begun log)
       (flat_map (orders_of_open (member_of l.memory.who) (known (member_of l.memory.who) log)) done)) l.memory l.orders;
 }

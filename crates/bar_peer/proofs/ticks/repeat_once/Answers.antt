@@ -8,7 +8,7 @@ use Rattle.bar_rules.specs.Peer.Run.{Out, perform, perform_all}
 use Rattle.bar_exchange.specs.Says.{order_again, orders_at_tick}
 use Rattle.bar_exchange.specs.declared.say.Say.{Say}
 use Rattle.bar_peer.specs.Memory.{member_of}
-use Rattle.bar_peer.specs.Sending.{IsTimely, Stands}
+use Rattle.bar_peer.specs.Sending.{IsTimely, HasOutcome}
 use Rattle.bar_peer.specs.Ticking.{orders_of_open}
 use Rattle.bar_peer.proofs.Sent.{state_again}
 use Rattle.bar_peer.proofs.Timely.{again_is_timely}
@@ -20,7 +20,7 @@ returns-in-Nothing-clause-stands c = λ out h recent room.
     let me : Member = member_of m.who in
     let k : Knowledge = known me out.state in
     let is : [] ≡ orders_of_open me k c.args.x = ap orders_at_tick (sym c.in-Nothing.is) ∙ c.again.ensures k h.tells in
-    subst (λ (os : List Order). Stands (perform_all me out os) m c.args.orders.now) is h
+    subst (λ (os : List Order). HasOutcome (perform_all me out os) m c.args.orders.now) is h
 
 pub returns-in-One-clause-stands : goal.returns-in-One-clause-stands
 returns-in-One-clause-stands c = λ out h recent room.
@@ -32,7 +32,7 @@ returns-in-One-clause-stands c = λ out h recent room.
     ap orders_at_tick (sym c.in-One.is) ∙ c.again.ensures k h.tells
     in
     let timely : AllByRecursion (IsTimely me k) (say ∷ []) = again_is_timely me k c.args.x (say ∷ []) recent is in
-    subst (λ (os : List Order). Stands (perform_all me out os) m c.repeat.new.orders) is
+    subst (λ (os : List Order). HasOutcome (perform_all me out os) m c.repeat.new.orders) is
     (c.repeat.ensures.stands out h timely.0 (omega arith))
 
 pub returns-in-Two-clause-stands : goal.returns-in-Two-clause-stands
@@ -50,6 +50,6 @@ returns-in-Two-clause-stands c = λ out h recent room.
     let later : IsTimely me (known me between.state) second =
     subst (λ (log : Log). IsTimely me (known me log) second) (sym (state_again me out first.kind first.x)) timely.1.0
     in
-    let one : Stands between m c.repeat-in-Two.new.orders = c.repeat-in-Two.ensures.stands out h timely.0 (omega arith) in
-    subst (λ (os : List Order). Stands (perform_all me out os) m c.repeat-in-Two-2.new.orders) is
+    let one : HasOutcome between m c.repeat-in-Two.new.orders = c.repeat-in-Two.ensures.stands out h timely.0 (omega arith) in
+    subst (λ (os : List Order). HasOutcome (perform_all me out os) m c.repeat-in-Two-2.new.orders) is
     (c.repeat-in-Two-2.ensures.stands between one later (omega (arith, c.repeat-in-Two.ensures.length, c.repeat-in-Two.ensures.room.room)))

@@ -15,7 +15,7 @@ use Rattle.bar_wire.specs.declared.shape.Shape.{Shape}
 use Rattle.bar_rules.specs.Broadcaster.Sending.{judge_body, judge_datagram}
 use Rattle.bar_rules.specs.Member.{Member}
 use Rattle.bar_rules.specs.Values.{datagram_of}
-use Rattle.bar_caster.specs.Memory.{Tells, member_of, stream_of}
+use Rattle.bar_caster.specs.Memory.{Represents, member_of, stream_of}
 use Rattle.bar_caster.proofs.Judged.{view_behind}
 use Rattle.bar_caster.proofs.memory.Memory.take_datagram.Goals as goal
 
@@ -43,10 +43,10 @@ returns-in-Evidence-clause-judged g c = λ log tells.
     take_all (length bytes - 16) (drop 16 bytes) (omega (arith, length-drop 16 bytes)) in
     let read : Some (datagram c.shape-shape.result c.in-Ok.view) ≡ datagram_of m.session bytes =
     c.in-Ok.ensures.told ∙ ap (λ (shape : Shape). places.datagram_of shape bytes) c.shape-shape.ensures.value in
-    let judged : Tells (judge_body me (stream_of m) log (Evidence all)) c.judge.new.self =
+    let judged : Represents (judge_body me (stream_of m) log (Evidence all)) c.judge.new.self =
     c.judge.ensures.judged log all tells (subst (λ (x : List ℕ). IsEvidence x all) (sym part) of) in
-    subst (λ (o : Option Datagram). Tells (judge_datagram me (stream_of m) log o) c.judge.new.self) read
-    (subst (λ (b : RawBody). Tells (judge_body me (stream_of m) log (plain b)) c.judge.new.self) (sym c.in-Evidence.is) judged)
+    subst (λ (o : Option Datagram). Represents (judge_datagram me (stream_of m) log o) c.judge.new.self) read
+    (subst (λ (b : RawBody). Represents (judge_body me (stream_of m) log (plain b)) c.judge.new.self) (sym c.in-Evidence.is) judged)
 
 pub returns-in-Evidence-clause-ignored : goal.returns-in-Evidence-clause-ignored
 returns-in-Evidence-clause-ignored g c = λ log tells ignored.

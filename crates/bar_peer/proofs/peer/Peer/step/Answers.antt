@@ -12,7 +12,7 @@ use Rattle.bar_wire.specs.Inputs.{plain_input}
 use Rattle.bar_rules.specs.Member.{Member}
 use Rattle.bar_rules.specs.Peer.Log.{Log}
 use Rattle.bar_rules.specs.Peer.Run.{Out, log_after, step}
-use Rattle.bar_peer.specs.Memory.{member_of, Tells}
+use Rattle.bar_peer.specs.Memory.{member_of, Represents}
 use Rattle.bar_core.specs.Orders.{left_in}
 use Rattle.bar_core.proofs.Left.{all-left, nothing-left}
 use Rattle.bar_peer.specs.StandsFor.{contents_left}
@@ -28,7 +28,7 @@ returns-then-is_over-clause-stands g c inputs stood =
     let m = c.args.self.now.memory in
     let me : Member = member_of m.who in
     let is = over-stands m inputs (plain_input c.args.input) (sym c.is_over.ensures ∙ c.if-is_over.true) stood in
-    subst (λ (log : Log). Tells log m) (sym (log-more me [] inputs (plain_input c.args.input) ∙ ap (λ (out : Out). out.state) is)) stood
+    subst (λ (log : Log). Represents log m) (sym (log-more me [] inputs (plain_input c.args.input) ∙ ap (λ (out : Out). out.state) is)) stood
 
 pub returns-then-is_over-clause-sends : goal.returns-then-is_over-clause-sends
 returns-then-is_over-clause-sends g c inputs stood =

@@ -5,7 +5,7 @@ use Rattle.bar_rules.specs.Peer.Knowledge.{known, this_round}
 use Rattle.bar_rules.specs.Peer.Run.{log_after}
 use Rattle.bar_rules.specs.Peer.Terms.{totals_with}
 use Rattle.bar_peer.specs.Memory.{member_of}
-use Rattle.bar_peer.specs.Telling.{IsTold, no_totals}
+use Rattle.bar_peer.specs.Telling.{HasTotals, no_totals}
 use Rattle.bar_peer.proofs.peer.Peer.totals.Goals as goal
 
 pub returns : goal.returns
@@ -19,6 +19,6 @@ returns g c inputs stands =
     let told = c.totals.ensures k stands (c.logs_are_sound.ensures me log obedient)
     (c.what_was_said_is_written_again.ensures.obedient me log obedient) in
     subst
-    (λ sent. IsTold (if nat_le (this_round k) (x.round + me.session.shape.life) then totals_with me k x sent else no_totals) c.totals.result)
+    (λ sent. HasTotals (if nat_le (this_round k) (x.round + me.session.shape.life) then totals_with me k x sent else no_totals) c.totals.result)
     (sym (c.balanced.ensures.said me inputs x))
     told
