@@ -89,3 +89,39 @@ fn a_key_file_of_two_levels_has_its_key_and_anchor(rt: HostRuntime) -> Result<()
     assert_eq!(rt; file.chain.anchor(), bytes::<32>(ANCHOR)?);
     Ok(())
 }
+
+/// The first fault of the peer's text where it is spent and a fresh one is asked for, and what is replaced in it by what. Worked by hand from
+/// docs/FORMATS.md: what isn't TOML, then what is missing or out of its range, then what the session doesn't have, then a key that is spent.
+const FAULTS: &str = "spent = true|spent|NotToml
+top = 5||BadValue
+top = 5|top = 8|BadValue
+lms = 5|lms = 6|BadValue
+ots = 4|ots = 2|BadValue
+rounds = 12|rounds = 7201|BadValue
+rounds = 12|rounds = 7200|NotInRoster
+top = 5|top = 6|NotInRoster
+ots = 4|ots = 3|NotInRoster
+ec7978507ff0bdc|ec7978507ff0bdd|NotInRoster
+a395f5a1|a395f5a2|NotInRoster
+party = 1|party = 0|NotInRoster
+party = 1|party = 2|NotInRoster
+party = 1|party = 3|NotInRoster
+top = 5|top = 5|Spent";
+
+#[test]
+fn the_first_fault_of_a_key_text_of_two_levels_is_told(rt: HostRuntime) -> Result<(), Fail> {
+    let alloc = rt.alloc();
+    let session = Session::read(alloc, SESSION.as_bytes())?;
+    let spent = PEER_TEXT.replace(alloc, "false", "true")?;
+    assert!(rt; session.top().is_some());
+    for row in FAULTS.split('\n') {
+        let (old, rest) = row.split_once('|').unwrap_or(("", ""));
+        let (new, wanted) = rest.split_once('|').unwrap_or(("", ""));
+        let text = spent.replace(alloc, old, new)?;
+        let Err(fault) = HssKeyFile::read(alloc, text.as_bytes(), &session, false, true) else {
+            panic!(rt; "{row} is read");
+        };
+        assert_eq!(rt; format!(in alloc; "{fault}")?.as_str(), wanted, "{row}");
+    }
+    Ok(())
+}

@@ -90,6 +90,26 @@ fn signed<S: Scheme>(
     Ok(sig)
 }
 
+/// Checks where the parts of a signature are: how many keys are signed, the leaf and the types of the upper one, the types of the lower public
+/// key, and the leaf and the types of the lower one (RFC 8554, 6.2 and 5.4).
+fn check_parts(rt: &impl Abort, sig: &[u8], upper: u8, lower: u8) {
+    assert_eq!(rt; sig.len(), 2_644);
+    for (place, number) in [
+        (0, 1),
+        (4, upper),
+        (8, 4),
+        (1_132, 5),
+        (1_296, 5),
+        (1_300, 4),
+        (1_352, lower),
+        (1_356, 4),
+        (2_480, 5),
+    ] {
+        let part = sig.get(place..).unwrap_or(b"");
+        assert!(rt; part.starts_with(&[0, 0, 0, number]), "at {place}");
+    }
+}
+
 // The key, the message and the hash of its signature are by another program.
 #[test]
 fn a_secret_gives_its_key_and_signatures(rt: HostRuntime) -> Result<(), Fail> {
@@ -120,6 +140,7 @@ fn a_secret_gives_its_key_and_signatures(rt: HostRuntime) -> Result<(), Fail> {
         hex::encode(alloc, Sha256::digest(sig.as_slice()))?.as_str(),
         "760be46d9a7532d0d19dd39cf7ec7a1efc3a7b9b4f6ed14b161edb292ab6ec8b"
     );
+    check_parts(&rt, &sig, 1, 4);
     // two leaves of one tree, one of another tree in its place, and the first again
     for leaf in [36, 36, 37, 132, 36] {
         let wanted = signed(&rt, alloc, &plain, leaf, &message)?;

@@ -1,6 +1,6 @@
-//! Hashes of another program.
+//! Hashes of another program, and kernels beside plain loops, around the numbers of their lanes.
 
-use bar_lanes::{Head, sha_eight};
+use bar_lanes::{Head, and_not, count, sha_eight, xor_into};
 
 // From Python's hashlib, of the messages below.
 const DIGESTS: [[u8; 32]; 8] = [
@@ -81,5 +81,63 @@ fn messages_that_begin_alike_have_the_hash_of_others(rt: HostRuntime) {
     Head::new(&[7; 20]).sha_eight(&messages, &mut digests);
     for j in 0..8 {
         assert_eq!(rt; digests[j], OF_SEVENS);
+    }
+}
+
+/// The most bytes of an item of a briefcase.
+const MOST: usize = 1_280;
+
+/// Bytes that differ from place to place.
+fn bytes_by(step: u8) -> [u8; MOST] {
+    let mut bytes = [0; MOST];
+    let mut next = step;
+    for k in 0..MOST {
+        bytes[k] = next;
+        next = next.wrapping_mul(5).wrapping_add(step);
+    }
+    bytes
+}
+
+#[test]
+fn bytes_are_joined_as_by_a_loop(rt: HostRuntime) {
+    let (first, second) = (bytes_by(3), bytes_by(7));
+    for len in [0, 1, 7, 8, 9, 32, 63, 64, 65, MOST] {
+        assert!(rt; len <= MOST);
+        let mut found = first;
+        xor_into(&mut found[..len], &second[..len]);
+        for k in 0..MOST {
+            let wanted = if k < len { first[k] ^ second[k] } else { first[k] };
+            assert_eq!(rt; found[k], wanted, "byte {k} of {len}");
+        }
+    }
+}
+
+/// Words whose bits differ from place to place.
+fn words_by(step: u64) -> [u64; 32] {
+    let mut words = [0; 32];
+    let mut next = step;
+    for k in 0..32 {
+        words[k] = next;
+        next = next.wrapping_mul(0x9e37_79b9_7f4a_7c15).wrapping_add(step);
+    }
+    words
+}
+
+#[test]
+fn words_are_parted_and_counted_as_by_a_loop(rt: HostRuntime) {
+    let (first, second) = (words_by(3), words_by(7));
+    for len in [0, 1, 3, 4, 5, 7, 8, 9, 32] {
+        assert!(rt; len <= 32);
+        let mut found = [9; 32];
+        and_not(&first[..len], &second[..len], &mut found[..len]);
+        let mut bits = 0u64;
+        for k in 0..32 {
+            let wanted = if k < len { first[k] & !second[k] } else { 9 };
+            assert_eq!(rt; found[k], wanted, "word {k} of {len}");
+            if k < len {
+                bits = bits.saturating_add(u64::from(found[k].count_ones()));
+            }
+        }
+        assert_eq!(rt; u64::from(count(&found[..len])), bits, "of {len}");
     }
 }

@@ -272,7 +272,22 @@ fn check_traded(rt: &impl Abort, alloc: Global, pair: &mut Pair) -> Result<(), A
     check_totals(rt, pair, x, 1);
     // peer 1 is paid (3, 0), and peer 2 (4, 7)
     check_played(rt, alloc, &mut pair.one, 24, b"3a3c4h")?;
-    check_played(rt, alloc, &mut pair.two, 24, b"3a3c4h5b5d")
+    check_played(rt, alloc, &mut pair.two, 24, b"3a3c4h5b5d")?;
+    check_totals_end(rt, alloc, pair, x)
+}
+
+/// From the first tick of round 9 on: the totals of an exchange of round 6 are told up to the end of round 10, a life after it, and no longer.
+fn check_totals_end(
+    rt: &impl Abort,
+    alloc: Global,
+    pair: &mut Pair,
+    x: Exchange,
+) -> Result<(), AllocError> {
+    pass(rt, alloc, pair, 15)?;
+    check_totals(rt, pair, x, 1);
+    pass(rt, alloc, pair, 1)?;
+    check_totals(rt, pair, x, 0);
+    Ok(())
 }
 
 fn check_trades(rt: &impl Abort, alloc: Global, pair: &mut Pair) -> Result<(), AllocError> {
@@ -501,9 +516,22 @@ fn check_requests(
     alloc: Global,
     peer: &mut Peer<SessionScheme>,
 ) -> Result<(), Fail> {
+    check_overheard(rt, alloc, peer)?;
     for (party, secret, count) in [(1, 8, 1), (2, 9, 1), (3, 14, 0)] {
         check_request(rt, alloc, peer, party, secret, count)?;
     }
+    Ok(())
+}
+
+/// What peer 4 asks its partner, peer 3, is nothing to peer 5: it answers nothing, and keeps no evidence.
+fn check_overheard(
+    rt: &impl Abort,
+    alloc: Global,
+    peer: &mut Peer<SessionScheme>,
+) -> Result<(), Fail> {
+    let overheard = request_of(rt, alloc, 4, 10, 3)?;
+    tell(rt, alloc, peer, &overheard)?;
+    assert_eq!(rt; peer.evidence(4), None);
     Ok(())
 }
 

@@ -5,6 +5,7 @@ use crate::outcome::{Left, Outside, outside_of, run};
 use bar_outside::{MemFiles, MemLink, MemSpawner, MemTaken};
 use bar_samples::keys::{small_caster_key, small_key};
 use bar_samples::sessions::small_session;
+use bar_samples::signed::{evidence, front, scheme_of, sign};
 use std::alloc::{AllocError, Global};
 use std::process::Abort;
 use std::test::Fail;
@@ -16,9 +17,11 @@ enum Short {
     Broadcaster,
     Replay,
     Keygen,
+    HssKeygen,
     Audit,
     Judge,
     Pack,
+    PackShown,
     Verify,
     Session,
     Simulate,
@@ -35,9 +38,13 @@ impl Short {
             Short::Keygen => {
                 "keygen --party 1 --id 0011223344556677 --rounds 1 --lms 5 --ots 4 --secret x --key p"
             }
+            Short::HssKeygen => {
+                "hsskeygen --party 1 --id 0011223344556677 --rounds 1 --top 5 --ots 4 --secret x --key p"
+            }
             Short::Audit => "audit --session s --results a --first 1 --last 2",
             Short::Judge => "judge --session s --table t --evidence e",
             Short::Pack => "pack --session s --table t --evidence e --proof p",
+            Short::PackShown => "pack --session s --table t --evidence w --proof p",
             Short::Verify => "verify --session s --proof v",
             Short::Session => {
                 "session --session s --keys k --stream t --begin 5 --results r --program bar"
@@ -83,9 +90,18 @@ fn recording_of(alloc: Global, party: u8, ticks: &[u8]) -> Result<Vec<u8>, Alloc
     Ok(bytes)
 }
 
-/// Prepares what the short runs read: evidence of a datagram of one byte, by itself and in a proof file, an empty table that is an empty
-/// stream, too, and recordings of no datagram.
-fn put_all(alloc: Global, files: &mut MemFiles) -> Result<(), AllocError> {
+/// Evidence of a REQUEST whose seed is none of its sender's.
+fn shown_evidence(alloc: Global) -> Result<Vec<u8>, Fail> {
+    let mut request = front(alloc, 3, [0, 1, 0, 2], 1)?;
+    request.extend_from_slice(&[0; 64])?;
+    sign(alloc, &scheme_of(alloc, small_session(), 8)?, 0, &mut request)?;
+    Ok(evidence(alloc, &request, None)?)
+}
+
+/// Prepares what the short runs read: evidence that shows a fault, evidence of a datagram of one byte, by itself and in a proof file, an empty
+/// table that is an empty stream, too, and recordings of no datagram.
+fn put_all(alloc: Global, files: &mut MemFiles, shown: &[u8]) -> Result<(), AllocError> {
+    files.put("w", shown)?;
     files.put("s", small_session().as_bytes())?;
     files.put("k", small_key().as_bytes())?;
     files.put("c", small_caster_key().as_bytes())?;
@@ -109,10 +125,15 @@ fn link_of(alloc: Global, fail: Vec<u64>) -> Result<MemLink, AllocError> {
 }
 
 /// The outside of a short run, of which the call of an object with this number fails.
-fn outside_by(alloc: Global, object: Object, number: u64) -> Result<Outside, AllocError> {
+fn outside_by(
+    alloc: Global,
+    object: Object,
+    number: u64,
+    shown: &[u8],
+) -> Result<Outside, AllocError> {
     let fail = number_for(alloc, matches!(object, Object::Files), number)?;
     let mut files = MemFiles::make(alloc, fail);
-    put_all(alloc, &mut files)?;
+    put_all(alloc, &mut files, shown)?;
     let fail_out = number_for(alloc, matches!(object, Object::Output), number)?;
     let mut outside = outside_of(alloc, files, &fail_out, &[])?;
     let fail = number_for(alloc, matches!(object, Object::Link), number)?;
@@ -127,8 +148,9 @@ fn run_with(
     command: Short,
     object: Object,
     number: u64,
+    shown: &[u8],
 ) -> Result<Left, AllocError> {
-    run(alloc, command.line(), outside_by(alloc, object, number)?)
+    run(alloc, command.line(), outside_by(alloc, object, number, shown)?)
 }
 
 /// Whether a file holds a front of what it holds behind a whole run, or what it held before it.
@@ -181,10 +203,11 @@ fn count_calls(
     alloc: Global,
     command: Short,
     object: Object,
+    shown: &[u8],
 ) -> Result<u64, Fail> {
-    let whole = run_with(alloc, command, object, 0)?;
+    let whole = run_with(alloc, command, object, 0, shown)?;
     for before in 0..MANY {
-        let left = run_with(alloc, command, object, before + 1)?;
+        let left = run_with(alloc, command, object, before + 1, shown)?;
         if left.status == whole.status {
             assert_eq!(rt; left.outside.out.bytes(), whole.outside.out.bytes());
             return Ok(before);
@@ -195,7 +218,7 @@ fn count_calls(
 }
 
 /// Of each command, the objects that it uses.
-const USED: [(Short, &[Object]); 10] = [
+const USED: [(Short, &[Object]); 12] = [
     (Short::Peer, &[Object::Files, Object::Link, Object::Output]),
     (
         Short::Broadcaster,
@@ -203,9 +226,11 @@ const USED: [(Short, &[Object]); 10] = [
     ),
     (Short::Replay, &[Object::Files, Object::Output]),
     (Short::Keygen, &[Object::Files, Object::Output]),
+    (Short::HssKeygen, &[Object::Files, Object::Output]),
     (Short::Audit, &[Object::Files, Object::Output]),
     (Short::Judge, &[Object::Files, Object::Output]),
     (Short::Pack, &[Object::Files, Object::Output]),
+    (Short::PackShown, &[Object::Files, Object::Output]),
     (Short::Verify, &[Object::Files, Object::Output]),
     (
         Short::Session,
@@ -217,9 +242,10 @@ const USED: [(Short, &[Object]); 10] = [
 #[test]
 fn each_call_fails_once(rt: HostRuntime) -> Result<(), Fail> {
     let alloc = rt.alloc();
+    let shown = shown_evidence(alloc)?;
     for (place, (command, objects)) in USED.iter().enumerate() {
         for object in *objects {
-            let counted = count_calls(&rt, alloc, *command, *object)?;
+            let counted = count_calls(&rt, alloc, *command, *object, &shown)?;
             assert!(&rt; 0 < counted, "command {place}");
         }
     }
