@@ -12,4 +12,4 @@ returns c =
 pub returns-in_err-get : goal.returns-in_err-get
 returns-in_err-get c =
     let t = c.self.inside in
-    c.in_err-get.ensures.lookup.4 (omega arith) None ∙ ap (λ counts. get_or counts c.args.round None) c.deref.ensures.value ∙ sym (count_is t.counts.items t.digests.items t.per_round c.args.round c.self.invariant) ∙ ap (λ v. option_map length (digests_of v.lists c.args.round)) c.self.view_is
+    c.from_residual.ensures ∙ c.in_err-get.ensures.lookup.4 (omega arith) None ∙ ap (λ counts. get_or counts c.args.round None) c.deref.ensures.value ∙ sym (count_is t.counts.items t.digests.items t.per_round c.args.round c.self.invariant) ∙ ap (λ v. option_map length (digests_of v.lists c.args.round)) c.self.view_is
