@@ -104,7 +104,6 @@ ots = 4|ots = 3|NotInRoster
 ec7978507ff0bdc|ec7978507ff0bdd|NotInRoster
 a395f5a1|a395f5a2|NotInRoster
 party = 1|party = 0|NotInRoster
-party = 1|party = 2|NotInRoster
 party = 1|party = 3|NotInRoster
 top = 5|top = 5|Spent";
 
