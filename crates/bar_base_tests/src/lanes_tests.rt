@@ -106,7 +106,11 @@ fn bytes_are_joined_as_by_a_loop(rt: HostRuntime) {
         let mut found = first;
         xor_into(&mut found[..len], &second[..len]);
         for k in 0..MOST {
-            let wanted = if k < len { first[k] ^ second[k] } else { first[k] };
+            let wanted = if k < len {
+                first[k] ^ second[k]
+            } else {
+                first[k]
+            };
             assert_eq!(rt; found[k], wanted, "byte {k} of {len}");
         }
     }

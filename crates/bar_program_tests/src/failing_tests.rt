@@ -94,7 +94,12 @@ fn recording_of(alloc: Global, party: u8, ticks: &[u8]) -> Result<Vec<u8>, Alloc
 fn shown_evidence(alloc: Global) -> Result<Vec<u8>, Fail> {
     let mut request = front(alloc, 3, [0, 1, 0, 2], 1)?;
     request.extend_from_slice(&[0; 64])?;
-    sign(alloc, &scheme_of(alloc, small_session(), 8)?, 0, &mut request)?;
+    sign(
+        alloc,
+        &scheme_of(alloc, small_session(), 8)?,
+        0,
+        &mut request,
+    )?;
     Ok(evidence(alloc, &request, None)?)
 }
 
@@ -150,7 +155,11 @@ fn run_with(
     number: u64,
     shown: &[u8],
 ) -> Result<Left, AllocError> {
-    run(alloc, command.line(), outside_by(alloc, object, number, shown)?)
+    run(
+        alloc,
+        command.line(),
+        outside_by(alloc, object, number, shown)?,
+    )
 }
 
 /// Whether a file holds a front of what it holds behind a whole run, or what it held before it.

@@ -124,12 +124,6 @@ fn a_table_is_refused_at_its_second_entry(rt: HostRuntime) -> Result<(), Fail> {
     check_end(&rt, &whole, 1, "no fault: Malformed\n", "");
     let bad = table_of(alloc, &first, &changed(alloc, &second)?)?;
     let refused = judge_under(alloc, &bad, MALFORMED)?;
-    check_end(
-        &rt,
-        &refused,
-        8,
-        "",
-        "bar: input refused: table at 8867\n",
-    );
+    check_end(&rt, &refused, 8, "", "bar: input refused: table at 8867\n");
     Ok(())
 }
