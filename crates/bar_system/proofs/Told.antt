@@ -1,7 +1,7 @@
 -- What the history of files tells of a read and of an append.
 use Rattle.std.proofs.Common.{◌≡◌, ◌++◌, ◌∷◌, ◌||◌, ◌∙◌, ℕ, Bool, List, [], Option, None, Some, Ok, Err, IsTrue, IsSome, true, false, cond, take, length, refl, sym, ap, subst, arith}
 use Rattle.std.specs.Bool.{⊤}
-use Rattle.std.specs.Prelude.{◌&&◌, Vec}
+use Rattle.std.specs.Prelude.{Vec}
 use Rattle.std.specs.Option.{option_map}
 use Rattle.std.specs.Str.{bytes_eq}
 use Rattle.std.specs.declared.alloc.Global.{Global}

@@ -13,9 +13,6 @@ use std::fs::OpenFile;
 use std::io::{ErrorKind, Read, Stderr, Stdout, Write};
 use std::{fs, io, rt};
 
-#[cfg(test)]
-mod tests;
-
 /// A file that was created, kept open and locked for what is appended to it.
 #[derive(Drop)]
 pub struct CreatedFile<F> {

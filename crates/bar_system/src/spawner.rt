@@ -10,9 +10,6 @@ use std::io::ErrorKind;
 use std::os::unix::process::ExitStatusExt;
 use std::process::{Child, Command, ExitStatus, Processes, Stdio};
 
-#[cfg(test)]
-mod tests;
-
 /// What is added to the number of the signal that ended a program.
 const BY_SIGNAL: i32 = 128;
 

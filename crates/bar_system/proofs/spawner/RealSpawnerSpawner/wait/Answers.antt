@@ -1,4 +1,4 @@
-use Rattle.std.proofs.Common.{length, refl, ap, arith}
+use Rattle.std.proofs.Common.{length, ap, arith}
 use Rattle.bar_system.specs.History.{calls_of}
 use Rattle.bar_outside.proofs.OpenLemmas.{below-call, started-below}
 use Rattle.bar_system.proofs.spawner.RealSpawnerSpawner.wait.Goals as goal

@@ -1,6 +1,6 @@
-//! Real child programs, their statuses and their faults.
-use super::RealSpawner;
+//! Real child programs, and their statuses.
 use bar_outside::{ChildFault, Spawner};
+use bar_system::RealSpawner;
 use std::alloc::{AllocError, Global};
 use std::test::Fail;
 
@@ -25,17 +25,15 @@ fn children_end_with_their_statuses(rt: HostRuntime) -> Result<(), Fail> {
         };
         assert_eq!(rt; spawner.wait(child), Ok(status), "{script}");
     }
-    assert_eq!(rt; spawner.faults, 0);
     Ok(())
 }
 
 #[test]
-fn a_program_that_is_not_there_is_counted(rt: HostRuntime) -> Result<(), Fail> {
+fn a_program_that_is_not_there_fails(rt: HostRuntime) -> Result<(), Fail> {
     let alloc = rt.alloc();
     let mut words = Vec::new(alloc);
     words.push(String::from_str(alloc, "/no/such/program")?)?;
     let mut spawner = RealSpawner::new(&rt);
     assert_eq!(rt; spawner.start(&words), Err(ChildFault::Failed));
-    assert_eq!(rt; spawner.faults, 1);
     Ok(())
 }

@@ -1,0 +1,15 @@
+//! Tests of the files, the link and the child programs of the system, by their public calls.
+//!
+//! They stand in a crate of their own, since a crate with tests is proved twice.
+#![tactic(auto)]
+
+#[cfg(test)]
+mod endless_socket;
+#[cfg(test)]
+mod file_tests;
+#[cfg(test)]
+mod link_tests;
+#[cfg(test)]
+mod room_tests;
+#[cfg(test)]
+mod spawner_tests;
