@@ -21,7 +21,12 @@ module _ {S : Type 0} where
   -- nothing came at first
   pub gives-then : (account : S → Option Account) (came : List (List ℕ)) (old mid new : Bound S) → Gives account [] old mid →
       Gives account came mid new → Gives account came old new
-  gives-then account came old mid new (first, (port, is)) (second, (port-new, is-new)) =
-      (first ++ second, (port-new ∙ port, is-new ∙ ap (option_map (gave_all (second ++ came))) is
-      ∙ gave-both (first ++ []) (second ++ came) (account old.socket)
-      ∙ ap (λ datagrams. option_map (gave_all datagrams) (account old.socket)) (regrouped first second came)))
+  gives-then account came old mid new (first, (port, is)) (second, (port-new, is-new)) = (
+    first ++ second,
+    (
+      port-new ∙ port,
+      is-new ∙ ap (option_map (gave_all (second ++ came))) is
+          ∙ gave-both (first ++ []) (second ++ came) (account old.socket)
+          ∙ ap (λ datagrams. option_map (gave_all datagrams) (account old.socket)) (regrouped first second came),
+    ),
+  )

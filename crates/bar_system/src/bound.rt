@@ -47,13 +47,7 @@ impl<S: Socket> Bound<S> {
     ghost use Rattle.bar_system.specs.Binding.{Changes, Gives, came_by};
 
     /// Opens a socket on the port of a party.
-    pub fn open<R: Net>(
-        rt: &R,
-        me: u16,
-        port: u16,
-        begin_ms: u64,
-        tick_ms: u32,
-    ) -> io::Result<Self>
+    pub fn open<R: Net>(rt: &R, me: u16, port: u16, begin_ms: u64, tick_ms: u32) -> io::Result<Self>
         ensures session { IfOk result (λ bound. bound.port ≡ port) }
         ensures own { IfOk result (λ bound. IsOpened (port + me) (S.account bound.socket)) }
     {

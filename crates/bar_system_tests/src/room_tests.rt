@@ -1,11 +1,12 @@
 //! What a link takes between two ticks, over a socket that gives without end.
 ghost use Rattle.std.specs.Prelude.{◌≤◌, length};
+ghost use Rattle.bar_outside.specs.Wire.{largest_packet};
 
 use crate::endless_socket::EndlessSocket;
 use crate::link_tests::millis;
 use bar_outside::{LARGEST_PACKET, Link, Taken};
 use bar_system::RealLink;
-use std::alloc::AllocError;
+use std::alloc::{AllocError, Global};
 use std::test::Fail;
 
 /// More datagrams than are taken.
@@ -14,31 +15,39 @@ const MANY: usize = 100_000;
 /// How long it takes until the first tick, in milliseconds.
 const BEFORE: u64 = 1_000;
 
-/// How many datagrams are taken before the next tick.
-fn taken_before<L: Link>(link: &mut L, buf: &mut [u8]) -> Result<usize, Fail>
-    requires { 65507 ≤ length buf.old }
+/// How many datagrams are taken before the next tick, behind which another one is taken.
+fn taken_into<L: Link>(link: &mut L, buf: &mut [u8]) -> Result<usize, Fail>
+    requires { largest_packet ≤ length buf.old }
 {
     for count in 0..MANY {
         match link.next(buf) {
             Ok(Taken::Datagram(_)) => {}
-            Ok(Taken::Tick) => return Ok(count),
+            Ok(Taken::Tick) => {
+                return match link.next(buf) {
+                    Ok(Taken::Datagram(_)) => Ok(count),
+                    _ => Err(Fail::from(AllocError)),
+                };
+            }
             _ => return Err(Fail::from(AllocError)),
         }
     }
     Ok(MANY)
 }
 
+/// The same, with a buffer of its own.
+fn taken_before<L: Link>(alloc: Global, link: &mut L) -> Result<usize, Fail> {
+    let mut buf = vec![in alloc; 0; LARGEST_PACKET]?;
+    taken_into(link, &mut buf)
+}
+
 #[test]
 fn a_tick_has_room_for_so_much(rt: HostRuntime) -> Result<(), Fail> {
-    let mut buf = vec![in rt.alloc(); 0; LARGEST_PACKET]?;
     // 16,384 short ones, or as many long ones as 8 MiB have room for
     for (me, room) in [(0, 16_384), (1, 128)] {
         let mut link: RealLink<'_, HostRuntime, EndlessSocket> = RealLink::over(&rt);
         let begin = millis(&rt)?.saturating_add(BEFORE);
         assert_eq!(rt; link.bind(me, 20_000, begin, 60_000), Ok(()));
-        assert_eq!(rt; taken_before(&mut link, &mut buf)?, room);
-        // a tick makes room
-        assert!(rt; matches!(link.next(&mut buf), Ok(Taken::Datagram(_))));
+        assert_eq!(rt; taken_before(rt.alloc(), &mut link)?, room);
     }
     Ok(())
 }

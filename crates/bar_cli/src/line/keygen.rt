@@ -13,9 +13,13 @@ use crate::keygen::words::KeygenWords;
 use bar_arguments::{id_of, number_in};
 use bar_roster::{MOST_LONG_ROUNDS, MOST_PEERS, MOST_ROUNDS};
 
-pub(super) const KEYGEN_OPTIONS: [&str; 7] = ["party", "id", "rounds", "lms", "ots", "secret", "key"];
+pub(super) const KEYGEN_OPTIONS: [&str; 7] = [
+    "party", "id", "rounds", "lms", "ots", "secret", "key",
+];
 
-pub(super) const HSSKEYGEN_OPTIONS: [&str; 7] = ["party", "id", "rounds", "top", "ots", "secret", "key"];
+pub(super) const HSSKEYGEN_OPTIONS: [&str; 7] = [
+    "party", "id", "rounds", "top", "ots", "secret", "key",
+];
 
 /// The key that is asked for, of signatures of these types and of so many rounds at the most.
 fn asked_of<'a>(

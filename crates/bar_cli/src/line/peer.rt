@@ -8,7 +8,14 @@ ghost use Rattle.bar_cli.specs.Views.{peer_view};
 use bar_arguments::number_in;
 use bar_party_commands::PeerNames;
 
-pub(super) const PEER_OPTIONS: [&str; 6] = ["session", "key", "begin", "played", "recording", "found"];
+pub(super) const PEER_OPTIONS: [&str; 6] = [
+    "session",
+    "key",
+    "begin",
+    "played",
+    "recording",
+    "found",
+];
 
 /// The names of a peer's files and its time, from the values of its options.
 pub(super) fn peer_of<'a>(values: &[&'a str]) -> Option<PeerNames<'a>>

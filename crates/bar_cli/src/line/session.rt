@@ -8,7 +8,9 @@ ghost use Rattle.bar_cli.specs.Views.{session_view};
 use bar_arguments::number_in;
 use bar_child_processes::SessionNames;
 
-pub(super) const SESSION_OPTIONS: [&str; 6] = ["session", "keys", "stream", "begin", "results", "program"];
+pub(super) const SESSION_OPTIONS: [&str; 6] = [
+    "session", "keys", "stream", "begin", "results", "program",
+];
 
 /// What a session is made of, from the values of its options. The time is handed on as its word.
 pub(super) fn session_of<'a>(values: &[&'a str]) -> Option<SessionNames<'a>>
