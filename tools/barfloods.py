@@ -110,7 +110,8 @@ def floods_of(folder, session, drops, strange=None):
 def flood_lines(floods):
     """A line for each party that was flooded."""
     for party, flood in sorted(floods.items()):
-        yield f"party {party} was flooded from outside the session: {flood.told}; the rest was dropped"
+        rest = "; the rest was dropped" if flood.full or flood.lost else ""
+        yield f"party {party} was flooded from outside the session: {flood.told}{rest}"
 
 
 def outside_told(outside):
@@ -118,7 +119,7 @@ def outside_told(outside):
     if not outside or outside <= CLEAR:
         return None
     taken = f"{counted(outside, 'datagram')} that no recording has were taken on this machine while the session ran"
-    return f"{taken}: its links dropped them, or other programs took them"
+    return f"{taken}: links dropped them, or other programs took them"
 
 
 def size_faults(folder, session):

@@ -76,6 +76,9 @@ class Floods(RoomCase):
         self.assertEqual(floods, {1: Flood(0, 4, CLEAR + 1)})
         told = "its receive buffer lost 4 datagrams and it took 1,001 datagrams that no party sent; the rest was dropped"
         self.assertEqual([*barfloods.flood_lines(floods)], [f"party 1 was flooded from outside the session: {told}"])
+        told = "it took 1,001 datagrams that no party sent"
+        lines = [*barfloods.flood_lines({2: Flood(0, 0, CLEAR + 1)})]
+        self.assertEqual(lines, [f"party 2 was flooded from outside the session: {told}"])
 
     def test_what_no_recording_has_came_from_outside(self):
         report = datagram(EVIDENCE, 2, 0, bytes(20), self.session.id)
@@ -91,7 +94,7 @@ class Floods(RoomCase):
         lines = [*barrunning.outside_lines(self.folder, self.session, Ended({}, 0, {1: 7}), dataclasses.replace(run, outside=1234))]
         told = "1,234 datagrams that no recording has were taken on this machine while the session ran"
         lost = "party 1: its receive buffer ran over, 7 datagrams were lost"
-        self.assertEqual(lines, [lost, f"{told}: its links dropped them, or other programs took them"])
+        self.assertEqual(lines, [lost, f"{told}: links dropped them, or other programs took them"])
 
     def test_the_system_counts_what_is_taken(self):
         text = "Ip: A B\nIp: 1 2\nUdp: InDatagrams NoPorts\nUdp: 15 3\nUdpLite: InDatagrams\nUdpLite: 0\n"
