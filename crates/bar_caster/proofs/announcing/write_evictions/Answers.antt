@@ -7,7 +7,7 @@ use Rattle.bar_caster.proofs.Announced.{same-evictions}
 use Rattle.bar_caster.proofs.announcing.write_evictions.Goals as goal
 
 pub write_to_all-requires-clause-body : goal.write_to_all-requires-clause-body
-write_to_all-requires-clause-body c = record { windows = tt; whole = c.requires.whole; codes = tt }
+write_to_all-requires-clause-body c = record { windows = tt; whole = c.requires.whole }
 
 pub write_to_all-requires-clause-short : goal.write_to_all-requires-clause-short
 write_to_all-requires-clause-short c = omega (arith, c.requires.whole, c.ranges.count.fits)

@@ -15,7 +15,6 @@ encode-requires-clause-body c =
     record {
       windows = tt;
       whole = whole_entries c.in_ok-bytes.bytes.now c.in_ok-count.datagrams.now c.in_ok-count.count.now of.0 c.in_ok-count.ensures.cases.0 of.1;
-      codes = tt;
     }
 
 pub encode-requires-clause-room : goal.encode-requires-clause-room
