@@ -26,22 +26,22 @@ spelled-there s [] d c = absurd (omega (arith, c.1))
 spelled-there s (event.Tick ∷ inputs) d c =
     let w = spelled-there s inputs d c in
     record { bytes = w.bytes; came = Contains-later event.Tick (event.Datagram w.bytes) inputs w.came; spells = w.spells }
-spelled-there s (event.Datagram bytes ∷ inputs) d c = go (datagram_of s bytes) refl c
+spelled-there s (event.Datagram bytes ∷ inputs) d c = go (spelled-there s inputs d) (datagram_of s bytes) refl c
   where
     later : IsSpelledIn s inputs d → IsSpelledIn s (event.Datagram bytes ∷ inputs) d
     later w = record { bytes = w.bytes; came = Contains-later (event.Datagram bytes) (event.Datagram w.bytes) inputs w.came; spells = w.spells }
 
-    go : (o : Option Datagram) → datagram_of s bytes ≡ o → Contains (cons_option o (datagrams_in s inputs)) d
+    go : (Contains (datagrams_in s inputs) d → IsSpelledIn s inputs d) → (o : Option Datagram) → datagram_of s bytes ≡ o → Contains (cons_option o (datagrams_in s inputs)) d
         → IsSpelledIn s (event.Datagram bytes ∷ inputs) d
-    go None e c = later (spelled-there s inputs d c)
-    go (Some x) e c =
+    go there None e c = later (there c)
+    go there (Some x) e c =
         contains-cases (IsSpelledIn s (event.Datagram bytes ∷ inputs) d) x d (datagrams_in s inputs) c
         (λ same. record {
           bytes = bytes;
           came = contains-here (event.Datagram bytes) (event.Datagram bytes) inputs refl;
           spells = e ∙ ap Some same;
         })
-        (λ more. later (spelled-there s inputs d more))
+        (λ more. later (there more))
 
 -- what is signed is said
 said-by : (log : Log) (d : Datagram) → HasSigned log d → HasSaid log d.message
@@ -57,18 +57,18 @@ given-of : (setup : Setup) (trusted : ℕ → Bool) (moves : List Move) (peers :
     → AllByRecursion (IsTrustedPeer setup trusted) peers → inputs_of (recordings_of setup moves peers) party ≡ Some inputs
     → IsTrustedPeer setup trusted party × (own.inputs_of setup moves party ≡ inputs)
 given-of setup trusted moves [] party inputs all given = cc
-given-of setup trusted moves (q ∷ peers) party inputs all given = go (eqb q party) refl given
+given-of setup trusted moves (q ∷ peers) party inputs all given = go (given-of setup trusted moves peers party inputs all.1) (eqb q party) refl given
   where
-    go : (b : Bool) → eqb q party ≡ b
-        → cond b (Some (own.inputs_of setup moves q)) (inputs_of (recordings_of setup moves peers) party) ≡ Some inputs
+    go : (inputs_of (recordings_of setup moves peers) party ≡ Some inputs → IsTrustedPeer setup trusted party × (own.inputs_of setup moves party ≡ inputs))
+        → (b : Bool) → eqb q party ≡ b → cond b (Some (own.inputs_of setup moves q)) (inputs_of (recordings_of setup moves peers) party) ≡ Some inputs
         → IsTrustedPeer setup trusted party × (own.inputs_of setup moves party ≡ inputs)
-    go true e given =
+    go there true e given =
         let same : q ≡ party = eqb-true q party e in
         let is : own.inputs_of setup moves q ≡ inputs = cc in (
           subst (IsTrustedPeer setup trusted) same all.0,
           ap (own.inputs_of setup moves) (sym same) ∙ is,
         )
-    go false e given = given-of setup trusted moves peers party inputs all.1 given
+    go there false e given = there given
 
 module _ (alone : own.PeersRun) (members : PeersAreMembers) (genuine : own.GivenIsGenuine) where
   pub worlds-of-runs : WorldsAreOfRuns
