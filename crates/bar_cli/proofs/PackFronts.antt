@@ -2,6 +2,7 @@
 use Rattle.std.proofs.Common.{◌⊎◌, ℕ, List, IsTrue, refl, subst, inl, inr}
 use Rattle.bar_outside.specs.Plan.{Outside}
 use Rattle.bar_outside.specs.Stages.{IsUnchanged}
+use Rattle.bar_proof.specs.Laws.{TablesAreSpelled}
 use Rattle.bar_proof.specs.Packing.{ShownIsPacked}
 use Rattle.bar_cli.specs.Pack.{PackFiles, HasShownOne, NotPackedFront, ProofWritten, PackFront, PackStands, packed_line, file_of}
 use Rattle.bar_cli.proofs.MadeFiles.{IsPartlyMade, made-so-far}
