@@ -4,7 +4,7 @@ use Rattle.std.proofs.lemmas.Bool.{eqb-true}
 use Rattle.std.specs.List.{AllByRecursion, cons_option}
 use Rattle.std.specs.Prelude.{Option, Some, None, slice_get, Contains}
 use Rattle.bar_window.proofs.Ranges.{Contains-later}
-use Rattle.bar_wire.specs.Datagram.{Message, Datagram}
+use Rattle.bar_wire.specs.Datagram.{Datagram}
 use Rattle.bar_wire.specs.Inputs.{Input}
 use Rattle.bar_wire.specs.Inputs as event
 use Rattle.bar_rules.specs.Member.{Session}
@@ -16,7 +16,7 @@ use Rattle.bar_laws.specs.Heard.{IsSpelledIn}
 use Rattle.bar_laws.specs.OwnRuns as own
 use Rattle.bar_laws.specs.Parties.{after}
 use Rattle.bar_laws.specs.Premises.{PeersAreMembers}
-use Rattle.bar_audit.specs.Recordings.{Recording, datagram_in, datagrams_in, inputs_of}
+use Rattle.bar_audit.specs.Recordings.{datagrams_in, inputs_of}
 use Rattle.bar_audit.specs.Worlds.{IsTrustedPeer, WorldsAreOfRuns, recordings_of}
 use Rattle.bar_audit.proofs.Lists.{contains-cases, contains-here}
 

@@ -1,5 +1,5 @@
 -- Children that were started so far.
-use Rattle.std.proofs.Common.{◌≡◌, ◌≤◌, ◌∷◌, ◌++◌, [], ℕ, suc, List, IsTrue, Ok, map, length, length-append, refl, sym, ap, ◌∙◌, append-nil, append_assoc, arith}
+use Rattle.std.proofs.Common.{◌≡◌, ◌≤◌, ◌∷◌, ◌++◌, [], ℕ, suc, List, Ok, map, length, length-append, refl, sym, ap, ◌∙◌, append-nil, append_assoc, arith}
 use Rattle.std.proofs.lemmas.List.{map-append}
 use Rattle.bar_outside.specs.Children.{ChildCall, Children, Started, Starts}
 use Rattle.bar_child_processes.specs.Names.{SessionNames}

@@ -1,5 +1,5 @@
 -- Rows of several tests.
-use Rattle.std.proofs.Common.{◌≡◌, ◌∙◌, Bool, true, false, ◌&&◌, refl, sym}
+use Rattle.std.proofs.Common.{◌≡◌, ◌∙◌, Bool, true, false, ◌&&◌, sym}
 use Rattle.bar_store.proofs.Learns.{and_true, and_false}
 
 -- the third of four tests decides, where the others hold

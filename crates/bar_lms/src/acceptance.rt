@@ -194,7 +194,7 @@ fn key_of_ends<L: Ledger>(
     hasher.finalize()
 }
 
-/// The number of four bytes at a place, the highest byte first (RFC 8554, 3.1.2).
+/// The number of four bytes at a place, the highest byte first (RFC 8554, 3.1).
 pub fn number_at(bytes: &[u8], at: usize) -> u32
     requires { at + 4 ≤ length bytes.now }
     ensures { result ≡ number_at bytes.now at }

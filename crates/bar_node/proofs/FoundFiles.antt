@@ -7,7 +7,6 @@ use Rattle.bar_record.specs.Recording.{entry_bytes}
 use Rattle.bar_outside.specs.Disk.{Content, Disk}
 use Rattle.bar_outside.specs.Wire.{Arrival, Wire}
 use Rattle.bar_outside.specs.declared.fault.Fault.{Fault}
-use Rattle.bar_outside.specs.Faults.{code_of_fault}
 use Rattle.bar_outside.specs.Plan.{Action, Outside, Ran, Touches, content_after}
 use Rattle.bar_outside.specs.Plan.Action.{link}
 use Rattle.bar_outside.specs.Plan.LinkCall.{receive}

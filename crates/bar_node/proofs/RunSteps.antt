@@ -1,5 +1,5 @@
 -- The exits of a run over what a link gives.
-use Rattle.std.proofs.Common.{◌≡◌, ◌≤◌, ◌<◌, ℕ, ◌+◌, ◌*◌, ◌^◌, length, arith, nat_le, min, cond, Bool, true, false, List, [], ◌∷◌, ◌++◌, refl, sym, ap, ◌∙◌, subst, append-nil, IsTrue, IfSome, Some, None, Result, Ok, Err}
+use Rattle.std.proofs.Common.{◌≡◌, ◌≤◌, ◌<◌, ℕ, ◌+◌, ◌*◌, ◌^◌, length, arith, nat_le, min, cond, Bool, true, false, List, [], ◌∷◌, ◌++◌, refl, sym, ap, ◌∙◌, subst, append-nil, IfSome, Some, None, Result, Ok, Err}
 use Rattle.std.proofs.lemmas.Bool.{or_from, or_left, or_right}
 use Rattle.bar_wire.specs.Inputs.{Input}
 use Rattle.bar_record.specs.Pacing.{due, is_datagram, most_in_a_row, run_after, ticks_of}

@@ -1,5 +1,5 @@
 -- Functions that do lists of actions, one after another.
-use Rattle.std.proofs.Common.{◌≡◌, ◌≤◌, ℕ, List, [], ◌∷◌, ◌++◌, Bool, true, false, ◌⊎◌, append-nil, Option, Some, None, refl, sym, ap, ◌∙◌, subst, IsTrue, IsSomeAnd, Result, Ok, Err, IsErrOf, inl, inr, arith, take}
+use Rattle.std.proofs.Common.{◌≡◌, ◌≤◌, ℕ, List, [], ◌∷◌, ◌++◌, true, false, ◌⊎◌, append-nil, Option, Some, None, refl, sym, ap, ◌∙◌, subst, IsTrue, IsSomeAnd, Result, Ok, Err, IsErrOf, inl, inr, arith, take}
 use Rattle.bar_outside.specs.Causes.{Rose}
 use Rattle.bar_outside.specs.Disk.{Disk, CreatedFiles, Failure, Appends, Creates, created, appended}
 use Rattle.bar_outside.specs.Stream.{Stream, Writes}

@@ -1,5 +1,4 @@
 -- What a sink in memory tells.
-use Rattle.std.specs.Prelude.{true}
 use Rattle.bar_outside.specs.Stream.{Stream}
 use Rattle.bar_outside.specs.Schedule.{fails_never}
 use Rattle.bar_outside.specs.declared.schedule.Schedule.{Schedule}

@@ -1,4 +1,4 @@
-use Rattle.std.proofs.Common.{◌∙◌, ℕ, map, sym, subst}
+use Rattle.std.proofs.Common.{ℕ, map, subst}
 use Rattle.std.proofs.lemmas.Simd.{map-map}
 use Rattle.bar_child_processes.specs.Outcomes.{code_of}
 use Rattle.bar_child_processes.specs.Sessions.{AreRunning}

@@ -1,4 +1,4 @@
-use Rattle.std.proofs.Common.{◌≡◌, ◌∙◌, ◌<◌, ◌+◌, ◌∷◌, ◌++◌, [], ℕ, List, map, take, drop, length, get_or, sym, ap, subst}
+use Rattle.std.proofs.Common.{◌≡◌, ◌∙◌, ◌<◌, ◌+◌, ◌∷◌, ◌++◌, [], ℕ, List, map, take, drop, length, get_or, ap, subst}
 use Rattle.std.proofs.lemmas.List.{drop_more, map-append, take_more}
 use Rattle.bar_child_processes.specs.declared.child.Child.{Child}
 use Rattle.bar_child_processes.specs.Sessions.{AreRunning}

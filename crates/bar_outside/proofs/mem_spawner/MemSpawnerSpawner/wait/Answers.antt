@@ -1,4 +1,4 @@
-use Rattle.std.proofs.Common.{rules, ◌≡◌, ◌≤◌, ◌∙◌, vec_len, vec_capacity, ◌++◌, ◌∷◌, [], map, refl, ap, arith, None}
+use Rattle.std.proofs.Common.{rules, ◌≡◌, ◌≤◌, ◌∙◌, vec_len, vec_capacity, ◌++◌, ◌∷◌, [], map, ap, arith, None}
 use Rattle.std.proofs.lemmas.List.{map-append}
 use Rattle.bar_outside.specs.Children.{Waited}
 use Rattle.bar_outside.specs.MemCalls.{call_in}
