@@ -136,6 +136,10 @@ for unit in {label}-*.service; do
     $(sed -n 's/^ExecStart=//p' "$unit") &
     started="$started $!"
 done
+sleep 1
+for each in $started; do
+    kill -0 "$each" 2> /dev/null || {{ echo "FAILED: a socat ended, so nothing is forwarded" >&2; kill $started 2> /dev/null; exit 1; }}
+done
 echo "{told}"
 wait
 """

@@ -166,7 +166,8 @@ def laid_out(hosts, wire):
             if wire.loss:
                 system(inside(spaces.hub, "nft", "-f", "-"), loss_table(wire).encode())
         except Failure as failure:
-            raise Refusal(f"the system doesn't allow what the trial needs: {failure}") from None
+            hint = "; --delay needs a kernel with netem" if wire.delay else ""
+            raise Refusal(f"the system doesn't allow what the trial needs: {failure}{hint}") from None
         yield spaces
     finally:
         with held():

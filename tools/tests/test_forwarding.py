@@ -5,7 +5,7 @@ import signal
 import subprocess
 import unittest
 
-from support import ID, RoomCase, wait_for
+from support import ID, RoomCase, has_ended, wait_for
 
 import barforwarding
 from barformats import Session
@@ -126,7 +126,17 @@ class Scripts(RoomCase):
             self.assertEqual(process.wait(), 0)
         told = sorted(" ".join(barforwarding.socat_words(way)[1:]) for way in ways(TWO).values())
         self.assertEqual(sorted(text.strip() for text in started.values()), told)
-        self.assertTrue(wait_for(lambda: not any(pathlib.Path(f"/proc/{number}").exists() for number in started)))
+        self.assertTrue(all(map(has_ended, started)))
+
+    def test_all_are_ended_where_one_fails(self):
+        program = self.room / "socat"
+        program.write_text(f'#!/bin/sh\necho $$ > {self.room}/started.$$\ncase "$4" in *24003*) exit 1 ;; esac\nexec sleep 60\n')
+        program.chmod(0o700)
+        ran = subprocess.run(["sh", self.script(program)], capture_output=True, text=True, timeout=30)
+        self.assertEqual((ran.returncode, ran.stdout, ran.stderr), (1, "", "FAILED: a socat ended, so nothing is forwarded\n"))
+        started = [path.suffix[1:] for path in self.room.glob("started.*")]
+        self.assertEqual(len(started), 5)
+        self.assertTrue(all(map(has_ended, started)))
 
     def test_no_socat(self):
         ran = subprocess.run(["sh", self.script(self.room / "none")], capture_output=True, text=True)

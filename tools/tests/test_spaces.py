@@ -113,7 +113,7 @@ class Words(unittest.TestCase):
 
 # takes one datagram at a port of the loopback address, and says how long it is and whose front it has
 TAKE = """
-import socket, sys
+import socket, sys, time
 taken = socket.socket(socket.AF_INET, socket.SOCK_DGRAM)
 taken.bind(("127.0.0.1", int(sys.argv[1])))
 taken.settimeout(float(sys.argv[2]))
@@ -121,15 +121,17 @@ print("bound", flush=True)
 try:
     data = taken.recv(65535)
     print(len(data), data[:3].decode())
+    print(time.time())
 except TimeoutError:
     print("nothing")
 """
 
 # sends datagrams from one port of the loopback address to another, all at once
 SEND = """
-import socket, sys
+import socket, sys, time
 sender = socket.socket(socket.AF_INET, socket.SOCK_DGRAM)
 sender.bind(("127.0.0.1", int(sys.argv[1])))
+print(time.time())
 sender.sendto(sys.argv[3].encode() * (int(sys.argv[4]) // 3), ("127.0.0.1", int(sys.argv[2])))
 """
 
@@ -164,8 +166,10 @@ class Live(RoomCase):
         with subprocess.Popen(words, stdout=subprocess.PIPE, text=True) as process:
             self.assertEqual(process.stdout.readline(), "bound\n")
             words = sys.executable, "-c", SEND, 24_000 + sender, 24_000 + receiver, f"{sender}>{receiver}", size
-            subprocess.run(barspaces.inside(host[sender], *words), check=True)
-            return process.communicate()[0].strip()
+            began = subprocess.run(barspaces.inside(host[sender], *words), check=True, capture_output=True, text=True).stdout
+            told, _, ended = process.communicate()[0].strip().partition("\n")
+            self.seconds = float(ended) - float(began) if ended else None
+            return told
 
     def carries_all(self, by):
         spaces = self.laid_out(by)
@@ -183,6 +187,37 @@ class Live(RoomCase):
         spaces = self.laid_out("socat", Wire(loss=100))
         self.assertEqual(self.carried(spaces, 0, 2, 3_000, seconds=0.5), "nothing")
         self.assertRegex(barspaces.loss_line(spaces), r"^3 packets went between the hosts: 3 lost$")
+
+    def test_packets_are_delayed(self):
+        try:
+            spaces = self.laid_out("socat", Wire(delay=500))
+        except Refusal as refusal:
+            self.assertIn("--delay needs a kernel with netem", str(refusal))
+            self.skipTest(str(refusal))
+        self.assertEqual(self.carried(spaces, 0, 2), "9 0>2")
+        self.assertTrue(0.5 <= self.seconds < 10)
+
+    def test_nobody_reaches_the_loopback_address_from_outside(self):
+        spaces = self.laid_out("nftables")
+        one, two = spaces.of_host["one"], spaces.of_host["two"]
+        mac = barspaces.system(["ip", "-n", one, "-br", "link", "show", "eth0"]).split()[2]
+        # to host two the loopback address is that of host one
+        barspaces.system(barspaces.inside(two, "nft", "flush", "ruleset"))
+        routes = "del local 127.0.0.0/8 dev lo table local", "del local 127.0.0.1 dev lo table local"
+        for route in (*routes, "add 127.0.0.1/32 dev eth0 src 198.51.100.20"):
+            barspaces.system(["ip", "-n", two, "route", *route.split()])
+        barspaces.system(["ip", "-n", two, "neigh", "add", "127.0.0.1", "lladdr", mac, "dev", "eth0"])
+        self.assertEqual(self.strayed(one, two, 0.5), "nothing")
+        barspaces.system(barspaces.inside(one, "nft", "flush", "chain", "ip", f"bar_{ID}", "guard"))
+        self.assertEqual(self.strayed(one, two, 10), "9 2>1")
+
+    def strayed(self, one, two, seconds):
+        """What a program on host one takes that host two sends to the loopback address."""
+        with subprocess.Popen(barspaces.inside(one, sys.executable, "-c", TAKE, 9_999, seconds), stdout=subprocess.PIPE, text=True) as process:
+            self.assertEqual(process.stdout.readline(), "bound\n")
+            words = SEND.replace('sender.bind(("127.0.0.1"', 'sender.bind(("198.51.100.20"')
+            subprocess.run(barspaces.inside(two, sys.executable, "-c", words, 0, 9_999, "2>1", 9), check=True, capture_output=True)
+            return process.communicate()[0].partition("\n")[0]
 
     def test_packets_that_are_larger(self):
         spaces = self.laid_out("socat", Wire(loss=100, mtu=9000))
