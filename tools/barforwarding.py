@@ -33,13 +33,9 @@ class Way:
 
 def ways_of(session, hosts, host):
     """The ways of a host: out to each party of another one, and in to each of its own."""
-    for other in hosts:
-        for party in other.parties:
-            port = session.port + party
-            if other == host:
-                yield Way(party, port, host.listen, LOOPBACK, False)
-            else:
-                yield Way(party, port, LOOPBACK, other.address, True)
+    for party, other in [(party, other) for other in hosts for party in other.parties]:
+        listen, to = (host.listen, LOOPBACK) if other == host else (LOOPBACK, other.address)
+        yield Way(party, session.port + party, listen, to, other != host)
 
 
 def label_of(session):

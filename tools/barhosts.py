@@ -109,19 +109,14 @@ def host_of(table):
 
 def faults_of_twice(hosts):
     """The names and addresses that several hosts have."""
-    for key in ("name", "address"):
-        counts = collections.Counter(getattr(host, key).lower() for host in hosts)
-        for value, count in counts.items():
-            if count > 1:
-                yield f"{count} hosts have the {key} {value}: give each its own"
+    counts = collections.Counter((key, getattr(host, key).lower()) for key in ("name", "address") for host in hosts)
+    yield from (f"{count} hosts have the {key} {value}: give each its own" for (key, value), count in counts.items() if count > 1)
 
 
 def faults_of_parties(hosts, session):
     """The parties that no session has, those that several hosts have or one has twice, and those that run nowhere."""
-    owners = collections.defaultdict(list)
-    for host in hosts:
-        for party in host.parties:
-            owners[party].append(host.name)
+    pairs = [(party, host.name) for host in hosts for party in host.parties]
+    owners = {party: [name for each, name in pairs if each == party] for party, _ in pairs}
     for party, names in sorted(owners.items()):
         if party not in session.parties:
             yield f"host {names[0]} has party {party}, and the session has the parties 0 to {session.peers}"

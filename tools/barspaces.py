@@ -4,7 +4,6 @@ Nothing of the machine's own network is changed. A host has its address on the o
 network that is of, and reaches the others directly. The bridge may lose packets, of which a large datagram has several, and interfaces
 may delay what they send. The scripts in the hosts' folders are what is run.
 """
-import collections
 import contextlib
 import dataclasses
 import os
@@ -133,24 +132,28 @@ class Spaces:
                 system(["ip", "netns", "del", name])
 
 
+def commands_of_host(spaces, hosts, host, wire):
+    """The words of the commands that join a host to the bridge."""
+    space, port, mtu = spaces.of_host[host.name], f"h{hosts.index(host)}", str(wire.mtu)
+    inside_it, inside_hub = ["ip", "-n", space], ["ip", "-n", spaces.hub]
+    ends = ["ip", "link", "add", INTERFACE, "mtu", mtu, "netns", space, "type", "veth"]
+    yield [*ends, "peer", "name", port, "mtu", mtu, "netns", spaces.hub]
+    yield [*inside_hub, "link", "set", port, "master", BRIDGE, "up"]
+    yield [*inside_it, "link", "set", "lo", "up"]
+    yield [*inside_it, "addr", "add", f"{host.address}/32", "dev", INTERFACE]
+    yield [*inside_it, "link", "set", INTERFACE, "up"]
+    others = (f"{other.address}/32" for other in hosts if other != host)
+    yield from ([*inside_it, "route", "add", other, "dev", INTERFACE, "src", host.address] for other in others)
+    if wire.delay:
+        yield ["tc", "-n", space, "qdisc", "add", "dev", INTERFACE, "root", "netem", "delay", f"{wire.delay}ms", "limit", "100000"]
+
+
 def commands_of(spaces, hosts, wire):
     """The words of the commands that lay out the namespaces, in their order."""
-    ip = {name: ["ip", "-n", name] for name in spaces.names}
-    yield [*ip[spaces.hub], "link", "add", BRIDGE, "type", "bridge"]
-    yield [*ip[spaces.hub], "link", "set", BRIDGE, "up"]
-    for number, host in enumerate(hosts):
-        space, port = spaces.of_host[host.name], f"h{number}"
-        ends = ["ip", "link", "add", INTERFACE, "mtu", str(wire.mtu), "netns", space, "type", "veth"]
-        yield [*ends, "peer", "name", port, "mtu", str(wire.mtu), "netns", spaces.hub]
-        yield [*ip[spaces.hub], "link", "set", port, "master", BRIDGE, "up"]
-        yield [*ip[space], "link", "set", "lo", "up"]
-        yield [*ip[space], "addr", "add", f"{host.address}/32", "dev", INTERFACE]
-        yield [*ip[space], "link", "set", INTERFACE, "up"]
-        for other in hosts:
-            if other != host:
-                yield [*ip[space], "route", "add", f"{other.address}/32", "dev", INTERFACE, "src", host.address]
-        if wire.delay:
-            yield ["tc", "-n", space, "qdisc", "add", "dev", INTERFACE, "root", "netem", "delay", f"{wire.delay}ms", "limit", "100000"]
+    yield from (["ip", "netns", "add", name] for name in spaces.names)
+    yield ["ip", "-n", spaces.hub, "link", "add", BRIDGE, "type", "bridge"]
+    yield ["ip", "-n", spaces.hub, "link", "set", BRIDGE, "up"]
+    yield from (words for host in hosts for words in commands_of_host(spaces, hosts, host, wire))
 
 
 @contextlib.contextmanager
@@ -159,8 +162,6 @@ def laid_out(hosts, wire):
     spaces = Spaces(hosts)
     try:
         try:
-            for name in spaces.names:
-                system(["ip", "netns", "add", name])
             for words in commands_of(spaces, hosts, wire):
                 system(words)
             if wire.loss:
@@ -251,12 +252,8 @@ class SpanWatch(Watch):
 
     def drops_now(self):
         """How many datagrams to each party sockets have lost so far: its own, and those that forward to it."""
-        drops = collections.Counter()
-        for place in self.places:
-            drops.update(dict.fromkeys(self.ports, 0))
-            for port, count in ports_in(place.read_text("utf-8")):
-                drops[port - self.session.port] += count
-        return dict(drops)
+        sockets = [socket for place in self.places for socket in ports_in(place.read_text("utf-8"))]
+        return {party: sum(count for each, count in sockets if each == port) for party, port in self.ports.items()}
 
 
 def statuses_in(printed):

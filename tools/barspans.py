@@ -109,15 +109,19 @@ def move(file, to):
     file.rename(to / file.name)
 
 
+def move_all(pairs):
+    """Moves files, each to its folder."""
+    for file, to in pairs:
+        move(file, to)
+
+
 def spread(folder, session, program, hosts, by, begin=None):
     """Writes the folders of all hosts, and moves the keys there at last. Returns each host's folder by its name."""
     with new_folder(span_of(folder)) as made:
         places = {host.name: made.path / host.name for host in hosts}
         for host in hosts:
             write_host(folder, session, program, hosts, host, by, begin, places[host.name])
-    for host in hosts:
-        for party in host.parties:
-            move(folder.key(party), places[host.name])
+    move_all([(folder.key(party), places[host.name]) for host in hosts for party in host.parties])
     return places
 
 
@@ -129,9 +133,7 @@ def files_of_parties(place, host):
 
 def gather(folder, hosts, places):
     """Moves the files of all parties from the hosts' folders to the session's."""
-    for host in hosts:
-        for file in [*files_of_parties(places[host.name], host)]:
-            move(file, folder.path)
+    move_all([(file, folder.path) for host in hosts for file in files_of_parties(places[host.name], host)])
 
 
 # ---- what is told

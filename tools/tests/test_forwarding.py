@@ -1,8 +1,10 @@
 """What forwards datagrams between hosts, as text."""
 import os
 import pathlib
+import shutil
 import signal
 import subprocess
+import tempfile
 import unittest
 
 from support import ID, RoomCase, has_ended, wait_for
@@ -88,6 +90,14 @@ class Texts(unittest.TestCase):
         self.assertEqual([*files], [*names, f"bar-{ID}.target"])
         wants = f"[Unit]\nDescription=What forwards datagrams of session {ID}\nWants={' '.join(names)}\n"
         self.assertEqual(files[f"bar-{ID}.target"], wants)
+
+    @unittest.skipUnless(shutil.which("systemd-analyze") and pathlib.Path(barforwarding.SOCAT_PATH).exists(), "there is no systemd or no socat")
+    def test_systemd_takes_the_units(self):
+        with tempfile.TemporaryDirectory() as room:
+            for name, text in barforwarding.files_of(SESSION, HOSTS, TWO, barforwarding.SOCAT).items():
+                pathlib.Path(room, name).write_text(text)
+            ran = subprocess.run(["systemd-analyze", "verify", *pathlib.Path(room).iterdir()], capture_output=True, text=True)
+            self.assertEqual((ran.returncode, ran.stderr), (0, ""))
 
     def test_the_table_of_a_host(self):
         self.maxDiff = None

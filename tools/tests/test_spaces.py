@@ -76,11 +76,12 @@ class Words(unittest.TestCase):
         spaces = barspaces.Spaces(HOSTS)
         hub, two = spaces.hub, spaces.of_host["two"]
         lines = [" ".join(words) for words in barspaces.commands_of(spaces, HOSTS, Wire(mtu=9000))]
-        self.assertEqual(lines[0], f"ip -n {hub} link add hub type bridge")
+        self.assertEqual(lines[:2], [f"ip netns add {hub}", f"ip netns add {spaces.of_host['one']}"])
+        self.assertEqual(lines[3], f"ip -n {hub} link add hub type bridge")
         self.assertIn(f"ip link add eth0 mtu 9000 netns {two} type veth peer name h1 mtu 9000 netns {hub}", lines)
         self.assertIn(f"ip -n {two} addr add 198.51.100.20/32 dev eth0", lines)
         self.assertIn(f"ip -n {two} route add 192.0.2.10/32 dev eth0 src 198.51.100.20", lines)
-        self.assertEqual(len(lines), 14)
+        self.assertEqual(len(lines), 17)
 
     def test_delays(self):
         spaces = barspaces.Spaces(HOSTS)
