@@ -143,7 +143,7 @@ def lines_of(hosts, places, by, begin=None):
     """What to do on each host, a line for each."""
     word = "" if begin else " BEGIN"
     for host in hosts:
-        yield f"host {host.name}: copy {places[host.name]} to {host.address}, run ./forward.sh there by {by}, and ./start.sh{word} beside it"
+        yield f"host {host.name}: move {places[host.name]} to {host.address}, run ./forward.sh there by {by}, and ./start.sh{word} beside it"
     if begin:
         yield f"all parties begin at {begin}, in milliseconds of Unix time"
     else:

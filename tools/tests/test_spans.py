@@ -173,7 +173,7 @@ class Script(SpanCase):
         place = self.folder.path / "hosts"
         self.assertEqual((status, err), (0, []))
         self.assertEqual(out[0], "a CASE has up to 7,557 bytes, 6 packets of at most 1,500 bytes")
-        self.assertEqual(out[1], f"host one: copy {place}/one to 192.0.2.10, run ./forward.sh there by socat, and ./start.sh BEGIN beside it")
+        self.assertEqual(out[1], f"host one: move {place}/one to 192.0.2.10, run ./forward.sh there by socat, and ./start.sh BEGIN beside it")
         self.assertEqual(out[-1], f"OK: 2 hosts, each with its folder in {place}")
 
     def test_a_begin(self):
