@@ -296,13 +296,12 @@ def run_trial(folder, session, program, hosts, by, wire):
     near = [dataclasses.replace(host, listen=host.address) for host in hosts]
     with laid_out(near, wire) as spaces:
         say(f"{len(hosts)} hosts in network namespaces, joined by a network that {wire.told}")
-        places = barspans.spread(folder, session, program, near, by)
         try:
+            places = barspans.spread(folder, session, program, near, by)
             ran = run_hosts(session, program, near, by, wire, spaces, places)
         finally:
             with held():
-                barspans.gather(folder, near, places)
-                shutil.rmtree(barspans.span_of(folder))
+                barspans.gather(folder, near)
     for party in sorted(ran.statuses):
         say(barrunning.line_of(folder, party, ran.statuses[party]))
     return ran

@@ -15,7 +15,7 @@ import shutil
 import barforwarding
 from barmaking import new_folder
 from barprogram import words_of
-from barscript import Refusal, listed
+from barscript import Refusal, held, listed
 from barsession import Folder
 
 # how many hours ahead a begin may be at most
@@ -46,6 +46,11 @@ exit $failed
 def span_of(folder):
     """Where the folders of a session's hosts stand."""
     return folder.path / "hosts"
+
+
+def places_of(folder, hosts):
+    """Where the folder of each host stands, by its name."""
+    return {host.name: span_of(folder) / host.name for host in hosts}
 
 
 def faults_of_span(folder):
@@ -117,11 +122,12 @@ def move_all(pairs):
 
 def spread(folder, session, program, hosts, by, begin=None):
     """Writes the folders of all hosts, and moves the keys there at last. Returns each host's folder by its name."""
-    with new_folder(span_of(folder)) as made:
-        places = {host.name: made.path / host.name for host in hosts}
+    places = places_of(folder, hosts)
+    with new_folder(span_of(folder)):
         for host in hosts:
             write_host(folder, session, program, hosts, host, by, begin, places[host.name])
-    move_all([(folder.key(party), places[host.name]) for host in hosts for party in host.parties])
+    with held():
+        move_all([(folder.key(party), places[host.name]) for host in hosts for party in host.parties])
     return places
 
 
@@ -131,9 +137,12 @@ def files_of_parties(place, host):
         yield from (file for file in (Folder(place).key(party), *sorted(place.glob(f"party.{party}.*"))) if file.exists())
 
 
-def gather(folder, hosts, places):
-    """Moves the files of all parties from the hosts' folders to the session's."""
+def gather(folder, hosts):
+    """Moves the files of all parties from the hosts' folders to the session's, and removes the hosts' folders with what else is there."""
+    places = places_of(folder, hosts)
     move_all([(file, folder.path) for host in hosts for file in files_of_parties(places[host.name], host)])
+    if span_of(folder).is_dir():
+        shutil.rmtree(span_of(folder))
 
 
 # ---- what is told
@@ -143,7 +152,8 @@ def lines_of(hosts, places, by, begin=None):
     """What to do on each host, a line for each."""
     word = "" if begin else " BEGIN"
     for host in hosts:
-        yield f"host {host.name}: move {places[host.name]} to {host.address}, run ./forward.sh there by {by}, and ./start.sh{word} beside it"
+        run = f"run ./forward.sh there by {by}, and ./start.sh{word} beside it"
+        yield f"host {host.name}: move {places[host.name]} to {host.address}, {run}"
     if begin:
         yield f"all parties begin at {begin}, in milliseconds of Unix time"
     else:

@@ -1,4 +1,5 @@
 """The folders of hosts, the scripts that start parties in them, and how files come back."""
+import contextlib
 import pathlib
 import shutil
 import stat
@@ -14,6 +15,8 @@ import barforwarding
 import barhosts
 import barmaking
 import barrunning
+import barscript
+import barspaces
 import barspans
 from barsession import Folder
 
@@ -98,16 +101,35 @@ class Folders(SpanCase):
         places = self.spread()
         for name, file in (("one", "party.0.table"), ("one", "party.1.recording"), ("two", "party.2.played"), ("two", "party.2.1")):
             (places[name] / file).write_text(file)
-        barspans.gather(self.folder, self.hosts, places)
+        barspans.gather(self.folder, self.hosts)
         came = {path.name for path in self.folder.path.glob("*.*")} - {"session.toml"}
         self.assertEqual(came, {"key.0", "key.1", "key.2", "party.0.table", "party.1.recording", "party.2.played", "party.2.1"})
-        self.assertFalse(list(places["one"].glob("key.*")) + list(places["two"].glob("party.*")))
+        self.assertFalse((self.folder.path / "hosts").exists())
 
     def test_nothing_is_written_over(self):
         places = self.spread()
         (self.folder.path / "key.0").write_text("of value")
-        self.assertIn("key.0 is there already: move it away", self.reasons_of(lambda: barspans.gather(self.folder, self.hosts, places))[0])
+        self.assertIn("key.0 is there already: move it away", self.reasons_of(lambda: barspans.gather(self.folder, self.hosts))[0])
         self.assertEqual((self.folder.path / "key.0").read_text(), "of value")
+        self.assertTrue((places["one"] / "key.0").exists())
+
+    def test_a_trial_that_fails_leaves_the_folder_as_it_was(self):
+        before = {path.name: path.read_bytes() for path in self.folder.path.iterdir()}
+        words = self.folder, self.session, self.program, self.hosts, barforwarding.SOCAT, barspaces.Wire()
+        moved, move = [], barspans.move
+
+        def move_one(file, to):
+            moved.append(file)
+            if len(moved) == 2:
+                raise barscript.Failure("no")
+            move(file, to)
+
+        ways = {"barspaces.run_hosts": barscript.Failure("no"), "barspans.write_host": barscript.Failure("no"), "barspans.move": move_one}
+        for name, effect in ways.items():
+            laid_out = mock.patch("barspaces.laid_out", return_value=contextlib.nullcontext())
+            with self.subTest(name=name), laid_out, mock.patch(name, side_effect=effect), self.assertRaises(barscript.Failure):
+                lines_of(lambda: barspaces.run_trial(*words))
+            self.assertEqual({path.name: path.read_bytes() for path in self.folder.path.iterdir()}, before)
 
 
 class Starts(SpanCase):
