@@ -101,9 +101,13 @@ class Watch:
         if line:
             progress(line)
         with contextlib.suppress(OSError, ValueError):
-            self.drops |= drops_of(SOCKETS.read_text("utf-8"), self.ports)
+            self.drops |= self.drops_now()
         if self.victim and now >= self.middle:
             self.kill()
+
+    def drops_now(self):
+        """How many datagrams each party's socket has lost so far."""
+        return drops_of(SOCKETS.read_text("utf-8"), self.ports)
 
     def kill(self):
         """Kills the victim, if it runs; else the next look tries it again."""
