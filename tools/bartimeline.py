@@ -335,7 +335,7 @@ def video_of(run, video):
         told = f"{seen.frames:,} of {whole.frames:,} frames decode, of {bytes_played[peer]} of the bytes"
         stills.append(still(seen, whole, f"peer {peer}", told))
     told = f"The stream is a video. Each still is what a player shows at second {whole.second:.2f}: the last frame that decodes up to then. "
-    told += "It is a moment at which most peers lack the frame." if any(lag_of(it, whole) for it in video.peers.values()) else ""
+    told += "At no other moment do more peers lack their frame." if any(lag_of(it, whole) for it in video.peers.values()) else ""
     return [tag("h2", "The video"), tag("p", told, class_="soft"), tag("div", *stills, class_="stills")]
 
 

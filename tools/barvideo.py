@@ -7,13 +7,12 @@ import base64
 import bisect
 import dataclasses
 import shutil
-import subprocess
 
 import bartimeline
 from bardata import Run
 from barformats import UPDATES, room_of
 from barnetwork import Network
-from barprogram import spread
+from barprogram import run_words, spread
 from barscript import Failure, counted, say
 
 # the programs, and what has them
@@ -23,8 +22,7 @@ SECONDS, RATE, SIZE = 30, 25, "640x360"
 # what the video has in a second, with what MPEG-TS adds, is less than a round carries in its time
 BITS = 240_000
 # a picture that needs no other stands at each second, so that what a gap spoils heals by then
-PICTURES = ["-c:v", "libx264", "-preset", "fast", "-b:v", str(BITS), "-maxrate", str(BITS), "-bufsize", str(BITS), "-g", str(RATE), "-bf", "0"]
-MADE = ["-f", "lavfi", "-i", f"testsrc2=size={SIZE}:rate={RATE}:duration={SECONDS}", *PICTURES, "-pix_fmt", "yuv420p"]
+PICTURES = ["-c:v", "libx264", "-preset", "fast", "-b:v", BITS, "-maxrate", BITS, "-bufsize", BITS, "-g", RATE, "-bf", 0, "-pix_fmt", "yuv420p"]
 
 # how many rounds come behind those in which the video is sent
 MORE = 4
@@ -43,16 +41,18 @@ def faults_of_ffmpeg():
         yield f"a video needs {' and '.join(missing)}, which {PACKAGE} has: install it (apt-get install ffmpeg), or leave --video out"
 
 
-def called(*words):
+def called(program, *words):
     """What a program prints on standard output. What it says on files with gaps isn't wanted, nor is its status."""
-    return subprocess.run(words, stdin=subprocess.DEVNULL, stdout=subprocess.PIPE, stderr=subprocess.DEVNULL).stdout
+    return run_words(program, words).printed
 
 
-def make(path):
-    """Makes the video."""
-    called("ffmpeg", "-v", "quiet", *MADE, "-muxdelay", "0", "-muxpreload", "0", "-f", "mpegts", path)
+def make(path, seconds=SECONDS):
+    """Makes a video of so many seconds, where no file is."""
+    source = "-f", "lavfi", "-i", f"testsrc2=size={SIZE}:rate={RATE}:duration={seconds}"
+    words = *source, *map(str, PICTURES), "-f", "mpegts"
+    called("ffmpeg", "-v", "quiet", *words, path)
     if not path.exists() or not path.stat().st_size:
-        raise Failure(f"ffmpeg made no video at {path}: try `ffmpeg {' '.join(MADE)} -f mpegts FILE`")
+        raise Failure(f"no video was made by `ffmpeg {' '.join(words)} {path}`")
 
 
 def rounds_for(path):
@@ -129,7 +129,9 @@ def video_of(folder, peers):
 
 
 def add_to_page(folder):
-    """Prints how many frames of each peer decode, and writes the page of a run anew, with them."""
+    """Prints how many frames of each peer decode, and writes the page of a run anew, with them. A run without a page is left as it is."""
+    if not folder.data.exists():
+        return
     run = Run.of_json(folder.data.read_text("utf-8"))
     video = video_of(folder, [peer.peer for peer in run.peers])
     for peer, it in video.peers.items():

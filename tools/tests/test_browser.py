@@ -235,6 +235,15 @@ class Folds(unittest.TestCase):
         self.assertEqual(len(buttons), 17)
         self.assertEqual([it["data-round"] for it in buttons if it["aria-pressed"] == "true"], ["14"])
 
+    def test_a_click_unfolds_them(self):
+        run = busy_run(9, 10)
+        run.rounds = [row for row in run.rounds if (row.peer, row.round) not in {(STOPPED, number) for number in range(12, 18)}]
+        click = '<script>document.querySelector("button.fold").click()</script></body>'
+        elements = browsed(bartimeline.page(run).replace("</body>", click), f"#peer={STOPPED}")
+        buttons = [it for it in elements.all if it["name"] == "button" and "data-round" in it]
+        self.assertEqual([it["data-round"] for it in buttons if it["aria-pressed"] == "true"], ["12"])
+        self.assertEqual(len(buttons), 17)
+
     def test_signs_for_partners_above_99_do_not_overlap(self):
         elements, _ = self.buttons("#peer=1&round=1", 120)
         (section,) = [it for it in elements.all if it["name"] == "section"]
