@@ -286,7 +286,8 @@ def peer_columns(run, video=None):
         ("datagrams", "lost to it", "lost on the way to it", "lost"),
     ]
     if video:
-        named.insert(3, ("played", "frames", "frames that decode", lambda peer: video.peers[peer.peer].frames if peer.peer in video.peers else "–"))
+        frames = {peer: seen.frames for peer, seen in video.peers.items()}
+        named.insert(3, ("played", "frames", "frames that decode", lambda peer: frames.get(peer.peer, "–")))
     return [Column(*names, operator.attrgetter(of) if isinstance(of, str) else of) for *names, of in named]
 
 
@@ -334,7 +335,7 @@ def video_of(run, video):
     for peer, seen in video.peers.items():
         told = f"{seen.frames:,} of {whole.frames:,} frames decode, of {bytes_played[peer]} of the bytes"
         stills.append(still(seen, whole, f"peer {peer}", told))
-    told = f"The stream is a video. Each still is what a player shows at second {whole.second:.2f}: the last frame that decodes up to then. "
+    told = f"The stream is a video. Each still is what a player shows at second {whole.second:.2f}, the last frame that decodes by then. "
     told += "At no other moment do more peers lack their frame." if any(lag_of(it, whole) for it in video.peers.values()) else ""
     return [tag("h2", "The video"), tag("p", told, class_="soft"), tag("div", *stills, class_="stills")]
 

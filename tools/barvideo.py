@@ -22,7 +22,8 @@ SECONDS, RATE, SIZE = 30, 25, "640x360"
 # what the video has in a second, with what MPEG-TS adds, is less than a round carries in its time
 BITS = 240_000
 # a picture that needs no other stands at each second, so that what a gap spoils heals by then
-PICTURES = ["-c:v", "libx264", "-preset", "fast", "-b:v", BITS, "-maxrate", BITS, "-bufsize", BITS, "-g", RATE, "-bf", 0, "-pix_fmt", "yuv420p"]
+PICTURES = ["-c:v", "libx264", "-preset", "fast", "-b:v", BITS, "-maxrate", BITS, "-bufsize", BITS, "-g", RATE, "-bf", 0]
+PICTURES += ["-pix_fmt", "yuv420p"]
 
 # how many rounds come behind those in which the video is sent
 MORE = 4

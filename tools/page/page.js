@@ -103,7 +103,8 @@ function marksOf(peer, number) {
 
 // what a shade stands for, from none to the most that is told apart, with the steps of its scale
 const measures = {
-  played: {of: sum => sum.due ? 100 * sum.played / sum.due : null, steps: [0, 25, 50, 75, 100], unit: "% of what was due in a round; blank where nothing was"},
+  played: {of: sum => sum.due ? 100 * sum.played / sum.due : null, steps: [0, 25, 50, 75, 100],
+    unit: "% of what was due in a round; blank where nothing was"},
   traded: {of: sum => sum.traded / Math.max(1, sum.rounds), steps: [0, 1, 2, 3], unit: "or more exchanges with both keys in a round"},
   lost: {of: sum => sum.lost / Math.max(1, sum.rounds), steps: [0, 2, 4, 6, 8], unit: "or more datagrams lost in a round"},
 };
@@ -314,7 +315,8 @@ const roundButtons = (peer, first, last) =>
 function foldButton({first, last, stopped}) {
   const veil = stopped ? '<rect class="gone" width="30" height="102"/>' : "";
   const label = `rounds ${first} to ${last}: ${stopped ? "it had stopped" : "nothing was done and nothing was due"}; unfold`;
-  return `<button type="button" class="fold" tabindex="-1" aria-pressed="false" data-round="${first}" data-last="${last}" aria-label="${label}">` +
+  const rounds = `data-round="${first}" data-last="${last}"`;
+  return `<button type="button" class="fold" tabindex="-1" aria-pressed="false" ${rounds} aria-label="${label}">` +
     `<svg width="30" height="102" aria-hidden="true">${veil}${text("round late", 15, 11, first)}${text("label middle", 15, 55, "···")}` +
     `${text("round late", 15, 96, last)}</svg></button>`;
 }
@@ -381,7 +383,8 @@ function tell(chosen) {
 function beside(all, button, down) {
   const others = all.filter(it => (it.offsetTop - button.offsetTop) * down > 0);
   const line = Math[down > 0 ? "min" : "max"](...others.map(it => it.offsetTop)), far = it => Math.abs(it.offsetLeft - button.offsetLeft);
-  return others.filter(it => it.offsetTop === line).reduce((best, it) => far(it) < far(best) ? it : best, others.length ? others.at(-1) : button);
+  const there = others.filter(it => it.offsetTop === line);
+  return there.reduce((best, it) => far(it) < far(best) ? it : best, there[0] ?? button);
 }
 
 function takeLaneKey(event) {

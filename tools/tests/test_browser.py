@@ -228,7 +228,8 @@ class Folds(unittest.TestCase):
     def test_they_are_folded(self):
         _, buttons = self.buttons(f"#peer={STOPPED}")
         self.assertEqual([it["data-round"] for it in buttons], [str(number) for number in range(1, 13)])
-        self.assertEqual([(it["data-last"], it["aria-label"]) for it in buttons if "data-last" in it], [("17", "rounds 12 to 17: it had stopped; unfold")])
+        (fold,) = [it for it in buttons if "data-last" in it]
+        self.assertEqual((fold["data-last"], fold["aria-label"]), ("17", "rounds 12 to 17: it had stopped; unfold"))
 
     def test_a_round_that_is_named_is_unfolded(self):
         _, buttons = self.buttons(f"#peer={STOPPED}&round=14")

@@ -1,4 +1,4 @@
-"""A video as a stream: what is refused, which moment is shown, what stands on the page, and files with gaps; these are skipped without ffmpeg."""
+"""A video as a stream: what is refused, which moment is shown, what stands on the page, and files with gaps, which need ffmpeg."""
 import os
 import unittest
 from unittest import mock
@@ -29,8 +29,8 @@ class Refusals(RoomCase):
         return err
 
     def test_programs_that_are_missing(self):
-        told = "a video needs ffmpeg and ffprobe, which Debian's package ffmpeg has: install it (apt-get install ffmpeg), or leave --video out"
-        self.assertEqual(self.refused("--video"), [f"REFUSED: {told}"])
+        told = "a video needs ffmpeg and ffprobe, which Debian's package ffmpeg has: install it (apt-get install ffmpeg)"
+        self.assertEqual(self.refused("--video"), [f"REFUSED: {told}, or leave --video out"])
 
     def test_rounds_that_are_named(self):
         self.assertIn("--rounds goes with no --video", "".join(self.refused("--video", "--rounds", 10)))
