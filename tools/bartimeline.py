@@ -292,19 +292,20 @@ def peer_columns(run, video=None):
 
 
 def head_of_peers(columns):
-    """The two lines above the table of peers: groups, and columns with buttons that sort by them."""
-    groups = itertools.groupby(columns, lambda column: column.group)
-    spans = [tag("th", group, scope="colgroup", colspan=len([*of])) for group, of in groups]
+    """What stands above the table of peers: groups, and columns with buttons that sort by them."""
+    groups = [(group, len([*of])) for group, of in itertools.groupby(columns, lambda column: column.group)]
+    spans = [tag("th", group, scope="colgroup", colspan=count) for group, count in groups]
     buttons = [tag("button", column.name, type="button", title=f"{column.whole}: sort by it") for column in columns]
     sorts = [tag("th", button, scope="col", aria_label=column.whole) for button, column in zip(buttons, columns)]
-    return tag("thead", tag("tr", *spans, class_="groups"), tag("tr", *sorts))
+    borders = [tag("colgroup", span=count) for _, count in groups]
+    return [*borders, tag("thead", tag("tr", *spans, class_="groups"), tag("tr", *sorts))]
 
 
 def peers_table(run, video=None):
     """Each peer's totals, which a reader can sort."""
     columns = peer_columns(run, video)
     rows = [tag("tr", *(tag("td", cell_of(column.of(peer))) for column in columns)) for peer in run.peers if not peer.refused]
-    drawn = tag("table", head_of_peers(columns), tag("tbody", *rows), class_="sorts")
+    drawn = tag("table", *head_of_peers(columns), tag("tbody", *rows), class_="sorts")
     told = tag("p", "A click on a name sorts by its column, and another click the other way.", class_="soft")
     return [tag("h2", "Each peer"), told, tag("div", drawn, class_="wide", tabindex="0", role="region", aria_label="totals of each peer")]
 
