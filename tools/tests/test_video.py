@@ -3,11 +3,12 @@ import os
 import unittest
 from unittest import mock
 
-from support import TOOLS, RoomCase, lines_of, run_script
+from support import TOOLS, RoomCase, lines_of, run_script, start_script
 
 import bartimeline
 import barvideo
 from barformats import room_of
+from barprogram import PROGRAM
 from barscript import Failure
 from barsession import Folder
 from made_runs import busy_run
@@ -133,6 +134,22 @@ class Files(RoomCase):
         self.folder.stream.write_bytes(b"no video" * 100)
         with self.assertRaises(Failure):
             barvideo.video_of(self.folder, [])
+
+
+@unittest.skipIf(SKIPPED, SKIPPED)
+@unittest.skipUnless(PROGRAM.exists(), f"there is no {PROGRAM}")
+class Demo(RoomCase):
+    """The demo itself, by the built program, with ticks so short that little may be played."""
+
+    def test_a_video_through_three_peers(self):
+        room = os.environ | {"TMPDIR": str(self.room)}
+        with start_script("demo", "--video", "--peers", 3, "--tick-ms", 40, env=room) as process:
+            out, err = process.communicate(timeout=300)
+        self.assertEqual(process.returncode, 0, out + err)
+        for peer, line in enumerate(out.splitlines()[-4:-1], 1):
+            self.assertRegex(line, rf"^peer {peer}: \d+ of 750 frames decode$")
+        (page,) = self.room.glob("bar-demo-*/session/timeline.html")
+        self.assertEqual(page.read_text("utf-8").count("<figure>"), 4)
 
 
 if __name__ == "__main__":
