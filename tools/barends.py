@@ -1,19 +1,20 @@
-"""How the exchanges of a run ended: with both keys, cut short, with nothing to trade, or so that no answer is known."""
+"""How the exchanges of a run ended: with both keys, cut short, with nothing to trade, without an answer, or so that it isn't known."""
 import collections
 
-BOTH_KEYS, CUT_SHORT, NOTHING, NO_ANSWER = "both keys", "cut short", "nothing to trade", "no answer"
+BOTH_KEYS, CUT_SHORT, NOTHING, NO_ANSWER, UNKNOWN = "both keys", "cut short", "nothing to trade", "no answer", "unknown"
 
 
 def end_of(exchange, sides):
     """How an exchange ended, by those of its sides whose recordings were replayed.
 
-    Its initiator alone knows that there was nothing to trade: it was answered, and neither side promised anything.
+    Of one in which nothing was promised its initiator alone knows why: if it was answered, there was nothing to trade.
     """
     if exchange.complete:
         return BOTH_KEYS
     if any(side.promised for side in sides):
         return CUT_SHORT
-    return NOTHING if any(side.asks and side.answered for side in sides) else NO_ANSWER
+    answered = [side.answered for side in sides if side.asks]
+    return UNKNOWN if not answered else NOTHING if answered[0] else NO_ANSWER
 
 
 def ends_of(run):

@@ -152,10 +152,10 @@ def figures(run):
 def exchanges_told(run):
     """How many of the exchanges in which something was promised ended with both keys, and how many others there were, with the words."""
     ends = collections.Counter(barends.ends_of(run).values())
-    traded, nothing, unanswered = ends[barends.BOTH_KEYS], ends[barends.NOTHING], ends[barends.NO_ANSWER]
-    told = "exchanges with something to trade ended with both keys given"
-    others = [f"{nothing:,} had nothing to trade"] if nothing else []
-    others += [f"of {unanswered:,} no answer is known"] if unanswered else []
+    traded, told = ends[barends.BOTH_KEYS], "exchanges with something to trade ended with both keys given"
+    words = {barends.NOTHING: "{:,} had nothing to trade", barends.NO_ANSWER: "{:,} had no answer"}
+    words |= {barends.UNKNOWN: "of {:,} only the answering side is known"}
+    others = [said.format(ends[end]) for end, said in words.items() if ends[end]]
     return f"{traded:,} of {traded + ends[barends.CUT_SHORT]:,}", "; ".join([told, *others])
 
 
@@ -400,7 +400,7 @@ def one_peer(run):
         (sign(False, False), "is asked by peer 3"),
         (sign(True, True), "offers updates to peer 3"),
         (sign(True, False), "is offered some by peer 3"),
-        (sign(False, True, traded=False), "came to nothing"),
+        (sign(False, True, traded=False), "came to nothing: nothing to trade, or no answer"),
         (sign(False, True, paid=True), "paid: gave its key"),
         (sign(False, True, was_paid=True), "was paid: was given the key"),
         (mark("straight"), "played, came from the broadcaster"),

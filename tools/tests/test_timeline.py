@@ -177,8 +177,8 @@ class Signs(unittest.TestCase):
         self.assertEqual(page.words("balanced asks idle"), ["round 2: asks peer 2, nothing to trade"])
         self.assertEqual(page.words("push asks idle"), ["round 2: offers to peer 3, no answer"])
         self.assertEqual(page.words("balanced asked idle"), ["round 2: is asked by peer 3, nothing came of it"])
-        told = "exchanges with something to trade ended with both keys given; 1 had nothing to trade; of 2 no answer is known"
-        self.assertIn(f"0 of 0 {told}", page.figures)
+        told = "exchanges with something to trade ended with both keys given; 1 had nothing to trade; 1 had no answer"
+        self.assertIn(f"0 of 0 {told}; of 1 only the answering side is known", page.figures)
         self.assertEqual(page.table[0]["with nothing to trade"], "1")
 
     def test_both_sides_are_told_that_there_was_nothing_to_trade(self):
