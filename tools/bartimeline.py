@@ -268,11 +268,11 @@ def peer_columns(run, video=None):
         ("played", "bytes", "bytes played", "bytes_played"),
         ("played", "of the stream", "part of the stream", lambda peer: part_of(peer.bytes_played, run.stream)),
         ("played", "longest gap", "longest gap in rounds", "gap"),
-        ("updates", "from the broadcaster", "blocks first from the broadcaster", "blocks"),
-        ("updates", "of these played", "played, from the broadcaster", "played_by_block"),
-        ("updates", "played, balanced", "played, by balanced exchanges", "played_by_balanced"),
-        ("updates", "played, pushes", "played, by pushes", "played_by_push"),
-        ("updates", "too late", "came too late", "late"),
+        ("updates played", "as blocks", "played, from the broadcaster", "played_by_block"),
+        ("updates played", "balanced", "played, by balanced exchanges", "played_by_balanced"),
+        ("updates played", "pushed", "played, by pushes", "played_by_push"),
+        ("came", "as blocks", "blocks first from the broadcaster", "blocks"),
+        ("came", "too late", "came too late", "late"),
         ("exchanges", "started", "exchanges started", "started"),
         ("exchanges", "answered", "answered", "answered"),
         ("exchanges", "both keys", "with both keys", "traded"),
@@ -306,7 +306,8 @@ def peers_table(run, video=None):
     columns = peer_columns(run, video)
     rows = [tag("tr", *(tag("td", cell_of(column.of(peer))) for column in columns)) for peer in run.peers if not peer.refused]
     drawn = tag("table", *head_of_peers(columns), tag("tbody", *rows), class_="sorts")
-    told = tag("p", "A click on a name sorts by its column, and another click the other way.", class_="soft")
+    told = "Blocks come from the broadcaster. A click on a name sorts by its column, and another click the other way."
+    told = tag("p", told, class_="soft")
     return [tag("h2", "Each peer"), told, tag("div", drawn, class_="wide", tabindex="0", role="region", aria_label="totals of each peer")]
 
 
