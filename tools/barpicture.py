@@ -1,11 +1,13 @@
 """Draws a session as one picture: rounds across, a row for each peer, a sign for each side of an exchange, a mark for each update.
 
-It is drawn of a run's data alone. An exchange that an audit found unbalanced has a red frame.
+It is drawn of a run's data alone. An exchange that an audit found unbalanced has a red frame. A legend stands below, and all of it on a
+ground of its own, in colours that need no style of the page around it.
 """
 import collections
 import dataclasses
 import functools
 
+import barends
 from bardata import BLOCK_WAY
 from barformats import SLOTS
 from barscript import counted
@@ -45,11 +47,11 @@ def items(updates, junk):
     return " and ".join(word for word in words if word)
 
 
-def told_of(side, is_unbalanced):
+def told_of(side, is_unbalanced, had_nothing):
     """What one side of an exchange came to, in words."""
     ways = {"balanced": ("is asked by", "asks"), "push": ("is offered by", "offers to")}
     way = ways[side.kind][side.asks]
-    end = "nothing came of it" if not side.asks else "nothing to trade" if side.answered else "no answer"
+    end = "nothing to trade" if had_nothing else "no answer" if side.asks and not side.answered else "nothing came of it"
     told = [f"{way} peer {side.partner}", f"promises {items(len(side.gives), side.gives_junk)}" if side.promised else end]
     if side.received:
         told.append(f"is promised {items(len(side.gets), side.gets_junk)}")
@@ -59,18 +61,24 @@ def told_of(side, is_unbalanced):
     return f"round {side.round}: " + ", ".join(told)
 
 
-def token(x, y, side, is_unbalanced):
+def sign(x, y, partner, classes, paid, was_paid, seats, told=""):
     """The sign of one side of an exchange, between its two arrows."""
-    middle = x + TOKEN / 2
-    sign = box(x + 0.5, y + 6.5, TOKEN - 1, 13, "sign", corner=3.5)
-    inside = [tag("title", told_of(side, is_unbalanced)), sign, text(middle, y + 16.5, str(side.partner), "partner")]
-    if side.key_given is not None:
-        inside.append(arrow(middle, y, True))
-    if side.key_got is not None:
-        inside.append(arrow(middle, y + 21.5, False))
+    middle = x + seats.sign / 2
+    inside = [tag("title", told)] if told else []
+    inside.append(box(x + 0.5, y + 6.5, seats.sign - 1, 13, "sign", corner=3.5))
+    inside.append(text(middle, y + 16.5, str(partner), seats.class_))
+    inside += [arrow(middle, y, True)] if paid else []
+    inside += [arrow(middle, y + 21.5, False)] if was_paid else []
+    return tag("g", *inside, class_=" ".join(classes))
+
+
+def token(chart, x, y, side):
+    """The sign of one side of an exchange in the drawing."""
+    is_unbalanced = side.exchange in chart.unbalanced
     classes = [side.kind, "asks" if side.asks else "asked", "traded" if side.promised else "idle"]
     classes += ["unbalanced"] if is_unbalanced else []
-    return tag("g", *inside, class_=" ".join(classes))
+    told = told_of(side, is_unbalanced, side.exchange in chart.nothing)
+    return sign(x, y, side.partner, classes, side.key_given is not None, side.key_got is not None, chart.seats, told)
 
 
 # ---- the drawing
@@ -78,12 +86,27 @@ def token(x, y, side, is_unbalanced):
 WIDTH, LABELS, TOTALS = 1160, 84, 76
 MOST_COLUMNS = 17
 HEAD, CASTER, LANE = 26, 34, 86
-TOKEN = 16
-# where the signs stand in a column: the exchange that a peer starts, and the two in which it answers
-SEATS = (2.5, 21.5, 39.5)
 STRIP = 55
+# what stands between the drawing and the edge of its ground, and in the legend between entries
+EDGE, BETWEEN = 14, 22
 # how many marks stand in a row at most
 MOST_MARKS = 32
+
+
+@dataclasses.dataclass(frozen=True)
+class Seats:
+    """How wide a sign is, where the signs stand in a column, and the class of the number in one.
+
+    The first seat is that of the exchange that a peer starts, the others are those of the two in which it answers.
+    """
+
+    sign: float
+    places: tuple
+    class_: str
+
+
+# by whether partners have numbers of three digits
+SEATS = {False: Seats(16, (2.5, 21.5, 39.5), "partner"), True: Seats(18.5, (0, 20, 39.5), "partner long")}
 
 
 @dataclasses.dataclass
@@ -131,6 +154,15 @@ class Chart:
         """The exchanges that an audit found unbalanced."""
         return {(row.round, row.kind, row.initiator, row.responder) for row in self.run.exchanges if row.audit == "unbalanced"}
 
+    @functools.cached_property
+    def nothing(self):
+        """The exchanges that had nothing to trade."""
+        return barends.with_nothing(self.run)
+
+    @property
+    def seats(self):
+        return SEATS[self.run.session["peers"] > 99]
+
     def part(self, peer):
         """Which part of the stream a peer played."""
         return f"{peer.bytes_played / self.run.stream:.1%}" if self.run.stream else "–"
@@ -170,14 +202,14 @@ def tokens(chart, peer, number, x, y):
     for line_, kind in enumerate(("balanced", "push")):
         sides = [side for side in chart.sides.get((peer.peer, number), []) if side.kind == kind]
         own, others = [side for side in sides if side.asks], [side for side in sides if not side.asks]
-        places = [*zip(SEATS, own[:1]), *zip(SEATS[1:], others)]
-        yield from (token(x + place, y + 6 + 29 * line_, side, side.exchange in chart.unbalanced) for place, side in places)
+        places = [*zip(chart.seats.places, own[:1]), *zip(chart.seats.places[1:], others)]
+        yield from (token(chart, x + place, y + 6 + 29 * line_, side) for place, side in places)
 
 
-def alarm(number, x, y):
+def alarm(x, y, told=""):
     """The sign of evidence that is sent to the broadcaster."""
-    told = tag("title", f"round {number}: sends evidence to the broadcaster")
-    return tag("g", told, tag("circle", cx=f"{x:.1f}", cy=y, r=6), text(x, y + 3.5, "!", "partner"), class_="alarm")
+    title = [tag("title", told)] if told else []
+    return tag("g", *title, tag("circle", cx=f"{x:.1f}", cy=y, r=6), text(x, y + 3.5, "!", "partner"), class_="alarm")
 
 
 def cell(chart, peer, number, x, y):
@@ -187,7 +219,7 @@ def cell(chart, peer, number, x, y):
         due = chart.releases.get(number - chart.run.session["life"], [])
         parts += marks(x, y + 69, [mark_of(chart, peer, release) for release in due])
     if (peer.peer, number) in chart.accusing:
-        parts.append(alarm(number, x + STRIP + 3, y + 60))
+        parts.append(alarm(x + STRIP + 3, y + 60, f"round {number}: sends evidence to the broadcaster"))
     return parts
 
 
@@ -220,8 +252,48 @@ def caster_lane(chart, y):
     return parts
 
 
+def legend_sign(*classes, paid=False, was_paid=False):
+    """A sign for the legend: its width, and a call that draws it."""
+    return 16, lambda x, y: sign(x, y, 3, classes, paid, was_paid, SEATS[False])
+
+
+def legend_mark(class_):
+    return 6, lambda x, y: box(x, y + 8.5, 6, 9, class_, corner=1)
+
+
+def legend_entries(chart):
+    """What the legend tells: the width of what is drawn, a call that draws it, and the words."""
+    yield *legend_sign("balanced", "asks"), "asks peer 3 for a balanced exchange"
+    yield *legend_sign("balanced", "asked"), "is asked by peer 3"
+    yield *legend_sign("push", "asks"), "offers updates to peer 3"
+    yield *legend_sign("push", "asked"), "is offered some by peer 3"
+    yield *legend_sign("balanced", "asks", "idle"), "came to nothing"
+    yield *legend_sign("balanced", "asks", paid=True), "paid: gave its key"
+    yield *legend_sign("balanced", "asks", was_paid=True), "was paid: was given the key"
+    if chart.unbalanced:
+        yield *legend_sign("balanced", "asks", "unbalanced"), "unbalanced by the audit"
+    if chart.accusing:
+        yield 12, lambda x, y: alarm(x + 6, y + 13), "sends evidence to the broadcaster"
+    yield *legend_mark("straight"), "played, came from the broadcaster"
+    yield *legend_mark("traded"), "played, came by a trade"
+    yield *legend_mark("missed"), "not played"
+
+
+def legend(chart, y):
+    """The legend from this height on, in as many lines as it needs, and the height at which it ends."""
+    parts, x = [], 10
+    for width, drawn, told in legend_entries(chart):
+        # the words are as wide as an upright sans-serif has them, or a little less
+        whole = width + 7 + 5.7 * len(told)
+        if x + whole > WIDTH:
+            x, y = 10, y + 32
+        parts += [drawn(x, y), text(x + width + 7, y + 17, told, "label left")]
+        x += whole + BETWEEN
+    return parts, y + 26
+
+
 def panel(chart):
-    """A drawing of so many rounds as stand beside each other."""
+    """A drawing of so many rounds as stand beside each other, on its ground, with the legend below."""
     peers = [peer for peer in chart.run.peers if not peer.refused]
     height = HEAD + CASTER + LANE * len(peers)
     edges = [LABELS + chart.column * at for at in range(len(chart.rounds) + 1)]
@@ -232,35 +304,44 @@ def panel(chart):
     for at, peer in enumerate(peers):
         parts += lane(chart, peer, HEAD + CASTER + LANE * at)
     parts.append(line(0, height - 0.5, WIDTH, height - 0.5))
+    signs, end = legend(chart, height + 12)
+    whole = -EDGE, -EDGE, WIDTH + 2 * EDGE, end + 2 * EDGE
     told = f"what each peer did in rounds {chart.rounds[0]} to {chart.rounds[-1]}"
-    return tag("svg", *parts, viewBox=f"0 0 {WIDTH} {height}", role="img", aria_label=told)
+    ground = box(*whole, "ground", corner=6)
+    return tag("svg", ground, *parts, *signs, viewBox=" ".join(map(str, whole)), role="img", aria_label=told)
 
 
 # ---- the file
 
 FONT = 'Inter, system-ui, -apple-system, "Segoe UI", "Helvetica Neue", Arial, sans-serif'
 
-# what a drawing needs, on the page and by itself
+# the colours of a drawing, which a viewer may not be asked to look up
+COLOURS = {"INK": "#1d2733", "SOFT": "#5a6673", "RULE": "#d3dae1", "FAINT": "#edf0f3", "GREY": "#8593a1", "BLUE": "#2b67a8"}
+COLOURS |= {"AMBER": "#a85f08", "GREEN": "#1f7f5a", "ALARM": "#b23434", "FONT": FONT}
+
 DRAWING_STYLE = """
-:root { color-scheme: light; --ink: #1d2733; --soft: #64717f; --rule: #d8dee5; --faint: #edf0f3; --grey: #8593a1;
-  --blue: #2b67a8; --amber: #b96d12; --green: #23845f; --alarm: #b23434 }
-svg { background: #fff } svg text { font: 11px FONT; fill: var(--ink) }
-svg .rule { stroke: var(--rule) } svg .faint { stroke: var(--faint) }
-svg .label { fill: var(--soft); text-anchor: end } svg .left { text-anchor: start } svg .middle { text-anchor: middle }
-svg .blue { fill: var(--blue) } svg .amber { fill: var(--amber) }
-svg .round { text-anchor: middle; font-weight: 600 } svg .late { fill: var(--soft); font-weight: 400 }
-svg .name { font-size: 19px; font-weight: 620 } svg .total { font-size: 15px; font-weight: 620; text-anchor: end }
-svg .partner { text-anchor: middle; font-size: 10.5px; font-weight: 620 }
-.balanced { --own: var(--blue) } .push { --own: var(--amber) } .alarm { fill: var(--alarm) } .key { fill: var(--ink) }
-.sign { stroke: var(--own); stroke-width: 1.2 } .asks .sign { fill: var(--own) } .asked .sign { fill: #fff }
-svg .asks .partner, svg .alarm .partner { fill: #fff } svg .asked .partner { fill: var(--own) }
-.idle { opacity: .32 } .unbalanced .sign { stroke: var(--alarm); stroke-width: 3 } .unbalanced { opacity: 1 }
-rect.straight { fill: var(--grey) } rect.traded { fill: var(--green) } rect.missed { fill: #fff; stroke: var(--rule) }
-rect.gone { fill: #f2f4f6; opacity: .85 }
-""".replace("FONT", FONT)
+.ground { fill: #fff; stroke: RULE } text { font: 11px FONT; fill: INK }
+.rule { stroke: RULE } .faint { stroke: FAINT }
+.label { fill: SOFT; text-anchor: end } .left { text-anchor: start } .middle { text-anchor: middle }
+.blue { fill: BLUE } .amber { fill: AMBER }
+.round { text-anchor: middle; font-weight: 600 } .late { fill: SOFT; font-weight: 400 }
+.name { font-size: 19px; font-weight: 600 } .total { font-size: 15px; font-weight: 600; text-anchor: end }
+.partner { text-anchor: middle; font-size: 10.5px; font-weight: 600 } .long { font-size: 9px } .alarm { fill: ALARM } .key { fill: INK }
+.sign { stroke-width: 1.2 } .balanced .sign { stroke: BLUE } .push .sign { stroke: AMBER }
+.balanced.asks .sign { fill: BLUE } .push.asks .sign { fill: AMBER } .asked .sign { fill: #fff }
+.asks .partner, .alarm .partner { fill: #fff } .balanced.asked .partner { fill: BLUE } .push.asked .partner { fill: AMBER }
+.idle { opacity: .32 } .unbalanced .sign { stroke: ALARM; stroke-width: 3 } .unbalanced { opacity: 1 }
+.straight { fill: GREY } rect.traded { fill: GREEN } .missed { fill: #fff; stroke: RULE }
+.gone { fill: #f2f4f6; opacity: .85 }
+"""
+
+
+def style():
+    """The style of a drawing, with its colours."""
+    return functools.reduce(lambda told, name: told.replace(name, COLOURS[name]), COLOURS, DRAWING_STYLE)
 
 
 def picture(run):
     """The drawing of a run's first rounds, as an SVG file."""
     drawn = panel(Chart(run, range(1, min(MOST_COLUMNS, run.session["ends"]) + 1)))
-    return drawn.replace("<svg", '<svg xmlns="http://www.w3.org/2000/svg"', 1).replace(">", f">{tag('style', DRAWING_STYLE)}", 1) + "\n"
+    return drawn.replace("<svg", '<svg xmlns="http://www.w3.org/2000/svg"', 1).replace(">", f">{tag('style', style())}", 1) + "\n"

@@ -4,10 +4,14 @@ All of it is the run's data. Figures and tables are in the page as they stand; t
 exchanges, of the same data in a closer form.
 """
 import collections
+import dataclasses
 import html
+import itertools
 import json
+import operator
 import pathlib
 
+import barends
 from bardata import BALANCED_WAY, BLOCK_WAY, PUSH_WAY, TrafficRow, columns_of
 from barfloods import outside_told
 from barpicture import FONT, tag
@@ -27,13 +31,14 @@ READING = (
     """The overview has a row for each peer and a column for each round, and above it the part of the updates due in a round that all peers
 together played, by the way in which these came. Move over it, or go to it by Tab and then by the arrow keys, to read a cell in words; a
 click or Enter opens that peer’s exchanges, whose rounds the arrow keys walk through too. A red dot is the first notice of an
-eviction.""",
+eviction. The scale above the overview says what a shade stands for.""",
     """Of one peer, a coloured sign is its side of an exchange, and the number in it is the partner. Blue are the balanced exchanges, one
 update for one; amber are the pushes, in which fresh updates are offered for old ones or for junk. A full sign, the first on its line, is
 the exchange that the peer started; behind it stand those in which it answered.""",
     """Both partners first send what they promise in sealed briefcases, and then the keys to these: giving the key is paying. The arrow
 above a sign says that this peer paid, and the arrow below it that it was paid, by a key that opens what was promised. A pale sign came to
-nothing: one of the two lacked nothing that the other had, the offer was not wanted, or no answer came.""",
+nothing: one of the two lacked nothing that the other had, the offer was not wanted, or no answer came. Where a peer did nothing and
+played nothing for two rounds or more, these are folded; a click or Enter unfolds them.""",
     """The marks at the foot of a round are the updates that are played in it, in order, and in several lines where they are many; an update
 is played {life} rounds after its own. A mark is grey where the update came from the broadcaster, which sends each to {fanout}, and green
 where it came by a trade; of both ways the first counts.""",
@@ -67,15 +72,15 @@ def ways_of(arrivals, releases):
         yield letter.upper() if row and row.in_time and not row.played else letter
 
 
-def side_of(side, is_unbalanced):
+def side_of(side, is_unbalanced, had_nothing):
     """A side of an exchange in ten numbers."""
-    flags = (side.kind == "push") + 2 * side.asks + 4 * side.answered + 8 * is_unbalanced
+    flags = (side.kind == "push") + 2 * side.asks + 4 * side.answered + 8 * is_unbalanced + 16 * had_nothing
     promises = len(side.gives), side.gives_junk, len(side.gets), side.gets_junk
     return [side.round, flags, side.partner, *promises, side.key_given or 0, side.key_got or 0, side.wrong_key or 0]
 
 
-def closer(run, peer, rows, unbalanced):
-    """What the page's script takes of a peer, of its rows of each table and the exchanges that are unbalanced."""
+def closer(run, peer, rows, unbalanced, nothing):
+    """What the page's script takes of a peer, of its rows of each table and the exchanges that are unbalanced or had nothing to trade."""
     names = "peer", "lies", "ticks", "started", "answered", "traded"
     told = {name: getattr(peer, name) for name in names} | {"part": part_of(peer.bytes_played, run.stream)}
     if peer.refused:
@@ -88,7 +93,7 @@ def closer(run, peer, rows, unbalanced):
         "ways": "".join(ways_of(arrivals, run.releases)),
         "comes": [row.tick if row else 0 for row in came],
         "senders": [row.sender if row else 0 for row in came],
-        "sides": [side_of(side, side.exchange in unbalanced) for side in rows["sides"][peer.peer]],
+        "sides": [side_of(side, side.exchange in unbalanced, side.exchange in nothing) for side in rows["sides"][peer.peer]],
     }
 
 
@@ -99,13 +104,14 @@ def data_of(run):
         for row in getattr(run, name):
             by_peer[row.peer].append(row)
     unbalanced = {(row.round, row.kind, row.initiator, row.responder) for row in run.exchanges if row.audit == "unbalanced"}
+    nothing = barends.with_nothing(run)
     return {
         "session": run.session,
         "small": len(run.peers) <= SMALL,
         "transcripts": bool(run.replays["replayed"]),
         "evictions": {row.party: row.round for row in run.evictions if row.round},
         "releases": [[row.round, row.index] for row in run.releases],
-        "peers": [closer(run, peer, rows, unbalanced) for peer in run.peers],
+        "peers": [closer(run, peer, rows, unbalanced, nothing) for peer in run.peers],
     }
 
 
@@ -136,11 +142,21 @@ def figures(run):
     gap = counted(max((peer.gap for peer in ended), default=0), "round")
     told += [
         (part_of(traded, played), "of the updates that were played came by trades"),
-        (f"{sum(row.complete for row in run.exchanges):,} of {len(run.exchanges):,}", "exchanges ended with both keys given"),
+        exchanges_told(run),
         (part_of(lost, sent, ".2%"), f"of the datagrams to peers were lost: {lost:,} of {sent:,}"),
         (f"{len(run.evictions):,}", f"evicted; at most {gap} in a row not wholly played"),
     ]
     return tag("div", *(tag("div", tag("b", number), tag("span", said)) for number, said in told), class_="figures")
+
+
+def exchanges_told(run):
+    """How many of the exchanges in which something was promised ended with both keys, and how many others there were, with the words."""
+    ends = collections.Counter(barends.ends_of(run).values())
+    traded, told = ends[barends.BOTH_KEYS], "exchanges with something to trade ended with both keys given"
+    words = {barends.NOTHING: "{:,} had nothing to trade", barends.NO_ANSWER: "{:,} had no answer"}
+    words |= {barends.UNKNOWN: "of {:,} only the answering side is known"}
+    others = [said.format(ends[end]) for end, said in words.items() if ends[end]]
+    return f"{traded:,} of {traded + ends[barends.CUT_SHORT]:,}", "; ".join([told, *others])
 
 
 def kinds_of(run):
@@ -233,36 +249,97 @@ def exchange_in_words(row):
     return f"round {row.round}, {row.kind}, started by peer {row.initiator} with peer {row.responder}"
 
 
-PEER_COLUMNS = {
-    "peer": "peer",
-    "bytes played": "bytes_played",
-    "part of the stream": None,
-    "longest gap in rounds": "gap",
-    "blocks first from the broadcaster": "blocks",
-    "played, from the broadcaster": "played_by_block",
-    "played, by balanced exchanges": "played_by_balanced",
-    "played, by pushes": "played_by_push",
-    "came too late": "late",
-    "exchanges started": "started",
-    "answered": "answered",
-    "with both keys": "traded",
-    "keys given": "keys_given",
-    "keys got that open well": "keys_got",
-    "datagrams sent": "sent",
-    "bytes sent": "bytes_sent",
-    "datagrams taken": "taken",
-    "bytes taken": "bytes_taken",
-    "lost on the way to it": "lost",
-}
+@dataclasses.dataclass(frozen=True)
+class Column:
+    """A column of the table of peers: its name below the name of its group, its name by itself, and what it has of a peer."""
+
+    group: str
+    name: str
+    whole: str
+    of: object
 
 
-def peers_table(run):
-    """Each peer's totals."""
-    lines = []
-    for peer in [peer for peer in run.peers if not peer.refused]:
-        part = part_of(peer.bytes_played, run.stream)
-        lines.append([getattr(peer, name) if name else part for name in PEER_COLUMNS.values()])
-    return table(list(PEER_COLUMNS), lines, "totals of each peer")
+def peer_columns(run, video=None):
+    """The columns of the table of peers, of a video with the frames that decode."""
+    nothing = barends.with_nothing(run)
+    idle = collections.Counter(side.peer for side in run.sides if side.exchange in nothing)
+    named = [
+        ("", "peer", "peer", "peer"),
+        ("played", "bytes", "bytes played", "bytes_played"),
+        ("played", "of the stream", "part of the stream", lambda peer: part_of(peer.bytes_played, run.stream)),
+        ("played", "longest gap", "longest gap in rounds", "gap"),
+        ("updates played", "as blocks", "played, from the broadcaster", "played_by_block"),
+        ("updates played", "balanced", "played, by balanced exchanges", "played_by_balanced"),
+        ("updates played", "pushed", "played, by pushes", "played_by_push"),
+        ("came", "as blocks", "blocks first from the broadcaster", "blocks"),
+        ("came", "too late", "came too late", "late"),
+        ("exchanges", "started", "exchanges started", "started"),
+        ("exchanges", "answered", "answered", "answered"),
+        ("exchanges", "both keys", "with both keys", "traded"),
+        ("exchanges", "nothing to trade", "with nothing to trade", lambda peer: idle[peer.peer]),
+        ("keys", "given", "keys given", "keys_given"),
+        ("keys", "got", "keys got that open well", "keys_got"),
+        ("datagrams", "sent", "datagrams sent", "sent"),
+        ("datagrams", "bytes", "bytes sent", "bytes_sent"),
+        ("datagrams", "taken", "datagrams taken", "taken"),
+        ("datagrams", "bytes", "bytes taken", "bytes_taken"),
+        ("datagrams", "lost to it", "lost on the way to it", "lost"),
+    ]
+    if video:
+        frames = {peer: seen.frames for peer, seen in video.peers.items()}
+        named.insert(3, ("played", "frames", "frames that decode", lambda peer: frames.get(peer.peer, "–")))
+    return [Column(*names, operator.attrgetter(of) if isinstance(of, str) else of) for *names, of in named]
+
+
+def head_of_peers(columns):
+    """What stands above the table of peers: groups, and columns with buttons that sort by them."""
+    groups = [(group, len([*of])) for group, of in itertools.groupby(columns, lambda column: column.group)]
+    spans = [tag("th", group, scope="colgroup", colspan=count) for group, count in groups]
+    buttons = [tag("button", column.name, type="button", title=f"{column.whole}: sort by it") for column in columns]
+    sorts = [tag("th", button, scope="col", aria_label=column.whole) for button, column in zip(buttons, columns)]
+    borders = [tag("colgroup", span=count) for _, count in groups]
+    return [*borders, tag("thead", tag("tr", *spans, class_="groups"), tag("tr", *sorts))]
+
+
+def peers_table(run, video=None):
+    """Each peer's totals, which a reader can sort."""
+    columns = peer_columns(run, video)
+    rows = [tag("tr", *(tag("td", cell_of(column.of(peer))) for column in columns)) for peer in run.peers if not peer.refused]
+    drawn = tag("table", *head_of_peers(columns), tag("tbody", *rows), class_="sorts")
+    told = "Blocks come from the broadcaster. A click on a name sorts by its column, and another click the other way."
+    told = tag("p", told, class_="soft")
+    return [tag("h2", "Each peer"), told, tag("div", drawn, class_="wide", tabindex="0", role="region", aria_label="totals of each peer")]
+
+
+# ---- a video
+
+
+def lag_of(seen, whole):
+    """For how many seconds a still stands at the moment of them all."""
+    return round(whole.second - seen.second, 2) if seen.still else 0
+
+
+def still(seen, whole, name, told):
+    """A still with its words: whose it is, how many frames decode, and for how long it stands where it isn't of the moment itself."""
+    lag = lag_of(seen, whole)
+    frozen = f"; this one stands for {lag:.2f} s" if lag else ""
+    picture = f'<img src="{seen.picture}" alt="a still of {name}"/>' if seen.still else tag("div", "nothing to show", class_="none")
+    caption = tag("figcaption", tag("b", name), f" {told}{frozen}")
+    return tag("figure", picture, caption)
+
+
+def video_of(run, video):
+    """The frames that decode of each peer's file, and a still of each."""
+    if not video:
+        return []
+    whole, bytes_played = video.whole, {peer.peer: part_of(peer.bytes_played, run.stream) for peer in run.peers}
+    stills = [still(whole, whole, "the stream", f"{counted(whole.frames, 'frame')}")]
+    for peer, seen in video.peers.items():
+        told = f"{seen.frames:,} of {whole.frames:,} frames decode, of {bytes_played[peer]} of the bytes"
+        stills.append(still(seen, whole, f"peer {peer}", told))
+    told = f"The stream is a video. Each still is what a player shows at second {whole.second:.2f}, the last frame that decodes by then. "
+    told += "At no other moment do more peers lack their frame." if any(lag_of(it, whole) for it in video.peers.values()) else ""
+    return [tag("h2", "The video"), tag("p", told, class_="soft"), tag("div", *stills, class_="stills")]
 
 
 def icon(width, *parts):
@@ -292,23 +369,26 @@ def radio(value, said):
     return f'<label><input type="radio" name="measure" value="{value}"{chosen}/>{said}</label>'
 
 
-def overview():
+def overview(run):
     """The overview, which the script draws."""
+    dot = icon(9, tag("circle", class_="alarm", cx=4.5, cy=13, r=4))
     ways = legend(
         (mark("straight"), "played, came from the broadcaster"),
         (mark("traded"), "by balanced exchanges"),
         (mark("pushed"), "by pushes"),
         (mark("field"), "due and not played"),
         (mark("gone"), "stopped"),
+        *([(dot, "the first notice of an eviction")] if run.evictions else []),
     )
     shown = {"played": "what it played of what was due", "traded": "its exchanges with both keys", "lost": "datagrams to it that were lost"}
     choices = [radio(*it) for it in shown.items()]
     controls = tag("div", tag("fieldset", tag("legend", "A row shows", class_="soft"), *choices), class_="controls")
+    scale = tag("div", id="scale", class_="legend scale")
     grid = tag("div", id="grid", tabindex="0", role="application", aria_label="overview of peers by rounds", aria_describedby="cell")
     told = "Go to the overview and use the arrow keys, or point at it; Enter opens a peer."
     cell = tag("p", told, id="cell", aria_live="polite", class_="soft")
     script = tag("noscript", tag("p", "The overview and the peers’ exchanges are drawn by a script in this page.", class_="warn"))
-    return [tag("h2", "All peers by rounds"), ways, controls, script, tag("div", grid, cell)]
+    return [tag("h2", "All peers by rounds"), ways, controls, scale, script, tag("div", grid, cell)]
 
 
 def one_peer(run):
@@ -321,7 +401,7 @@ def one_peer(run):
         (sign(False, False), "is asked by peer 3"),
         (sign(True, True), "offers updates to peer 3"),
         (sign(True, False), "is offered some by peer 3"),
-        (sign(False, True, traded=False), "came to nothing"),
+        (sign(False, True, traded=False), "came to nothing: nothing to trade, or no answer"),
         (sign(False, True, paid=True), "paid: gave its key"),
         (sign(False, True, was_paid=True), "was paid: was given the key"),
         (mark("straight"), "played, came from the broadcaster"),
@@ -331,14 +411,19 @@ def one_peer(run):
     return [tag("h2", "One peer’s exchanges"), tag("div", choice, class_="controls"), signs, tag("div", id="lanes")]
 
 
-def page(run):
-    """The page of a run."""
-    style, script = ((PARTS / name).read_text("utf-8") for name in ("page.css", "page.js"))
-    parts = [tag("h1", "A session, as its peers recorded it"), tag("p", subtitle(run), class_="soft"), figures(run), *notes(run)]
+def reading(run):
+    """How to read the page, folded."""
     life, fanout = run.session["life"], counted(run.session["fanout"], "peer")
-    reading = [tag("p", said.format(life=life, fanout=fanout)) for said in READING]
-    parts += [*overview(), *one_peer(run), *evidence(run), *losses(run), tag("h2", "Each peer"), peers_table(run)]
-    parts += [tag("h2", "How to read it"), tag("div", *reading, class_="reading")]
+    told = [tag("p", said.format(life=life, fanout=fanout)) for said in READING]
+    return tag("details", tag("summary", "How to read this page"), tag("div", *told, class_="reading"))
+
+
+def page(run, video=None):
+    """The page of a run, of a video with what decodes of it."""
+    style, script = ((PARTS / name).read_text("utf-8") for name in ("page.css", "page.js"))
+    parts = [tag("h1", "A session, as its peers recorded it"), tag("p", subtitle(run), class_="soft"), reading(run)]
+    parts += [figures(run), *notes(run), *video_of(run, video), *overview(run), *one_peer(run)]
+    parts += [*evidence(run), *losses(run), *peers_table(run, video)]
     head = '<meta charset="utf-8"><meta name="viewport" content="width=device-width, initial-scale=1">'
     head += f"<title>Session {html.escape(run.session['id'])}</title>{tag('style', style.replace('FONT', FONT))}"
     data = json.dumps(data_of(run), separators=(",", ":")).replace("<", "\\u003c")

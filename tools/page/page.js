@@ -2,7 +2,9 @@
 // Draws the overview of a run, and the exchanges of one peer when it is chosen. All numbers are those of the run's data in the page.
 (() => {
 const run = JSON.parse(document.getElementById("run").textContent), session = run.session;
-const SLOTS = 8, STRIP = 58, TOKEN = 16, FIELDS = 8;
+const SLOTS = 8, STRIP = 58, FIELDS = 8;
+// a sign is as wide as the numbers of partners need, and three of them stand in a line
+const TOKEN = session.peers > 99 ? 20 : 16, SEATS = session.peers > 99 ? [0.5, 22, 43] : [2, 21, 39];
 const element = id => document.getElementById(id);
 const counted = (count, word) => `${count.toLocaleString("en")} ${word}${count === 1 ? "" : "s"}`;
 const peers = run.peers.filter(peer => peer.rounds), byNumber = new Map(peers.map(peer => [peer.peer, peer]));
@@ -44,6 +46,8 @@ function toldCell(peer, first, last) {
   told.push(sum.due ? `played ${sum.played} of ${counted(sum.due, "update")}` : "nothing was due");
   told.push(`${counted(sum.came, "update")} came`);
   told.push(`started ${sum.started} and answered ${counted(sum.answered, "exchange")}, of which ${sum.traded} ended with both keys`);
+  const nothing = nothingIn(peer, first, last);
+  if (nothing) told.push(`${counted(nothing, "exchange")} had nothing to trade`);
   if (run.transcripts) told.push(`${counted(sum.lost, "datagram")} to it ${sum.lost === 1 ? "was" : "were"} lost`);
   if (sum.accuses) told.push("it sent evidence to the broadcaster");
   const evicted = run.evictions[peer.peer];
@@ -56,13 +60,13 @@ const items = (updates, junk) =>
 
 function sideOf(row) {
   const [round, flags, partner, gives, givesJunk, gets, getsJunk, given, got, wrong] = row;
-  return {round, push: flags & 1, asks: flags & 2, answered: flags & 4, unbalanced: flags & 8,
+  return {round, push: flags & 1, asks: flags & 2, answered: flags & 4, unbalanced: flags & 8, nothing: flags & 16,
     partner, gives, givesJunk, gets, getsJunk, given, got, wrong};
 }
 
 function toldSide(side) {
   const way = side.push ? (side.asks ? "offers to" : "is offered by") : (side.asks ? "asks" : "is asked by");
-  const end = !side.asks ? "nothing came of it" : side.answered ? "nothing to trade" : "no answer";
+  const end = side.nothing ? "nothing to trade" : side.asks && !side.answered ? "no answer" : "nothing came of it";
   const told = [`${way} peer ${side.partner}`, side.gives + side.givesJunk ? `promises ${items(side.gives, side.givesJunk)}` : end];
   if (side.gets + side.getsJunk) told.push(`is promised ${items(side.gets, side.getsJunk)}`);
   if (side.given) told.push(`gave its key at tick ${side.given}`);
@@ -70,6 +74,14 @@ function toldSide(side) {
   if (side.wrong) told.push(`was given a wrong key at tick ${side.wrong}`);
   if (side.unbalanced) told.push("unbalanced by the audit");
   return `round ${side.round}: ${told.join(", ")}`;
+}
+
+// in how many of a peer's exchanges of these rounds there was nothing to trade
+function nothingIn(peer, first, last) {
+  prepare(peer);
+  let count = 0;
+  for (let number = first; number <= last; number++) count += (peer.byRound.get(number) || []).filter(side => side.nothing).length;
+  return count;
 }
 
 // the class and the words of each update that is played in a round
@@ -89,12 +101,27 @@ function marksOf(peer, number) {
 
 // ---- the overview
 
+// what a shade stands for, from none to the most that is told apart, with the steps of its scale
 const measures = {
-  played: sum => sum.due ? sum.played / sum.due : null,
-  traded: sum => Math.min(1, sum.traded / (3 * Math.max(1, sum.rounds))),
-  lost: sum => Math.min(1, sum.lost / (8 * Math.max(1, sum.rounds))),
+  played: {of: sum => sum.due ? 100 * sum.played / sum.due : null, steps: [0, 25, 50, 75, 100],
+    unit: "% of what was due in a round; blank where nothing was"},
+  traded: {of: sum => sum.traded / Math.max(1, sum.rounds), steps: [0, 1, 2, 3], unit: "or more exchanges with both keys in a round"},
+  lost: {of: sum => sum.lost / Math.max(1, sum.rounds), steps: [0, 2, 4, 6, 8], unit: "or more datagrams lost in a round"},
 };
-let measure = "played", cursor = {row: 0, column: 0}, place = null;
+let measure = "played", cursor = {row: 0, column: 0}, pointed = false, place = null;
+
+// how dark a value of a measure is
+function shade(value, steps) {
+  const part = Math.min(1, value / steps.at(-1));
+  return part > 0 ? (0.15 + 0.85 * part * part).toFixed(2) : "0";
+}
+
+function drawScale() {
+  const {steps, unit} = measures[measure];
+  const drawn = steps.map(value => `<span><svg class="of-${measure}" width="22" height="14" aria-hidden="true">` +
+    rect("field", 0, 0, 22, 14) + rect("shade", 0, 0, 22, 14, ` fill-opacity="${shade(value, steps)}"`) + `</svg>${value}</span>`);
+  element("scale").innerHTML = `${drawn.join("")}<span>${unit}</span>`;
+}
 
 // where the overview's columns and rows stand; a column has more rounds where there are too many
 function placed() {
@@ -143,11 +170,12 @@ function gridRow(peer, row) {
   const y = place.top + place.height * row, gap = place.height > 8 ? 1 : 0.6, parts = [];
   for (let column = 0; column < place.columns; column++) {
     const sum = sumOf(peer, ...roundsAt(column)), x = place.left + place.step * column, wide = Math.max(0.8, place.step - 0.8);
-    const value = sum.rounds ? measures[measure](sum) : null;
+    const value = sum.rounds ? measures[measure].of(sum) : null;
     if (!sum.rounds) parts.push(rect("gone", x, y, wide, place.height - gap));
     if (value === null) continue;
     parts.push(rect("field", x, y, wide, place.height - gap));
-    if (value > 0) parts.push(rect("cell", x, y, wide, place.height - gap, ` fill-opacity="${(0.15 + 0.85 * value * value).toFixed(2)}"`));
+    const dark = ` fill-opacity="${shade(value, measures[measure].steps)}"`;
+    if (value > 0) parts.push(rect("cell", x, y, wide, place.height - gap, dark));
   }
   const often = place.height > 10 ? 1 : 10, evicted = run.evictions[peer.peer];
   if (row % often === 0 || row === peers.length - 1) {
@@ -171,16 +199,19 @@ function drawGrid() {
   const said = [text("label", 0, 64, "peer"), text("label end", place.width - 2, 64, "played")];
   element("grid").innerHTML = `<svg class="of-${measure}" width="${place.width}" height="${place.bottom}" aria-hidden="true">` +
     `<g class="chart">${columns.map(chartColumn).join("")}</g>` + numbers.join("") + said.join("") + peers.map(gridRow).join("") +
-    '<rect id="cursor" rx="1"/></svg>';
-  moveTo(cursor.row, cursor.column, false);
+    '<rect id="cursor" rx="1" visibility="hidden"/></svg>';
+  drawScale();
+  if (pointed) moveTo(cursor.row, cursor.column, false);
 }
 
-// moves the cursor, and tells of its cell
+// moves the cursor, which is there once somebody pointed, and tells of its cell
 function moveTo(row, column, tells = true) {
+  pointed = true;
   cursor = {row: Math.max(0, Math.min(peers.length - 1, row)), column: Math.max(0, Math.min(place.columns - 1, column))};
   const box = {x: place.left + place.step * cursor.column - 1, y: place.top + place.height * cursor.row - 1,
     width: place.step + 1, height: place.height + 1};
   for (const name in box) element("cursor").setAttribute(name, box[name].toFixed(1));
+  element("cursor").removeAttribute("visibility");
   if (tells) element("cell").textContent = toldCell(peers[cursor.row], ...roundsAt(cursor.column));
 }
 
@@ -233,7 +264,8 @@ function token(side, x, y) {
 // a line of signs: the exchange that the peer started stands first
 function tokens(sides, y) {
   const own = sides.filter(side => side.asks), others = sides.filter(side => !side.asks);
-  return own.map(side => token(side, 2, y)).join("") + others.map((side, at) => token(side, 21 + 18 * at, y)).join("");
+  const seat = at => SEATS[at] ?? SEATS[2] + (at - 2) * (TOKEN + 2);
+  return own.map(side => token(side, SEATS[0], y)).join("") + others.map((side, at) => token(side, seat(at + 1), y)).join("");
 }
 
 function drawnMarks(marks, y) {
@@ -259,6 +291,50 @@ function roundButton(peer, number) {
     `<svg width="64" height="102" aria-hidden="true">${veil}${heading}${drawn}${alarm}</svg></button>`;
 }
 
+// whether a peer did nothing in a round and nothing was due, and whether it had stopped then
+function isEmpty(peer, number) {
+  const row = roundOf(peer, number);
+  return !row || !(row.due || row.accuses || peer.byRound.has(number));
+}
+
+// the rounds of a peer from the first to the last, those in a row that are empty together
+function stretches(peer) {
+  const found = [];
+  for (let number = 1; number <= session.ends; number++) {
+    const empty = isEmpty(peer, number), stopped = !roundOf(peer, number), before = found.at(-1);
+    if (empty && before && before.empty && before.stopped === stopped) before.last = number;
+    else found.push({first: number, last: number, empty, stopped});
+  }
+  return found;
+}
+
+const roundButtons = (peer, first, last) =>
+  [...Array(last - first + 1).keys()].map(at => roundButton(peer, first + at)).join("");
+
+// a button for empty rounds, which unfolds them
+function foldButton({first, last, stopped}) {
+  const veil = stopped ? '<rect class="gone" width="30" height="102"/>' : "";
+  const label = `rounds ${first} to ${last}: ${stopped ? "it had stopped" : "nothing was done and nothing was due"}; unfold`;
+  const rounds = `data-round="${first}" data-last="${last}"`;
+  return `<button type="button" class="fold" tabindex="-1" aria-pressed="false" ${rounds} aria-label="${label}">` +
+    `<svg width="30" height="102" aria-hidden="true">${veil}${text("round late", 15, 11, first)}${text("label middle", 15, 55, "···")}` +
+    `${text("round late", 15, 96, last)}</svg></button>`;
+}
+
+// puts the rounds of a fold in its place, and returns the button of one of them
+function unfold(fold, number) {
+  const section = fold.closest("section"), peer = byNumber.get(Number(section.dataset.peer));
+  fold.outerHTML = roundButtons(peer, Number(fold.dataset.round), Number(fold.dataset.last));
+  return section.querySelector(`button[data-round="${number}"]`);
+}
+
+// the button of a round, which is unfolded where it has to be
+function buttonOf(section, number) {
+  const covers = fold => Number(fold.dataset.round) <= number && number <= Number(fold.dataset.last);
+  const fold = [...section.querySelectorAll("button.fold")].find(covers);
+  return fold ? unfold(fold, number) : section.querySelector(`button[data-round="${number}"]`);
+}
+
 // reads the sides of a peer's exchanges, when it is asked for first
 function prepare(peer) {
   if (peer.byRound) return;
@@ -271,9 +347,9 @@ function prepare(peer) {
 
 function lane(peer) {
   prepare(peer);
-  const rounds = [...Array(session.ends).keys()].map(at => roundButton(peer, at + 1));
+  const rounds = stretches(peer).map(it => it.empty && it.last > it.first ? foldButton(it) : roundButtons(peer, it.first, it.last));
   const told = `${peer.part} played, ${counted(peer.started, "exchange")} started, ${peer.answered} answered, ` +
-    `${peer.traded} ended with both keys`;
+    `${peer.traded} ended with both keys, ${nothingIn(peer, 1, session.ends)} had nothing to trade`;
   const name = `Peer ${peer.peer}${peer.lies ? ", who lies" : ""}`;
   return `<section class="peer" data-peer="${peer.peer}"><h3>${name} <span class="soft">${told}</span></h3>` +
     `<div class="rounds" role="group" aria-label="rounds of peer ${peer.peer}">${rounds.join("")}</div>` +
@@ -290,26 +366,33 @@ function show(which) {
 
 const listed = (class_, lines) => `<ul class="${class_}">${lines.map(line => `<li>${escaped(line)}</li>`).join("")}</ul>`;
 
-// tells of a round of a peer in words, below its signs
-function tell(section, number) {
+// tells of the round of a button in words, below its signs
+function tell(chosen) {
+  const section = chosen.closest("section"), number = Number(chosen.dataset.round), last = Number(chosen.dataset.last || number);
   const peer = byNumber.get(Number(section.dataset.peer)), sides = peer.byRound.get(number) || [], words = section.querySelector(".words");
   for (const button of section.querySelectorAll(".rounds button")) {
-    const isIt = Number(button.dataset.round) === number;
-    button.setAttribute("aria-pressed", isIt);
-    button.tabIndex = isIt ? 0 : -1;
+    button.setAttribute("aria-pressed", button === chosen);
+    button.tabIndex = button === chosen ? 0 : -1;
   }
   words.hidden = false;
-  words.innerHTML = `<p>${escaped(toldCell(peer, number, number))}</p>` + listed("", sides.map(toldSide)) +
+  words.innerHTML = `<p>${escaped(toldCell(peer, number, last))}</p>` + listed("", sides.map(toldSide)) +
     listed("short", roundOf(peer, number) ? marksOf(peer, number).map(([, told]) => told) : []);
+}
+
+// the button in the line above or below another that is next to it
+function beside(all, button, down) {
+  const others = all.filter(it => (it.offsetTop - button.offsetTop) * down > 0);
+  const line = Math[down > 0 ? "min" : "max"](...others.map(it => it.offsetTop)), far = it => Math.abs(it.offsetLeft - button.offsetLeft);
+  const there = others.filter(it => it.offsetTop === line);
+  return there.reduce((best, it) => far(it) < far(best) ? it : best, there[0] ?? button);
 }
 
 function takeLaneKey(event) {
   const button = event.target.closest("button[data-round]");
   if (!button || !(event.key in STEPS)) return;
-  const all = [...button.parentElement.children], wide = button.parentElement.clientWidth;
-  const row = Math.max(1, Math.floor(wide / (button.offsetWidth + 4)));
-  const [down, right] = STEPS[event.key], to = all.indexOf(button) + right + Math.sign(down) * row;
-  all[Math.max(0, Math.min(all.length - 1, to))].focus();
+  const all = [...button.parentElement.children], [down, right] = STEPS[event.key];
+  const to = down ? beside(all, button, down) : all[Math.max(0, Math.min(all.length - 1, all.indexOf(button) + right))];
+  to.focus();
   event.preventDefault();
 }
 
@@ -318,8 +401,9 @@ function open(which, number, goes) {
   show(String(which));
   const section = element("lanes").querySelector(`section[data-peer="${which}"]`);
   if (section && number) {
-    tell(section, number);
-    if (goes) section.querySelector(`button[data-round="${number}"]`).focus();
+    const button = buttonOf(section, number);
+    tell(button);
+    if (goes) button.focus();
   }
   if (goes) remember(`peer=${which}${number ? `&round=${number}` : ""}`);
 }
@@ -342,6 +426,29 @@ function follow() {
   } else if (run.small) show("all");
 }
 
+// ---- tables that sort
+
+// what a cell is sorted by; a dash is below all numbers
+const worth = cell => parseFloat(cell.textContent.replace(/,/g, "")) || (cell.textContent === "–" ? -1 : 0);
+
+// sorts a table by the column of a name: the least first where it is the first column, else the most first, and the other way at each
+// further click
+function sortBy(table, header) {
+  const names = [...header.parentElement.children], at = names.indexOf(header), was = header.getAttribute("aria-sort");
+  const rises = was ? was === "descending" : at === 0;
+  for (const name of names) name.removeAttribute("aria-sort");
+  header.setAttribute("aria-sort", rises ? "ascending" : "descending");
+  const rows = [...table.tBodies[0].rows].sort((one, other) => (worth(one.cells[at]) - worth(other.cells[at])) * (rises ? 1 : -1));
+  table.tBodies[0].append(...rows);
+}
+
+for (const table of document.querySelectorAll("table.sorts")) {
+  table.addEventListener("click", event => {
+    const button = event.target.closest("th button");
+    if (button) sortBy(table, button.parentElement);
+  });
+}
+
 // ---- all together
 
 if (peers.length) {
@@ -358,7 +465,11 @@ if (peers.length) {
   element("lanes").addEventListener("keydown", takeLaneKey);
   element("lanes").addEventListener("focusin", event => {
     const button = event.target.closest("button[data-round]");
-    if (button) tell(button.closest("section"), Number(button.dataset.round));
+    if (button) tell(button);
+  });
+  element("lanes").addEventListener("click", event => {
+    const fold = event.target.closest("button.fold");
+    if (fold) unfold(fold, Number(fold.dataset.round)).focus();
   });
   addEventListener("hashchange", follow);
   follow();

@@ -68,8 +68,11 @@ def browsed(page, address="", options=()):
 # presses keys: in the overview two peers down and eight rounds to the right, then Enter, then in the peer's rounds one to the left
 PRESSES = """<script>
 const press = key => document.activeElement.dispatchEvent(new KeyboardEvent("keydown", {key, bubbles: true, cancelable: true}));
-const told = {};
+const told = {}, shown = () => document.getElementById("cursor").getAttribute("visibility") || "visible";
+told.frames = [shown()];
 document.getElementById("grid").focus();
+told.frames.push(shown());
+told.scale = document.getElementById("scale").textContent;
 ["ArrowDown", "ArrowDown", ...Array(8).fill("ArrowRight")].forEach(press);
 told.cell = document.getElementById("cell").textContent;
 press("Enter");
@@ -82,6 +85,12 @@ told.paper = getComputedStyle(document.body).backgroundColor;
 told.ink = getComputedStyle(document.body).color;
 told.peers = [...document.querySelectorAll("section")].map(section => section.dataset.peer);
 told.pressed = [...document.querySelectorAll("button[aria-pressed=true]")].map(button => button.dataset.round);
+told.first = [];
+for (const name of ["bytes played", "bytes played", "peer", "peer"]) {
+  document.querySelector(`th[aria-label="${name}"] button`).click();
+  told.first.push(document.querySelector(".sorts tbody td").textContent);
+}
+told.sorted = [...document.querySelectorAll("th[aria-sort]")].map(header => [header.ariaLabel, header.ariaSort]);
 told.widths = [innerWidth, document.documentElement.scrollWidth <= innerWidth];
 for (const name in told) parent.document.body.dataset[name] = told[name];
 </script></body>"""
@@ -106,6 +115,21 @@ class Keys(unittest.TestCase):
     def test_arrows_go_over_the_rounds_of_a_peer(self):
         self.assertEqual((self.body["data-left"], self.body["data-end"]), ("8", str(self.run_.session["ends"])))
         self.assertEqual(self.body["data-pressed"], self.body["data-end"])
+
+    def test_no_frame_stands_before_anybody_pointed(self):
+        self.assertEqual(self.body["data-frames"], "hidden,visible")
+
+    def test_the_scale_tells_what_a_shade_stands_for(self):
+        self.assertEqual(self.body["data-scale"], "0255075100% of what was due in a round; blank where nothing was")
+
+    def test_the_table_of_peers_is_sorted_by_a_column_and_back(self):
+        by_bytes = sorted(self.run_.peers, key=lambda peer: peer.bytes_played)
+        most, least = (next(it.peer for it in rows if it.bytes_played == rows[0].bytes_played) for rows in (by_bytes[::-1], by_bytes))
+        first = [int(it) for it in self.body["data-first"].split(",")]
+        bytes_of = {peer.peer: peer.bytes_played for peer in self.run_.peers}
+        self.assertEqual([bytes_of[it] for it in first[:2]], [bytes_of[most], bytes_of[least]])
+        self.assertEqual(first[2:], [1, 9])
+        self.assertEqual(self.body["data-sorted"], "peer,descending")
 
     def test_it_is_dark_where_that_is_preferred(self):
         self.assertEqual((self.body["data-paper"], self.body["data-ink"]), ("rgb(20, 24, 29)", "rgb(228, 233, 238)"))
@@ -185,10 +209,49 @@ class Browser(unittest.TestCase):
         self.assertEqual({line.split(",")[0] for line in lines[len(sides) :] if "not played" not in line}, came)
 
     def test_one_round_of_the_peer_can_be_reached_by_tab(self):
-        buttons = [it for it in self.elements.all if it["name"] == "button"]
+        buttons = [it for it in self.elements.all if it["name"] == "button" and "data-round" in it]
         self.assertEqual(len(buttons), self.run_.session["ends"])
         self.assertEqual([it["data-round"] for it in buttons if it["tabindex"] == "0"], [str(ROUND)])
         self.assertEqual(self.elements.with_id("grid")["tabindex"], "0")
+
+
+@unittest.skipUnless(BROWSER, "there is no chromium")
+class Folds(unittest.TestCase):
+    """Rounds in a row in which a peer did nothing and nothing was due."""
+
+    def buttons(self, address, peers=9):
+        run = busy_run(peers, 10)
+        run.rounds = [row for row in run.rounds if (row.peer, row.round) not in {(STOPPED, number) for number in range(12, 18)}]
+        elements = browsed(bartimeline.page(run), address)
+        return elements, [it for it in elements.all if it["name"] == "button" and "data-round" in it]
+
+    def test_they_are_folded(self):
+        _, buttons = self.buttons(f"#peer={STOPPED}")
+        self.assertEqual([it["data-round"] for it in buttons], [str(number) for number in range(1, 13)])
+        (fold,) = [it for it in buttons if "data-last" in it]
+        self.assertEqual((fold["data-last"], fold["aria-label"]), ("17", "rounds 12 to 17: it had stopped; unfold"))
+
+    def test_a_round_that_is_named_is_unfolded(self):
+        _, buttons = self.buttons(f"#peer={STOPPED}&round=14")
+        self.assertEqual(len(buttons), 17)
+        self.assertEqual([it["data-round"] for it in buttons if it["aria-pressed"] == "true"], ["14"])
+
+    def test_a_click_unfolds_them(self):
+        run = busy_run(9, 10)
+        run.rounds = [row for row in run.rounds if (row.peer, row.round) not in {(STOPPED, number) for number in range(12, 18)}]
+        click = '<script>document.querySelector("button.fold").click()</script></body>'
+        elements = browsed(bartimeline.page(run).replace("</body>", click), f"#peer={STOPPED}")
+        buttons = [it for it in elements.all if it["name"] == "button" and "data-round" in it]
+        self.assertEqual([it["data-round"] for it in buttons if it["aria-pressed"] == "true"], ["12"])
+        self.assertEqual(len(buttons), 17)
+
+    def test_signs_for_partners_above_99_do_not_overlap(self):
+        elements, _ = self.buttons("#peer=1&round=1", 120)
+        (section,) = [it for it in elements.all if it["name"] == "section"]
+        signs = [it for it in elements.of_class("sign", "rect") if section in it["in"]]
+        self.assertEqual({it["width"] for it in signs}, {"19"})
+        places = sorted({float(it["x"]) for it in signs})
+        self.assertTrue(all(place + 20 <= following for place, following in zip(places, places[1:])), places)
 
 
 if __name__ == "__main__":

@@ -12,6 +12,7 @@ import made_sessions as made
 from bardatagrams import Exchange, Update
 from barformats import EVIDENCE, SLOTS
 from bargathering import run_of
+from made_runs import busy_run
 from made_sessions import LONG, PLAIN, SESSION, WIDE, WIDE_PLAIN, ZEROS, Diary, Trade, first_tick
 
 ME, PARTNER = 1, 2
@@ -43,8 +44,8 @@ class Page:
 
 def rows_of(part):
     """The lines of a table, by the names of its columns."""
-    names, *lines = [[cell.text for cell in row] for row in part.iter("tr")]
-    return [dict(zip(names, line)) for line in lines]
+    names = [head.get("aria-label") or head.text for head in part.iter("th") if head.get("scope") == "col"]
+    return [dict(zip(names, (cell.text for cell in row))) for row in part.find(".//tbody")]
 
 
 def diary_of(party, *updates, blocks=PLAIN):
@@ -137,7 +138,7 @@ class Signs(unittest.TestCase):
         page = page_of(diary)
         told = "asks peer 2, promises 1 update, is promised 1 update, gave its key at tick 11, was given the key at tick 11"
         self.assertEqual(page.words("balanced asks traded"), [f"round 2: {told}"])
-        self.assertIn("1 of 1 exchanges ended with both keys given", page.figures)
+        self.assertIn("1 of 1 exchanges with something to trade ended with both keys given", page.figures)
 
     def test_an_exchange_whose_key_does_not_come(self):
         diary = diary_of(ME, FIRST, FOURTH)
@@ -146,7 +147,7 @@ class Signs(unittest.TestCase):
         self.assertEqual(page.words("balanced asks traded"), ["round 2: asks peer 2, promises 1 update, is promised 1 update"])
         self.assertEqual(page.marks[1], ("missed", "update 2 of round 1: not played"))
         self.assertEqual(page.table[0]["keys got that open well"], "0")
-        self.assertIn("0 of 1 exchanges ended with both keys given", page.figures)
+        self.assertIn("0 of 1 exchanges with something to trade ended with both keys given", page.figures)
 
     def test_a_wrong_key_is_told_and_pays_nothing(self):
         wrong = TRADE.key(False, bytes(32))
@@ -176,6 +177,21 @@ class Signs(unittest.TestCase):
         self.assertEqual(page.words("balanced asks idle"), ["round 2: asks peer 2, nothing to trade"])
         self.assertEqual(page.words("push asks idle"), ["round 2: offers to peer 3, no answer"])
         self.assertEqual(page.words("balanced asked idle"), ["round 2: is asked by peer 3, nothing came of it"])
+        told = "exchanges with something to trade ended with both keys given; 1 had nothing to trade; 1 had no answer"
+        self.assertIn(f"0 of 0 {told}; of 1 only the answering side is known", page.figures)
+        self.assertEqual(page.table[0]["with nothing to trade"], "1")
+
+    def test_both_sides_are_told_that_there_was_nothing_to_trade(self):
+        mine, other = diary_of(ME, FIRST), diary_of(PARTNER, FIRST)
+        for diary, by_initiator in ((mine, True), (other, False)):
+            diary.until(9)
+            (diary.send if by_initiator else diary.take)(TRADE.request())
+            (diary.take if by_initiator else diary.send)(TRADE.answer())
+            diary.until(LAST_TICK)
+        page = Page({ME: mine.log(), PARTNER: other.log()})
+        self.assertEqual(page.words("balanced asks idle"), ["round 2: asks peer 2, nothing to trade"])
+        self.assertEqual(page.words("balanced asked idle"), ["round 2: is asked by peer 1, nothing to trade"])
+        self.assertEqual([line["with nothing to trade"] for line in page.table], ["1", "1"])
 
     def test_a_push_with_junk(self):
         push = Trade.push(Exchange(3, True, PARTNER, ME), [[Update(3, 0)], [], [Update(3, 0)], []], 1)
@@ -214,7 +230,7 @@ class Sessions(unittest.TestCase):
         diary = Diary(ME)
         page = page_of(diary)
         self.assertEqual((page.marks, page.table[0]["part of the stream"], page.table[0]["bytes played"]), ([], "–", "0"))
-        self.assertIn("0 of 0 exchanges ended with both keys given", page.figures)
+        self.assertIn("0 of 0 exchanges with something to trade ended with both keys given", page.figures)
 
     def test_evidence_stands_in_the_order_of_parties(self):
         diary = diary_of(ME)
@@ -228,3 +244,51 @@ class Sessions(unittest.TestCase):
         sent, taken = len(TRADE.request()), 2 * len(made.manifest(1)) + len(made.block(ME, FIRST))
         self.assertEqual([line["datagrams sent"], line["bytes sent"]], ["1", f"{sent:,}"])
         self.assertEqual([line["datagrams taken"], line["bytes taken"]], ["3", f"{taken:,}"])
+
+
+class Layout(unittest.TestCase):
+    @classmethod
+    def setUpClass(cls):
+        cls.run_ = busy_run(120, 2)
+
+    def test_how_to_read_it_stands_first_and_is_folded(self):
+        page = bartimeline.page(self.run_)
+        self.assertIn("<details><summary>How to read this page</summary>", page)
+        self.assertLess(page.index("<details>"), page.index('class="figures"'))
+
+    def test_the_table_of_peers_has_a_button_for_each_column_and_a_group_above(self):
+        page = bartimeline.page(self.run_)
+        body = xml.etree.ElementTree.fromstring(page[page.index("<main>") : page.index("</main>")] + "</main>")
+        (drawn,) = body.findall(".//table[@class='sorts']")
+        groups, names = drawn.find("thead")
+        self.assertEqual(sum(int(it.get("colspan")) for it in groups), len(names))
+        self.assertTrue(all(it.find("button") is not None for it in names))
+        self.assertEqual(len({it.get("aria-label") for it in names}), len(names))
+        self.assertEqual(len(drawn.find("tbody")), 120)
+
+    def drawn(self, run):
+        return xml.etree.ElementTree.fromstring(barpicture.picture(run).replace(' xmlns="http://www.w3.org/2000/svg"', ""))
+
+    def test_the_picture_has_a_ground_and_a_legend_within_it(self):
+        drawn = self.drawn(busy_run(5, 4))
+        left, top, width, height = map(float, drawn.get("viewBox").split())
+        ground = next(it for it in drawn if it.tag != "style")
+        self.assertEqual([float(ground.get(name)) for name in ("x", "y", "width", "height")], [left, top, width, height])
+        words = {it.text: float(it.get("y")) for it in drawn if it.tag == "text"}
+        self.assertIn("asks peer 3 for a balanced exchange", words)
+        self.assertTrue(all(y < top + height for y in words.values()))
+        self.assertNotIn("sends evidence to the broadcaster", words)
+        self.assertNotIn("var(", drawn.findtext("style"))
+
+    def test_the_legend_of_the_picture_tells_of_what_is_seldom(self):
+        run = busy_run(5, 4)
+        run.rounds[3] = dataclasses.replace(run.rounds[3], accuses=True)
+        run.exchanges[0] = dataclasses.replace(run.exchanges[0], audit="unbalanced")
+        words = [it.text for it in self.drawn(run) if it.tag == "text"]
+        self.assertTrue({"sends evidence to the broadcaster", "unbalanced by the audit"} <= {*words})
+
+    def test_signs_for_partners_above_99_stand_apart(self):
+        width = barpicture.SEATS[True].sign
+        signs = [it for it in self.drawn(self.run_).iter("rect") if it.get("class") == "sign" and float(it.get("width")) == width - 1]
+        signs = sorted({float(it.get("x")) for it in signs})
+        self.assertTrue(all(width <= following - place for place, following in zip(signs, signs[1:])), signs)
