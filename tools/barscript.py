@@ -8,14 +8,21 @@ import argparse
 import contextlib
 import dataclasses
 import os
+import re
+import shutil
 import signal
 import sys
+import textwrap
 import threading
 import time
 import traceback
 
 SIGNALS = (signal.SIGINT, signal.SIGTERM, signal.SIGHUP)
 FAILED, REFUSED = 1, 2
+
+# how wide a help is at most, and what stands before the text of an indented line: spaces, or a name between spaces
+COLUMNS = 80
+NAMED = re.compile(r"(?: +(?:\S+(?: \S+)*  +)?)?")
 
 
 class Refusal(Exception):
@@ -231,9 +238,48 @@ def tell(outcome):
         return outcome.status or FAILED
 
 
+def wrapped(line, width):
+    """A paragraph in lines of at most so many letters. Behind a name and spaces that stand before it the lines are indented as far."""
+    front = NAMED.match(line)[0]
+    indent = len(front) if len(front) <= width // 2 else 4
+    whole = textwrap.TextWrapper(width, subsequent_indent=" " * indent, break_long_words=False, break_on_hyphens=False)
+    return whole.wrap(f"{front}{' '.join(line[len(front) :].split())}") or [""]
+
+
+def indent_of(line):
+    return len(line) - len(line.lstrip())
+
+
+def paragraphs_of(text):
+    """The paragraphs of a text. An indented line is one by itself, with those behind it that are indented more."""
+    paragraphs = [""]
+    for line in text.strip().splitlines():
+        last, indent = indent_of(paragraphs[-1]), indent_of(line)
+        if paragraphs[-1] and line.strip() and (indent == last == 0 or 0 < last < indent):
+            paragraphs[-1] += f" {line.strip()}"
+        else:
+            paragraphs.append(line)
+    return paragraphs[1:]
+
+
+class Help(argparse.HelpFormatter):
+    """A script's help in lines that fit 80 columns, with the paragraphs of its text."""
+
+    def __init__(self, prog):
+        super().__init__(prog, width=min(COLUMNS, shutil.get_terminal_size().columns) - 2)
+
+    def _fill_text(self, text, width, indent):
+        """The text that tells what a script does."""
+        return "\n".join(f"{indent}{line}" for paragraph in paragraphs_of(text) for line in wrapped(paragraph, width))
+
+    def _split_lines(self, text, width):
+        """The lines of an option's help, in which no option and no path is cut."""
+        return wrapped(" ".join(text.split()), width)
+
+
 def run(main, doc, take_words):
     """Runs a script's main with the words that the script takes, and ends the script with its status."""
-    parser = argparse.ArgumentParser(description=doc, formatter_class=argparse.RawDescriptionHelpFormatter)
+    parser = argparse.ArgumentParser(description=doc, formatter_class=Help)
     take_words(parser)
     words = parser.parse_args()
     if sys.stdout is not None:
