@@ -11,7 +11,7 @@ from barchoosing import DEFAULTS, FREE
 from barformats import NUMBERS, Session, faults_of_length, faults_of_numbers, names_in, range_of
 from barprogram import spread
 from barscript import held
-from barsession import Folder, free_port, make_key
+from barsession import Folder, free_port, make_key, seconds_of_keys
 
 def option_of(name):
     """The option of a script that gives a number of the session."""
@@ -109,7 +109,8 @@ def make_keys(folder, program, session_id, numbers, seed, told="keys"):
     def make_one(party):
         return make_key(folder, program, party, session_id, numbers, derived(seed, f"secret {party}"))
 
-    return spread(make_one, range(numbers["peers"] + 1), told)
+    parties = range(numbers["peers"] + 1)
+    return spread(make_one, parties, told, seconds=told and seconds_of_keys(program, parties, session_id, numbers))
 
 
 def text_of(session_id, numbers, keys):
