@@ -53,16 +53,15 @@ def log_of(recording, lines, played, findings, pool=None):
 
 def replay(folder, program, party, pool=None):
     """Replays a peer's recording, up to its last whole entry, and returns its log, or why there is none. The pool has other logs' datagrams."""
-    path = folder.recording(party)
-    large = too_large(path)
+    own = path = folder.recording(party)
+    large = too_large(own)
     if large:
         return large
-    recording = path.read_bytes()
     with tempfile.TemporaryDirectory() as room:
         again = Folder(room)
-        if not is_whole(recording):
+        if not is_whole(own.read_bytes()):
             path = again.recording(party)
-            path.write_bytes(whole_recording(recording))
+            path.write_bytes(whole_recording(own.read_bytes()))
         files = {"session": folder.session, "key": folder.key(party), "recording": path}
         words = words_of("replay", **files, played=again.played(party), found=f"{again.results}.{party}")
         with (again.path / "transcript").open("w+", encoding="utf-8", errors="replace") as transcript:
@@ -71,7 +70,8 @@ def replay(folder, program, party, pool=None):
                 return ran.told
             transcript.seek(0)
             try:
-                return log_of(recording, lines_in(transcript), again.played(party).read_bytes(), again.findings()[party], pool)
+                # the recording is read anew, so that it takes no memory while the program runs
+                return log_of(own.read_bytes(), lines_in(transcript), again.played(party).read_bytes(), again.findings()[party], pool)
             except (OSError, Malformed) as error:
                 return str(error)
 
