@@ -49,7 +49,8 @@ def types_of_keys(given, rounds):
     """The LMS type that isn't given: the least one that has leaves for so many rounds, and not below the default."""
     if "top" in given:
         return {"lms": LOWER}
-    return {"lms": min((lms for lms in LEAVES if LEAVES_A_ROUND * rounds <= leaves_of(lms) and lms >= DEFAULTS["lms"]), default=max(LEAVES))}
+    large = [lms for lms in LEAVES if LEAVES_A_ROUND * rounds <= leaves_of(lms) and lms >= DEFAULTS["lms"]]
+    return {"lms": min(large, default=max(LEAVES))}
 
 
 def completed(given, length=0):
@@ -67,5 +68,6 @@ def completed(given, length=0):
 
 
 def fitted(given, numbers):
-    """The numbers that weren't given and are others than the defaults."""
-    return {name: numbers[name] for name in DEFAULTS if name not in given and DEFAULTS[name] != numbers[name] and (name != "lms" or "top" not in given)}
+    """The numbers that weren't given and are others than the defaults. The LMS type goes with an upper tree that was given."""
+    free = [name for name in DEFAULTS if name not in given and (name != "lms" or "top" not in given)]
+    return {name: numbers[name] for name in free if numbers[name] != DEFAULTS[name]}

@@ -1,6 +1,6 @@
 """What peers are likely to play of a session, by its numbers: by what the experiments measured, whose tables stand in docs/EXPERIMENTS.md.
 
-The experiments vary one number at a time about a base. A peer has some updates from the broadcaster itself, and of the others a part comes by
+The experiments vary one number at a time about a base. A peer has some updates from the broadcaster itself. Of the others a part comes by
 trades, which depends on three quantities:
   reach    the peers for each one that the broadcaster sends an update to, which the tables of peers and of fan-out give
   chances  the rounds in which exchanges may trade an update, at most one less than its life, and none for one of the last round
@@ -58,8 +58,8 @@ class Expected(Played):
     def told(self):
         """What is expected, in words."""
         beyond = f"; {listed(self.beyond)} than was measured" if self.beyond else ""
-        part = f"some {self.mean:.0%} of the stream, a single one {self.least:.0%} to {self.most:.0%}" if self.least < 1 else "all of the stream"
-        return f"peers play {part}{beyond}"
+        some = f"some {self.mean:.0%} of the stream, a single one {self.least:.0%} to {self.most:.0%}"
+        return f"peers play {some if self.least < 1 else 'all of the stream'}{beyond}"
 
 
 def tables_in(text):

@@ -1,5 +1,6 @@
-"""What peers lacked of a stream when it was due, and why, as far as it's seen: it was of the last round, which isn't traded, or datagrams to
-the peer were lost, or it didn't come in time.
+"""What peers lacked of a stream when it was due, and why, as far as it's seen.
+
+It was of the last round, which isn't traded, or datagrams to the peer were lost, or it didn't come in time.
 
 Peers that were stopped or lied, and those without a replay, aren't counted.
 """

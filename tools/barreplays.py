@@ -52,7 +52,10 @@ def log_of(recording, lines, played, findings, pool=None):
 
 
 def replay(folder, program, party, pool=None):
-    """Replays a peer's recording, up to its last whole entry, and returns its log, or why there is none. The pool has other logs' datagrams."""
+    """Replays a peer's recording, up to its last whole entry, and returns its log, or why there is none.
+
+    The pool has the datagrams of other logs.
+    """
     own = path = folder.recording(party)
     large = too_large(own)
     if large:

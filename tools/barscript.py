@@ -62,8 +62,8 @@ def progress(line):
 class Count:
     """Tells how many of a number of things are done: at most a line a second, and always the last one.
 
-    Where nothing is done for a while a line tells that it goes on. What takes longer is told with the seconds that are likely to be left, by
-    what is done, of which so many are done at once, or by how long all is likely to take where that is known before.
+    Where nothing is done for a while a line tells that it goes on. What takes longer is told with the seconds that are likely to be left:
+    by what is done, of which so many are done at once; or by how long all is likely to take, where that is known before.
     """
 
     def __init__(self, told, total, at_once=1, seconds=None):

@@ -117,7 +117,7 @@ def times_longer(numbers):
 
 
 def seconds_of_smallest(program, parties, session_id, ots, at_once=None):
-    """How many seconds these parties' keys take with the smallest tree, so many of them made at once, or as many as there are processors."""
+    """How many seconds these parties' keys take with the smallest tree, so many made at once, or as many as there are processors."""
     with tempfile.TemporaryDirectory() as room:
         folder, started = Folder(room), time.monotonic()
         numbers = {"rounds": 1, "lms": SMALLEST, "ots": ots}

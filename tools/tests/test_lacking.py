@@ -31,7 +31,8 @@ class Lines(unittest.TestCase):
     def test_each_cause(self):
         run = short_run([(1, 4, 0), (1, 4, 1), (2, 4, 0), (2, 1, 0), (3, 2, 1), (3, 3, 1)])
         self.assertEqual(barlacking.lacking(run, {2: 7, 3: 0}), Lacking(3, 1, 2))
-        told = "peers lacked 3 updates of the last round, whose updates can't be traded (let the stream end a round earlier, or take --fanout 3), "
+        told = "peers lacked 3 updates of the last round, whose updates can't be traded "
+        told += "(let the stream end a round earlier, or take --fanout 3), "
         told += "1 update where a receive buffer ran over and lost datagrams and 2 updates that didn't come in time"
         self.assertEqual([*barlacking.lines_of(run, {2: 7, 3: 0})], [told])
 

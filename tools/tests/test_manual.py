@@ -37,8 +37,10 @@ class Lines(unittest.TestCase):
     def test_each_line_is_one(self):
         lines = self.lines(*PAGE.splitlines())
         self.assertEqual(len(lines), len(PAGE.splitlines()))
-        self.assertEqual(lines[2:8], ["# Name", "bar - count", "# Commands", "", "`bar count --from N`", "Print `N`, by `tools/greet --loud` or by `double`."])
-        self.assertEqual([line for line in lines if line.startswith("|")][:2], ["| 0 | | it was done. |", "| 2 | `bar: usage` | the words are no line. |"])
+        self.assertEqual(lines[2:7], ["# Name", "bar - count", "# Commands", "", "`bar count --from N`"])
+        self.assertEqual(lines[7], "Print `N`, by `tools/greet --loud` or by `double`.")
+        rows = [line for line in lines if line.startswith("|")]
+        self.assertEqual(rows[:2], ["| 0 | | it was done. |", "| 2 | `bar: usage` | the words are no line. |"])
 
     def test_fonts(self):
         told = {
@@ -72,7 +74,8 @@ class Pages(Repository):
     def test_a_command_and_its_options(self):
         self.assert_found(self.found(r"count \-\-from", r"count \-\-to"), "docs/bar.1:7: `count` has no option `--to`")
         found = self.found("bar count", "bar tell")
-        self.assertEqual([fault.partition(": ")[2] for fault in found], ["the program has no command `tell`", "it has no line of the command `count`"])
+        told = ["the program has no command `tell`", "it has no line of the command `count`"]
+        self.assertEqual([fault.partition(": ")[2] for fault in found], told)
 
     def test_statuses(self):
         found = self.found("bar: usage", "bar: unused")

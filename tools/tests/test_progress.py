@@ -35,7 +35,8 @@ class Counts(unittest.TestCase):
         self.assertEqual(self.lines((10, 4), at_once=6), ["keys: 4 of 6 after 10 seconds, some 1 second more"])
 
     def test_silence_is_broken(self):
-        told = ["keys: none of 6 after 10 seconds", "keys: none of 6 after 21 seconds", "keys: 1 of 6 after 22 seconds, some 110 seconds more"]
+        told = [f"keys: none of 6 after {seconds} seconds" for seconds in (10, 21)]
+        told.append("keys: 1 of 6 after 22 seconds, some 110 seconds more")
         self.assertEqual(self.lines((9, None), (10, None), (19, None), (21, None), (22, 1), (31, None)), told)
 
     def test_what_is_left_as_it_is_known_before(self):

@@ -35,7 +35,8 @@ class Helps(unittest.TestCase):
         text = "one\ntwo\n  name    what it\n          is\n  other   is\nthree\n\nfour"
         wanted = ["one two", "  name    what it is", "  other   is", "three", "", "four"]
         self.assertEqual(barscript.paragraphs_of(text), wanted)
-        self.assertEqual(barscript.wrapped("  name    what it is, by --an-option", 20), ["  name    what it", "          is, by", "          --an-option"])
+        wanted = ["  name    what it", "          is, by", "          --an-option"]
+        self.assertEqual(barscript.wrapped("  name    what it is, by --an-option", 20), wanted)
         self.assertEqual(barscript.wrapped("    tshark -X one:two  ", 12), ["    tshark", "    -X", "    one:two"])
 
     def test_words_that_are_none(self):
