@@ -1,5 +1,5 @@
 """The numbers of a session that aren't given: those of the defaults, or others where what is given and the stream don't fit into these."""
-from barformats import CONTENT, LEAVES, LEAVES_A_ROUND, LOWER, NUMBERS, UPDATES, leaves_of, most_rounds_of, version_for
+from barformats import CONTENT, LEAVES, LEAVES_A_ROUND, LOWER, UPDATES, leaves_of, most_rounds_of, range_of, version_for
 
 # the numbers of a session for which none are given
 DEFAULTS = {"version": 1, "peers": 5, "rounds": 10, "life": 6, "cap": 8, "per_round": 8, "fanout": 3, "tick_ms": 50, "lms": 6, "ots": 3}
@@ -58,7 +58,7 @@ def completed(given, length=0):
 
     What isn't given fits what is. Where one of the given is out of its range, so that it's refused, the others are the defaults.
     """
-    if not all(NUMBERS[name].has(value) for name, value in given.items() if name != "rounds" or "top" not in given):
+    if not all(range_of(name, given).has(value) for name, value in given.items()):
         return DEFAULTS | ({"lms": LOWER} if "top" in given else {}) | given
     pieces, numbers = pieces_of(length), {"peers": max(DEFAULTS["peers"], given.get("fanout", 0))} | given
     numbers = filled(pieces, given) | numbers

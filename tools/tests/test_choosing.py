@@ -62,8 +62,10 @@ class Fitting(unittest.TestCase):
         self.assertEqual(completed({"top": 7, "rounds": 7200})["lms"], 5)
 
     def test_a_number_out_of_its_range_is_refused(self):
-        for given in ({"peers": 1}, {"rounds": 1821}, {"cap": "many"}):
+        for given in ({"peers": 1}, {"rounds": 1821}, {"cap": "many"}, {"version": 1, "per_round": 65}, {"peers": 2, "fanout": 3}):
             self.assertEqual(completed(given), DEFAULTS | given)
+        for given in ({"top": 5, "rounds": "many"}, {"top": "x", "rounds": 7000}, {"top": 5, "rounds": 7201}, {"top": 5, "ots": 2}):
+            self.assertEqual(completed(given), DEFAULTS | {"lms": 5} | given)
 
 
 class Expecting(unittest.TestCase):
