@@ -70,6 +70,12 @@ class Logs(RoomCase):
         self.assertEqual((read.whole, read.ticks, read.taken), (True, 3, [(1, ONE), (3, OTHER)]))
         self.assertEqual((read.sent, read.played, read.findings), ([(1, b"\xaa"), (3, ONE)], b"played", {"table": b""}))
 
+    def test_equal_datagrams_are_kept_once(self):
+        pool = {}
+        taken = barreplays.log_of(recording_of(bytes(15), [None, ONE, bytes(ONE), ONE]), [], b"", {}, pool).taken
+        sent = barreplays.log_of(recording_of(bytes(15), [None]), [f"1 2 {ONE.hex()}"], b"", {}, pool).sent
+        self.assertEqual({id(it) for _, it in (*taken, *sent)}, {id(pool[ONE])})
+
     def test_a_number_of_no_input(self):
         for number in (0, 6):
             with self.assertRaises(Malformed):
