@@ -164,7 +164,7 @@ def measured():
     try:
         tables = tables_in(TABLES.read_text("utf-8"))
         return {name: Measured(tables, name) for name in COLUMNS}, odds_by_chances(tables["life"])
-    except (OSError, KeyError, ValueError) as error:
+    except (OSError, KeyError, ValueError, ArithmeticError) as error:
         raise Failure(f"{TABLES} has no tables of experiments: {error}") from None
 
 

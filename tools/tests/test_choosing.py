@@ -1,11 +1,13 @@
 """The numbers that are chosen for a session, and what is expected of it."""
 import random
 import unittest
+from unittest import mock
 
 from support import RoomCase, fake_program, run_script
 
 import barchoosing
 import barexpecting
+import barexperiments
 import barscript
 from barchoosing import DEFAULTS, completed
 from barexpecting import BASE, Played
@@ -68,7 +70,7 @@ class Fitting(unittest.TestCase):
             self.assertEqual(completed(given), DEFAULTS | {"lms": 5} | given)
 
 
-class Expecting(unittest.TestCase):
+class Expecting(RoomCase):
     def share(self, **numbers):
         """What is expected of a session about the base."""
         return barexpecting.expected(BASE | numbers, 19 * 8 * CONTENT)
@@ -79,6 +81,21 @@ class Expecting(unittest.TestCase):
         rows = [(name, int(value), played) for name in ("peers", "fanout", "cap", "life") for value, played in tables[name].items()]
         for name, value, played in rows:
             self.assertAlmostEqual(self.share(**{name: value}).mean, played.mean, delta=0.05, msg=f"{name} {value}")
+
+    def test_the_base_is_that_of_the_experiments(self):
+        self.assertEqual({name: barexperiments.BASE[name] for name in BASE}, BASE)
+
+    def test_tables_that_are_missing(self):
+        barexpecting.measured.cache_clear()
+        self.addCleanup(barexpecting.measured.cache_clear)
+        for text in (None, "", "| cap | played, mean | least of a peer | most of a peer |"):
+            path = self.room / "tables"
+            path.unlink(missing_ok=True)
+            if text is not None:
+                path.write_text(text)
+            with mock.patch("barexpecting.TABLES", path):
+                (line,) = barexpecting.lines_of(BASE, 9)
+            self.assertRegex(line, "^what to expect isn't known: .*/tables has no tables of experiments: ")
 
     def test_a_table(self):
         lines = ["| cap | played, mean | least of a peer | most of a peer |", "|---|---|---|---|", "| 2 | 61.4% | 42.0% | 73.7% |"]
