@@ -4,6 +4,7 @@ An exchange is balanced where each party whose KEY its partner took has the part
 partner has its CASE too. The auditor has public keys alone. Recordings that were stopped are audited up to their last whole entries.
 """
 import dataclasses
+import functools
 import pathlib
 import re
 import tempfile
@@ -45,7 +46,7 @@ class Audit:
     # the parties whose recordings are refused, each with the reason: the audit went on without them
     left_out: dict = dataclasses.field(default_factory=dict)
 
-    @property
+    @functools.cached_property
     def unbalanced(self):
         """The exchanges that aren't balanced, as far as the auditor tells: the first one, and all in which a CASE is lacking."""
         lacking = {entry.exchange for entry in self.entries if entry.lacks}

@@ -13,7 +13,7 @@ from bardocuments import Document, Fault, Mention
 from barmentions import Lookup, Subject
 from barsources import Sources
 
-DOCUMENTS = ("README.md", "docs/*.md", "crates/*/README.md", "examples/**/README.md")
+DOCUMENTS = ("README.md", "docs/*.md", "docs/*.1", "crates/*/README.md", "examples/**/README.md")
 LETTERS = "ABCDEFGHIJKLMNOPQRSTUVWXYZ"
 
 
@@ -53,8 +53,8 @@ class Check:
             yield from self.faults_of_blocks(document)
             yield from barpages.faults_of_words(document, self.allowed)
         yield from barpages.faults_of_readme(self.pages["README.md"], self.sources)
-        if "docs/FORMATS.md" in self.pages:
-            yield from barpages.faults_of_formats(self.pages["docs/FORMATS.md"], self.sources)
+        for name in {"docs/FORMATS.md", "docs/bar.1"} & self.pages.keys():
+            yield from barpages.faults_of_formats(self.pages[name], self.sources)
         yield from barlists.faults_of_lists(self.sources, self.needed)
         yield from self.faults_of_exceptions()
 

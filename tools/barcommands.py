@@ -9,7 +9,7 @@ HELP_SECONDS = 20
 OPERATORS = set("();<>|&")
 ASSIGNMENT = re.compile(r"\w+=")
 # programs that the system has, or the toolchain
-SYSTEM = ("bash", "cat", "cd", "cmp", "diff", "git", "kill", "ls", "mktemp", "python3", "rt", "ss", "wc")
+SYSTEM = ("bash", "cat", "cd", "cmp", "diff", "git", "kill", "ls", "man", "mktemp", "python3", "rt", "ss", "wc")
 # what stands for the rest of a line
 REST = ("..", "...")
 

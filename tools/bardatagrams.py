@@ -2,7 +2,9 @@
 
 A datagram is read where it has the length that its kind and counts give, and its numbers are in range. Its signature isn't checked.
 """
+import collections.abc
 import dataclasses
+import itertools
 import struct
 import typing
 
@@ -34,6 +36,39 @@ class Update(typing.NamedTuple):
     index: int
 
 
+class Window(collections.abc.Set):
+    """A set of updates of some rounds, which takes little room: bit `width * n + i` is for update i of the round n behind the first."""
+
+    __slots__ = "first", "width", "bits"
+
+    def __init__(self, first, width, bits):
+        self.first, self.width, self.bits = first, width, bits
+
+    def __contains__(self, update):
+        number, index = update
+        return number >= self.first and 0 <= index < self.width and self.bits >> self.width * (number - self.first) + index & 1 == 1
+
+    def __iter__(self):
+        """The updates, in order."""
+        rest = self.bits
+        while rest:
+            behind, index = divmod((rest & -rest).bit_length() - 1, self.width)
+            yield Update(self.first + behind, index)
+            rest &= rest - 1
+
+    def __len__(self):
+        return self.bits.bit_count()
+
+    def __eq__(self, other):
+        if isinstance(other, Window) and (self.first, self.width) == (other.first, other.width):
+            return self.bits == other.bits
+        return super().__eq__(other)
+
+    def __sub__(self, other):
+        """What another window of the same rounds hasn't."""
+        return Window(self.first, self.width, self.bits & ~other.bits)
+
+
 class Exchange(typing.NamedTuple):
     """The name of an exchange."""
 
@@ -59,28 +94,28 @@ class BalancedTerms:
     """The initiator's nonce, and the history of each side."""
 
     nonce: bytes
-    of_initiator: frozenset
-    of_responder: frozenset
+    of_initiator: Window
+    of_responder: Window
 
     def promise(self, by_initiator, cap):
         """What a side promises: the first that the other lacks, as many as the other promises and at most the cap."""
         lacking = self.of_responder - self.of_initiator, self.of_initiator - self.of_responder
-        return Promise(tuple(sorted(lacking[by_initiator])[: min(cap, *map(len, lacking))]), 0)
+        return Promise(tuple(itertools.islice(lacking[by_initiator], min(cap, *map(len, lacking)))), 0)
 
 
 @dataclasses.dataclass(frozen=True)
 class PushTerms:
     """What is offered and asked for, what of it is wanted and given, and the junk that makes up the difference."""
 
-    young: frozenset
-    aged: frozenset
-    wanted: frozenset
-    given: frozenset
+    young: Window
+    aged: Window
+    wanted: Window
+    given: Window
     junk: int
 
     def promise(self, by_initiator, _cap):
         """What a side promises: the initiator what is wanted, the responder what is given and the junk."""
-        return Promise(tuple(sorted(self.wanted)), 0) if by_initiator else Promise(tuple(sorted(self.given)), self.junk)
+        return Promise(tuple(self.wanted), 0) if by_initiator else Promise(tuple(self.given), self.junk)
 
 
 # ---- datagrams
@@ -126,11 +161,11 @@ class Message:
 
 @dataclasses.dataclass(frozen=True)
 class Case(Message):
-    """A CASE whose counts are those of its promise."""
+    """A CASE whose counts are those of its promise. Its cipher is a part of the datagram, and no copy."""
 
     terms: BalancedTerms | PushTerms
     promise: Promise
-    cipher: bytes
+    cipher: memoryview
 
 
 @dataclasses.dataclass(frozen=True)
@@ -154,7 +189,7 @@ class Reader:
         if not 1 <= values["round"] <= self.session.rounds:
             return None
         call = self.release if head[0] in (MANIFEST, BLOCK, EVICT) else self.message
-        return call(*head, values, datagram[end:])
+        return call(*head, values, memoryview(datagram)[end:])
 
     def release(self, kind, sender, receiver, values, rest):
         """A datagram of the broadcaster."""
@@ -165,7 +200,7 @@ class Reader:
             return Block(receiver, Update(number, values["index"]), values["block"])
         if kind == EVICT:
             return Evict(number, struct.unpack_from(f">{values['count']}H", rest))
-        digests = (rest[DIGEST_SIZE * at : DIGEST_SIZE * (at + 1)] for at in range(values["count"]))
+        digests = (bytes(rest[DIGEST_SIZE * at : DIGEST_SIZE * (at + 1)]) for at in range(values["count"]))
         return Manifest(number, {Update(number, at): digest for at, digest in enumerate(digests)})
 
     def message(self, kind, sender, receiver, values, rest):
@@ -208,7 +243,6 @@ class Reader:
 
     def updates_in(self, number, window):
         """The updates of a window of this round."""
-        first, width = max(1, number - self.session.life + 1), WORD * self.words
-        words = enumerate(struct.unpack(f">{self.words * self.session.life}Q", window))
-        places = [WORD * place + bit for place, word in words if word for bit in range(WORD) if word >> bit & 1]
-        return frozenset(Update(first + place // width, place % width) for place in places)
+        form = f"{self.words * self.session.life}Q"
+        bits = int.from_bytes(struct.pack(f"<{form}", *struct.unpack(f">{form}", window)), "little")
+        return Window(max(1, number - self.session.life + 1), WORD * self.words, bits)

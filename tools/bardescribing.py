@@ -190,6 +190,28 @@ class Told:
     what: str
     lines: list
 
+    @property
+    def shown(self):
+        """The lines for a reader: of ticks in a row behind which nothing was taken there is one."""
+        shown, ticks = [], []
+        for line, data in self.lines:
+            if "tick" in data:
+                ticks.append((line, data))
+                continue
+            # behind the last of them this was taken
+            shown += [*folded(ticks[:-1]), *(tick for tick, _ in ticks[-1:]), line]
+            ticks = []
+        return shown + folded(ticks)
+
+
+def folded(ticks):
+    """The lines of ticks in a row behind which nothing was taken: one alone is told as any other."""
+    if len(ticks) < 2:
+        return [line for line, _ in ticks]
+    (_, first), (_, last) = ticks[0], ticks[-1]
+    rounds = f"rounds {first['round']} to {last['round']}" if first["round"] < last["round"] else f"round {first['round']}"
+    return [f"ticks {first['tick']} to {last['tick']}: {rounds}, and nothing was taken"]
+
 
 def recording_told(data, datagrams):
     """A recording: a line for each input."""

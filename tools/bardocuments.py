@@ -1,8 +1,12 @@
-"""Reads documents in Markdown: their passages, what these name, their links and their blocks."""
+"""Reads documents in Markdown and manual pages: their passages, what these name, their links and their blocks."""
 import dataclasses
 import functools
 import re
 
+from barmanual import markdown_of
+
+# the ending of a manual page
+MANUAL = ".1"
 SPAN = r"(?<!`)`[^`]+`(?!`)"
 CRATE = r"\bbar_\w+"
 FENCE = re.compile(r"(?P<indent> *)(?P<fence>`{3,})(?P<words>[^`]*)")
@@ -132,6 +136,7 @@ class Document:
             text = path.read_text(encoding="utf-8")
         except UnicodeDecodeError as error:
             raise ValueError(f"{'/'.join(parts)} is no text in UTF-8") from error
+        text = markdown_of(text) if path.suffix == MANUAL else text
         document = cls("/".join(parts), parts[1] if parts[0] == "crates" else "", text)
         document.cut()
         return document

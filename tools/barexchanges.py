@@ -91,6 +91,10 @@ class Side:
         if self.case is None and self.asked[:1] == [tick] and self.own_case and case.terms == self.own_case.terms:
             self.case = case
 
+    def forget(self):
+        """Keeps of both CASEs no more than what they promise."""
+        self.own_case, self.case = (it and dataclasses.replace(it, terms=None, cipher=b"") for it in (self.own_case, self.case))
+
     def awaits_key(self, tick):
         """Whether a KEY that comes in this tick may be the one that was admitted."""
         return self.case is not None and self.asked[-1] == tick and self.was_paid is None and self.was_cheated is None
@@ -108,6 +112,8 @@ class Account:
         self.digests, self.notices, self.evicted, self.sides, self.held, self.late = {}, {}, {}, {}, {}, {}
         self.read_sent()
         self.read_taken()
+        for side in self.sides.values():
+            side.forget()
 
     def read_sent(self):
         """Notes what the peer sent."""

@@ -341,20 +341,35 @@ def fingerprint_of(text):
 # ---- recordings
 
 
-def entries_of(recording):
-    """The inputs of a recording, each a datagram or None for a tick, and whether the recording has its end."""
-    entries, at = [], RECORDING_HEAD
+def inputs_of(recording):
+    """The inputs of a recording, each a datagram or None for a tick, with the place behind it."""
+    at = RECORDING_HEAD
     while recording[at : at + 1] in (b"\x01", b"\x02"):
         if recording[at] == 1:
-            entries.append(None)
             at += 1
+            yield None, at
             continue
         end = at + 3 + int.from_bytes(recording[at + 1 : at + 3], "big")
         if len(recording) < max(end, at + 3):
-            break
-        entries.append(recording[at + 3 : end])
+            return
+        yield recording[at + 3 : end], end
         at = end
-    return entries, recording[at:] == b"\x00"
+
+
+def entries_of(recording):
+    """The inputs of a recording, and whether the recording has its end."""
+    entries, end = [], RECORDING_HEAD
+    for entry, end in inputs_of(recording):
+        entries.append(entry)
+    return entries, recording[end:] == b"\x00"
+
+
+def is_whole(recording):
+    """Whether a recording has its end."""
+    end = RECORDING_HEAD
+    for _, end in inputs_of(recording):
+        pass
+    return recording[end:] == b"\x00"
 
 
 def recording_of(head, entries):

@@ -27,6 +27,7 @@ from bargrammar import EXCHANGE_KINDS, name_of
 from barcasting import casts_in
 from barlosses import Losses
 from barprogram import run, spread
+from barscript import Count
 
 VERDICT = re.compile(r"party (\d+) fault (F\d+)")
 
@@ -201,6 +202,15 @@ def audit_of_run(audit):
     return told | {"unbalanced": len(audit.unbalanced), "named": named, "cause": cause}
 
 
+def accounts_of(session, logs, count):
+    """What peers did and held, by their logs. It's told how many of them are gathered, where that takes long."""
+    accounts = []
+    for party, log in sorted(logs.items()):
+        accounts.append(Account(session, party, log))
+        count.tell_late(len(accounts))
+    return accounts
+
+
 def run_of(session, logs, audit=None, casts=None, found=None, verdicts=None, refused=None, differ=(), statuses=None, liars=(), outside=None):
     """A run, by the logs of its peers and what else is known of it.
 
@@ -210,8 +220,11 @@ def run_of(session, logs, audit=None, casts=None, found=None, verdicts=None, ref
     """
     found = found if found is not None else {party: log.findings for party, log in logs.items()}
     refused, statuses = refused or {}, statuses or {}
-    accounts = [Account(session, party, log) for party, log in sorted(logs.items())]
+    # the last thing of those that are gathered is what was lost
+    count = Count("gathered", len(logs) + 1)
+    accounts = accounts_of(session, logs, count)
     losses, releases = Losses(session, logs, casts), release_rows(accounts)
+    count.tell_late(count.total)
     released = collections.Counter(row.round for row in releases)
     evidence = [*evidence_rows(session, found, verdicts or {})]
     rounds = {account.party: [*round_rows(account, released, losses)] for account in accounts}

@@ -12,7 +12,7 @@ from barexchanges import round_of
 from barformats import head_of
 
 
-@dataclasses.dataclass(frozen=True)
+@dataclasses.dataclass(frozen=True, slots=True)
 class Flow:
     """The ticks in which equal datagrams from one party to another were sent and taken."""
 
@@ -54,8 +54,7 @@ def flows_of(session, logs, casts):
             flows[place] = Flow(sender, receiver, name_of(kind), len(datagram))
         return flows[place]
 
-    sends = [(party, tick, datagram) for party, log in logs.items() for tick, datagram in log.sent]
-    for party, tick, datagram in sends:
+    for party, tick, datagram in ((party, tick, datagram) for party, log in logs.items() for tick, datagram in log.sent):
         kind, _, receiver = head_of(datagram, session) or (None, None, None)
         flow_of(party, receiver, datagram, kind).sent.append(tick)
     for tick, receiver, datagram in casts.sent if casts else ():

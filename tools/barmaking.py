@@ -7,27 +7,15 @@ import pathlib
 import secrets
 import shutil
 
-from barformats import LOWER, NUMBERS, Session, faults_of_length, faults_of_numbers, names_in, range_of
+from barchoosing import DEFAULTS, FREE
+from barformats import NUMBERS, Session, faults_of_length, faults_of_numbers, names_in, range_of
 from barprogram import spread
 from barscript import held
-from barsession import Folder, free_port, make_key
-
-# the numbers of a session for which none are given
-DEFAULTS = {"version": 1, "peers": 5, "rounds": 10, "life": 6, "cap": 8, "per_round": 8, "fanout": 3, "tick_ms": 50, "lms": 6, "ots": 3}
-
-
-# the numbers that may be left out
-FREE = ("port", "top")
-
+from barsession import Folder, free_port, make_key, seconds_of_keys
 
 def option_of(name):
     """The option of a script that gives a number of the session."""
     return f"--{name.replace('_', '-')}"
-
-
-def completed(given):
-    """The numbers of a session of which these are given."""
-    return DEFAULTS | ({"lms": LOWER} if "top" in given else {}) | given
 
 
 @dataclasses.dataclass(frozen=True)
@@ -121,7 +109,8 @@ def make_keys(folder, program, session_id, numbers, seed, told="keys"):
     def make_one(party):
         return make_key(folder, program, party, session_id, numbers, derived(seed, f"secret {party}"))
 
-    return spread(make_one, range(numbers["peers"] + 1), told)
+    parties = range(numbers["peers"] + 1)
+    return spread(make_one, parties, told, seconds=told and seconds_of_keys(program, parties, session_id, numbers))
 
 
 def text_of(session_id, numbers, keys):

@@ -1,4 +1,4 @@
-"""What README.md and docs/FORMATS.md have to have, and the words that no document has."""
+"""What README.md, docs/FORMATS.md and the manual page have to have, and the words that no document has."""
 import re
 
 from bardocuments import Fault
@@ -30,7 +30,7 @@ def faults_of_readme(readme, sources):
         yield Fault(readme.name, count, f"it has {count} lines, more than {README_LINES}")
     for crate in sources.crates:
         yield from faults_of_crate(crate, readme, sources.root)
-    wanted = [*sources.scripts(), *(f"docs/{path.name}" for path in sorted(sources.root.glob("docs/*.md")))]
+    wanted = [*sources.scripts(), *(f"docs/{path.name}" for path in sorted(sources.root.glob("docs/*.[m1]*")))]
     lacking = [name for name in wanted if not re.search(rf"(?<![\w/]){re.escape(name)}(?![\w-])", readme.text)]
     yield from (Fault(readme.name, count, f"it doesn't name {name}") for name in lacking)
 
@@ -51,7 +51,7 @@ def is_of_status(row, status, said):
 
 
 def faults_of_statuses(formats, sources):
-    """docs/FORMATS.md has a row for each exit status and its line, and no others."""
+    """A page of formats has a row for each exit status and its line, and no others."""
     statuses = sorted(set(statuses_of(sources)))
     rows = [(row, passage.line) for passage in formats.passages if (row := STATUS.match(passage.text))]
     lacking = [status for status in statuses if not any(is_of_status(row, *status) for row, _ in rows)]
@@ -61,7 +61,7 @@ def faults_of_statuses(formats, sources):
 
 
 def faults_of_formats(formats, sources):
-    """docs/FORMATS.md has each command of the program, and its statuses."""
+    """A page of formats has each command of the program, and its statuses."""
     spans = [mention.text for _, mention in formats.mentions()]
     lacking = [command for command in sources.commands if not any(span.startswith(f"bar {command} ") for span in spans)]
     yield from (Fault(formats.name, 1, f"it has no line of the command `{command}`") for command in lacking)

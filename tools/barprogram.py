@@ -135,11 +135,13 @@ def lines_of(process):
         yield rest.decode(errors="replace")
 
 
-def await_next(results):
-    """Waits for the next item of a queue."""
+def await_next(results, count=None):
+    """Waits for the next item of a queue, and has the count of what is done tell that it goes on."""
     while True:
         with contextlib.suppress(queue.Empty):
             return results.get(timeout=WAIT)
+        if count:
+            count.wait()
 
 
 def status_of(process):
@@ -185,21 +187,22 @@ def run(program, command, **values):
     return run_words(program, words_of(command, **values))
 
 
-def spread(call, items, told=None, at_once=None):
+def spread(call, items, told=None, at_once=None, seconds=None):
     """Calls for each item, as many at once as there are processors or as is said, and returns the answers in the items' order.
 
-    Under the name `told` lines tell how many are done. Where a call fails or the script is stopped, no other call begins, and all that
-    runs is killed.
+    Under the name `told` lines tell how many are done, and how long it's likely to take, by what is done or by these seconds. Where a call
+    fails or the script is stopped, no other call begins, and all that runs is killed.
     """
-    count, ended = Count(told, len(items)), queue.SimpleQueue()
-    with concurrent.futures.ThreadPoolExecutor(at_once or os.cpu_count()) as pool:
+    at_once, ended = at_once or os.cpu_count(), queue.SimpleQueue()
+    count = Count(told, len(items), at_once, seconds) if told else None
+    with concurrent.futures.ThreadPoolExecutor(at_once) as pool:
         try:
             # a thread that was begun and isn't the pool's yet would be waited for by nobody
             with held():
                 futures = [begin(pool, call, item, ended) for item in items]
             for done in range(1, len(futures) + 1):
-                await_next(ended).result()
-                if told:
+                await_next(ended, count).result()
+                if count:
                     count.tell(done)
             return [future.result() for future in futures]
         except BaseException:

@@ -5,8 +5,8 @@ import itertools
 import tempfile
 
 from baraudits import too_large
-from barformats import Malformed, entries_of, head_of, transcript_of, whole_recording
-from barprogram import Status, run, spread
+from barformats import RECORDING_HEAD, Malformed, head_of, inputs_of, is_whole, sends_of, whole_recording
+from barprogram import Status, run_words, spread, words_of
 from barscript import counted
 from barsession import Folder
 
@@ -27,49 +27,67 @@ class Log:
     answered: frozenset = frozenset()
 
 
-def log_of(recording, printed, played, findings):
-    """A peer's log, by its recording, and what was printed, played and found at its replay."""
-    entries, whole = entries_of(recording)
-    ticks, taken = [0], []
-    for entry in entries:
-        ticks.append(ticks[-1] + (entry is None))
+def log_of(recording, lines, played, findings, pool=None):
+    """A peer's log, by its recording, the lines that its replay printed, and what it played and found.
+
+    Of datagrams that are the same bytes one is kept: the pool has those that other logs have.
+    """
+    pool = {} if pool is None else pool
+    tick, end, ticks, taken = 0, RECORDING_HEAD, [0], []
+    for entry, end in inputs_of(recording):
+        tick += entry is None
+        ticks.append(tick)
         if entry is not None:
-            taken.append((ticks[-1], entry))
-    sent = [(number, datagram) for number, _, datagram in transcript_of(printed)]
-    if any(not 0 < number < len(ticks) for number, _ in sent):
-        raise Malformed("a line of the transcript has the number of no input")
-    answered = frozenset(number for number, _ in sent)
-    return Log(whole, ticks[-1], taken, [(ticks[number], datagram) for number, datagram in sent], played, findings, answered)
+            taken.append((tick, pool.setdefault(entry, entry)))
+    sent, answered = [], set()
+    for number, _, datagram in sends_of(lines):
+        if not 0 < number < len(ticks):
+            raise Malformed("a line of the transcript has the number of no input")
+        sent.append((ticks[number], pool.setdefault(datagram, datagram)))
+        answered.add(number)
+    return Log(recording[end:] == b"\x00", tick, taken, sent, played, findings, frozenset(answered))
 
 
 # ---- replays
 
 
-def replay(folder, program, party):
-    """Replays a peer's recording, up to its last whole entry, and returns its log, or why there is none."""
-    path = folder.recording(party)
-    large = too_large(path)
+def replay(folder, program, party, pool=None):
+    """Replays a peer's recording, up to its last whole entry, and returns its log, or why there is none.
+
+    The pool has the datagrams of other logs.
+    """
+    own = path = folder.recording(party)
+    large = too_large(own)
     if large:
         return large
-    recording = path.read_bytes()
     with tempfile.TemporaryDirectory() as room:
         again = Folder(room)
-        if not entries_of(recording)[1]:
+        if not is_whole(own.read_bytes()):
             path = again.recording(party)
-            path.write_bytes(whole_recording(recording))
+            path.write_bytes(whole_recording(own.read_bytes()))
         files = {"session": folder.session, "key": folder.key(party), "recording": path}
-        ran = run(program, "replay", **files, played=again.played(party), found=f"{again.results}.{party}")
-        if ran.status != Status.DONE:
-            return ran.told
-        try:
-            return log_of(recording, ran.printed.decode(errors="replace"), again.played(party).read_bytes(), again.findings()[party])
-        except (OSError, Malformed) as error:
-            return str(error)
+        words = words_of("replay", **files, played=again.played(party), found=f"{again.results}.{party}")
+        with (again.path / "transcript").open("w+", encoding="utf-8", errors="replace") as transcript:
+            ran = run_words(program, words, stdout=transcript)
+            if ran.status != Status.DONE:
+                return ran.told
+            transcript.seek(0)
+            try:
+                # the recording is read anew, so that it takes no memory while the program runs
+                return log_of(own.read_bytes(), lines_in(transcript), again.played(party).read_bytes(), again.findings()[party], pool)
+            except (OSError, Malformed) as error:
+                return str(error)
+
+
+def lines_in(file):
+    """The lines of a file, without their ends."""
+    return (line.removesuffix("\n") for line in file)
 
 
 def replays_of(folder, program, parties):
     """Replays these peers: their logs, and why others have none, each by party."""
-    answers = dict(zip(parties, spread(lambda party: replay(folder, program, party), parties, "replays")))
+    pool = {}
+    answers = dict(zip(parties, spread(lambda party: replay(folder, program, party, pool), parties, "replays")))
     logs = {party: answer for party, answer in answers.items() if isinstance(answer, Log)}
     return logs, {party: f"its replay is refused: {answer}" for party, answer in answers.items() if party not in logs}
 

@@ -6,6 +6,7 @@ import re
 import subprocess
 
 import bardisturbing
+import barlacking
 import barliars
 import barpicture
 import bartimeline
@@ -260,7 +261,8 @@ def outcome_of_run(folder, session, program, ran, kill=None, picture=None):
     say(audit.line)
     failures = barliars.audit_failures(audit, barliars.liars_in(folder))
     differ, page, run = compare_and_draw(folder, session, program, audit, picture, ran)
-    for line in outside_lines(folder, session, ran, run):
+    lacked = barlacking.lines_of(run, ran.drops) if run else ()
+    for line in [*outside_lines(folder, session, ran, run), *lacked]:
         say(line)
     if causes or failures or differ:
         say(page)

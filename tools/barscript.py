@@ -8,14 +8,24 @@ import argparse
 import contextlib
 import dataclasses
 import os
+import re
+import shutil
 import signal
 import sys
+import textwrap
 import threading
 import time
 import traceback
 
 SIGNALS = (signal.SIGINT, signal.SIGTERM, signal.SIGHUP)
 FAILED, REFUSED = 1, 2
+
+# after how many seconds without a line one tells that something goes on, and from how many on it is told how long something takes
+SILENCE, LONG = 10, 5
+
+# how wide a help is at most, and what stands before the text of an indented line: spaces, or a name between spaces
+COLUMNS = 80
+NAMED = re.compile(r"(?: +(?:\S+(?: \S+)*  +)?)?")
 
 
 class Refusal(Exception):
@@ -50,16 +60,47 @@ def progress(line):
 
 
 class Count:
-    """Tells how many of a number of things are done: at most a line a second, and always the last one."""
+    """Tells how many of a number of things are done: at most a line a second, and always the last one.
 
-    def __init__(self, told, total):
-        self.told, self.total, self.next = told, total, 0
+    Where nothing is done for a while a line tells that it goes on. What takes longer is told with the seconds that are likely to be left:
+    by what is done, of which so many are done at once; or by how long all is likely to take, where that is known before.
+    """
+
+    def __init__(self, told, total, at_once=1, seconds=None):
+        self.told, self.total, self.at_once, self.seconds = told, total, at_once, seconds
+        self.done, self.next, self.began = 0, 0, time.monotonic()
+        self.told_at = self.began
 
     def tell(self, done):
-        now = time.monotonic()
+        """Tells that so many are done."""
+        self.done, now = done, time.monotonic()
         if done == self.total or now >= self.next:
-            progress(f"{self.told}: {done} of {self.total}")
+            self.say(now)
             self.next = now + 1
+
+    def tell_late(self, done):
+        """Tells that so many are done where all takes long."""
+        if time.monotonic() >= self.began + LONG:
+            self.tell(done)
+
+    def wait(self):
+        """Tells that it goes on, where nothing was told for a while."""
+        now = time.monotonic()
+        if now >= self.told_at + SILENCE:
+            self.say(now)
+
+    def say(self, now):
+        self.told_at = now
+        progress(f"{self.told}: {self.done or 'none'} of {self.total}{self.left(now - self.began)}")
+
+    def left(self, seconds):
+        """How long it's likely to take still, after so many seconds, in words; nothing of what is short."""
+        if self.done == self.total or seconds < LONG:
+            return ""
+        rounds, all_rounds = (-(-count // self.at_once) for count in (self.done, self.total))
+        whole = seconds / rounds * all_rounds if self.done else self.seconds
+        rest = f", some {counted(max(1, round(whole - seconds)), 'second')} more" if whole else ""
+        return f" after {counted(round(seconds), 'second')}{rest}"
 
 
 def counted(count, word):
@@ -231,9 +272,48 @@ def tell(outcome):
         return outcome.status or FAILED
 
 
+def wrapped(line, width):
+    """A paragraph in lines of at most so many letters. Behind a name and spaces that stand before it the lines are indented as far."""
+    front = NAMED.match(line)[0]
+    indent = len(front) if len(front) <= width // 2 else 4
+    whole = textwrap.TextWrapper(width, subsequent_indent=" " * indent, break_long_words=False, break_on_hyphens=False)
+    return whole.wrap(f"{front}{' '.join(line[len(front) :].split())}") or [""]
+
+
+def indent_of(line):
+    return len(line) - len(line.lstrip())
+
+
+def paragraphs_of(text):
+    """The paragraphs of a text. An indented line is one by itself, with those behind it that are indented more."""
+    paragraphs = [""]
+    for line in text.strip().splitlines():
+        last, indent = indent_of(paragraphs[-1]), indent_of(line)
+        if paragraphs[-1] and line.strip() and (indent == last == 0 or 0 < last < indent):
+            paragraphs[-1] += f" {line.strip()}"
+        else:
+            paragraphs.append(line)
+    return paragraphs[1:]
+
+
+class Help(argparse.HelpFormatter):
+    """A script's help in lines that fit 80 columns, with the paragraphs of its text."""
+
+    def __init__(self, prog):
+        super().__init__(prog, width=min(COLUMNS, shutil.get_terminal_size().columns) - 2)
+
+    def _fill_text(self, text, width, indent):
+        """The text that tells what a script does."""
+        return "\n".join(f"{indent}{line}" for paragraph in paragraphs_of(text) for line in wrapped(paragraph, width))
+
+    def _split_lines(self, text, width):
+        """The lines of an option's help, in which no option and no path is cut."""
+        return wrapped(" ".join(text.split()), width)
+
+
 def run(main, doc, take_words):
     """Runs a script's main with the words that the script takes, and ends the script with its status."""
-    parser = argparse.ArgumentParser(description=doc, formatter_class=argparse.RawDescriptionHelpFormatter)
+    parser = argparse.ArgumentParser(description=doc, formatter_class=Help)
     take_words(parser)
     words = parser.parse_args()
     if sys.stdout is not None:

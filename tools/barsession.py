@@ -23,8 +23,8 @@ from barscript import Failure, Refusal
 
 LOOPBACK = "127.0.0.1"
 
-# the LMS type with the smallest tree
-SMALLEST = min(LEAVES, key=LEAVES.get)
+# the LMS types with the smallest tree and the largest
+SMALLEST, LARGEST = min(LEAVES, key=LEAVES.get), max(LEAVES, key=LEAVES.get)
 
 
 class Folder:
@@ -107,17 +107,29 @@ def begin_of(session, program, trees=1):
     How long that takes is measured by the same number of keys with the smallest tree, all made at once; a tree with more leaves takes so
     many times longer. Of a key of two levels the upper tree is made. A party may make so many trees, one behind the other.
     """
+    smallest = seconds_of_smallest(program, session.parties, session.id, session.ots, len(session.parties))
+    return round(1000 * (time.time() + 1 + 1.5 * smallest * trees * times_longer(vars(session))))
+
+
+def times_longer(numbers):
+    """How many times longer a key of these numbers takes than one with the smallest tree."""
+    return LEAVES[numbers.get("top") or numbers["lms"]] / LEAVES[SMALLEST]
+
+
+def seconds_of_smallest(program, parties, session_id, ots, at_once=None):
+    """How many seconds these parties' keys take with the smallest tree, so many made at once, or as many as there are processors."""
     with tempfile.TemporaryDirectory() as room:
         folder, started = Folder(room), time.monotonic()
-        numbers = {"rounds": 1, "lms": SMALLEST, "ots": session.ots}
+        numbers = {"rounds": 1, "lms": SMALLEST, "ots": ots}
+        spread(lambda party: make_key(folder, program, party, session_id, numbers, bytes(32)), parties, at_once=at_once)
+        return time.monotonic() - started
 
-        def make(party):
-            return make_key(folder, program, party, session.id, numbers, bytes(32))
 
-        spread(make, session.parties, at_once=len(session.parties))
-        smallest = time.monotonic() - started
-    times_longer = trees * LEAVES[session.top or session.lms] / LEAVES[SMALLEST]
-    return round(1000 * (time.time() + 1 + 1.5 * smallest * times_longer))
+def seconds_of_keys(program, parties, session_id, numbers):
+    """How many seconds the keys of these parties are likely to take, or None where that is too short to be told."""
+    if times_longer(numbers) < LEAVES[LARGEST] / LEAVES[SMALLEST]:
+        return None
+    return seconds_of_smallest(program, parties, session_id, numbers["ots"]) * times_longer(numbers)
 
 
 # ---- ports

@@ -211,4 +211,4 @@ class Diary:
         recording = self.recording()[:cut]
         inputs = len(entries_of(recording)[0])
         printed = [line for line in self.lines if int(line.split()[0]) <= inputs]
-        return log_of(recording, "\n".join(printed), played, {"table": table(*self.manifests), **(evidence or {})})
+        return log_of(recording, printed, played, {"table": table(*self.manifests), **(evidence or {})})

@@ -7,7 +7,7 @@ sys.path.insert(0, str(pathlib.Path(__file__).resolve().parent.parent))
 
 import made_sessions as made
 from barbriefcases import keystream, opened
-from bardatagrams import BalancedTerms, Exchange, Promise, PushTerms, Reader, Update
+from bardatagrams import BalancedTerms, Exchange, Promise, PushTerms, Reader, Update, Window
 from barformats import KEY, KEYREQ, QUERY, REPLY, REQUEST, RESPONSE
 from bargrammar import signature_size
 from made_sessions import LONG, PLAIN, SESSION, WIDE, WIDE_PLAIN, Trade
@@ -109,6 +109,20 @@ class Versions(unittest.TestCase):
                 written = bytes(8 * word) + (1 << bit).to_bytes(8, "big") + bytes(size - 8 * word - 8)
                 update = Update(4 + place // (64 * words), place % (64 * words))
                 self.assertEqual(reader.updates_in(6, written), {update})
+
+    def test_a_window_is_a_set(self):
+        window = Window(4, 64, 1 << 2 | 1 << 63 | 1 << 64 + 5)
+        updates = [Update(4, 2), Update(4, 63), Update(5, 5)]
+        self.assertEqual(([*window], len(window)), (updates, 3))
+        self.assertEqual((window == frozenset(updates), window == Window(4, 64, 0), window == Window(3, 64, window.bits)), (True, False, False))
+        self.assertTrue(all(update in window for update in updates))
+        strangers = Update(4, 1), Update(3, 2), Update(4, 64 + 64 + 2), Update(6, 5)
+        self.assertFalse(any(update in window for update in strangers))
+        self.assertEqual([*(window - Window(4, 64, 1 << 63))], [updates[0], updates[2]])
+
+    def test_the_cipher_of_a_case_is_no_copy(self):
+        datagram = BALANCED.case(True)
+        self.assertIs(Reader(SESSION).read(datagram).cipher.obj, datagram)
 
     def test_the_window_of_an_early_round_begins_with_round_1(self):
         for session, words in ((SESSION, 1), (WIDE, 2)):

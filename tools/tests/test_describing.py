@@ -112,6 +112,20 @@ class Files(unittest.TestCase):
         self.assertEqual(data[2], {"input": 3, "tick": 2, "round": 1, "slot": 1})
         self.assertEqual((data[4]["input"], data[4]["behind tick"], data[4]["datagram"]["kind"]), (5, 2, "CASE"))
 
+    def test_ticks_without_datagrams_are_one_line(self):
+        diary = Diary(2)
+        diary.until(3)
+        diary.take(b"junk")
+        diary.until(5)
+        diary.take(b"junk")
+        diary.until(17)
+        told_ = bardescribing.recording_told(diary.recording(), self.DATAGRAMS)
+        junk = "<- 4 bytes that are no datagram of the session: Short"
+        lines = ["ticks 1 to 2: round 1, and nothing was taken", "tick 3: round 1, slot 2", junk]
+        lines += ["tick 4: round 1, slot 3", "tick 5: round 1, slot 4", junk, "ticks 6 to 17: rounds 1 to 3, and nothing was taken"]
+        self.assertEqual(told_.shown, lines)
+        self.assertEqual(len(told_.lines), 19)
+
     def test_a_transcript(self):
         diary = Diary(2)
         diary.until(1)

@@ -202,7 +202,7 @@ class Rooms(unittest.TestCase):
 class Recordings(unittest.TestCase):
     def test_recording_of_the_example(self):
         entries, whole = barformats.entries_of(RECORDING)
-        self.assertTrue(whole)
+        self.assertTrue(whole and barformats.is_whole(RECORDING))
         self.assertEqual((entries.count(None), len(entries)), (120, 122))
         self.assertEqual(barformats.recording_of(RECORDING[:15], entries), RECORDING)
         self.assertEqual(barformats.whole_recording(RECORDING), RECORDING)
@@ -211,7 +211,7 @@ class Recordings(unittest.TestCase):
         entries, _ = barformats.entries_of(RECORDING)
         for end in range(len(RECORDING)):
             front, whole = barformats.entries_of(RECORDING[:end])
-            self.assertFalse(whole)
+            self.assertFalse(whole or barformats.is_whole(RECORDING[:end]))
             self.assertEqual(front, entries[: len(front)])
             if end >= 15:
                 self.assertEqual(barformats.entries_of(barformats.whole_recording(RECORDING[:end])), (front, True))

@@ -66,14 +66,20 @@ class Logs(RoomCase):
     recording = recording_of(b"BARL\x01" + bytes.fromhex(ID) + b"\x00\x02", [None, ONE, None, None, OTHER])
 
     def test_ticks_of_what_was_taken_and_sent(self):
-        read = barreplays.log_of(self.recording, f"1 2 aa\n5 0 {ONE.hex()}\n", b"played", {"table": b""})
+        read = barreplays.log_of(self.recording, ["1 2 aa", f"5 0 {ONE.hex()}"], b"played", {"table": b""})
         self.assertEqual((read.whole, read.ticks, read.taken), (True, 3, [(1, ONE), (3, OTHER)]))
         self.assertEqual((read.sent, read.played, read.findings), ([(1, b"\xaa"), (3, ONE)], b"played", {"table": b""}))
+
+    def test_equal_datagrams_are_kept_once(self):
+        pool = {}
+        taken = barreplays.log_of(recording_of(bytes(15), [None, ONE, bytes(ONE), ONE]), [], b"", {}, pool).taken
+        sent = barreplays.log_of(recording_of(bytes(15), [None]), [f"1 2 {ONE.hex()}"], b"", {}, pool).sent
+        self.assertEqual({id(it) for _, it in (*taken, *sent)}, {id(pool[ONE])})
 
     def test_a_number_of_no_input(self):
         for number in (0, 6):
             with self.assertRaises(Malformed):
-                barreplays.log_of(self.recording, f"{number} 2 aa\n", b"", {})
+                barreplays.log_of(self.recording, [f"{number} 2 aa"], b"", {})
 
     def test_a_replay(self):
         program = fake_program(self.room, sent={"2": [ONE.hex()]})

@@ -9,6 +9,7 @@ import unittest
 
 from support import ROOT, TOOLS, RoomCase, datagram, fake_program, has_ended, run_script, start_script, wait_for
 
+import barscript
 from bardatagrams import Reader
 from barformats import CASE, REQUEST, RESPONSE, Session, recording_of
 
@@ -23,7 +24,20 @@ class Helps(unittest.TestCase):
                 status, out, err = run_script(script, "--help")
                 self.assertEqual((status, err), (0, []))
                 doc = (TOOLS / script).read_text().split('"""')[1]
-                self.assertIn(doc.strip(), "\n".join(out))
+                self.assertIn(" ".join(doc.split()), " ".join(" ".join(out).split()))
+
+    def test_helps_fit_80_columns(self):
+        wide = os.environ | {"COLUMNS": "200"}
+        lines = ((script, line) for script in SCRIPTS for line in run_script(script, "--help", env=wide)[1])
+        self.assertEqual([(script, line) for script, line in lines if len(line) > barscript.COLUMNS], [])
+
+    def test_paragraphs_and_indented_lines(self):
+        text = "one\ntwo\n  name    what it\n          is\n  other   is\nthree\n\nfour"
+        wanted = ["one two", "  name    what it is", "  other   is", "three", "", "four"]
+        self.assertEqual(barscript.paragraphs_of(text), wanted)
+        wanted = ["  name    what it", "          is, by", "          --an-option"]
+        self.assertEqual(barscript.wrapped("  name    what it is, by --an-option", 20), wanted)
+        self.assertEqual(barscript.wrapped("    tshark -X one:two  ", 12), ["    tshark", "    -X", "    one:two"])
 
     def test_words_that_are_none(self):
         for script in SCRIPTS:
