@@ -146,7 +146,9 @@ class Demo(RoomCase):
         with start_script("demo", "--video", "--peers", 3, "--tick-ms", 40, env=room) as process:
             out, err = process.communicate(timeout=300)
         self.assertEqual(process.returncode, 0, out + err)
-        for peer, line in enumerate(out.splitlines()[-4:-1], 1):
+        told = [line for line in out.splitlines() if line.endswith(" frames decode")]
+        self.assertEqual(len(told), 3, out)
+        for peer, line in enumerate(told, 1):
             self.assertRegex(line, rf"^peer {peer}: \d+ of 750 frames decode$")
         (page,) = self.room.glob("bar-demo-*/session/timeline.html")
         self.assertEqual(page.read_text("utf-8").count("<figure>"), 4)
