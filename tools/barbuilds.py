@@ -21,8 +21,8 @@ TEMPLATE = ".in"
 # there aren't proved again; `rt` takes them only where all that they were made of is the same, their tests among it
 LEFT_OUT = shutil.ignore_patterns("incremental", "must-fail", "README.md")
 
-# what else isn't copied of the crate in whose place a program stands
-REPLACED = shutil.ignore_patterns("out", "tests*")
+# what else isn't copied of the crate in whose place a program stands: its proofs are of its own functions
+REPLACED = shutil.ignore_patterns("out", "proofs", "tests*")
 
 
 @dataclasses.dataclass(frozen=True)

@@ -1,8 +1,8 @@
 """What the broadcaster of a session sent, as far as its files tell: its rules, its key, its stream and the manifests that it signed.
 
-Nobody records what it sent. It sends each manifest twice, each block twice to each peer of its fan-out, and a notice of those that it
-evicted in each round in which there are some, to peers that aren't evicted. A peer was evicted in the round before the first notice of it,
-so what was sent to it behind the first tick of that round isn't known.
+Nobody records what it sent. It sends each manifest twice, in version 3 once more in the next round, each block twice to each peer of its
+fan-out, and a notice of those that it evicted in each round in which there are some, to peers that aren't evicted. A peer was evicted in the
+round before the first notice of it, so what was sent to it behind the first tick of that round isn't known.
 """
 import dataclasses
 import hashlib
@@ -11,10 +11,11 @@ import tomllib
 
 from bardatagrams import Evict, Manifest, Reader
 from barexchanges import first_tick
-from barformats import BLOCK, CONTENT, MAGIC, manifests_of
+from barformats import BLOCK, CONTENT, MAGIC, SLOTS, manifests_of
 
-# the slots in which manifests and blocks are sent
+# the slots in which manifests and blocks are sent, and that of the next round in which a manifest is sent again since some version
 MANIFEST_SLOTS, BLOCK_SLOTS = (0, 4), (1, 5)
+SLOT_AGAIN, VERSION_AGAIN = SLOTS + 2, 3
 
 
 def fan_out(session, secret, update):
@@ -56,6 +57,11 @@ def notices_of(session, logs, evicted):
     return notices
 
 
+def served_in(session, first, number):
+    """The peers that were served in a round, by the first round in which each evicted one wasn't."""
+    return [peer for peer in range(1, session.peers + 1) if first.get(peer, number + 1) > number]
+
+
 def casts_of(session, logs, secret, stream, table, evicted):
     """What was sent, by the broadcaster's secret, the stream, the table of its manifests and the parties that it evicted."""
     reader, notices, sent = Reader(session), notices_of(session, logs, evicted), []
@@ -66,9 +72,10 @@ def casts_of(session, logs, secret, stream, table, evicted):
         manifest = reader.read(datagram)
         if not isinstance(manifest, Manifest):
             continue
-        start = first_tick(manifest.round)
-        peers = [peer for peer in range(1, session.peers + 1) if first.get(peer, manifest.round + 1) > manifest.round]
+        start, served = first_tick(manifest.round), served_in(session, first, manifest.round + 1)
+        peers = served_in(session, first, manifest.round)
         sent += [(start + slot, peer, datagram) for slot in MANIFEST_SLOTS for peer in peers]
+        sent += [(start + SLOT_AGAIN, peer, datagram) for peer in served if session.version >= VERSION_AGAIN]
         if manifest.round in notices:
             sent += [(start, peer, notices[manifest.round][1]) for peer in peers]
         for update in manifest.digests:

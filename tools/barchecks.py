@@ -56,6 +56,7 @@ class Check:
         for name in {"docs/FORMATS.md", "docs/bar.1"} & self.pages.keys():
             yield from barpages.faults_of_formats(self.pages[name], self.sources)
         yield from barlists.faults_of_lists(self.sources, self.needed)
+        yield from barlists.faults_of_files(self.root)
         yield from self.faults_of_exceptions()
 
     def faults_of_names(self, document):

@@ -1,8 +1,8 @@
 """The numbers of a session that aren't given: those of the defaults, or others where what is given and the stream don't fit into these."""
-from barformats import CONTENT, LEAVES, LEAVES_A_ROUND, LOWER, UPDATES, leaves_of, most_rounds_of, range_of, version_for
+from barformats import CONTENT, LEAVES, LEAVES_A_ROUND, LOWER, UPDATES, leaves_of, most_rounds_of, range_of
 
 # the numbers of a session for which none are given
-DEFAULTS = {"version": 1, "peers": 5, "rounds": 10, "life": 6, "cap": 8, "per_round": 8, "fanout": 3, "tick_ms": 50, "lms": 6, "ots": 3}
+DEFAULTS = {"version": 3, "peers": 5, "rounds": 10, "life": 6, "cap": 8, "per_round": 8, "fanout": 3, "tick_ms": 50, "lms": 6, "ots": 3}
 
 # the numbers that may be left out
 FREE = ("port", "top")
@@ -62,7 +62,7 @@ def completed(given, length=0):
         return DEFAULTS | ({"lms": LOWER} if "top" in given else {}) | given
     pieces, numbers = pieces_of(length), {"peers": max(DEFAULTS["peers"], given.get("fanout", 0))} | given
     numbers = filled(pieces, given) | numbers
-    numbers = {"version": version_for(numbers["per_round"])} | types_of_keys(given, numbers["rounds"]) | numbers
+    numbers = types_of_keys(given, numbers["rounds"]) | numbers
     fanout = numbers["peers"] if has_last_round(pieces, numbers) else min(DEFAULTS["fanout"], numbers["peers"])
     return DEFAULTS | {"fanout": fanout} | numbers
 

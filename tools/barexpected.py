@@ -11,7 +11,7 @@ def home_of(folder):
 def worlds_of(folder):
     """Each folder of what peers took and did, with the folder of their session."""
     yield from ((world, world) for world in sorted(folder.glob("world-*")))
-    yield from ((folder / name, home_of(folder)) for name in ("world", "puppet"))
+    yield from ((part, home_of(folder)) for name in ("world", "puppet*", "caster") for part in sorted(folder.glob(name)))
 
 
 def is_of_session(part, world, party):

@@ -20,8 +20,8 @@ from barprogram import ROOT
 from barscript import Failure, Refusal, counted, listed
 
 TABLES = ROOT / "docs/EXPERIMENTS.md"
-HEAD = re.compile(r"\| (\w+) \| played, mean \| least of a peer \| most of a peer \|")
-ROW = re.compile(r"\| ([\d.]+) \| ([\d.]+)% \| ([\d.]+)% \| ([\d.]+)% \|")
+HEAD = re.compile(r"\| ([\w ,]+) \| played, mean \| least of a peer \| most of a peer \|.*")
+ROW = re.compile(r"\| ([\d.]+) \| ([\d.]+)% \| ([\d.]+)% \| ([\d.]+)% \|.*")
 
 # the numbers of the base on which this depends; its stream ends a round before its last
 BASE = {"peers": 20, "rounds": 20, "life": 6, "cap": 8, "per_round": 8, "fanout": 3}

@@ -20,7 +20,7 @@ LEAVES = {5: 32, 6: 1024, 7: 32_768}
 LOWER = 5
 
 # how many updates a round has at most in a session of each version
-UPDATES = {1: 64, 2: 128}
+UPDATES = {1: 64, 2: 128, 3: 128}
 
 # the kinds of datagrams, and those that are signed
 MANIFEST, BLOCK, REQUEST, RESPONSE, DIVULGE, QUERY, REPLY, CASE, KEYREQ, KEY, EVIDENCE, EVICT = range(1, 13)
@@ -65,8 +65,10 @@ class Number:
 RANGES_WITH_TOP = {"rounds": (1, 7200), "lms": (LOWER, LOWER), "ots": (3, 4)}
 LONGEST = RANGES_WITH_TOP["rounds"][1]
 
+VERSIONS = "the version: a round has up to 64 updates in 1, 128 in 2 and 3; in 3 who owes a key isn't served, and losses cost less"
+
 NUMBERS = {
-    "version": Number(min(UPDATES), max(UPDATES), f"the version; by it a round has up to {listed(UPDATES.values(), 'or')} updates"),
+    "version": Number(min(UPDATES), max(UPDATES), VERSIONS),
     "peers": Number(2, 200, "how many peers there are"),
     "top": Number(5, 7, "the LMS type of the upper tree, where signatures have two levels"),
     "rounds": Number(1, 1820, "for how many rounds the stream is sent", f", or to {LONGEST:,} with top"),

@@ -1,4 +1,4 @@
-"""Whether crates.txt lists for each crate what its sources name, and nothing else."""
+"""Whether crates.txt lists for each crate what its sources name, and nothing else; and each crate's page its source files."""
 import re
 
 from bardocuments import Fault
@@ -26,3 +26,13 @@ def faults_of_lists(sources, needed):
             elif name not in named:
                 left.discard(excuse)
     yield from (Fault("tools/check-documents", 1, f"crates.txt has no `{excuse}` that needs an excuse any more") for excuse in sorted(left))
+
+
+def faults_of_files(root):
+    """Each source file of a crate but its root file is named in the crate's README.md."""
+    for page in sorted(root.glob("crates/*/README.md")):
+        text, crate = page.read_text("utf-8"), page.parent
+        for path in sorted(crate.glob("src/**/*.rt")):
+            name = path.relative_to(crate).as_posix()
+            if path.name not in ("lib.rt", "main.rt") and not re.search(rf"[`(]{re.escape(name)}[`)]", text):
+                yield Fault(page.relative_to(root).as_posix(), 1, f"it has no line for `{name}`")

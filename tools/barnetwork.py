@@ -18,6 +18,7 @@ LIES = {
     "answers": "each REQUEST has two answers, which tell two histories",
     "partner": "each REQUEST and QUERY goes to another peer than the seed chooses",
     "leaf": "the leaf that signed a CASE signs its KEY too",
+    "keys": "no KEY is given, which leaves no evidence",
 }
 
 # the longest delay, in milliseconds
@@ -28,7 +29,7 @@ LONGEST_DELAY = 60_000
 class Network:
     """How many of a hundred datagrams are lost, and of the others are repeated; by how many milliseconds each is delayed at most.
 
-    The liars have their lies by their numbers. The seed is a text.
+    The liars have their lies by their numbers. The seed is a text. There may be a forger, who asks for keys in the partners' names.
     """
 
     loss: float = 0
@@ -36,6 +37,7 @@ class Network:
     delay: int = 0
     seed: str = ""
     liars: dict = dataclasses.field(default_factory=dict)
+    forges: bool = False
 
     @property
     def is_plain(self):
@@ -46,7 +48,7 @@ class Network:
     def told(self):
         """What it does, in words."""
         parts = [f"loses {self.loss:g}%" if self.loss else "", f"repeats {self.repeat:g}%" if self.repeat else ""]
-        parts += [f"delays by up to {self.delay} ms" if self.delay else ""]
+        parts += [f"delays by up to {self.delay} ms" if self.delay else "", "asks for keys in the names of partners" if self.forges else ""]
         done = ", ".join(filter(None, parts)) or "delivers each datagram once"
         return f"the network {done}, seed {self.seed}"
 
@@ -94,7 +96,8 @@ def faults_of_network(words, session):
 
 def network_of(words):
     """The network of words that nothing refuses."""
-    return Network(words.loss, words.repeat, words.delay, words.seed or secrets.token_hex(4), dict(map(liar_of, words.liar)))
+    liars, seed = dict(map(liar_of, words.liar)), words.seed or secrets.token_hex(4)
+    return Network(words.loss, words.repeat, words.delay, seed, liars, getattr(words, "forger", False))
 
 
 # ---- what becomes of datagrams

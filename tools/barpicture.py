@@ -9,6 +9,7 @@ import functools
 
 import barends
 from bardata import BLOCK_WAY
+from bardebts import debt_of
 from barformats import SLOTS
 from barscript import counted
 
@@ -47,8 +48,8 @@ def items(updates, junk):
     return " and ".join(word for word in words if word)
 
 
-def told_of(side, is_unbalanced, had_nothing):
-    """What one side of an exchange came to, in words."""
+def told_of(side, debt, is_unbalanced, had_nothing):
+    """What one side of an exchange came to, in words, and its partner's debt, if there was one."""
     ways = {"balanced": ("is asked by", "asks"), "push": ("is offered by", "offers to")}
     way = ways[side.kind][side.asks]
     end = "nothing to trade" if had_nothing else "no answer" if side.asks and not side.answered else "nothing came of it"
@@ -57,6 +58,7 @@ def told_of(side, is_unbalanced, had_nothing):
         told.append(f"is promised {items(len(side.gets), side.gets_junk)}")
     keys = (side.key_given, "gave its key"), (side.key_got, "was given the key"), (side.wrong_key, "was given a wrong key")
     told += [f"{said} at tick {tick}" for tick, said in keys if tick is not None]
+    told += [debt.told] if debt else []
     told += ["unbalanced by the audit"] if is_unbalanced else []
     return f"round {side.round}: " + ", ".join(told)
 
@@ -77,7 +79,7 @@ def token(chart, x, y, side):
     is_unbalanced = side.exchange in chart.unbalanced
     classes = [side.kind, "asks" if side.asks else "asked", "traded" if side.promised else "idle"]
     classes += ["unbalanced"] if is_unbalanced else []
-    told = told_of(side, is_unbalanced, side.exchange in chart.nothing)
+    told = told_of(side, debt_of(chart.run.session, side), is_unbalanced, side.exchange in chart.nothing)
     return sign(x, y, side.partner, classes, side.key_given is not None, side.key_got is not None, chart.seats, told)
 
 

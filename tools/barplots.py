@@ -1,4 +1,8 @@
-"""Draws what experiments found as one picture: a panel for each number that was varied, with what peers played where it has each value."""
+"""Draws what experiments found as one picture: a panel for each number that was varied, with what peers played where it has each value.
+
+A panel has a line of the base's version, with a band and dots, and where another version is beside it a thin line of that one. Where some
+peers withhold their keys, a dashed line of each version is what these played.
+"""
 import html
 
 # the sizes of the picture in its own units: a panel's plot, what is left and below of it, and how many panels stand in a row
@@ -6,8 +10,9 @@ WIDTH, HEIGHT, LEFT, BELOW, TOP, ROW = 250, 150, 44, 52, 30, 3
 
 STYLE = """
 text { font: 11px sans-serif; fill: #333 } .title { font-weight: bold } .grid { stroke: #ddd } .band { fill: #2a7; fill-opacity: .18 }
-.mean { fill: none; stroke: #275; stroke-width: 2 } .seed { fill: #275 } .base { stroke: #b60; stroke-dasharray: 3 3 }
-@media (prefers-color-scheme: dark) { text { fill: #ddd } .grid { stroke: #444 } .mean { stroke: #6d9 } .seed { fill: #6d9 } }
+.mean { fill: none; stroke: #275; stroke-width: 2 } .other { fill: none; stroke: #b4a; stroke-width: 1.2 }
+.withheld { stroke-dasharray: 5 3 } .seed { fill: #275 } .base { stroke: #b60; stroke-dasharray: 3 3 }
+@media (prefers-color-scheme: dark) { text { fill: #ddd } .grid { stroke: #444 } .mean { stroke: #6d9 } .seed { fill: #6d9 } .other { stroke: #e8d } }
 """
 
 
@@ -44,8 +49,28 @@ def title_lines(told):
     return [head, rest] if colon else [head, ""]
 
 
-def panel(told, points, base):
-    """The plot of one number: a band from the least to the most of a peer, a line through the means, and a dot for each seed."""
+def polyline(xs, shares, names):
+    """A line through shares of the stream, where there are some."""
+    points = [(x, place(share)) for x, share in zip(xs, shares) if share is not None]
+    return f'<polyline class="{names}" points="{joined(points)}"/>' if points else ""
+
+
+def version_lines(xs, lines):
+    """The lines of each version, and what they are of where there are several."""
+    for at, (version, points) in enumerate(lines.items()):
+        names = "other" if at else "mean"
+        yield polyline(xs, [point.mean for point in points], names)
+        yield polyline(xs, [point.withheld for point in points], f"{names} withheld")
+        if len(lines) > 1:
+            yield text(xs[-1] + 6, place(points[-1].mean) + 4, f"v{version}")
+
+
+def panel(told, lines, base):
+    """The plot of one number, by its points in each version, the base's first.
+
+    It has a band from the least to the most of a peer, lines through the means, and a dot for each seed.
+    """
+    points = next(iter(lines.values()))
     xs = columns(len(points))
     head, rest = title_lines(told)
     yield text(0, -14, head, class_="title")
@@ -55,7 +80,7 @@ def panel(told, points, base):
     for x, point in zip(xs, points):
         if point.value == base:
             yield f'<line class="base" x1="{x:.1f}" x2="{x:.1f}" y1="0" y2="{HEIGHT}"/>'
-    yield f'<polyline class="mean" points="{joined(zip(xs, (place(point.mean) for point in points)))}"/>'
+    yield from version_lines(xs, lines)
     for x, point in zip(xs, points):
         told_of = f"{point.value:g}: mean {point.mean:.1%}, peers {point.least:.1%} to {point.most:.1%}"
         dots = "".join(f'<circle class="seed" cx="{x:.1f}" cy="{place(mean):.1f}" r="2.5"/>' for mean in point.means)
@@ -65,12 +90,12 @@ def panel(told, points, base):
 
 
 def picture(panels):
-    """The picture of panels, each what it tells, its points and the value of the base."""
+    """The picture of panels, each what it tells, its points by the version and the value of the base."""
     rows = -(-len(panels) // ROW)
     width, height = ROW * (LEFT + WIDTH) + 12, rows * (TOP + HEIGHT + BELOW)
     parts = [f'<svg xmlns="http://www.w3.org/2000/svg" viewBox="0 0 {width} {height}" role="img">', f"<style>{STYLE}</style>"]
     parts.append("<title>What honest peers played of the stream, against each number</title>")
-    for at, (told, points, base) in enumerate(panels):
+    for at, (told, lines, base) in enumerate(panels):
         x, y = LEFT + at % ROW * (LEFT + WIDTH), TOP + at // ROW * (TOP + HEIGHT + BELOW)
-        parts += [f'<g transform="translate({x} {y})">', *panel(told, points, base), "</g>"]
+        parts += [f'<g transform="translate({x} {y})">', *panel(told, lines, base), "</g>"]
     return "\n".join([*parts, "</svg>", ""])

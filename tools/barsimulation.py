@@ -14,6 +14,7 @@ import subprocess
 
 from barbuilds import PARTY, built
 from bardisturbing import Ended, status_of_all
+from barforging import Forger
 from barformats import SLOTS
 from barnetwork import Fates
 from barprogram import WAIT, running, status_of
@@ -162,6 +163,7 @@ class Simulation:
 
     def __init__(self, session, parties, fates):
         self.session, self.parties, self.fates = session, parties, fates
+        self.forger = Forger(session) if fates.network.forges else None
         # what is on its way: when it is due, in milliseconds, its number, its receiver and its bytes
         self.on_way, self.numbers = [], itertools.count()
 
@@ -170,6 +172,13 @@ class Simulation:
         for sender, receiver, datagram in sent:
             for delay in self.fates.delays(sender, receiver):
                 heapq.heappush(self.on_way, (now + delay, next(self.numbers), receiver, datagram))
+            if self.forger:
+                self.forge(now, self.forger.hear(datagram))
+
+    def forge(self, now, sent):
+        """Puts on its way what a forger sends."""
+        for receiver, datagram in sent:
+            heapq.heappush(self.on_way, (now, next(self.numbers), receiver, datagram))
 
     def due(self):
         """What is due first, all of one millisecond: the inputs of each receiver, in the order in which they were sent."""
@@ -177,6 +186,8 @@ class Simulation:
         while self.on_way and self.on_way[0][0] == now:
             _, _, receiver, datagram = heapq.heappop(self.on_way)
             inputs[receiver].append(datagram_entry(datagram))
+            if self.forger:
+                self.forge(now, self.forger.see(datagram))
         return now, inputs
 
     def tick(self, now):
@@ -190,6 +201,8 @@ class Simulation:
         """Runs the session to its end. How far it is, is told in these words, or not."""
         count = told and Count(told, self.session.ends)
         for tick in range(self.session.ticks):
+            if self.forger and tick % SLOTS == 0:
+                self.forge(tick * self.session.tick_ms, self.forger.asks_in(tick // SLOTS + 1))
             self.tick(tick * self.session.tick_ms)
             if count and (tick + 1) % SLOTS == 0:
                 count.tell((tick + 1) // SLOTS)

@@ -13,6 +13,7 @@ import pathlib
 
 import barends
 from bardata import BALANCED_WAY, BLOCK_WAY, PUSH_WAY, TrafficRow, columns_of
+from bardebts import debt_of, debts_of
 from barfloods import outside_told
 from barpicture import FONT, tag
 from barscript import counted, listed
@@ -72,11 +73,12 @@ def ways_of(arrivals, releases):
         yield letter.upper() if row and row.in_time and not row.played else letter
 
 
-def side_of(side, is_unbalanced, had_nothing):
-    """A side of an exchange in ten numbers."""
+def side_of(side, debt, is_unbalanced, had_nothing):
+    """A side of an exchange in ten numbers, and where its partner owed a key the first and the last round of this, and whether it came."""
     flags = (side.kind == "push") + 2 * side.asks + 4 * side.answered + 8 * is_unbalanced + 16 * had_nothing
     promises = len(side.gives), side.gives_junk, len(side.gets), side.gets_junk
-    return [side.round, flags, side.partner, *promises, side.key_given or 0, side.key_got or 0, side.wrong_key or 0]
+    told = [side.round, flags, side.partner, *promises, side.key_given or 0, side.key_got or 0, side.wrong_key or 0]
+    return [*told, debt.first, debt.last, int(debt.is_paid)] if debt else told
 
 
 def closer(run, peer, rows, unbalanced, nothing):
@@ -93,7 +95,10 @@ def closer(run, peer, rows, unbalanced, nothing):
         "ways": "".join(ways_of(arrivals, run.releases)),
         "comes": [row.tick if row else 0 for row in came],
         "senders": [row.sender if row else 0 for row in came],
-        "sides": [side_of(side, side.exchange in unbalanced, side.exchange in nothing) for side in rows["sides"][peer.peer]],
+        "sides": [
+            side_of(side, debt_of(run.session, side), side.exchange in unbalanced, side.exchange in nothing)
+            for side in rows["sides"][peer.peer]
+        ],
     }
 
 
@@ -146,6 +151,8 @@ def figures(run):
         (part_of(lost, sent, ".2%"), f"of the datagrams to peers were lost: {lost:,} of {sent:,}"),
         (f"{len(run.evictions):,}", f"evicted; at most {gap} in a row not wholly played"),
     ]
+    debts, paid = debts_of(run)
+    told += [(f"{debts:,}", f"times a partner owed a key and wasn't served for it; {paid:,} of these keys came")] if debts else []
     return tag("div", *(tag("div", tag("b", number), tag("span", said)) for number, said in told), class_="figures")
 
 

@@ -59,9 +59,14 @@ const items = (updates, junk) =>
   [updates && counted(updates, "update"), junk && counted(junk, "junk item")].filter(Boolean).join(" and ");
 
 function sideOf(row) {
-  const [round, flags, partner, gives, givesJunk, gets, getsJunk, given, got, wrong] = row;
+  const [round, flags, partner, gives, givesJunk, gets, getsJunk, given, got, wrong, owedFrom, owedTo, paid] = row;
   return {round, push: flags & 1, asks: flags & 2, answered: flags & 4, unbalanced: flags & 8, nothing: flags & 16,
-    partner, gives, givesJunk, gets, getsJunk, given, got, wrong};
+    partner, gives, givesJunk, gets, getsJunk, given, got, wrong, owedFrom, owedTo, paid};
+}
+
+function toldDebt(side) {
+  const rounds = side.owedFrom === side.owedTo ? `round ${side.owedFrom}` : `the rounds ${side.owedFrom} to ${side.owedTo}`;
+  return `was owed the key in ${rounds}${side.paid ? "" : ", and didn't get it"}`;
 }
 
 function toldSide(side) {
@@ -72,6 +77,7 @@ function toldSide(side) {
   if (side.given) told.push(`gave its key at tick ${side.given}`);
   if (side.got) told.push(`was given the key at tick ${side.got}`);
   if (side.wrong) told.push(`was given a wrong key at tick ${side.wrong}`);
+  if (side.owedFrom) told.push(toldDebt(side));
   if (side.unbalanced) told.push("unbalanced by the audit");
   return `round ${side.round}: ${told.join(", ")}`;
 }

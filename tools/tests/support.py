@@ -19,10 +19,19 @@ sys.path.insert(0, str(TOOLS))
 # these are found by the path above
 import barmaking
 import barscript
+from barprogram import PROGRAM
 from barsession import LOOPBACK
 
 ID = "0011223344556677"
 NUMBERS = {"version": 1, "peers": 2, "rounds": 1, "life": 2, "cap": 4, "per_round": 2, "fanout": 1, "tick_ms": 20, "lms": 5, "ots": 3}
+
+
+def need_program(tests):
+    """Skips these tests, in words, where the program isn't built, and says so."""
+    if not PROGRAM.exists():
+        told = f"{tests} are skipped: there is no {PROGRAM}"
+        barscript.progress(told)
+        raise unittest.SkipTest(told)
 
 
 def fake_program(room, **ways):

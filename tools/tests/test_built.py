@@ -8,7 +8,7 @@ import tempfile
 import tomllib
 import unittest
 
-from support import NUMBERS, ROOT, RoomCase, bound, lines_of, run_script
+from support import NUMBERS, ROOT, RoomCase, bound, lines_of, need_program, run_script
 from test_data import Count
 
 import barbuilds
@@ -16,9 +16,9 @@ import barformats
 import barmaking
 import barprogram
 import barrunning
-import barscript
 import barsimulation
 from bardata import Run
+from bardebts import debts_of
 from barnetwork import LIES, Network
 from barprogram import PROGRAM, Status
 
@@ -36,10 +36,7 @@ FAULT_OF = {
 
 def setUpModule():
     """Says that these tests are skipped, where they are."""
-    if not PROGRAM.exists():
-        told = f"the tests of the built program are skipped: there is no {PROGRAM}"
-        barscript.progress(told)
-        raise unittest.SkipTest(told)
+    need_program("the tests of the built program")
 
 
 class Sessions(RoomCase):
@@ -153,7 +150,7 @@ class Ranges(unittest.TestCase):
         bounds = {name: (barformats.NUMBERS[name].least, barformats.NUMBERS[name].most) for name in names}
         others = [3, 4, 56, 57, 64, 65]
         tries = [(name, value) for name, (least, most) in bounds.items() for value in {least - 1, least, most, most + 1, *others}]
-        for version, (name, value) in itertools.product((1, 2), tries):
+        for version, (name, value) in itertools.product((1, 2, 3), tries):
             changed = text.replace(f"\n{name} = {document[name]}\n".encode(), f"\n{name} = {value}\n".encode())
             changed = changed.replace(b"version = 1\n", b"version = %d\n" % version)
             with self.subTest(version=version, name=name, value=value):
@@ -177,7 +174,7 @@ class Ranges(unittest.TestCase):
         first, second, third, _ = re.findall(b'\nkey = "(.*)"', text)
         changes = [(first, other) for other in (first.upper(), first[:-1], b"g" + first[1:], b"00000005" + first[8:])]
         changes += [(third, second), (third, second.upper()), (b"anchor", b"other")]
-        changes += [*((b"version = 1", b"version = %d" % version) for version in (0, 2, 3)), (b"[[peer]]", b"[peer]")]
+        changes += [*((b"version = 1", b"version = %d" % version) for version in (0, 2, 3, 4)), (b"[[peer]]", b"[peer]")]
         for old, new in changes:
             with self.subTest(old=old, new=new):
                 changed = text.replace(old, new)
@@ -197,14 +194,14 @@ class Disturbed(RoomCase):
 
     def made(self, name, **numbers):
         """A session of four peers, whose stream fills all rounds but the last."""
-        self.stream.write_bytes(bytes(at * 7 % 251 for at in range(3 * 8 * 1022)))
-        more = {"peers": 4, "rounds": 4, "per_round": 8, "lms": 6, "ots": 2}
-        wanted = barmaking.Wanted(self.room / name, self.stream, NUMBERS | more | numbers, "00ff")
+        more = {"peers": 4, "rounds": 4, "per_round": 8, "lms": 6, "ots": 2} | numbers
+        self.stream.write_bytes(bytes(at * 7 % 251 for at in range((more["rounds"] - 1) * 8 * 1022)))
+        wanted = barmaking.Wanted(self.room / name, self.stream, NUMBERS | more, "00ff")
         return lines_of(lambda: barmaking.make(wanted, PROGRAM))[0]
 
-    def simulated(self, name, network):
+    def simulated(self, name, network, **numbers):
         """Simulates a session, which takes no port: its folder, its outcome and the lines that were printed."""
-        folder, session = self.made(name, port=20_000)
+        folder, session = self.made(name, port=20_000, **numbers)
 
         def simulate():
             return barrunning.outcome_of_run(folder, session, PROGRAM, barsimulation.simulate(folder, session, network))
@@ -213,12 +210,26 @@ class Disturbed(RoomCase):
         return folder, outcome, out
 
     def test_each_lie_is_shown_and_its_liar_evicted(self):
-        for lie in LIES:
+        self.assertEqual({*LIES} - {*FAULT_OF}, {"keys"})
+        for lie in FAULT_OF:
             with self.subTest(lie=lie):
                 folder, outcome, out = self.simulated(lie, Network(seed="x", liars={4: lie}))
                 self.assertEqual(outcome.status, 0, [*out, *outcome.lines])
                 self.assertIn(f"peer 4, which lied ({lie}), was evicted for {FAULT_OF[lie]}, told to", " ".join(out))
                 self.assertEqual([row.party for row in Run.of_json(folder.data.read_text()).evictions], [4])
+
+    def test_who_gives_no_key_is_not_served(self):
+        """In version 3 alone it's owed keys, which cost it what it plays, and no evidence is kept of it."""
+        played = {}
+        for version in (2, 3):
+            numbers = {"version": version, "rounds": 10, "life": 4}
+            folder, outcome, out = self.simulated(f"v{version}", Network(seed="x", liars={4: "keys"}), **numbers)
+            self.assertEqual(outcome.status, 0, [*out, *outcome.lines])
+            self.assertIn("peer 4, which lied (keys), wasn't evicted: no peer keeps evidence of it", out)
+            run = Run.of_json(folder.data.read_text())
+            played[version], debts = folder.played(4).stat().st_size, debts_of(run)
+            self.assertEqual((debts[0] > 0, debts[1]), (version == 3, 0))
+        self.assertLess(played[3], played[2])
 
     def test_losses_are_the_same_each_time(self):
         network = Network(10, 10, 60, "x")

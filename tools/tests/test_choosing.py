@@ -77,7 +77,7 @@ class Expecting(RoomCase):
 
     def test_the_tables_of_the_experiments(self):
         tables = barexpecting.tables_in(barexpecting.TABLES.read_text("utf-8"))
-        self.assertEqual(sorted(tables), ["cap", "fanout", "liars", "life", "loss", "peers"])
+        self.assertLessEqual({"cap", "fanout", "liars", "life", "loss", "peers"}, {*tables})
         rows = [(name, int(value), played) for name in ("peers", "fanout", "cap", "life") for value, played in tables[name].items()]
         for name, value, played in rows:
             self.assertAlmostEqual(self.share(**{name: value}).mean, played.mean, delta=0.05, msg=f"{name} {value}")

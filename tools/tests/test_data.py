@@ -1,5 +1,6 @@
 """What a run was, as data: session.json against an independent count of the recordings, and against what the page shows."""
 import collections
+import dataclasses
 import json
 import pathlib
 import struct
@@ -248,6 +249,13 @@ class Casts(unittest.TestCase):
         sent = [(tick, receiver) for tick, receiver, it in casts.sent if it == made.block(peer, update, blocks)]
         self.assertEqual(sent, [(10, peer), (14, peer)])
         self.assertEqual(len(casts.sent), 3 * 6 + 5 * 2)
+
+    def test_manifests_are_sent_again_in_version_3(self):
+        session = dataclasses.replace(SESSION, version=3)
+        manifests = [it[:2] + b"\x03" + it[3:] for it in (made.manifest(1, {}), made.manifest(2, {}))]
+        casts = barcasting.casts_of(session, {}, self.SECRET, b"", made.table(*manifests), set())
+        self.assertEqual(sorted({tick for tick, _, _ in casts.sent}), [1, 5, 9, 11, 13, 19])
+        self.assertEqual(len(casts.sent), 3 * 6)
 
     def test_what_is_sent_to_a_peer_that_is_evicted(self):
         diary = Diary(1)

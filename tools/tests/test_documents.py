@@ -70,7 +70,7 @@ SMALL = """# bar_small
 
 LARGE = """# bar_large
 
-The law `doubles_are_even` is of bar_small's `double`. The record `Even` has `even-lemma`, in `proofs/Evens.antt`.
+The law `doubles_are_even` is of bar_small's `double`. The record `Even` has `even-lemma`, in `proofs/Evens.antt`. Its laws stand in [laws.rt](src/laws.rt).
 """
 
 PAIRS = """//! Pairs.
@@ -156,7 +156,7 @@ FILES = {
     "crates/bar_large/src/laws.rt": "pub fn doubles_are_even()\n    ensures even { IsEven }\n{}\n",
     "crates/bar_large/specs/Evens.antt": "pub record Even (n : ℕ) : Type 0 where\n  pub half : ℕ\n",
     "crates/bar_large/proofs/Evens.antt": "use Rattle.bar_small.specs.Doubling.{Doubled}\neven-lemma : (n : ℕ) → Even (n + n)\neven-lemma n = refl\n",
-    "crates/bar/README.md": "# bar\n\nIt has `main`.\n",
+    "crates/bar/README.md": "# bar\n\nIt has `main`, and `src/commands.rt`.\n",
     "crates/bar/src/main.rt": "fn main() {\n    bar_large::doubles_are_even();\n}\n",
     "crates/bar/src/commands.rt": COMMANDS,
     "crates/bar/specs/Status.antt": STATUS,
@@ -295,6 +295,9 @@ class Lists(Repository):
     def test_a_crate_that_is_named_in_a_comment(self):
         main = "fn main() {\n    // by bar_large::doubles_are_even\n}\n"
         self.assert_found(self.check({"crates/bar/src/main.rt": main})[1], "`bar` lists `bar_large`")
+
+    def test_a_source_file_without_a_line(self):
+        self.assert_found(self.check({"crates/bar_small/src/more.rt": "//! More.\n"})[1], "it has no line for `src/more.rt`")
 
     def test_what_the_prover_needs(self):
         needed = {"bar_large: sha2": "a reason"}

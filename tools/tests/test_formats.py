@@ -32,8 +32,8 @@ class Texts(unittest.TestCase):
     def test_digits_of_both_cases(self):
         self.assertEqual(Session.of_text(SESSION.replace(b"cf560a3b8df7f16f", b"CF560A3B8DF7F16F")).id, "cf560a3b8df7f16f")
 
-    def test_sessions_of_both_versions(self):
-        for version, most in ((1, 64), (2, 128)):
+    def test_sessions_of_all_versions(self):
+        for version, most in ((1, 64), (2, 128), (3, 128)):
             text = SESSION.replace(b"version = 1", b"version = %d" % version)
             session = Session.of_text(text.replace(b"per_round = 8", b"per_round = %d" % most))
             self.assertEqual((session.version, session.per_round, session.room), (version, most, 10 * most * 1022))
@@ -41,10 +41,10 @@ class Texts(unittest.TestCase):
             self.assertEqual(fault, f"per_round is {most + 1}: it has to be a whole number of 1 to {most} in version {version}")
 
     def test_versions_that_are_none(self):
-        told = {"0": "0", "3": "3", "true": "True", "1.0": "1.0", '"2"': "'2'", "[1]": "[1]"}
+        told = {"0": "0", "4": "4", "true": "True", "1.0": "1.0", '"2"': "'2'", "[1]": "[1]"}
         for version, shown in told.items():
             fault = self.fault_of(Session.of_text, SESSION.replace(b"version = 1", f"version = {version}".encode()))
-            self.assertEqual(fault, f"its version is {shown}: it has to be 1 or 2")
+            self.assertEqual(fault, f"its version is {shown}: it has to be 1, 2 or 3")
         self.assertEqual(self.fault_of(Session.of_text, SESSION.replace(b"version = 1", b"")), "its version is missing")
 
     def test_a_key_file_has_version_1(self):

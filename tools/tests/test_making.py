@@ -88,14 +88,14 @@ class Refusals(RoomCase):
 
     def test_nothing_refuses_the_bounds(self):
         bounds = {"peers": 200, "fanout": 200, "life": 16, "cap": 16, "port": 65_335, "tick_ms": 60_000}
-        for version, per_round in ((1, 64), (2, 128)):
+        for version, per_round in ((1, 64), (2, 128), (3, 128)):
             self.assertEqual(self.faults(version=version, per_round=per_round, seed="", **bounds), [])
 
     def test_updates_of_a_round_by_the_version(self):
-        for version, most in ((1, 64), (2, 128)):
+        for version, most in ((1, 64), (2, 128), (3, 128)):
             fault = f"--per-round is {most + 1}: it has to be a whole number of 1 to {most} in version {version}"
             self.assertEqual(self.faults(version=version, per_round=most + 1), [fault])
-        self.assertEqual(self.faults(version=3, per_round=65), ["--version is 3: it has to be a whole number of 1 to 2"])
+        self.assertEqual(self.faults(version=4, per_round=65), ["--version is 4: it has to be a whole number of 1 to 3"])
 
     def test_stream_with_room_in_version_2(self):
         self.stream.write_bytes(bytes(64 * 1022 + 1))
@@ -140,7 +140,7 @@ class Makings(RoomCase):
     def test_lines_of_the_script(self):
         words = ["--peers", 2, "--rounds", 1, "--fanout", 1, "--lms", 5, "--stream", self.stream, "--bar", fake_program(self.room)]
         status, out, err = run_script("make-session", self.room / "a/b", *words)
-        self.assertEqual((status, barformats.Session.read(self.room / "a/b/session.toml").version), (0, 1))
+        self.assertEqual((status, barformats.Session.read(self.room / "a/b/session.toml").version), (0, 3))
         fingerprint = hashlib.sha256((self.room / "a/b/session.toml").read_bytes()).hexdigest()
         expected = "expected: peers play some 50% of the stream, a single one 50% to 50%, if no party is late and nothing is lost"
         last = "1 update of the last round can't be traded: take more rounds, or --fanout 2"

@@ -41,7 +41,7 @@ class Words(unittest.TestCase):
             "--loss is 101: take 0 to 100 of a hundred datagrams", "--repeat is -1: take 0 to 100 of a hundred datagrams"
         ])
         self.assertEqual(faults("--delay", "60001"), ["--delay is 60001: take 0 to 60,000 milliseconds"])
-        for word in ("5", "key:5", "5:keys", ":key", "²:key"):
+        for word in ("5", "key:5", "5:lies", ":key", "²:key"):
             self.assertIn(f"--liar {word} is none: take P:LIE", faults("--liar", word)[0])
         self.assertEqual(faults("--liar", "6:key"), ["--liar 6:key names no peer: take one of 1 to 5"])
         self.assertEqual(faults("--liar", "0:key"), ["--liar 0:key names no peer: take one of 1 to 5"])

@@ -1,18 +1,13 @@
 //! What is said again at a tick.
-ghost use Rattle.std.specs.Prelude.{◌≡◌, ◌++◌, [], ◌∷◌};
+ghost use Rattle.std.specs.Prelude.{◌≡◌};
 ghost use Rattle.bar_window.specs.declared.exchange.XKind.TheVariants.{Balanced};
 ghost use Rattle.bar_rules.specs.Member.{Member, IsMember};
 ghost use Rattle.bar_rules.specs.Peer.Knowledge.{Knowledge, this_round};
-ghost use Rattle.bar_rules.specs.Peer.Ticks.{lacks_answer, reveals, again};
-ghost use Rattle.bar_rules.specs.Peer.Exchanges.{role_of};
-ghost use Rattle.bar_rules.specs.Peer.Orders.{Resend};
-ghost use Rattle.bar_wire.specs.declared.kind.Kind.TheVariants.{Case};
+ghost use Rattle.bar_rules.specs.Peer.Ticks.{lacks_answer, again};
 ghost use Rattle.bar_ledger.specs.Recalls.{Recalls};
 ghost use Rattle.bar_exchange.specs.Says.{orders_at_tick};
 
-use bar_exchange::{
-    REQUEST_DEADLINE, Say, Says, has_heard, is_within, lacks_case, lacks_key, side,
-};
+use bar_exchange::{REQUEST_DEADLINE, Say, Says, has_heard, is_within, later_again};
 use bar_ledger::Ledger;
 use bar_window::{Exchange, Role};
 use bar_wire::Kind;
@@ -27,27 +22,6 @@ fn lacks_answer(ledger: &Ledger, round: u32, x: Exchange) -> bool
         && !has_heard(ledger, x, Kind::Response, Role::Responder)
 }
 
-/// The CASE again, behind the DIVULGE where this peer is the initiator.
-fn case_again(ledger: &Ledger, x: Exchange) -> Says
-    ensures { (me : Member) (k : Knowledge) → Recalls me k ledger.now → x.kind ≡ Balanced
-        → orders_at_tick result ≡ reveals x.kind (role_of me x) x ++ Resend Case x ∷ [] }
-{
-    let case = Say {
-        kind: Kind::Case,
-        x,
-    };
-    match side(ledger, x) {
-        Role::Initiator => Says::Two(
-            Say {
-                kind: Kind::Divulge,
-                x,
-            },
-            case,
-        ),
-        Role::Responder => Says::One(case),
-    }
-}
-
 /// What is said again at a tick of this round, of an open exchange.
 pub fn again(ledger: &Ledger, round: u32, x: Exchange) -> Says
     ensures { (me : Member) (k : Knowledge) → IsMember me → Recalls me k ledger.now → round ≡ this_round k → x.kind ≡ Balanced
@@ -58,14 +32,7 @@ pub fn again(ledger: &Ledger, round: u32, x: Exchange) -> Says
             kind: Kind::Request,
             x,
         })
-    } else if lacks_case(ledger, round, x) {
-        case_again(ledger, x)
-    } else if lacks_key(ledger, round, x) {
-        Says::One(Say {
-            kind: Kind::KeyReq,
-            x,
-        })
     } else {
-        Says::Nothing
+        later_again(ledger, round, x)
     }
 }

@@ -1,14 +1,15 @@
 -- What a broadcaster sends at a tick as lists behind what was sent so far, and the orders for these.
 use Rattle.std.proofs.Common.{◌≡◌, ◌∙◌, ℕ, suc, ◌+◌, ◌++◌, List, [], ◌∷◌, length, refl, sym, ap, append_assoc, arith}
 use Rattle.std.specs.Prelude.{map, filter, Some, option_map, slice_get}
-use Rattle.std.proofs.lemmas.List.{append-nil, map-append}
+use Rattle.std.proofs.lemmas.List.{map-append}
 use Rattle.bar_window.specs.declared.update.UpdateId.{UpdateId}
 use Rattle.bar_wire.specs.Datagram.{Datagram}
-use Rattle.bar_rules.specs.Broadcaster.Sending.{send_all, send_block, send_blocks, served}
+use Rattle.bar_rules.specs.Broadcaster.Sending.{send_block, send_blocks, served}
 use Rattle.bar_rules.specs.Broadcaster.Stream.{is_in_fanout, round_blocks}
 use Rattle.bar_rules.specs.Member.{Member}
 use Rattle.bar_rules.specs.Peer.Log.{Log, round_now}
 use Rattle.bar_rules.specs.Runs.{Outcome, sending}
+pub use Rattle.bar_laws.proofs.Broadcasts.{Sends, all-flat, no-more, one-more, to_each, with_sends}
 use Rattle.bar_caster.specs.declared.item.Item.{Item}
 use Rattle.bar_caster.specs.declared.item.Item.TheVariants as items
 use Rattle.bar_caster.specs.declared.order.Order.{Order}
@@ -16,33 +17,11 @@ use Rattle.bar_caster.specs.Orders.{AreFor, block_to, datagram_now, order_now, o
 use Rattle.bar_caster.specs.Ticking.{block_orders}
 use Rattle.bar_caster.proofs.Pushed.{orders_of_block}
 
-abbrev pub Sends : Type 0
-Sends = List (ℕ × Datagram)
-
--- these are sent too
-abbrev pub with_sends : Outcome Log → Sends → Outcome Log
-with_sends out sends = record { state = out.state; sends = out.sends ++ sends; contents = out.contents }
-
-no-more : (out : Outcome Log) → out ≡ with_sends out []
-no-more out = λ i. record { state = out.state; sends = sym (append-nil out.sends) i; contents = out.contents }
-
-one-more : (out : Outcome Log) (p : ℕ) (d : Datagram) (rest : Sends) → with_sends (sending out p d) rest ≡ with_sends out ((p, d) ∷ rest)
-one-more out p d rest = λ i. record { state = out.state; sends = append_assoc out.sends ((p, d) ∷ []) rest i; contents = out.contents }
-
 both : (out : Outcome Log) (first second : Sends) → with_sends (with_sends out first) second ≡ with_sends out (first ++ second)
 both out first second = λ i. record { state = out.state; sends = append_assoc out.sends first second i; contents = out.contents }
 
--- ---- a datagram to some peers
+-- ---- a block to some peers
 
--- the same to each
-abbrev pub to_each : List ℕ → Datagram → Sends
-to_each ps d = map (λ p. (p, d)) ps
-
-pub all-flat : (out : Outcome Log) (ps : List ℕ) (d : Datagram) → send_all out ps d ≡ with_sends out (to_each ps d)
-all-flat out [] d = no-more out
-all-flat out (p ∷ ps) d = all-flat (sending out p d) ps d ∙ one-more out p d (to_each ps d)
-
--- a block to some peers
 abbrev pub block_to_each : List ℕ → UpdateId → List ℕ → Sends
 block_to_each ps u block = map (λ p. (p, block_to p u block)) ps
 

@@ -4,13 +4,14 @@ use Rattle.std.proofs.Common.{sym, ap, subst, arith, map}
 use Rattle.std.specs.Prelude.{◌==◌, ◌&&◌, ◌||◌, not, if◌then◌else◌, nat_le, nat_lt, Some, None, slice_get}
 use Rattle.std.specs.Bool.{then_some}
 use Rattle.std.specs.Option.{option_or}
-use Rattle.std.proofs.lemmas.Bool.{eq-eqb, and_parts, true≢false}
+use Rattle.std.proofs.lemmas.Bool.{eq-eqb, and_parts, leb-true, true≢false}
 use Rattle.std.proofs.lemmas.Bool.Decides.{nat_tests}
 use Rattle.bar_wire.specs.Datagram.{Datagram, Evict, Manifest}
+use Rattle.bar_wire.specs.Grammar.{is_third}
 use Rattle.bar_wire.specs.declared.kind.Kind.{Kind}
 use Rattle.bar_wire.specs.declared.kind.Kind.TheVariants as kinds
 use Rattle.bar_rules.specs.Broadcaster.Sending.{announce, announce_by, announce_evictions, announce_manifest, caster_tick, evicted}
-use Rattle.bar_rules.specs.Broadcaster.Sending.{send_blocks, served}
+use Rattle.bar_rules.specs.Broadcaster.Sending.{repeat_all, repeat_manifest, repeats_manifest, send_blocks, served}
 use Rattle.bar_rules.specs.Broadcaster.Stream.{manifest_list, round_blocks}
 use Rattle.bar_session.specs.Time.{round_after, slot_after}
 use Rattle.bar_rules.specs.Member.{Member, Session}
@@ -23,7 +24,7 @@ use Rattle.bar_caster.specs.declared.memory.Memory.{Memory}
 use Rattle.bar_caster.specs.declared.order.Order.{Order}
 use Rattle.bar_caster.specs.Memory.{IsOfTheSame, Represents, member_of, said_of, stream_of}
 use Rattle.bar_caster.specs.Orders.{AreFor, Orders, HasOutcome, order_now, orders_to}
-use Rattle.bar_caster.specs.Ticking.{begins_round, begun_round, block_orders, notice_now}
+use Rattle.bar_caster.specs.Ticking.{begins_round, begun_round, block_orders, notice_now, says_again}
 use Rattle.bar_caster.proofs.Grown.{not_said_yet, same_said, same_served}
 use Rattle.bar_caster.proofs.Flat.{all-flat, blocks_from, blocks-flat, for-blocks, for-both, for-each, to_each, with_sends}
 
@@ -51,22 +52,27 @@ signs-so old new log same signs =
 
 -- ---- the cases of a tick
 
--- whether the round is one of the session, and whether the slot is 0, 4, or one of 1 and 5
-abbrev tick_by : Member → List ℕ → Log → Bool → Bool → Bool → Bool → Outcome Log
-tick_by me stream at low first fourth middle =
-    if not low then begun at
+-- the manifest of the round before, where it goes out again
+abbrev again_by : Member → Log → Bool → Outcome Log
+again_by me at again = if again then repeat_manifest me.session (round_now at - 1) (begun at) else begun at
+
+-- whether the slot is 2, whether the round is one of the session, and whether the slot is 0, 4, or one of 1 and 5
+abbrev tick_by : Member → List ℕ → Log → Bool → Bool → Bool → Bool → Bool → Outcome Log
+tick_by me stream at second low first fourth middle =
+    if second then again_by me at (repeats_manifest me.session (round_now at))
+    else (if not low then begun at
     else (if first then announce_evictions me (round_now at) (announce_manifest me stream (round_now at) (begun at))
     else (if fourth then announce_manifest me stream (round_now at) (begun at)
     else (if middle then send_blocks me (round_now at) 0 (round_blocks me.session stream (round_now at)) (begun at)
-    else begun at)))
+    else begun at))))
 
 abbrev slot : Log → ℕ
 slot at = slot_after (ticks at)
 
-tick-is : (me : Member) (stream : List ℕ) (at : Log) (low first fourth middle : Bool) → nat_le (round_now at) me.session.shape.rounds ≡ low
-    → (slot at == 0) ≡ first → (slot at == 4) ≡ fourth → ((slot at == 1) || (slot at == 5)) ≡ middle
-    → caster_tick me stream (begun at) ≡ tick_by me stream at low first fourth middle
-tick-is me stream at low first fourth middle a b c d = λ i. tick_by me stream at (a i) (b i) (c i) (d i)
+tick-is : (me : Member) (stream : List ℕ) (at : Log) (second low first fourth middle : Bool) → (slot at == 2) ≡ second
+    → nat_le (round_now at) me.session.shape.rounds ≡ low → (slot at == 0) ≡ first → (slot at == 4) ≡ fourth
+    → ((slot at == 1) || (slot at == 5)) ≡ middle → caster_tick me stream (begun at) ≡ tick_by me stream at second low first fourth middle
+tick-is me stream at second low first fourth middle z a b c d = λ i. tick_by me stream at (z i) (a i) (b i) (c i) (d i)
 
 module _ (n : Memory) (o : Orders) (at : Log) (tells : Represents at n) where
   abbrev me : Member
@@ -93,31 +99,48 @@ module _ (n : Memory) (o : Orders) (at : Log) (tells : Represents at n) where
   slot-is : slot at ≡ slot_after n.ticks
   slot-is = ap slot_after tells.time
 
-  pub past-stands : n.session.shape.rounds < round_after n.ticks → o.list.items ≡ [] → HasOutcome out n o
-  past-stands past empty =
+  -- where no manifest goes out again, slot 2 is quiet
+  unless-again : says_again n.session n.ticks ≡ false → (rest : Outcome Log) → rest ≡ begun at
+      → (if slot at == 2 then again_by me at (repeats_manifest n.session (round_now at)) else rest) ≡ begun at
+  unless-again none rest is =
+      go (slot at == 2) (repeats_manifest n.session (round_now at))
+      ((λ i. (slot-is i == 2) && repeats_manifest n.session (round-is i)) ∙ none)
+    where
+      go : (second again : Bool) → (second && again) ≡ false → (if second then again_by me at again else rest) ≡ begun at
+      go true true none = absurd (true≢false none)
+      go true false none = refl
+      go false again none = is
+
+  pub past-stands : says_again n.session n.ticks ≡ false → n.session.shape.rounds < round_after n.ticks → o.list.items ≡ []
+      → HasOutcome out n o
+  past-stands none past empty =
       let low : nat_le (round_now at) n.session.shape.rounds ≡ false = grind (arith, nat_tests, past, round-is) in
-      none-stand (tick-is me stream at false _ _ _ low refl refl refl) empty
+      none-stand (tick-is me stream at _ false _ _ _ refl low refl refl refl ∙ unless-again none (begun at) refl) empty
 
   low-is : round_after n.ticks ≤ n.session.shape.rounds → nat_le (round_now at) n.session.shape.rounds ≡ true
   low-is high = grind (arith, nat_tests, high, round-is)
 
-  pub idle-stands : round_after n.ticks ≤ n.session.shape.rounds → (slot_after n.ticks == 0) ≡ false → (slot_after n.ticks == 1) ≡ false
-      → (slot_after n.ticks == 4) ≡ false → (slot_after n.ticks == 5) ≡ false → o.list.items ≡ [] → HasOutcome out n o
-  idle-stands high zeroth first fourth fifth empty =
+  pub idle-stands : says_again n.session n.ticks ≡ false → round_after n.ticks ≤ n.session.shape.rounds
+      → (slot_after n.ticks == 0) ≡ false → (slot_after n.ticks == 1) ≡ false → (slot_after n.ticks == 4) ≡ false
+      → (slot_after n.ticks == 5) ≡ false → o.list.items ≡ [] → HasOutcome out n o
+  idle-stands none high zeroth first fourth fifth empty =
       none-stand
-      (tick-is me stream at true false false false (low-is high)
+      (tick-is me stream at _ true false false false refl (low-is high)
       (ap (λ s. s == 0) slot-is ∙ zeroth)
       (ap (λ s. s == 4) slot-is ∙ fourth)
-      ((λ i. (slot-is i == 1) || (slot-is i == 5)) ∙ (λ i. first i || fifth i)))
+      ((λ i. (slot-is i == 1) || (slot-is i == 5)) ∙ (λ i. first i || fifth i))
+      ∙ unless-again none (begun at) refl)
       empty
 
-  blocks-stand-at : (s : ℕ) → slot_after n.ticks ≡ s → (s == 0) ≡ false → (s == 4) ≡ false → ((s == 1) || (s == 5)) ≡ true
-      → round_after n.ticks ≤ n.session.shape.rounds
+  blocks-stand-at : (s : ℕ) → slot_after n.ticks ≡ s → (s == 2) ≡ false → (s == 0) ≡ false → (s == 4) ≡ false
+      → ((s == 1) || (s == 5)) ≡ true → round_after n.ticks ≤ n.session.shape.rounds
       → o.list.items ≡ block_orders me at 0 (length (round_blocks n.session stream (round_now at))) → HasOutcome out n o
-  blocks-stand-at s is zeroth fourth middle high orders =
+  blocks-stand-at s is second zeroth fourth middle high orders =
       let blocks : List (List ℕ) = round_blocks n.session stream (round_now at) in
       stand-for (blocks_from me at (round_now at) 0 blocks)
-      (tick-is me stream at true false false true (low-is high)
+      (tick-is me stream at false true false false true
+      (ap (λ s. s == 2) (slot-is ∙ is) ∙ second)
+      (low-is high)
       (ap (λ s. s == 0) (slot-is ∙ is) ∙ zeroth)
       (ap (λ s. s == 4) (slot-is ∙ is) ∙ fourth)
       (ap (λ s. (s == 1) || (s == 5)) (slot-is ∙ is) ∙ middle)
@@ -127,8 +150,8 @@ module _ (n : Memory) (o : Orders) (at : Log) (tells : Represents at n) where
 
   pub blocks-stand : (slot_after n.ticks ≡ 1) ⊎ (slot_after n.ticks ≡ 5) → round_after n.ticks ≤ n.session.shape.rounds
       → o.list.items ≡ block_orders me at 0 (length (round_blocks n.session stream (round_now at))) → HasOutcome out n o
-  blocks-stand (inl one) high orders = blocks-stand-at 1 one refl refl refl high orders
-  blocks-stand (inr five) high orders = blocks-stand-at 5 five refl refl refl high orders
+  blocks-stand (inl one) high orders = blocks-stand-at 1 one refl refl refl refl high orders
+  blocks-stand (inr five) high orders = blocks-stand-at 5 five refl refl refl refl high orders
 
   -- the manifest goes out again
   pub manifest-stands : said_of kinds.Manifest (round_now at) at ≡ Some (manifest_of me stream (round_now at)) → slot_after n.ticks ≡ 4
@@ -137,13 +160,29 @@ module _ (n : Memory) (o : Orders) (at : Log) (tells : Represents at n) where
       let m : ℕ = round_now at in
       let d : Datagram = manifest_of me stream m in
       stand-for (to_each (served n.session at) d)
-      (tick-is me stream at true false true false (low-is high)
+      (tick-is me stream at false true false true false
+      (ap (λ s. s == 2) (slot-is ∙ is))
+      (low-is high)
       (ap (λ s. s == 0) (slot-is ∙ is))
       (ap (λ s. s == 4) (slot-is ∙ is))
       (ap (λ s. (s == 1) || (s == 5)) (slot-is ∙ is))
       ∙ ap (announce_by me (begun at) (2 * (m - 1)) (Manifest m (manifest_list n.session stream m))) said
       ∙ all-flat (begun at) (served n.session at) d)
       (ap (map (order_now me stream at)) orders ∙ for-each me stream at items.Manifest (λ p. d) (served n.session at) (λ p. said))
+
+  -- so does that of the round before
+  pub again-stands : says_again n.session n.ticks ≡ true
+      → said_of kinds.Manifest (round_now at - 1) at ≡ Some (manifest_of me stream (round_now at - 1))
+      → o.list.items ≡ orders_to items.ManifestBefore (served n.session at) → HasOutcome out n o
+  again-stands again said orders =
+      let d : Datagram = manifest_of me stream (round_now at - 1) in
+      let both = and_parts (slot_after n.ticks == 2) (repeats_manifest n.session (round_after n.ticks)) again in
+      stand-for (to_each (served n.session at) d)
+      (tick-is me stream at true _ _ _ _ (ap (λ s. s == 2) slot-is ∙ both.0) refl refl refl refl
+      ∙ ap (again_by me at) (ap (repeats_manifest n.session) round-is ∙ both.1)
+      ∙ ap (repeat_all n.session (begun at)) said
+      ∙ all-flat (begun at) (served n.session at) d)
+      (ap (map (order_now me stream at)) orders ∙ for-each me stream at items.ManifestBefore (λ p. d) (served n.session at) (λ p. said))
 
 -- what is put behind nothing is all
 pub from-none : (old list new : List Order) → new ≡ old ++ list → old ≡ [] → new ≡ list
@@ -156,6 +195,17 @@ pub said-again : (me : Member) (stream : List ℕ) (log : Log) → SignsOnce me 
 said-again me stream log signs later high =
     let m : ℕ = round_now (Ticked ∷ log) in
     ap (λ o. option_or o None) (signs.manifests m (omega arith) (omega arith) (omega arith))
+
+-- where the manifest of the round before goes out again, it was said
+pub said-before : (me : Member) (stream : List ℕ) (log : Log) → SignsOnce me stream log → says_again me.session (ticks log + 1) ≡ true
+    → said_of kinds.Manifest (round_now (Ticked ∷ log) - 1) (Ticked ∷ log) ≡ Some (manifest_of me stream (round_now (Ticked ∷ log) - 1))
+said-before me stream log signs again =
+    let m : ℕ = round_after (ticks log + 1) in
+    let repeats = (and_parts (slot_after (ticks log + 1) == 2) (repeats_manifest me.session m) again).1 in
+    let within = and_parts (nat_le 2 m) (nat_le m (me.session.shape.rounds + 1)) (and_parts (is_third me.session.shape) _ repeats).1 in
+    let low : 2 ≤ m = leb-true _ _ within.0 in
+    let high : m ≤ me.session.shape.rounds + 1 = leb-true _ _ within.1 in
+    ap (λ o. option_or o None) (signs.manifests (m - 1) (omega (arith, low)) (omega (arith, high)) (omega arith))
 
 -- a tick that begins no round of the session, but is of one, isn't in slot 0
 pub first-passed : (s : Session) (ticks : ℕ) → begins_round s ticks ≡ false → round_after (ticks + 1) ≤ s.shape.rounds
@@ -214,7 +264,7 @@ module _ (me : Member) (stream : List ℕ) (log : Log) (signs : SignsOnce me str
   begins-so : caster_tick me stream (begun at) ≡ announce_evictions me round (with_sends (begun said) sends)
   begins-so =
       let low : nat_le round me.session.shape.rounds ≡ true = grind (arith, nat_tests, high) in
-      tick-is me stream at true true _ _ low (ap (λ s. s == 0) first) refl refl
+      tick-is me stream at false true true _ _ (ap (λ s. s == 2) first) low (ap (λ s. s == 0) first) refl refl
       ∙ ap
       (λ found.
       announce_evictions me round

@@ -1,5 +1,5 @@
 -- What the orders of a broadcaster send.
-use Rattle.std.specs.Prelude.{◌≡◌, ℕ, List, map, Option, Some, option_map, slice_get}
+use Rattle.std.specs.Prelude.{◌≡◌, ℕ, ◌-◌, List, map, Option, Some, option_map, slice_get}
 use Rattle.bar_core.specs.declared.orders.Orders as store
 use Rattle.bar_window.specs.declared.update.UpdateId.{UpdateId}
 use Rattle.bar_wire.specs.Datagram.{Datagram, Block}
@@ -25,6 +25,7 @@ block_to peer u block = unsigned (record { from = 0; to = peer; body = Block u b
 -- the datagram that an item is for a peer
 abbrev pub datagram_now : Member → List ℕ → Log → ℕ → Item → Option Datagram
 datagram_now me stream log peer items.Manifest = said_of kinds.Manifest (round_now log) log
+datagram_now me stream log peer items.ManifestBefore = said_of kinds.Manifest (round_now log - 1) log
 datagram_now me stream log peer items.Evictions = said_of kinds.Evict (round_now log) log
 datagram_now me stream log peer (items.Block index) =
     option_map (block_to peer (record { round = round_now log; index = index })) (slice_get (round_blocks me.session stream (round_now log)) index)

@@ -2,7 +2,7 @@
 use Rattle.std.specs.Prelude.{ℕ, ◌+◌, ◌-◌, ◌*◌, ◌==◌, ◌&&◌, Bool, List, ◌∷◌, filter, nat_le}
 use Rattle.std.specs.List.{flat_map, range_with_len}
 use Rattle.bar_window.specs.declared.update.UpdateId.{UpdateId}
-use Rattle.bar_rules.specs.Broadcaster.Sending.{caster_signed, evicted, served}
+use Rattle.bar_rules.specs.Broadcaster.Sending.{caster_signed, evicted, repeats_manifest, served}
 use Rattle.bar_rules.specs.Broadcaster.Stream.{is_in_fanout}
 use Rattle.bar_session.specs.Time.{round_after, slot_after}
 use Rattle.bar_rules.specs.Member.{Session, Member}
@@ -13,13 +13,18 @@ use Rattle.bar_caster.specs.declared.item.Item.TheVariants as items
 use Rattle.bar_caster.specs.declared.order.Order.{Order}
 use Rattle.bar_caster.specs.Orders.{orders_to}
 
--- the most orders of an input: the blocks of a round or, at its first slot, a manifest and a notice to each peer
+-- the most orders of an input: the blocks of a round, a manifest to each peer or, at the first slot of a round, a manifest and a notice to
+-- each
 abbrev pub most_orders : Session → ℕ
 most_orders s = (2 + s.shape.per_round) * s.shape.peers
 
 -- whether the tick after so many begins a round of the session
 abbrev pub begins_round : Session → ℕ → Bool
 begins_round s ticks = (slot_after (ticks + 1) == 0) && nat_le (round_after (ticks + 1)) s.shape.rounds
+
+-- whether the manifest of the round before goes out again at the last of so many ticks
+abbrev pub says_again : Session → ℕ → Bool
+says_again s ticks = (slot_after ticks == 2) && repeats_manifest s (round_after ticks)
 
 -- the log at a tick that begins a round: the round's manifest is said
 abbrev pub begun_round : Member → List ℕ → Log → Log

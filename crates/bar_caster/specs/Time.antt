@@ -1,6 +1,6 @@
 -- The time of a broadcaster: its log has as many ticks as the inputs that it took, up to the last tick of its session.
 use Rattle.std.proofs.Common.{◌≡◌, ◌≤◌, ◌<◌, ◌^◌, ◌∙◌, ℕ, ◌+◌, ◌-◌, ◌*◌, min, Bool, true, false, List, [], ◌∷◌, Option, Some, None}
-use Rattle.std.proofs.Common.{length, filter, refl, arith}
+use Rattle.std.proofs.Common.{length, filter, refl, ap, arith}
 use Rattle.std.specs.Prelude.{◌==◌, ◌||◌, not, nat_le, nat_lt, if◌then◌else◌}
 use Rattle.std.proofs.lemmas.Bool.{leb-true, leb-false}
 use Rattle.bar_window.specs.declared.update.UpdateId.{UpdateId}
@@ -9,10 +9,10 @@ use Rattle.bar_wire.specs.Inputs.{Input}
 use Rattle.bar_wire.specs.Inputs as event
 use Rattle.bar_record.specs.Pacing.{ticks_in, ticks_of}
 use Rattle.bar_core.proofs.Stepwise.{ticks-stepwise}
-use Rattle.bar_laws.proofs.Broadcasts.{datagram-time}
+use Rattle.bar_laws.proofs.Broadcasts.{datagram-time, repeat-flat}
 use Rattle.bar_rules.specs.Broadcaster.Party.{IsBroadcaster}
 use Rattle.bar_rules.specs.Broadcaster.Sending.{announce_by, announce_evictions, announce_manifest, caster_log_after, caster_signed}
-use Rattle.bar_rules.specs.Broadcaster.Sending.{caster_step, caster_take, caster_tick, evicted}
+use Rattle.bar_rules.specs.Broadcaster.Sending.{caster_step, caster_take, caster_tick, evicted, repeat_manifest, repeats_manifest}
 use Rattle.bar_rules.specs.Broadcaster.Sending.{send_all, send_block, send_blocks, served}
 use Rattle.bar_rules.specs.Broadcaster.Stream.{is_in_fanout, manifest_list, round_blocks}
 use Rattle.bar_session.specs.Time.{last_tick, slot_after}
@@ -71,7 +71,7 @@ evictions-time me m out = go (nat_lt 0 (length (evicted me.session out.state)))
 
 tick-time : (me : Member) (stream : List ℕ) (out : Out) → ticks (caster_tick me stream out).state ≡ ticks out.state
 tick-time me stream out =
-    go (nat_le m me.session.shape.rounds) (slot == 0) (slot == 4) ((slot == 1) || (slot == 5))
+    go (slot == 2) (nat_le m me.session.shape.rounds) (slot == 0) (slot == 4) ((slot == 1) || (slot == 5))
   where
     m : ℕ
     m = round_now out.state
@@ -79,17 +79,23 @@ tick-time me stream out =
     slot : ℕ
     slot = slot_after (ticks out.state)
 
-    go : (low first fourth middle : Bool)
-        → ticks (if not low then out
+    again : (b : Bool) → ticks (if b then repeat_manifest me.session (m - 1) out else out).state ≡ ticks out.state
+    again true = ap (λ (o : Out). ticks o.state) (repeat-flat me.session (m - 1) out).1
+    again false = refl
+
+    go : (second low first fourth middle : Bool)
+        → ticks (if second then (if repeats_manifest me.session m then repeat_manifest me.session (m - 1) out else out)
+        else (if not low then out
         else (if first then announce_evictions me m (announce_manifest me stream m out)
         else (if fourth then announce_manifest me stream m out
         else (if middle then send_blocks me m 0 (round_blocks me.session stream m) out
-        else out)))).state ≡ ticks out.state
-    go false first fourth middle = refl
-    go true true fourth middle = evictions-time me m (announce_manifest me stream m out) ∙ manifest-time me stream m out
-    go true false true middle = manifest-time me stream m out
-    go true false false true = send_blocks-time me m 0 (round_blocks me.session stream m) out
-    go true false false false = refl
+        else out))))).state ≡ ticks out.state
+    go true low first fourth middle = again (repeats_manifest me.session m)
+    go false false first fourth middle = refl
+    go false true true fourth middle = evictions-time me m (announce_manifest me stream m out) ∙ manifest-time me stream m out
+    go false true false true middle = manifest-time me stream m out
+    go false true false false true = send_blocks-time me m 0 (round_blocks me.session stream m) out
+    go false true false false false = refl
 
 -- ---- over the inputs
 

@@ -47,9 +47,11 @@ impl Memory {
             → datagram_now (member_of self.now) (stream_of self.now) log order.peer order.item ≡ Some d
             → length (datagram_bytes self.now.session d) ≤ largest_datagram → IsGiven self.now.session d result buf.new }
     {
+        let round = self.round() as usize;
         let bytes = match order.item {
             Item::Block(index) => return Some(self.write_block(order.peer, index, buf)),
-            Item::Manifest => self.manifests.get(self.round() as usize)?,
+            Item::Manifest => self.manifests.get(round)?,
+            Item::ManifestBefore => self.manifests.get(round.saturating_sub(1))?,
             Item::Evictions => self.notice.kept()?,
         };
         if bytes.len() > buf.len() {

@@ -113,8 +113,8 @@ impl<S: Scheme> Caster<S> {
         send_to_all(&self.memory, &mut self.orders, Item::Evictions);
     }
 
-    /// Takes a tick that begins no round of the session: in slot 4 of a round the manifest goes out again, in slots 1 and 5 the blocks. It
-    /// counts a step for each block and peer.
+    /// Takes a tick that begins no round of the session: in slot 4 of a round the manifest goes out again, in slots 1 and 5 the blocks. In
+    /// version 3 the manifest of the round before goes out again in slot 2. It counts a step for each block and peer.
     fn go_on<L: StepLedger>(&mut self, steps: &mut Steps<L>)
         requires time { self.old.memory.ticks < last_tick self.old.memory.session }
         requires begins { begins_round self.old.memory.session self.old.memory.ticks ≡ false }
@@ -130,6 +130,10 @@ impl<S: Scheme> Caster<S> {
     {
         signs_once_a_round();
         self.memory.tick();
+        if self.memory.says_again() {
+            send_to_all(&self.memory, &mut self.orders, Item::ManifestBefore);
+            return;
+        }
         if self.memory.round() > self.memory.session.shape().rounds {
             return;
         }

@@ -15,7 +15,10 @@ use Rattle.bar_rules.specs.Peer.Log.{Log, kept}
 use Rattle.bar_rules.specs.Peer.Run.{log_after, sends_of}
 use Rattle.std.specs.List.{AllByRecursion}
 use Rattle.bar_laws.specs.Always.{OfEachPeer}
+use Rattle.bar_laws.specs.Again.{SaysCasesAgain}
 use Rattle.bar_laws.specs.Balance.{GoesToPartner, IsBalanced, totals_of}
+use Rattle.bar_laws.specs.Broadcasting.{AdmitsLateManifests}
+use Rattle.bar_laws.specs.Debts.{ServesNoDebtor}
 use Rattle.bar_laws.specs.Framing.{IsNotFramed}
 use Rattle.bar_laws.specs.Leaves.{KeepsLeaves}
 use Rattle.bar_laws.specs.Obedience.{IsRuled}
@@ -75,8 +78,9 @@ at-each_moment held ranged P always names content s k accepted inputs = λ earli
 pub keeps-rules : OfEachPeer IsRuled → OfEachPeer (λ me inputs. (x : Exchange) → IsBalanced (totals_of me inputs x)) →
     OfEachPeer (λ me inputs. AllByRecursion (GoesToPartner me) (sends_of me inputs)) → BadKeysLeaveEvidence → KeptEvidenceIsShown →
     OfEachPeer (λ me inputs. IsNotFramed me (log_after me [] inputs)) → OfEachPeer (λ me inputs. KeepsLeaves me (log_after me [] inputs)) →
-    OfEachPeer KeepsTheRules
-keeps-rules signed balance keys caught shown unframed leaves = λ me member inputs. record {
+    OfEachPeer ServesNoDebtor → OfEachPeer (λ me inputs. SaysCasesAgain me (log_after me [] inputs)) →
+    OfEachPeer (λ me inputs. AdmitsLateManifests me (log_after me [] inputs)) → OfEachPeer KeepsTheRules
+keeps-rules signed balance keys caught shown unframed leaves debts again late = λ me member inputs. record {
   signed = signed me member inputs;
   balance = balance me member inputs;
   keys = keys me member inputs;
@@ -84,4 +88,7 @@ keeps-rules signed balance keys caught shown unframed leaves = λ me member inpu
   shown = shown me inputs;
   unframed = unframed me member inputs;
   leaves = leaves me member inputs;
+  debts = debts me member inputs;
+  again = again me member inputs;
+  late = late me member inputs;
 }

@@ -18,7 +18,10 @@ use Rattle.bar_rules.specs.Members.{member_by}
 use Rattle.bar_rules.specs.Peer.Exchanges.{partner_in}
 use Rattle.bar_rules.specs.Peer.Log.{Log, kept, table}
 use Rattle.bar_rules.specs.Peer.Run.{log_after, sends_of}
+use Rattle.bar_laws.specs.Again.{SaysCasesAgain}
 use Rattle.bar_laws.specs.Balance.{GoesToPartner, IsBalanced, totals_of}
+use Rattle.bar_laws.specs.Broadcasting.{AdmitsLateManifests}
+use Rattle.bar_laws.specs.Debts.{ServesNoDebtor}
 use Rattle.bar_laws.specs.Evidence.{KeepsGoodEvidence, OpensBadly}
 use Rattle.bar_laws.specs.Framing.{IsNotFramed}
 use Rattle.bar_laws.specs.Leaves.{KeepsLeaves}
@@ -61,6 +64,12 @@ pub record KeepsTheRules (me : Member) (inputs : List Input) : Type 0 where
   pub unframed : IsNotFramed me (log_after me [] inputs)
   -- no leaf of its key signed two messages, and each leaf is one of the key's
   pub leaves : KeepsLeaves me (log_after me [] inputs)
+  -- who owes it a key isn't served: in version 3 no exchange with such a party begins
+  pub debts : ServesNoDebtor me inputs
+  -- in version 3 a briefcase that the partner may lack is said again at each tick, as long as it may be admitted
+  pub again : SaysCasesAgain me (log_after me [] inputs)
+  -- the manifest of the round before is admitted, where it has none
+  pub late : AdmitsLateManifests me (log_after me [] inputs)
 
 -- ---- of a peer's run over a link
 

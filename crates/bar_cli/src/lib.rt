@@ -2,6 +2,7 @@
 #![tactic(auto)]
 
 mod audit;
+mod headline;
 mod judge;
 mod keygen;
 mod line;

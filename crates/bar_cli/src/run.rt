@@ -11,6 +11,7 @@ ghost use Rattle.bar_cli.specs.Views.{command_view};
 
 use crate::audit::audit;
 use crate::audit::laws::{an_audit_is_told, an_audit_stays};
+use crate::headline::peers_keep_the_rules;
 use crate::judge::judge;
 use crate::keygen::keygen;
 use crate::line::{Command, command_of};
@@ -22,11 +23,6 @@ use crate::simulate::simulate_seed;
 use crate::status::{Status, report, status_of, status_of_live};
 use crate::verify::verify;
 use bar_arguments::WordsFault;
-use bar_laws::balance::balanced;
-use bar_laws::evidence::{bad_keys_leave_evidence, kept_evidence_is_shown};
-use bar_laws::framing::no_framing;
-use bar_laws::leaves::leaf_discipline;
-use bar_laws::obedience::signed_by_rule;
 use bar_outside::{Files, Link, Sink, Spawner, plans_go_in_order};
 use bar_party_commands::{
     a_bound_broadcaster_has_spent_its_key, a_bound_peer_has_spent_its_key, a_broadcaster_is_done,
@@ -74,18 +70,13 @@ pub fn bar_run<F: Files, L: Link, K: Sink, S: Spawner>(
     accepted_sessions_are_in_range();
     an_audit_is_told();
     an_audit_stays();
-    bad_keys_leave_evidence();
-    balanced();
     honest_peers_stay();
-    kept_evidence_is_shown();
-    leaf_discipline();
-    no_framing();
     only_its_files_are_changed_by_a_broadcaster();
     only_its_files_are_changed_by_a_peer();
+    peers_keep_the_rules();
     plans_go_in_order();
     proofs_are_spelled();
     rules_give_the_run();
-    signed_by_rule();
     tables_are_spelled();
     what_is_shown_is_packed();
     let status = run_words(alloc, words, files, link, out, spawn);

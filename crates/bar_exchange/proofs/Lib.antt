@@ -26,3 +26,4 @@ pub mod Requests
 pub mod PartChanges
 pub mod Asked
 pub mod PartKept
+pub mod CasesAgain

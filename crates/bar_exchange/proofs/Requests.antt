@@ -61,7 +61,7 @@ pub asks_for : (me : Member) (k : Knowledge) (d : Datagram) (from to : ℕ) (b :
 asks_for me k d from to (Request r seed c) x e at row =
     let is : ◌≡◌ {A = Exchange} (record { round = r; kind = Balanced; initiator = from; responder = to }) x = ap (λ (p : Place). p.exchange) (same_Some _ _ at) in
     record {
-      free = (λ i. nat_lt (k.asked (sym is i).kind (sym is i).round) seats_a_round) ∙ (and_parts _ _ (and_parts _ _ row).0).1;
+      free = (λ i. nat_lt (k.asked (sym is i).kind (sym is i).round) seats_a_round) ∙ (and_parts _ _ (and_parts _ _ (and_parts _ _ row).0).0).1;
       in_time = (λ i. nat_le (this_round k) ((sym is i).round + 1)) ∙ (and_parts _ _ (and_parts _ _ row).1).1;
       adds = refl;
       round_is = ap (λ (x : Exchange). x.round) is;
@@ -70,7 +70,7 @@ asks_for me k d from to (Query r seed y o) x e at row =
     let is : ◌≡◌ {A = Exchange} (record { round = r; kind = Push; initiator = from; responder = to }) x = ap (λ (p : Place). p.exchange) (same_Some _ _ at) in
     let asks = (and_parts _ _ row).1 in
     record {
-      free = (λ i. nat_lt (k.asked (sym is i).kind (sym is i).round) seats_a_round) ∙ (and_parts _ _ (and_parts _ _ asks).0).1;
+      free = (λ i. nat_lt (k.asked (sym is i).kind (sym is i).round) seats_a_round) ∙ (and_parts _ _ (and_parts _ _ (and_parts _ _ asks).0).0).1;
       in_time = (λ i. nat_le (this_round k) ((sym is i).round + 1)) ∙ (and_parts _ _ (and_parts _ _ asks).1).1;
       adds = refl;
       round_is = ap (λ (x : Exchange). x.round) is;

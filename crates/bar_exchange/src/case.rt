@@ -14,9 +14,9 @@ ghost use Rattle.bar_exchange.specs.Counts.{HasCounts};
 
 use crate::aligned::are_aligned;
 use crate::counts::Counts;
-use crate::recall::{ANSWER_DEADLINE, has_said_case, is_within};
+use crate::recall::{has_said_case, is_within};
 use crate::same_terms::are_terms;
-use bar_ledger::Ledger;
+use bar_ledger::{ANSWER_DEADLINE, Ledger};
 use bar_terms::balanced_count;
 use bar_window::{Exchange, Role, Terms, Window};
 

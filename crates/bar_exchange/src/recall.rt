@@ -16,9 +16,6 @@ use bar_wire::Kind;
 /// For how many rounds after its own a REQUEST is admitted, sent again and answered.
 pub const REQUEST_DEADLINE: u8 = 1;
 
-/// For how many rounds after its own all is admitted and sent again that comes after the REQUEST, up to the CASEs.
-pub const ANSWER_DEADLINE: u8 = 2;
-
 /// Whether a round is at most so many after another one.
 pub fn is_within(now: u32, round: u32, after: u8) -> bool
     ensures { result ≡ nat_le now (round + after) }

@@ -1,4 +1,5 @@
--- The broadcaster over every list of inputs: what it signs, whom it evicts, and to whom it sends.
+-- The broadcaster over every list of inputs: what it signs, whom it evicts, what it says again, and to whom it sends.
+mod SentToAll
 mod Steps
 mod Serving
 mod Signing
@@ -7,6 +8,7 @@ mod FanoutCounts
 mod FanoutSends
 mod Growing
 mod Naming
+mod Repeating
 -- the lemmas that other groups may cite
 pub use Rattle.bar_laws.proofs.Broadcasts.Serving.{serves-the-others}
 pub use Rattle.bar_laws.proofs.Broadcasts.Signing.{signs-once}
@@ -14,5 +16,7 @@ pub use Rattle.bar_laws.proofs.Broadcasts.Evicting.{evicts-exactly}
 pub use Rattle.bar_laws.proofs.Broadcasts.FanoutCounts.{fanouts-whole}
 pub use Rattle.bar_laws.proofs.Broadcasts.FanoutSends.{to-the-fanout, out-twice, datagram-time}
 pub use Rattle.bar_laws.proofs.Broadcasts.Growing.{caster-grows}
+pub use Rattle.bar_laws.proofs.Broadcasts.SentToAll.{Sends, with_sends, to_each, no-more, one-more, all-flat, repeat-flat}
 pub use Rattle.bar_laws.proofs.Broadcasts.Steps.{judged-keeps}
 pub use Rattle.bar_laws.proofs.Broadcasts.Naming.{NamesKept, run-names}
+pub use Rattle.bar_laws.proofs.Broadcasts.Repeating.{manifests-repeated, late-admitted}

@@ -14,6 +14,7 @@ mod Rewritten
 mod Remembered
 mod Sound
 -- the lemmas that other groups may cite
+pub use Rattle.bar_laws.proofs.Memory.OpenList.{opened-rising}
 pub use Rattle.bar_laws.proofs.Memory.MachineImage.{runs-as-known, learned, step-image}
 pub use Rattle.bar_laws.proofs.Memory.AgreeLogs.{agree-trans}
 pub use Rattle.bar_laws.proofs.Memory.AgreeTicks.{answers-alike}

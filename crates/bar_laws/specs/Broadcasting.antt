@@ -1,5 +1,5 @@
--- What holds of the broadcaster over every list of inputs: whom it evicts, what it signs, and to whom it sends.
-use Rattle.std.specs.Prelude.{◌≡◌, ◌⊎◌, ℕ, ◌+◌, ◌-◌, ◌*◌, ◌<◌, ◌≤◌, ◌==◌, ◌&&◌, Bool, false, List, [], ◌∷◌, ◌++◌, map, filter, length, Some, None, Contains}
+-- What holds of the broadcaster over every list of inputs: whom it evicts, what it signs, what it says again, and to whom it sends.
+use Rattle.std.specs.Prelude.{◌≡◌, ◌⊎◌, ℕ, ◌+◌, ◌-◌, ◌*◌, ◌<◌, ◌≤◌, ◌==◌, ◌&&◌, Bool, true, false, List, [], ◌∷◌, ◌++◌, map, filter, length, Some, None, Contains, if◌then◌else◌}
 use Rattle.std.specs.List.{AllByRecursion}
 use Rattle.bar_lms.specs.Schemes.{leaves_by}
 use Rattle.bar_window.specs.declared.update.UpdateId.{UpdateId}
@@ -12,14 +12,17 @@ use Rattle.bar_wire.specs.declared.kind.Kind.TheVariants as kinds
 use Rattle.bar_session.specs.Sessions.{IsSession}
 use Rattle.bar_terms.specs.Table.{Table}
 use Rattle.bar_rules.specs.Broadcaster.Party.{IsBroadcaster}
-use Rattle.bar_rules.specs.Broadcaster.Sending.{evicted, caster_signed, caster_step, caster_log_after, caster_sends_of}
+use Rattle.bar_rules.specs.Broadcaster.Sending.{evicted, served, caster_signed, caster_step, caster_log_after, caster_sends_of, repeats_manifest}
 use Rattle.bar_rules.specs.Broadcaster.Stream.{caster_table, is_in_fanout, manifest_list, peers_of, round_blocks}
 use Rattle.bar_rules.specs.Judge.Verdict.{Fault, Shown, verdict}
 use Rattle.bar_session.specs.Time.{last_tick, round_after, slot_after}
 use Rattle.bar_rules.specs.Member.{Session, Member}
-use Rattle.bar_rules.specs.Peer.Log.{Log, Said, first_said, has_kind_and_round, kept, round_now, ticks}
+use Rattle.bar_rules.specs.Peer.Admission.{is_admitted}
+use Rattle.bar_rules.specs.Peer.Knowledge.{known, this_round}
+use Rattle.bar_rules.specs.Peer.Log.{Log, Ticked, Said, first_said, has_kind_and_round, kept, round_now, ticks}
 use Rattle.bar_rules.specs.Peer.Sizes.{most_evidence}
 use Rattle.bar_rules.specs.Values.{datagram_of}
+use Rattle.bar_laws.specs.Always.{InEachPeersLog}
 
 -- of each broadcaster with its stream, and every list of inputs that it takes
 abbrev pub OfEachBroadcaster : (Member → List ℕ → List Input → Type 0) → Type 0
@@ -112,6 +115,38 @@ pub record SignsOnce (me : Member) (stream : List ℕ) (log : Log) : Type 0 wher
 
 abbrev pub SignsOnceARound : Type 0
 SignsOnceARound = OfEachBroadcaster (λ me stream inputs. SignsOnce me stream (caster_log_after me stream inputs))
+
+-- ---- what it says again
+
+-- what the tick of slot 2 is to send: where the rules say a manifest again, that of the round before, to each peer that isn't evicted
+abbrev pub said_again : Member → List ℕ → Log → List (ℕ × Datagram)
+said_again me stream log =
+    let m : ℕ = round_after (ticks log + 1) in
+    if repeats_manifest me.session m then map (λ q. (q, manifest_of me stream (m - 1))) (served me.session log) else []
+
+-- A tick sends this and nothing else, and signs nothing for it.
+pub record SaysManifestAgain (me : Member) (stream : List ℕ) (log : Log) : Type 0 where
+  pub sends : (caster_step me stream log event.Tick).sends ≡ said_again me stream log
+  pub log_after : (caster_step me stream log event.Tick).state ≡ Ticked ∷ log
+
+-- each tick of slot 2 does
+abbrev pub RepeatsManifests : Type 0
+RepeatsManifests =
+    OfEachBroadcaster (λ me stream inputs.
+    let log : Log = caster_log_after me stream inputs in
+    ticks log < last_tick me.session → slot_after (ticks log + 1) ≡ 2 → SaysManifestAgain me stream log)
+
+-- a peer in the round after one of the session, of which it has admitted no manifest, admits that of the broadcaster, however short updates
+-- live
+abbrev pub AdmitsLateManifests : Member → Log → Type 0
+AdmitsLateManifests me log =
+    (caster : Member) (stream : List ℕ) → IsBroadcaster caster → caster.session ≡ me.session
+    → (round : ℕ) → 1 ≤ round → round ≤ me.session.shape.rounds → this_round (known me log) ≡ round + 1
+    → (known me log).manifest round ≡ None
+    → is_admitted me (known me log) (manifest_of caster stream round) ≡ true
+
+abbrev pub LateManifestsAreAdmitted : Type 0
+LateManifestsAreAdmitted = InEachPeersLog AdmitsLateManifests
 
 -- ---- to whom it sends
 

@@ -69,6 +69,24 @@ each-found test (k ∷ ks) holds =
     let first : test k.entry.x ≡ true = holds k.entry.x (found-itself k ks) in
     rw first (each-found test ks (λ x e. holds x (found-more x k ks e)))
 
+-- ---- each is found by its exchange
+
+abbrev pub AreFound : List Kept → List Kept → Type 0
+AreFound all ks = AllByRecursion (λ k. find (is_for k.entry.x) all ≡ Some k) ks
+
+found-behind : (k : Kept) (all ks : List Kept) → IsApart k.entry.x (exchanges_of ks) → AreFound all ks → AreFound (k ∷ all) ks
+found-behind k all [] apart found = tt
+found-behind k all (j ∷ js) apart found =
+    let other : is_for j.entry.x k ≡ false = apart.0 in
+    (rw other found.0, found-behind k all js apart.1 found.1)
+
+pub found-each : (ks : List Kept) → IsDistinct same_exchange (exchanges_of ks) → AreFound ks ks
+unfolding IsDistinct
+found-each [] d = tt
+found-each (k ∷ ks) d =
+    let same : is_for k.entry.x k ≡ true = same_exchange_refl k.entry.x in
+    (rw same refl, found-behind k ks ks d.0 (found-each ks d.1))
+
 -- ---- parts
 
 apart-at : (x : Exchange) (before : List Kept) (k : Kept) (after : List Kept) → IsApart x (exchanges_of (before ++ k ∷ after)) → same_exchange x k.entry.x ≡ false

@@ -10,3 +10,4 @@ pub mod Counts
 pub mod Recent
 pub mod Recalled
 pub mod Rising
+pub mod Owed

@@ -1,5 +1,6 @@
-//! Which exchange is the next, and which kind of datagram opens one.
+//! Which exchange is the next, which kind of datagram opens one, and when its KEYs are due.
 ghost use Rattle.std.specs.Prelude.{◌≡◌, Some};
+ghost use Rattle.bar_rules.specs.Peer.Debts.{is_due};
 ghost use Rattle.bar_rules.specs.Peer.Exchanges.{opening_kind};
 ghost use Rattle.bar_ledger.specs.Hearing.{hears, is_opening};
 ghost use Rattle.bar_ledger.specs.Naming.{is_beside};
@@ -7,6 +8,18 @@ ghost use Rattle.bar_ledger.specs.Order.{is_above, is_below, best_with};
 
 use bar_window::{Exchange, Role, XKind};
 use bar_wire::Kind;
+
+/// For how many rounds after its own all of an exchange is admitted and sent again that comes after its request, up to the CASEs.
+pub const ANSWER_DEADLINE: u8 = 2;
+
+/// Whether an exchange is past the time of its CASEs in a round, and its KEYs may still be given.
+pub(crate) fn is_due(x: Exchange, life: u8, now: u32) -> bool
+    ensures { result ≡ is_due life x.round now }
+{
+    let round = u64::from(x.round);
+    let now = u64::from(now);
+    round + u64::from(ANSWER_DEADLINE) <= now && now <= round + u64::from(life)
+}
 
 /// Whether an exchange is another one than the first, and one of its parties is this.
 pub(crate) fn is_beside(x: Exchange, party: u16, y: Exchange) -> bool

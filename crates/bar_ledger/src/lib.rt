@@ -9,7 +9,7 @@ mod slot;
 mod totals;
 
 pub use entry::Entry;
-pub use exchanges::opening_kind;
+pub use exchanges::{ANSWER_DEADLINE, opening_kind};
 pub use ledger::Ledger;
 pub use slot::names;
 pub use totals::Totals;

@@ -10,11 +10,12 @@ ghost use Rattle.bar_wire.specs.declared.shape.Shape.{Shape};
 ghost use Rattle.bar_ledger.specs.Hearing.{is_opening};
 ghost use Rattle.bar_ledger.specs.Naming.{names, shares_leaf};
 ghost use Rattle.bar_ledger.specs.Asking.{chosen, is_any, is_asked, open_of};
+ghost use Rattle.bar_ledger.specs.Debts.{is_owed};
 ghost use Rattle.bar_ledger.specs.Slots.{HasSlotRooms, size_for};
 ghost use Rattle.bar_ledger.specs.Totals.{totals_by, no_totals, CanTotal, AreSound};
 
 use crate::entry::Entry;
-use crate::exchanges::{is_beside, opens};
+use crate::exchanges::{is_beside, is_due, opens};
 use crate::sizes::{largest, most_first};
 use crate::totals::Totals;
 use bar_bytes::Room;
@@ -126,6 +127,22 @@ impl Slot {
             (live_of life round self.now) false }
     {
         self.is_live(life, round) && self.shares_leaf(verifier, x, party, leaf)
+    }
+
+    /// Whether a party owes the KEY of its exchange in a round: that is open and with the party, its KEYs are due, this peer's is said and
+    /// the party's isn't heard. That of one that is given up in another round isn't owed.
+    pub(crate) fn is_owed(&self, party: u16, now: u32, life: u8, round: u32) -> bool
+        ensures { result ≡ option_map_or (is_owed life party now) (live_of life round self.now) false }
+    {
+        let Some(entry) = &self.entry else {
+            return false;
+        };
+        self.is_live(life, round)
+            && entry.first_said
+            && entry.x.party(entry.role.other()) == party
+            && is_due(entry.x, life, now)
+            && entry.key_said
+            && self.key.kept().is_none()
     }
 
     /// Its exchange, where it isn't given up in a round.

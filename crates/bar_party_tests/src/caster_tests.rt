@@ -4,7 +4,7 @@ pub mod casters;
 
 use bar_caster::{Caster, CasterFault};
 use bar_hss::SessionScheme;
-use bar_samples::sessions::{ID, long_session, session, session_of_seven};
+use bar_samples::sessions::{ID, long_session, session, session_of_seven, third_session};
 use bar_samples::signed::{scheme_of, signed};
 use bar_seal::LmsScheme;
 use casters::{Sent, caster_by, caster_of, count, counts, start, tell, ticks};
@@ -75,6 +75,41 @@ fn manifests_and_blocks_have_their_slots(rt: HostRuntime) -> Result<(), Fail> {
     let alloc = rt.alloc();
     let mut caster = caster_of(&rt, alloc, session(), 1_023)?;
     Ok(check_ticks(&rt, alloc, &mut caster, &[2, 2, 0, 0, 2, 2, 0, 0])?)
+}
+
+/// Checks that the same datagrams go to the same peers.
+fn check_same(rt: &impl Abort, one: &[Sent], other: &[Sent]) {
+    assert_eq!(rt; one.len(), other.len());
+    for (first, second) in one.iter().zip(other) {
+        assert_eq!(rt; first.to, second.to);
+        assert_eq!(rt; first.bytes.as_slice(), second.bytes.as_slice());
+    }
+}
+
+/// Tick 11, which is slot 2 of round 2, sends what tick 1 sent.
+fn check_second_round(
+    rt: &impl Abort,
+    alloc: Global,
+    caster: &mut Caster<SessionScheme>,
+) -> Result<(), AllocError> {
+    let first = ticks(rt, alloc, caster, 1)?;
+    check_ticks(rt, alloc, caster, &[2, 0, 0, 2, 2, 0, 0, 2, 0])?;
+    let again = ticks(rt, alloc, caster, 1)?;
+    check_same(rt, &first, &again);
+    check_ticks(rt, alloc, caster, &[0, 2, 0, 0, 0])
+}
+
+/// In version 3 the MANIFEST of each round goes out once more in the round after it, that of round 20 in tick 163, and then nothing.
+#[test]
+fn a_manifest_is_said_again_in_the_round_after_it(rt: HostRuntime) -> Result<(), Fail> {
+    let alloc = rt.alloc();
+    let mut caster = caster_of(&rt, alloc, third_session(), 1_023)?;
+    check_second_round(&rt, alloc, &mut caster)?;
+    assert_eq!(rt; ticks(&rt, alloc, &mut caster, 146)?.len(), 108);
+    check_ticks(&rt, alloc, &mut caster, &[2])?;
+    assert_eq!(rt; ticks(&rt, alloc, &mut caster, 37)?.len(), 0);
+    assert!(rt; caster.over());
+    Ok(())
 }
 
 /// A REQUEST of round 6 from peer 1 to peer 2, with a commitment of 32 equal bytes, which signs a seed of zeros.

@@ -1,23 +1,28 @@
-//! What a peer remembers of its exchanges, by their numbers in order.
+//! What a peer remembers of its exchanges, by their numbers in order, and the rounds in which a key is owed.
 ghost use Rattle.std.specs.Prelude.{◌≡◌};
 ghost use Rattle.bar_ledger.specs.Memory.{HasSame};
 
 use bar_ledger::{Entry, Ledger};
 use bar_samples::sessions::ID;
 use bar_window::{Exchange, Role, Terms, UpdateId, Window, XKind};
-use bar_wire::Shape;
+use bar_wire::{Kind, Shape};
 use std::process::Abort;
 use std::test::Fail;
 
-const SHAPE: Shape = Shape {
-    version: 1,
-    id: ID,
-    peers: 5,
-    rounds: 10,
-    life: 4,
-    per_round: 8,
-    sig_len: 1292,
-};
+/// What a session of a version says of its datagrams.
+fn shape_of(version: u8) -> Shape
+    ensures { result.sig_len ≡ 1292 }
+{
+    Shape {
+        version,
+        id: ID,
+        peers: 5,
+        rounds: 10,
+        life: 4,
+        per_round: 8,
+        sig_len: 1292,
+    }
+}
 
 /// A balanced exchange that this peer responds to.
 fn exchange(round: u32, initiator: u16) -> Exchange {
@@ -66,7 +71,7 @@ fn add(rt: &impl Abort, ledger: &mut Ledger, entry: Entry)
 
 #[test]
 fn kept_exchanges_have_places_in_order(rt: HostRuntime) -> Result<(), Fail> {
-    let mut ledger = Ledger::make(rt.alloc(), 1, 4, &SHAPE)?;
+    let mut ledger = Ledger::make(rt.alloc(), 1, 4, &shape_of(1))?;
     add(&rt, &mut ledger, asked(exchange(3, 2), 0));
     add(&rt, &mut ledger, asked(exchange(1, 3), 0));
     add(&rt, &mut ledger, asked(exchange(1, 2), 1));
@@ -77,5 +82,38 @@ fn kept_exchanges_have_places_in_order(rt: HostRuntime) -> Result<(), Fail> {
     ledger.forget(6);
     assert_eq!(rt; ledger.place(0), Some(exchange(3, 2)));
     assert_eq!(rt; ledger.place(1), None);
+    Ok(())
+}
+
+/// In which of the rounds 4, 5, 7 and 8 party 2 owes peer 1 its key of an exchange of round 3.
+fn owing(ledger: &Ledger) -> [bool; 4] {
+    [
+        ledger.owes(2, 4),
+        ledger.owes(2, 5),
+        ledger.owes(2, 7),
+        ledger.owes(2, 8),
+    ]
+}
+
+#[test]
+fn a_key_is_owed_from_the_second_round_after_its_exchange_on(rt: HostRuntime) -> Result<(), Fail> {
+    let x = exchange(3, 2);
+    let mut ledger = Ledger::make(rt.alloc(), 1, 4, &shape_of(3))?;
+    add(&rt, &mut ledger, asked(x, 0));
+    assert_eq!(rt; owing(&ledger), [false, true, true, false]);
+    assert!(rt; !ledger.owes(3, 5));
+    if !ledger.may_hear(x, Kind::Key, &[1]) {
+        panic!(rt; "no key may be heard");
+    }
+    ledger.hear(x, Kind::Key, &[1]);
+    assert_eq!(rt; owing(&ledger), [false; 4]);
+    Ok(())
+}
+
+#[test]
+fn no_key_is_owed_in_version_1(rt: HostRuntime) -> Result<(), Fail> {
+    let mut ledger = Ledger::make(rt.alloc(), 1, 4, &shape_of(1))?;
+    add(&rt, &mut ledger, asked(exchange(3, 2), 0));
+    assert_eq!(rt; owing(&ledger), [false; 4]);
     Ok(())
 }

@@ -1,8 +1,8 @@
 //! Whole peers: what they hold, play and send, worked out by hand from the rules.
 
-mod datagrams;
-mod evidence;
-mod pair;
+pub mod datagrams;
+pub mod evidence;
+pub mod pair;
 pub mod peers;
 
 use bar_hss::SessionScheme;
@@ -486,7 +486,7 @@ fn check_request(
 }
 
 /// Gives a peer a datagram of a party that shows a fault, of which it keeps evidence and reports it, once.
-fn check_shown(
+pub fn check_shown(
     rt: &impl Abort,
     alloc: Global,
     peer: &mut Peer<SessionScheme>,

@@ -22,6 +22,7 @@ use Rattle.bar_peer.specs.declared.order.Order.TheVariants as queued
 use Rattle.bar_peer.specs.Orders.{Orders}
 use Rattle.bar_peer.specs.Memory.{member_of}
 use Rattle.bar_peer.specs.Sending.{IsTimely, AreFor, IsCarriedOut, HasOutcome}
+use Rattle.bar_peer.specs.Ticking.{is_unasked}
 use Rattle.bar_peer.proofs.Growing.{Grows, timely_still}
 use Rattle.bar_peer.proofs.Standing.{orders_stay, orders_pushed}
 use Rattle.bar_peer.proofs.Timely.{timely_request}
@@ -48,11 +49,11 @@ partner_is who shape round now kind seed to same is chain chosen =
     ∙ (λ i. partners.partner_of (same i).id (same i).peers seed kind who.secrets.party)
     ∙ chosen_partner who now kind seed (chain ∙ ap (seeds.seed_of who.chain.secrets who.chain.rounds) is)
 
--- who is announced evicted isn't asked
+-- who is announced evicted, or owes a key, isn't asked
 pub none_asked : (me : Member) (before : Knowledge) (round : ℕ) (kind : XKind) (to : ℕ)
-    → to ≡ partner_of me.session (seed_of me round) kind me.party → before.is_announced to ≡ true → [] ≡ asking_partner me before round kind
-none_asked me before round kind to is named = λ i.
-    orders_when (not ((sym named ∙ ap before.is_announced is) i))
+    → to ≡ partner_of me.session (seed_of me round) kind me.party → is_unasked me before to ≡ true → [] ≡ asking_partner me before round kind
+none_asked me before round kind to is unasked = λ i.
+    orders_when (not ((sym unasked ∙ ap (is_unasked me before) is) i))
     (Ask (record {
       round = round;
       kind = kind;
@@ -62,12 +63,12 @@ none_asked me before round kind to is named = λ i.
     ∷ [])
 
 pub one_asked : (me : Member) (before : Knowledge) (round : ℕ) (kind : XKind) (to : ℕ) (x : Exchange)
-    → to ≡ partner_of me.session (seed_of me round) kind me.party → before.is_announced to ≡ false
+    → to ≡ partner_of me.session (seed_of me round) kind me.party → is_unasked me before to ≡ false
     → x ≡ record { round = round; kind = kind; initiator = me.party; responder = to } → Ask x ∷ [] ≡ asking_partner me before round kind
-one_asked me before round kind to x is kept x_is =
+one_asked me before round kind to x is asked x_is =
     (λ i. Ask (x_is i) ∷ [])
-    ∙ (λ i. orders_when (not (sym kept i)) (Ask (record { round = round; kind = kind; initiator = me.party; responder = to }) ∷ []))
-    ∙ (λ i. orders_when (not (before.is_announced (is i)))
+    ∙ (λ i. orders_when (not (sym asked i)) (Ask (record { round = round; kind = kind; initiator = me.party; responder = to }) ∷ []))
+    ∙ (λ i. orders_when (not (is_unasked me before (is i)))
     (Ask (record { round = round; kind = kind; initiator = me.party; responder = is i }) ∷ []))
 
 -- ---- the side of who asks

@@ -19,7 +19,7 @@ use Rattle.bar_peer.specs.Sending.{HasOutcome}
 use Rattle.bar_peer.specs.Ticking.{orders_of_opens, is_first_slot, AsksPartners, Reports}
 use Rattle.bar_laws.proofs.Fitting.{perform_all-before}
 use Rattle.bar_peer.proofs.Later.{announced_after, evidence_after}
-use Rattle.bar_peer.proofs.Sent.{all_append}
+use Rattle.bar_laws.proofs.Repeating.{all-append}
 use Rattle.bar_peer.proofs.Unlogged.{opens_state}
 
 -- what is sent again, and the requests that are due
@@ -34,7 +34,7 @@ at_tick : (me : Member) (log : Log) (is_first is_last : Bool) → is_first_slot 
     ≡ perform_all me (begun log) (orders_at_tick me (known me log))
 at_tick me log is_first is_last first last =
     let k : Knowledge = known me log in
-    sym (all_append me (begun log) (first_orders me k is_first) (orders_when is_last (reports me k)))
+    sym (all-append me (begun log) (first_orders me k is_first) (orders_when is_last (reports me k)))
     ∙ (λ i. perform_all me (begun log) (first_orders me k (sym first i) ++ orders_when (sym last i) (reports me k)))
 
 -- What is sent again and the requests of a tick stand, if any are due.
@@ -69,7 +69,7 @@ asked_at_tick m n o p log time first asks room h obedient =
     (subst (λ (out : Out). IsObedient me out.state) (sym (at_tick me log true is_last (ap (is_first_slot me.session) time ∙ first) refl)) obedient)
     in
     let same : between ≡ perform_all me before (new_requests me (known me before.state) (round_after m.ticks)) =
-    all_append me (begun log) (orders_of_opens me k) (new_requests me k (this_round k))
+    all-append me (begun log) (orders_of_opens me k) (new_requests me k (this_round k))
     ∙ (λ i. perform_all me before (new_requests me (known me (sym state i)) (round_after (time i))))
     in
     let asked : HasOutcome between n p =

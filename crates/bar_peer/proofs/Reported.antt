@@ -18,7 +18,8 @@ use Rattle.bar_peer.specs.Memory.{member_of}
 use Rattle.bar_peer.specs.Sending.{report_now, HasOutcome}
 use Rattle.bar_peer.specs.Ticking.{is_reported}
 use Rattle.bar_peer.proofs.Later.{evidence_after, announced_after}
-use Rattle.bar_peer.proofs.Sent.{all_append, sent_report, stands_with, pushed}
+use Rattle.bar_laws.proofs.Repeating.{all-append}
+use Rattle.bar_peer.proofs.Sent.{sent_report, stands_with, pushed}
 use Rattle.bar_bytes.proofs.Options.{some-mapped}
 
 -- the reports against the first peers
@@ -85,7 +86,7 @@ one_reported m o p out before done party true at same due h e =
     in
     subst (λ (after : Out). HasOutcome after m p)
     (sym (sent_report me between party)
-    ∙ sym (all_append me out (reports_to before done) (Report party ∷ []))
+    ∙ sym (all-append me out (reports_to before done) (Report party ∷ []))
     ∙ ap (perform_all me out) (sym (reports_more before done party true at due)))
     (stands_with m o p between (queued.Report party) s refl tt h (e ∙ pushed (queued.Report party) s o.list.items some))
 one_reported m o p out before done party false at same due h e =

@@ -13,8 +13,8 @@ use Rattle.bar_rules.specs.Peer.Exchanges.{role_of, partner_in}
 use Rattle.bar_rules.specs.Peer.Knowledge.{known}
 use Rattle.bar_rules.specs.Peer.Log.{Log}
 use Rattle.bar_rules.specs.Peer.Machine.{message_to, send_if}
-use Rattle.bar_rules.specs.Peer.Orders.{Order, Report}
-use Rattle.bar_rules.specs.Peer.Run.{Out, perform, perform_all, say_or_repeat}
+use Rattle.bar_rules.specs.Peer.Orders.{Report}
+use Rattle.bar_rules.specs.Peer.Run.{Out, perform, say_or_repeat}
 use Rattle.bar_exchange.specs.Says.{order_again}
 use Rattle.bar_peer.specs.declared.memory.Memory.{Memory}
 use Rattle.bar_peer.specs.declared.order.Order.{Order as Queued}
@@ -77,10 +77,6 @@ state_again me out kind x =
     ∙ sent_state out (send_now me (known me out.state) (record { kind = kind; x = x }))
 
 -- ---- lists of orders
-
-pub all_append : (me : Member) (out : Out) (os ps : List Order) → perform_all me out (os ++ ps) ≡ perform_all me (perform_all me out os) ps
-all_append me out [] ps = refl
-all_append me out (o ∷ os) ps = all_append me (perform me out o) os ps
 
 -- ---- orders that are kept
 

@@ -1,22 +1,20 @@
 -- What is said again at a tick may still be sent again.
-use Rattle.std.proofs.Common.{◌≡◌, ℕ, ◌+◌, Bool, true, not, ◌&&◌, List, [], ◌∷◌, ◌++◌, map, subst, sym}
-use Rattle.std.specs.Prelude.{if◌then◌else◌}
+use Rattle.std.proofs.Common.{◌≡◌, ℕ, ◌+◌, true, not, List, [], ◌∷◌, map, subst, sym}
 use Rattle.std.specs.List.{AllByRecursion}
-use Rattle.std.proofs.lemmas.Bool.{and_parts, cond_both, leb-true}
+use Rattle.std.proofs.lemmas.Bool.{leb-true}
+use Rattle.bar_bytes.proofs.Tests.{and-second}
 use Rattle.bar_window.specs.declared.exchange.Exchange.{Exchange}
-use Rattle.bar_window.specs.declared.exchange.Role.{Role}
-use Rattle.bar_window.specs.declared.exchange.Role.TheVariants.{Initiator, Responder}
 use Rattle.bar_window.specs.declared.exchange.XKind.{XKind}
 use Rattle.bar_window.specs.declared.exchange.XKind.TheVariants.{Balanced, Push}
-use Rattle.bar_window.specs.Exchange.{other_role}
 use Rattle.bar_wire.specs.declared.kind.Kind.{Kind}
 use Rattle.bar_wire.specs.declared.kind.Kind.TheVariants as kinds
 use Rattle.bar_rules.specs.Member.{Member}
 use Rattle.bar_rules.specs.Peer.Agreement.{IsRecent, IsRepeatable}
-use Rattle.bar_rules.specs.Peer.Exchanges.{role_of, partner_in, request_kind}
-use Rattle.bar_rules.specs.Peer.Knowledge.{Knowledge, this_round, answer_deadline, is_in_time, has_said_of, has_heard_of}
+use Rattle.bar_rules.specs.Peer.Exchanges.{partner_in, request_kind}
+use Rattle.bar_rules.specs.Peer.Knowledge.{Knowledge, this_round, answer_deadline}
 use Rattle.bar_rules.specs.Peer.Orders.{Order, Resend, Reveal, AskKey}
-use Rattle.bar_rules.specs.Peer.Ticks.{again, reveals, lacks_answer, lacks_case, lacks_key}
+use Rattle.bar_rules.specs.Peer.Ticks.{again, lacks_case}
+use Rattle.bar_laws.proofs.Logs.{again-all, when-all}
 use Rattle.bar_exchange.specs.Says.{order_again}
 use Rattle.bar_exchange.specs.declared.say.Say.{Say}
 use Rattle.bar_peer.specs.Sending.{IsTimely}
@@ -55,36 +53,16 @@ timely_request me k Balanced round h = h
 timely_request me k Push round h = h
 
 timely_case : (me : Member) (k : Knowledge) (x : Exchange) → lacks_case me k x ≡ true → IsRepeatable me k kinds.Case x.round
-timely_case me k x h =
-    let said : Bool = has_said_of k kinds.Case x (role_of me x) in
-    let missing : Bool = not (has_heard_of k kinds.Case x (other_role (role_of me x))) in
-    let timely : Bool = is_in_time me.session k kinds.Case x.round in
-    leb-true (this_round k) (x.round + answer_deadline) (and_parts (said && missing) timely h).1
-
-timely_reveals : (me : Member) (k : Knowledge) (kind : XKind) (role : Role) (x : Exchange) → IsRecent me k x.round
-    → IsRepeatable me k kinds.Case x.round → AllByRecursion (IsTimelyOrder me k) (reveals kind role x ++ Resend kinds.Case x ∷ [])
-timely_reveals me k Balanced Initiator x recent h = (recent, (h, tt))
-timely_reveals me k Balanced Responder x recent h = (h, tt)
-timely_reveals me k Push Initiator x recent h = (h, tt)
-timely_reveals me k Push Responder x recent h = (h, tt)
+timely_case me k x h = leb-true (this_round k) (x.round + answer_deadline) (and-second _ _ h)
 
 timely_again : (me : Member) (k : Knowledge) (x : Exchange) → IsRecent me k x.round → AllByRecursion (IsTimelyOrder me k) (again me k x)
 timely_again me k x recent =
-    let All = AllByRecursion (IsTimelyOrder me k) in
-    let key : List Order = if lacks_key me k x then AskKey x ∷ [] else [] in
-    let case : List Order = if lacks_case me k x then reveals x.kind (role_of me x) x ++ Resend kinds.Case x ∷ [] else key in
-    cond_both (lacks_answer me k x) (Resend (request_kind x.kind) x ∷ []) case All
-    (λ _. (timely_request me k x.kind x.round recent, tt))
-    (λ _. cond_both (lacks_case me k x) (reveals x.kind (role_of me x) x ++ Resend kinds.Case x ∷ []) key All
-    (λ h. timely_reveals me k x.kind (role_of me x) x recent (timely_case me k x h))
-    (λ _. cond_both (lacks_key me k x) (AskKey x ∷ []) [] All (λ _. (recent, tt)) (λ _. tt)))
+    again-all (IsTimelyOrder me k) me k x (timely_request me k x.kind x.round recent) (λ h. (recent, timely_case me k x h)) (λ _. recent)
 
 timely_open : (me : Member) (k : Knowledge) (x : Exchange) → IsRecent me k x.round
     → AllByRecursion (IsTimelyOrder me k) (orders_of_open me k x)
 timely_open me k x recent =
-    cond_both (not (k.is_announced (partner_in me x))) (again me k x) [] (AllByRecursion (IsTimelyOrder me k))
-    (λ _. timely_again me k x recent)
-    (λ _. tt)
+    when-all (IsTimelyOrder me k) (not (k.is_announced (partner_in me x))) (again me k x) (λ _. timely_again me k x recent)
 
 -- so it is with what stands for these orders
 pub again_is_timely : (me : Member) (k : Knowledge) (x : Exchange) (says : List Say) → IsRecent me k x.round

@@ -1,11 +1,12 @@
 -- The orders at a tick, by line.
-use Rattle.std.specs.Prelude.{◌≡◌, ◌≤◌, ℕ, ◌+◌, ◌*◌, Bool, not, ◌&&◌, ◌==◌, nat_le, List, [], is_some, length}
+use Rattle.std.specs.Prelude.{◌≡◌, ◌≤◌, ℕ, ◌+◌, ◌*◌, Bool, not, ◌&&◌, ◌||◌, ◌==◌, nat_le, List, [], is_some, length}
 use Rattle.std.specs.List.{flat_map}
 use Rattle.bar_window.specs.declared.exchange.Exchange.{Exchange}
 use Rattle.bar_window.specs.declared.exchange.XKind.{XKind}
 use Rattle.bar_wire.specs.Limits.{exchanges_a_round}
 use Rattle.bar_session.specs.Time.{round_after, slot_after}
 use Rattle.bar_rules.specs.Member.{Session, Member}
+use Rattle.bar_rules.specs.Peer.Debts.{owes}
 use Rattle.bar_rules.specs.Peer.Exchanges.{partner_in}
 use Rattle.bar_rules.specs.Peer.Knowledge.{Knowledge, known}
 use Rattle.bar_rules.specs.Peer.Log.{Log}
@@ -37,11 +38,15 @@ most_orders s = 2 * (exchanges_a_round * (s.shape.life + 2)) + 2 + s.shape.peers
 abbrev pub is_first_slot : Session → ℕ → Bool
 is_first_slot s ticks = (slot_after ticks == 0) && (nat_le 1 (round_after ticks) && nat_le (round_after ticks) s.shape.rounds)
 
--- The partner of a round is asked for an exchange of a kind, by who was announced evicted before, and what stood stands.
+-- a party that isn't asked: it is announced evicted, or owes a key
+abbrev pub is_unasked : Member → Knowledge → ℕ → Bool
+is_unasked me k party = k.is_announced party || owes me k party
+
+-- The partner of a round is asked for an exchange of a kind, unless it wasn't to be asked before, and what stood stands.
 abbrev pub AsksPartner : Credentials → ℕ → XKind → Memory → Orders → Memory → Orders → Type 0
 AsksPartner who round kind m o n p =
     let me : Member = member_of who in
-    (out : Out) (before : Knowledge) → ((party : ℕ) → before.is_announced party ≡ (known me out.state).is_announced party)
+    (out : Out) (before : Knowledge) → ((party : ℕ) → is_unasked me before party ≡ is_unasked me (known me out.state) party)
     → IsObedient me (perform_all me out (asking_partner me before round kind)).state → HasOutcome out m o
     → length o.list.items + 1 ≤ o.room → HasOutcome (perform_all me out (asking_partner me before round kind)) n p
 

@@ -1,9 +1,10 @@
 //! What a peer asks for at the first slot of a round.
-ghost use Rattle.std.specs.Prelude.{◌+◌, ◌≤◌, length};
+ghost use Rattle.std.specs.Prelude.{◌≡◌, ◌+◌, ◌≤◌, length};
 ghost use Rattle.bar_session.specs.Time.{round_after};
-ghost use Rattle.bar_peer.specs.Ticking.{AsksPartner, AsksPartners};
+ghost use Rattle.bar_rules.specs.Peer.Knowledge.{Knowledge};
+ghost use Rattle.bar_peer.specs.Ticking.{is_unasked, AsksPartner, AsksPartners};
 ghost use Rattle.bar_core.specs.Orders.{HasSameRoom};
-ghost use Rattle.bar_peer.specs.Memory.{IsSameParty};
+ghost use Rattle.bar_peer.specs.Memory.{member_of, IsMemoryOf, IsSameParty};
 
 use crate::memory::Memory;
 use crate::order::Order;
@@ -13,7 +14,20 @@ use bar_seeds::partner;
 use bar_window::{Role, XKind};
 use bar_wire::exchange_by;
 
-/// Asks the partner of this round, one of the session, for an exchange of a kind, where the partner isn't announced evicted.
+impl Memory {
+    /// Whether a party isn't asked: it is announced evicted, or owes this peer a key.
+    fn is_unasked(&self, party: u16) -> bool
+        ensures { (k : Knowledge) → IsMemoryOf (member_of self.now.who) k self.now → result ≡ is_unasked (member_of self.now.who) k party }
+    {
+        if self.evictions.is_named(party) {
+            return true;
+        }
+        self.ledger.owes(party, self.round())
+    }
+}
+
+/// Asks the partner of this round, one of the session, for an exchange of a kind, where the partner isn't announced evicted and owes no
+/// key.
 fn ask_partner(memory: &mut Memory, orders: &mut Orders<Order>, kind: XKind)
     requires first { 1 ≤ round_after memory.old.ticks }
     requires last { round_after memory.old.ticks ≤ memory.old.who.session.shape.rounds }
@@ -27,7 +41,7 @@ fn ask_partner(memory: &mut Memory, orders: &mut Orders<Order>, kind: XKind)
     let round = memory.round();
     let seed = memory.who.chain.seed(round);
     let to = partner(&shape.id, &seed, kind, me, shape.peers);
-    if memory.evictions.is_named(to) {
+    if memory.is_unasked(to) {
         return;
     }
     let x = exchange_by(round, kind, Role::Initiator, me, to);

@@ -359,7 +359,7 @@ fn a_spent_key_and_a_closed_standard_error(rt: HostRuntime) -> Result<(), Fail> 
     let left = replay(alloc, small_session(), spent, &bytes, &[], &[], &[])?;
     check_status(&rt, &left, 0, "");
     check_file(&rt, &left, "p", b"hi");
-    let left = replay(alloc, "version = 3", spent, &bytes, &[], &[], &[1])?;
+    let left = replay(alloc, "version = 4", spent, &bytes, &[], &[], &[1])?;
     check_status(&rt, &left, 4, "bar: session refuse");
     check_file(&rt, &left, "p", b"none");
     Ok(())

@@ -12,7 +12,6 @@ use Rattle.bar_window.specs.declared.exchange.XKind.TheVariants.{Balanced}
 use Rattle.bar_wire.specs.Bodies.{evidence_in}
 use Rattle.bar_wire.specs.Datagram.{Datagram, Message, Request, place_of}
 use Rattle.bar_wire.specs.Grammar.{IsDatagram}
-use Rattle.bar_wire.specs.Inputs.{Input}
 use Rattle.bar_wire.specs.Inputs as event
 use Rattle.bar_wire.specs.Limits.{leaves_a_round}
 use Rattle.bar_rules.specs.Broadcaster.Sending.{caster_step, caster_take}
@@ -42,9 +41,9 @@ and-false : (a : Bool) → (a && false) ≡ false
 and-false true = refl
 and-false false = refl
 
-never : (a c d : Bool) → (((a && false) && c) && d) ≡ false
-never true c d = refl
-never false c d = refl
+never : (a c d e : Bool) → ((((a && false) && c) && d) && e) ≡ false
+never true c d e = refl
+never false c d e = refl
 
 -- any bytes serve as the seed and as the commitment
 abbrev seed : List ℕ
@@ -138,7 +137,7 @@ module _ (peers : PeersRun) (casters : BroadcasterRuns) (setup : Setup) (is : Is
 
   refused : is_admitted me (known me keeps) d ≡ false
   unfolding is_admitted
-  refused = rw apart (rw (never (is_seed s 1 1 seed) _ _) (and-false _))
+  refused = rw apart (rw (never (is_seed s 1 1 seed) _ _ _) (and-false _))
 
   abbrev told : Out
   told = record { state = keeps; sends = (0, report_of me evidence) ∷ []; contents = [] }

@@ -1,5 +1,5 @@
 -- A round's request is made, and its partner admits it.
-use Rattle.std.proofs.Common.{◌≡◌, ◌∙◌, ◌⊎◌, inl, inr, ℕ, ◌+◌, ◌≤◌, Bool, true, false, not, List, [], ◌∷◌, ◌++◌, refl, sym, ap, subst, is_some, eqb, cond, arith}
+use Rattle.std.proofs.Common.{◌≡◌, ◌∙◌, ◌⊎◌, inl, inr, ℕ, ◌+◌, ◌≤◌, Bool, true, false, not, ◌||◌, List, [], ◌∷◌, ◌++◌, refl, sym, ap, subst, is_some, eqb, cond, arith}
 use Rattle.std.specs.Prelude.{Option, Some, None, Contains, nat_le}
 use Rattle.std.proofs.lemmas.Bool.{and_from, eq-eqb, le-leb, lt-leb, lt-ltb}
 use Rattle.bar_bytes.proofs.Options.{or-none}
@@ -20,11 +20,12 @@ use Rattle.bar_rules.specs.Member.{IsMember, Member}
 use Rattle.bar_rules.specs.Secrets.{is_seed, partner_of, secrets_of}
 use Rattle.bar_rules.specs.Values.{is_signed_by}
 use Rattle.bar_rules.specs.Peer.Admission.{is_admitted}
+use Rattle.bar_rules.specs.Peer.Debts.{owes}
 use Rattle.bar_rules.specs.Peer.Exchanges.{partner_in, role_of}
 use Rattle.bar_rules.specs.Peer.Knowledge.{Knowledge, has_heard_of, known, this_round}
 use Rattle.bar_rules.specs.Peer.Log.{Log, Said, Ticked, first_heard, first_said, is_announced, names_party, round_now, ticks}
 use Rattle.bar_rules.specs.Peer.Machine as machine
-use Rattle.bar_rules.specs.Peer.Machine.{logs, message_to, send_if}
+use Rattle.bar_rules.specs.Peer.Machine.{logs, message_to}
 use Rattle.bar_rules.specs.Peer.Orders.{Ask, Order, ask_body}
 use Rattle.bar_rules.specs.Peer.Replies.{orders_when}
 use Rattle.bar_rules.specs.Peer.Rules.{IsObedient, IsSignedByRule}
@@ -116,19 +117,19 @@ when-has b os o e c = subst (λ z. Contains (orders_when z os) o) (sym e) c
 
 -- the orders of a round's first slot have it
 tick-asks : (me : Member) (k : Knowledge) → slot_after k.ticks ≡ 0 → 1 ≤ this_round k → this_round k ≤ me.session.shape.rounds → k.is_announced (partner_then me (this_round k)) ≡ false
-    → Contains (orders_at_tick me k) (Ask (asking me (this_round k) Balanced (partner_then me (this_round k))))
-tick-asks me k slot low high trading =
+    → owes me k (partner_then me (this_round k)) ≡ false → Contains (orders_at_tick me k) (Ask (asking me (this_round k) Balanced (partner_then me (this_round k))))
+tick-asks me k slot low high trading unowed =
     contains-front _ (orders_when (eqb (slot_after k.ticks) 7) (reports me k)) (Ask x)
     (contains-back _ _ (Ask x)
     (when-has _ (new_requests me k (this_round k)) (Ask x) (and_from _ _ (eq-eqb _ _ slot) (and_from _ _ (le-leb 1 (this_round k) low) (le-leb (this_round k) me.session.shape.rounds high)))
-    (contains-front _ _ (Ask x) (when-has _ (Ask x ∷ []) (Ask x) (ap not trading) (Contains-here (Ask x) [])))))
+    (contains-front _ _ (Ask x) (when-has _ (Ask x ∷ []) (Ask x) (λ i. not (trading i || unowed i)) (Contains-here (Ask x) [])))))
   where
     x : Exchange
     x = asking me (this_round k) Balanced (partner_then me (this_round k))
 
 pub requests-made : RequestsAreMade
 unfolding machine.step
-requests-made me log round due trading = subst (λ r. MakesRequest (step me log event.Tick) (partner_then me r) r) due.now stepped
+requests-made me log round due trading unowed = subst (λ r. MakesRequest (step me log event.Tick) (partner_then me r) r) due.now stepped
   where
     k : Knowledge
     k = known me (Ticked ∷ log)
@@ -142,8 +143,11 @@ requests-made me log round due trading = subst (λ r. MakesRequest (step me log 
     open_to : is_announced (Ticked ∷ log) (partner_then me now) ≡ false
     open_to = ap is_some (or-none (first_heard (names_party (partner_then me now)) log)) ∙ subst (λ r. is_announced log (partner_then me r) ≡ false) (sym due.now) trading
 
+    free : owes me k (partner_then me now) ≡ false
+    free = subst (λ r. owes me k (partner_then me r) ≡ false) (sym due.now) unowed
+
     asks : MakesRequest (perform_all me (begun (Ticked ∷ log)) (orders_at_tick me k)) (partner_then me now) now
-    asks = among-makes me (partner_then me now) now (begun (Ticked ∷ log)) (orders_at_tick me k) (tick-asks me k due.slot (omega arith) (omega (arith, due.now, due.high)) open_to)
+    asks = among-makes me (partner_then me now) now (begun (Ticked ∷ log)) (orders_at_tick me k) (tick-asks me k due.slot (omega arith) (omega (arith, due.now, due.high)) open_to free)
 
     ticked : MakesRequest (take_input me log event.Tick) (partner_then me now) now
     ticked = record { request = asks.request; seed = asks.seed; commitment = asks.commitment; body = asks.body; said = asks.said; sent = asks.sent }
@@ -210,6 +214,9 @@ module _ (peers : PeersRun) (members : PeersAreMembers) (ruled : SignedByRule) (
       trading : is_announced log request.message.from ≡ false
       trading = ap (is_announced log) own ∙ s.trading
 
+      unowed : owes you k request.message.from ≡ false
+      unowed = ap (owes you k) own ∙ s.unowed
+
       accepted : is_signed_by setup.session (with_body request (Request round r.seed r.commitment)) ≡ true
       accepted = subst (λ d. is_signed_by setup.session d ≡ true) same (said-accepted me r.log request is obedient in_log)
 
@@ -227,7 +234,7 @@ module _ (peers : PeersRun) (members : PeersAreMembers) (ruled : SignedByRule) (
           and_from _ _
           (and_from _ _ (and_from _ _ (and_from _ _ (eq-eqb request.message.to to r.receiver) (ap not trading)) accepted) (ap not first))
           (and_from _ _
-          (and_from _ _ (and_from _ _ asks (eq-eqb _ to chosen)) (lt-ltb (k.asked Balanced round) seats_a_round s.seats))
+          (and_from _ _ (and_from _ _ (and_from _ _ asks (eq-eqb _ to chosen)) (lt-ltb (k.asked Balanced round) seats_a_round s.seats)) (ap not unowed))
           (and_from _ _ (le-leb round (round_now log + 1) s.early) s.in_time))
 
 pub requests-admitted : PeersRun → PeersAreMembers → SignedByRule → RequestsAreAdmitted

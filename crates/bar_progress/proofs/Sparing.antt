@@ -1,10 +1,10 @@
 -- Nothing is sent to an announced party.
-use Rattle.std.proofs.Common.{◌≡◌, ◌≢◌, ◌∙◌, ℕ, Bool, true, false, List, [], ◌∷◌, ◌++◌, is_some, refl, sym, ap, subst, cond}
-use Rattle.std.specs.Prelude.{Option, Some, None, not, map, nat_le}
+use Rattle.std.proofs.Common.{◌≡◌, ◌≢◌, ◌∙◌, ℕ, Bool, true, false, List, [], ◌∷◌, is_some, refl, sym, ap, subst, cond}
+use Rattle.std.specs.Prelude.{Option, Some, None, not, map, nat_le, ◌||◌}
 use Rattle.std.specs.Bool.{then_some}
 use Rattle.std.specs.List.{AllByRecursion}
 use Rattle.std.specs.Str.{bytes_eq}
-use Rattle.std.proofs.lemmas.Bool.{both_ways, not-true}
+use Rattle.std.proofs.lemmas.Bool.{both_ways, not-true, or_parts}
 use Rattle.bar_bytes.proofs.Options.{or-none}
 use Rattle.bar_session.specs.Time.{last_tick}
 use Rattle.bar_window.specs.Exchange.{other_role, party_on}
@@ -15,14 +15,13 @@ use Rattle.bar_window.specs.declared.exchange.XKind.{XKind}
 use Rattle.bar_window.specs.declared.exchange.XKind.TheVariants.{Balanced, Push}
 use Rattle.bar_wire.proofs.Lists.{AllByRecursion-push}
 use Rattle.bar_wire.specs.Datagram.{Body, Case, Datagram, Divulge, KeyReq, Query, Reply, Request, Response, exchange_by, part_of, place_of}
-use Rattle.bar_wire.specs.Inputs.{Input}
 use Rattle.bar_wire.specs.Inputs as event
-use Rattle.bar_wire.specs.declared.kind.Kind.TheVariants as kinds
 use Rattle.bar_rules.specs.Member.{Member}
 use Rattle.bar_rules.specs.Secrets.{partner_of, seed_of}
 use Rattle.bar_rules.specs.Peer.Admission.{is_admitted}
+use Rattle.bar_rules.specs.Peer.Debts.{owes}
 use Rattle.bar_rules.specs.Peer.Evidence.{new_evidence}
-use Rattle.bar_rules.specs.Peer.Exchanges.{partner_in, request_kind, role_of}
+use Rattle.bar_rules.specs.Peer.Exchanges.{partner_in, role_of}
 use Rattle.bar_rules.specs.Peer.Knowledge.{Knowledge, known, this_round}
 use Rattle.bar_rules.specs.Peer.Log.{Heard, Log, Ticked, first_heard, is_announced, names_party, ticks}
 use Rattle.bar_rules.specs.Peer.Machine as machine
@@ -32,14 +31,13 @@ use Rattle.bar_rules.specs.Peer.Replies.{heard_like, if_same, orders_for, orders
 use Rattle.bar_rules.specs.Peer.Rules.{IsObedient}
 use Rattle.bar_rules.specs.Peer.Run.{Out, answer_repeat, answered_to, log_after, perform, perform_all, report_new, say_or_repeat, step, take_datagram, take_input, with_evidence}
 use Rattle.bar_rules.specs.Peer.Signing.{signed}
-use Rattle.bar_rules.specs.Peer.Ticks.{again, asking_partner, lacks_answer, lacks_case, lacks_key, new_requests, orders_at_tick, reports, reveals}
+use Rattle.bar_rules.specs.Peer.Ticks.{again, asking_partner, new_requests, orders_at_tick, reports}
 use Rattle.bar_rules.specs.Runs.{begun}
 use Rattle.bar_rules.specs.Values.{datagram_bytes, datagram_of, unsigned}
 use Rattle.bar_laws.specs.Obedience.{SignedByRule}
-use Rattle.bar_laws.proofs.Logs.{all-both, all-flat, fits-back, heard-own, reads-back, receiver-partner, role-initiator, same_bytes-is, some-equal, was-heard-fits, was-heard-own}
-use Rattle.bar_laws.proofs.Runs.{evidence-obedient, repeated-heard, when-all}
+use Rattle.bar_laws.proofs.Logs.{again-all, all-both, all-flat, fits-back, heard-own, reads-back, receiver-partner, role-initiator, same_bytes-is, some-equal, unannounced, was-heard-fits, was-heard-own, when-all}
+use Rattle.bar_laws.proofs.Runs.{evidence-obedient, repeated-heard}
 use Rattle.bar_progress.specs.Evictions.{AnnouncedAreIgnored, AnnouncedGetNothing, IsSpared}
-use Rattle.bar_progress.proofs.Arriving.{unannounced}
 
 -- the party to which an order's datagram goes
 abbrev receiver : Member → Order → ℕ
@@ -104,26 +102,16 @@ module _ (me : Member) (party : ℕ) where
   -- ---- at a tick
 
   again-elsewhere : (k : Knowledge) (x : Exchange) → partner_in me x ≢ party → AllByRecursion IsElsewhere (again me k x)
-  again-elsewhere k x n = go (lacks_answer me k x) (lacks_case me k x) (lacks_key me k x) x.kind (role_of me x)
-    where
-      shown : (kind : XKind) (r : Role) → AllByRecursion IsElsewhere (reveals kind r x ++ Resend kinds.Case x ∷ [])
-      shown Balanced Initiator = (n, (n, tt))
-      shown Balanced Responder = (n, tt)
-      shown Push Initiator = (n, tt)
-      shown Push Responder = (n, tt)
-
-      go : (a b c : Bool) (kind : XKind) (r : Role) → AllByRecursion IsElsewhere (cond a (Resend (request_kind x.kind) x ∷ []) (cond b (reveals kind r x ++ Resend kinds.Case x ∷ []) (cond c (AskKey x ∷ []) [])))
-      go true b c kind r = (n, tt)
-      go false true c kind r = shown kind r
-      go false false true kind r = (n, tt)
-      go false false false kind r = tt
+  again-elsewhere k x n = again-all IsElsewhere me k x n (λ e. (n, n)) (λ e. n)
 
   module _ (k : Knowledge) (announced : k.is_announced party ≡ true) (caster : k.is_announced 0 ≡ false) where
     other : (q : ℕ) → k.is_announced q ≡ false → q ≢ party
     other q e same = both_ways (k.is_announced q) e (ap k.is_announced same ∙ announced)
 
     asking-elsewhere : (round : ℕ) (kind : XKind) → AllByRecursion IsElsewhere (asking_partner me k round kind)
-    asking-elsewhere round kind = when-all IsElsewhere (not (k.is_announced to)) (Ask x ∷ []) (λ e. (λ same. other to (not-true _ e) (sym partner ∙ same), tt))
+    asking-elsewhere round kind =
+        when-all IsElsewhere (not (k.is_announced to || owes me k to)) (Ask x ∷ [])
+        (λ e. (λ same. other to (or_parts (k.is_announced to) (owes me k to) (not-true _ e)).0 (sym partner ∙ same), tt))
       where
         to : ℕ
         to = partner_of me.session (seed_of me round) kind me.party

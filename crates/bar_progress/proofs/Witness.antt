@@ -378,7 +378,7 @@ module _ (keys anchors : List (List ℕ)) (s0 s1 s2 stream : List ℕ) where
       unfolding is_admitted
       admitted =
           and_from _ _ (and_from _ _ (and_from _ _ (and_from _ _ refl refl) (sent7.0.accepted refl)) refl)
-          (and_from _ _ (and_from _ _ (and_from _ _ seeded (ap (λ z. eqb z 2) (partner-two s (seed_of one 1) Balanced refl))) refl) refl)
+          (and_from _ _ (and_from _ _ (and_from _ _ (and_from _ _ seeded (ap (λ z. eqb z 2) (partner-two s (seed_of one 1) Balanced refl))) refl) refl) refl)
 
       can : CanTrade (pair_in setup 1 2 1) (talk_in setup 1 2 mine theirs request) nonce ha
       can = record {
@@ -434,7 +434,7 @@ module _ (keys anchors : List (List ℕ)) (s0 s1 s2 stream : List ℕ) where
           (and_from _ _ (and_from _ _ refl (and_from _ _ (ap (λ (g : Digest). not (is_past_end g) && true) first) refl))
           (and_from _ _ (ap (λ (g : Digest). is_known g && true) first) refl))
           refl)
-          (and_from _ _ (and_from _ _ (and_from _ _ seeded (ap (λ z. eqb z 2) (partner-two s (seed_of one 1) Push refl))) refl) refl))
+          (and_from _ _ (and_from _ _ (and_from _ _ (and_from _ _ seeded (ap (λ z. eqb z 2) (partner-two s (seed_of one 1) Push refl))) refl) refl) refl))
 
       can-push : CanPush (pair_in setup 1 2 1) (talk_in setup 1 2 mine theirs query) (u0 ∷ []) []
       can-push = record {

@@ -1,5 +1,5 @@
 -- A round's request is made, and its partner admits it.
-use Rattle.std.specs.Prelude.{◌≡◌, ℕ, ◌+◌, ◌<◌, ◌≤◌, true, false, List, Some, Contains, slice_get}
+use Rattle.std.specs.Prelude.{◌≡◌, ℕ, ◌+◌, ◌<◌, ◌≤◌, true, false, List, ◌∷◌, Some, Contains, slice_get}
 use Rattle.bar_window.specs.declared.exchange.Role.TheVariants.{Initiator}
 use Rattle.bar_window.specs.declared.exchange.XKind.TheVariants.{Balanced}
 use Rattle.bar_wire.specs.Datagram.{Datagram, Request, exchange_by}
@@ -10,8 +10,9 @@ use Rattle.bar_wire.specs.declared.kind.Kind.TheVariants as kinds
 use Rattle.bar_rules.specs.Member.{Member}
 use Rattle.bar_rules.specs.Secrets.{partner_of, seed_of}
 use Rattle.bar_rules.specs.Peer.Admission.{is_admitted}
+use Rattle.bar_rules.specs.Peer.Debts.{owes}
 use Rattle.bar_rules.specs.Peer.Knowledge.{has_heard_of, is_in_time, known}
-use Rattle.bar_rules.specs.Peer.Log.{Log, Said, is_announced, round_now}
+use Rattle.bar_rules.specs.Peer.Log.{Log, Said, Ticked, is_announced, round_now}
 use Rattle.bar_rules.specs.Peer.Run.{Out, step}
 use Rattle.bar_rules.specs.World.World.{IsSetup, Move, Setup, member}
 use Rattle.bar_laws.specs.Parties.{after}
@@ -32,10 +33,11 @@ pub record MakesRequest (out : Out) (partner round : ℕ) : Type 0 where
   pub said : Contains out.state (Said request)
   pub sent : Contains out.sends (partner, request)
 
--- so at the first slot of each round, unless the partner is announced evicted
+-- so at the first slot of each round, unless the partner is announced evicted, or owes a key in this round
 abbrev pub RequestsAreMade : Type 0
 RequestsAreMade =
     (me : Member) (log : Log) (round : ℕ) → IsRoundDue me log round → is_announced log (partner_then me round) ≡ false
+    → owes me (known me (Ticked ∷ log)) (partner_then me round) ≡ false
     → MakesRequest (step me log event.Tick) (partner_then me round) round
 
 -- ---- at its partner
@@ -52,9 +54,11 @@ pub record IsRequested (setup : Setup) (moves : List Move) (from to round : ℕ)
   pub body : request.message.body ≡ Request round seed commitment
   pub receiver : request.message.to ≡ to
 
--- A peer hasn't announced the asker evicted, has admitted no REQUEST of it in the round, has a seat left, and is in time.
+-- A peer hasn't announced the asker evicted and is owed no key by it, has admitted no REQUEST of it in the round, has a seat left, and is in
+-- time.
 pub record CanSeat (me : Member) (log : Log) (from round : ℕ) : Type 0 where
   pub trading : is_announced log from ≡ false
+  pub unowed : owes me (known me log) from ≡ false
   pub first : has_heard_of (known me log) kinds.Request (exchange_by round Balanced Initiator from me.party) Initiator ≡ false
   pub seats : (known me log).asked Balanced round < seats_a_round
   pub early : round ≤ round_now log + 1

@@ -6,13 +6,14 @@ use bar_laws::obedience::signed_by_rule;
 use bar_laws::own_runs::parties_run_alone;
 use bar_laws::premises::premises_can_be_met;
 
-/// At the first slot of each round a peer sends a REQUEST to the partner that the round's seed chooses, unless it is announced evicted.
+/// At the first slot of each round a peer sends a REQUEST to the partner that the round's seed chooses, unless it is announced evicted or
+/// owes the peer a key.
 pub fn requests_are_made()
     ensures { RequestsAreMade }
 {}
 
-/// A REQUEST that a peer of a world has signed is admitted by its receiver if this is in time, has a seat left and hasn't announced the
-/// peer evicted, whatever is forged.
+/// A REQUEST that a peer of a world has signed is admitted by its receiver if this is in time, has a seat left, hasn't announced the peer
+/// evicted and is owed no key by it, whatever is forged.
 pub fn requests_are_admitted()
     ensures { RequestsAreAdmitted }
 {

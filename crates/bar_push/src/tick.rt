@@ -7,7 +7,7 @@ ghost use Rattle.bar_rules.specs.Peer.Ticks.{lacks_answer, again};
 ghost use Rattle.bar_ledger.specs.Recalls.{Recalls};
 ghost use Rattle.bar_exchange.specs.Says.{orders_at_tick};
 
-use bar_exchange::{REQUEST_DEADLINE, Say, Says, has_heard, is_within, lacks_case, lacks_key};
+use bar_exchange::{REQUEST_DEADLINE, Say, Says, has_heard, is_within, later_again};
 use bar_ledger::Ledger;
 use bar_window::{Exchange, Role};
 use bar_wire::Kind;
@@ -27,14 +27,12 @@ pub fn again(ledger: &Ledger, round: u32, x: Exchange) -> Says
     ensures { (me : Member) (k : Knowledge) → IsMember me → Recalls me k ledger.now → round ≡ this_round k → x.kind ≡ Push
         → orders_at_tick result ≡ again me k x }
 {
-    let kind = if lacks_answer(ledger, round, x) {
-        Kind::Query
-    } else if lacks_case(ledger, round, x) {
-        Kind::Case
-    } else if lacks_key(ledger, round, x) {
-        Kind::KeyReq
+    if lacks_answer(ledger, round, x) {
+        Says::One(Say {
+            kind: Kind::Query,
+            x,
+        })
     } else {
-        return Says::Nothing;
-    };
-    Says::One(Say { kind, x })
+        later_again(ledger, round, x)
+    }
 }

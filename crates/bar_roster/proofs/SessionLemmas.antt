@@ -101,7 +101,7 @@ types_in_range top ms types read =
 -- the numbers that are read are in their ranges
 numbers_in_range : (ms : Members) (n : Numbers) → numbers_of ms ≡ Ok n → AreInRange n
 numbers_in_range ms n read =
-    check_holds (field (number_in 1 2) Version (codes "version") ms) _ n read (λ version is_version after_version.
+    check_holds (field (number_in 1 3) Version (codes "version") ms) _ n read (λ version is_version after_version.
     check_holds (field (bytes_of 8) Id (codes "id") ms) _ n after_version (λ id is_id after_id.
     check_holds (field_if_there (number_in 5 7) Top (codes "top") ms) _ n after_id (λ top is_top after_top.
     check_holds (field (number_in 1 (rounds_by (is_some top))) Rounds (codes "rounds") ms) _ n after_top (λ rounds is_rounds after_rounds.
@@ -111,7 +111,7 @@ numbers_in_range ms n read =
     check_holds (field (number_in 1024 65335) Port (codes "port") ms) _ n after_per_round (λ port is_port after_port.
     check_holds (field (number_in 1 60000) TickMs (codes "tick_ms") ms) _ n after_port (λ tick_ms is_tick_ms after_tick_ms.
     check_holds (types_of top ms) _ n after_tick_ms (λ types is_types after_types.
-    let version_in = in_range 1 2 Version (get_member (codes "version") ms) version is_version in
+    let version_in = in_range 1 3 Version (get_member (codes "version") ms) version is_version in
     let rounds_in = in_range 1 (rounds_by (is_some top)) Rounds (get_member (codes "rounds") ms) rounds is_rounds in
     let life_in = in_range 2 16 Life (get_member (codes "life") ms) life is_life in
     let cap_in = in_range 1 16 Cap (get_member (codes "cap") ms) cap is_cap in

@@ -1,6 +1,7 @@
 mod Worked
 mod WorkedVerdicts
 mod WorkedBroadcast
+mod WorkedDebts
 pub mod LongerRuns
 pub mod TermWindows
 pub mod EqualTerms

@@ -5,7 +5,7 @@ use Rattle.std.specs.Cmp.Lexicographic.{slice_cmp}
 use Rattle.std.specs.Cmp.Lexicographic.{nat_list_cmp_total}
 use Rattle.std.specs.Ordering.{nat_cmp, ordering_reverse, is_gt}
 use Rattle.sha2.specs.Sha256.{sha256}
-use Rattle.bar_rules.specs.Broadcaster.Sending.{caster_signed, send_blocks, evict_by, judge_body, caster_step}
+use Rattle.bar_rules.specs.Broadcaster.Sending.{caster_signed, caster_sends_of, send_blocks, evict_by, judge_body, caster_step}
 use Rattle.bar_rules.specs.Broadcaster.Stream.{block_bytes, manifest_list, caster_table, rank_of, is_in_fanout}
 use Rattle.bar_window.specs.declared.update.UpdateId.{UpdateId}
 use Rattle.bar_wire.specs.Datagram.{Datagram, Manifest, Block, Evidence, Evict}
@@ -181,6 +181,40 @@ what_is_signed_is_kept :
     ≡ Said (eviction 2 (2 ∷ [])) ∷ Said (manifest 2) ∷ Ticked ∷ Kept 2 [] ∷ after 8
 unfolding caster_step
 what_is_signed_is_kept = refl
+
+-- ---- manifests that are said again
+
+-- the broadcaster of a session of two rounds, by its version
+abbrev of_version : ℕ → Member
+of_version version = record {
+  session = record session { shape = record session.shape { version = version; rounds = 2 }; fanout = 2 };
+  party = 0;
+  secret = [];
+}
+
+-- the ticks that send something in a run of three rounds with no blocks, each as often as it does
+abbrev ticks_that_send : ℕ → List ℕ
+ticks_that_send version = map (λ sent. sent.0) (caster_sends_of (of_version version) [] (replicate 24 event.Tick))
+
+-- in version 3 those of slot 2 too, from round 2 to the round after the last
+who_sends_in_slot_2 :
+    map ticks_that_send (1 ∷ 2 ∷ 3 ∷ [])
+    ≡ (1 ∷ 1 ∷ 5 ∷ 5 ∷ 9 ∷ 9 ∷ 13 ∷ 13 ∷ [])
+    ∷ (1 ∷ 1 ∷ 5 ∷ 5 ∷ 9 ∷ 9 ∷ 13 ∷ 13 ∷ [])
+    ∷ (1 ∷ 1 ∷ 5 ∷ 5 ∷ 9 ∷ 9 ∷ 11 ∷ 11 ∷ 13 ∷ 13 ∷ 19 ∷ 19 ∷ [])
+    ∷ []
+unfolding caster_step
+who_sends_in_slot_2 = refl
+
+-- tick 11 sends what was said of round 1, and tick 19 what was said of round 2, to those that aren't evicted then; neither signs anything
+the_manifest_of_the_round_before_goes_again :
+    (first second : Datagram) → first.message.body ≡ Manifest 1 [] → second.message.body ≡ Manifest 2 []
+    → map (λ ticks. caster_step (of_version 3) [] (Kept 1 [] ∷ Said second ∷ Said first ∷ after ticks) event.Tick) (10 ∷ 18 ∷ [])
+    ≡ record { state = Ticked ∷ Kept 1 [] ∷ Said second ∷ Said first ∷ after 10; sends = (2, first) ∷ []; contents = [] }
+    ∷ record { state = Ticked ∷ Kept 1 [] ∷ Said second ∷ Said first ∷ after 18; sends = (2, second) ∷ []; contents = [] }
+    ∷ []
+unfolding caster_step
+the_manifest_of_the_round_before_goes_again first second one two = simp (one, two)
 
 -- ---- the end of the stream
 

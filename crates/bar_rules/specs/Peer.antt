@@ -3,6 +3,7 @@ pub mod Log
 pub mod Holdings
 pub mod Exchanges
 pub mod Knowledge
+pub mod Debts
 pub mod Terms
 pub mod Choices
 pub mod Admission

@@ -14,6 +14,17 @@ pub fn session() -> &'static str {
     anchor = \"22d984a93475a329dd35bccd254007ee8d81f582aaf64ee95e3bfea93bfbea63\"\n"
 }
 
+/// `session` in version 3, with twenty rounds.
+pub fn third_session() -> &'static str {
+    "version = 3\nid = \"0011223344556677\"\nrounds = 20\nlife = 4\ncap = 4\n\
+    per_round = 8\nfanout = 1\nport = 20000\ntick_ms = 20\nlms = 6\nots = 4\n\
+    key = \"00000006000000048d1e3644fdcc75d960cb49ec94696848dd05823833a56f5ac63061df7770db1bfbc282df417853c4907357eccb7c925f\"\n\n[[peer]]\n\
+    key = \"00000006000000042ef17295b2b2463d8d9beef9c2b84a153262ffbbedd3314d59ffebcd595202b00e84ed977495ad7ce89a0968f687295f\"\n\
+    anchor = \"6df554ef86729fa16a7e7e7996a5e105d97d623da5cdba1136ff9076f604ac2c\"\n\n[[peer]]\n\
+    key = \"0000000600000004d87398929b1937843f54974546a2b8d69b190ddc534c8aa140c0cb0e6ff6b6ad588117979b2c07fdc2c8b5349e811f42\"\n\
+    anchor = \"83269f0d2fe4bcfce159a9d89a00754a4c4d48d420faf98b712391837722eab5\"\n"
+}
+
 /// `session` with types that make short chains.
 pub fn session_of_short_chains() -> &'static str {
     "version = 1\nid = \"0011223344556677\"\nrounds = 10\nlife = 4\ncap = 4\n\

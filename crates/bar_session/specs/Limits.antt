@@ -1,5 +1,5 @@
 -- The limits of a session's numbers.
-use Rattle.std.specs.Prelude.{ℕ, ◌*◌, ◌≤◌, ◌==◌, Bool, Option, IfSome, if◌then◌else◌}
+use Rattle.std.specs.Prelude.{ℕ, ◌*◌, ◌≤◌, Bool, Option, IfSome, nat_le, if◌then◌else◌}
 use Rattle.bar_window.specs.Places.{words_in}
 
 -- the most peers of a session
@@ -37,7 +37,7 @@ first_ots_by two = if two then 3 else 1
 
 -- the most updates of a round in a version, for each of which a window has a flag
 abbrev pub most_per_round : ℕ → ℕ
-most_per_round version = 64 * words_in (version == 2)
+most_per_round version = 64 * words_in (nat_le 2 version)
 
 -- the type of an upper tree
 abbrev pub IsTop : Option ℕ → Type 0

@@ -38,7 +38,7 @@ fn lengths_of(kind: u8) -> (usize, usize) {
 /// Whether a datagram may be one of a session, by its first bytes and its length.
 fn may_be_read(datagram: &[u8]) -> bool {
     match datagram {
-        [0xba, 0x47, 1 | 2, kind, ..] => {
+        [0xba, 0x47, 1 | 2 | 3, kind, ..] => {
             let (least, most) = lengths_of(*kind);
             least <= datagram.len() && datagram.len() <= most
         }

@@ -17,11 +17,7 @@ ghost use Rattle.bar_cli.specs.Line.{usage};
 ghost use Rattle.bar_cli.specs.Refusals.{session_refused, key_refused, recording_refused};
 ghost use Rattle.bar_cli.specs.Replay.Plan.{ReplayFiles, SessionAccepted, SessionRefused, KeyAccepted, KeyRefused, InputRefused, Accepted, Replayed, PlayedFront, PlayedUpTo, FoundUpTo, ChangesNothing, IsMade, IsReplayCall, replay_plan};
 
-use bar_laws::balance::balanced;
-use bar_laws::evidence::{bad_keys_leave_evidence, kept_evidence_is_shown};
-use bar_laws::framing::no_framing;
-use bar_laws::leaves::leaf_discipline;
-use bar_laws::obedience::signed_by_rule;
+use crate::headline::peers_keep_the_rules;
 use bar_outside::plans_go_in_order;
 use bar_record::{paced_inputs_stay_paced, recordings_read_back};
 use bar_roster::laws::{
@@ -162,13 +158,8 @@ pub fn a_replay_keeps_the_rules()
 {
     accepted_secrets_are_held();
     accepted_sessions_are_in_range();
-    bad_keys_leave_evidence();
-    balanced();
-    kept_evidence_is_shown();
-    leaf_discipline();
-    no_framing();
+    peers_keep_the_rules();
     plans_go_in_order();
-    signed_by_rule();
 }
 
 /// A replay of the recording that a peer left which is done ends with 0, but for a fault or want of memory. Then it shows exactly what the

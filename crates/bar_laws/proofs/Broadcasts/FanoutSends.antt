@@ -1,6 +1,6 @@
 -- Where none is evicted, the block of an update goes to each peer of its fan-out at two ticks, and at no other input.
 use Rattle.bar_rules.specs.Broadcaster.Party.{IsBroadcaster}
-use Rattle.bar_rules.specs.Broadcaster.Sending.{evicted, served, caster_signed, send_all, announce_by, announce, announce_manifest, announce_evictions, send_block, send_blocks, caster_tick, evict_by, judge_body, judge_datagram, caster_take, caster_step, caster_log_after}
+use Rattle.bar_rules.specs.Broadcaster.Sending.{evicted, served, caster_signed, send_all, announce_by, announce, announce_manifest, announce_evictions, repeat_all, repeat_manifest, repeats_manifest, send_block, send_blocks, caster_tick, evict_by, judge_body, judge_datagram, caster_take, caster_step, caster_log_after}
 use Rattle.bar_rules.specs.Broadcaster.Stream.{round_blocks, manifest_list, caster_table, is_in_fanout, peers_of}
 use Rattle.bar_session.specs.Time.{last_tick, round_after, slot_after}
 use Rattle.bar_rules.specs.Member.{Session, Member}
@@ -13,11 +13,14 @@ use Rattle.bar_window.specs.declared.update.UpdateId.{UpdateId}
 use Rattle.bar_wire.specs.Datagram.{kind_number, kind_of, Message, Datagram, Body, Manifest, Block, Evidence, Evict}
 use Rattle.bar_wire.specs.Inputs.{Input}
 use Rattle.bar_wire.specs.Inputs as event
+use Rattle.bar_wire.specs.Kinds.{code_of}
+use Rattle.bar_wire.specs.declared.kind.Kind.TheVariants as kinds
 use Rattle.bar_laws.specs.Broadcasting.{is_block_of, IsReleased, GoesToTheFanout, GoesOutTwice}
 use Rattle.bar_laws.specs.Growing.{IsLater}
 use Rattle.bar_laws.proofs.Logs.{find-later, first_said-was, some-is}
 use Rattle.bar_laws.proofs.Fitting.{AreOwn, IsFair, caster-casts}
 use Rattle.bar_laws.proofs.Broadcasts.FanoutCounts.{fanouts-whole, weaker-keeps}
+use Rattle.bar_laws.proofs.Broadcasts.Steps.{ticks-on}
 use Rattle.std.proofs.Common.{◌≡◌, ◌⊎◌, ℕ, suc, ◌+◌, ◌-◌, ◌*◌, ◌<◌, ◌≤◌, Bool, true, false, not, ◌&&◌, ◌||◌, List, [], ◌∷◌, ◌++◌, length, map, append-nil, append_assoc, refl, sym, ap, ◌∙◌, subst, cond, eqb, inl, inr, arith, length-append}
 use Rattle.std.specs.Prelude.{Option, Some, None, is_some, is_none, filter, nat_le}
 use Rattle.std.specs.Option.{option_or}
@@ -186,6 +189,20 @@ announced-passes me u out leaf round body n = go (first_said test out.state) ref
         passes-on u out said _ (record { time = omega arith; sends = refl })
         (all-pass u (served me.session out.state) said d (no-block u body n))
 
+-- nor is a manifest that goes out again
+repeated-passes : (s : Session) (u : UpdateId) (out : Out) (round : ℕ) → Passes u out (repeat_manifest s round out)
+repeated-passes s u out round = go (first_said test out.state) refl
+  where
+    test : Message → Bool
+    test = has_kind_and_round kinds.Manifest round
+
+    go : (q : Option Datagram) → first_said test out.state ≡ q → Passes u out (repeat_all s out q)
+    go None e = record { time = refl; sends = refl }
+    go (Some d) e =
+        let its : kind_number d.message.body ≡ code_of kinds.Manifest =
+        eqb-true _ _ (and_parts _ _ (first_said-was test out.state d e).1).0 in
+        all-pass u (served s out.state) out d (no-block u d.message.body (λ f. absurd (omega (arith, its, f))))
+
 -- ---- one tick
 
 -- at the tick the update's block goes out
@@ -205,7 +222,8 @@ at-tick :
     (me : Member) (stream : List ℕ) (u : UpdateId) (log : Log) → IsReleased me stream u
     → AtTick me u log (caster_tick me stream (begun log))
 at-tick me stream u log is =
-    go (not (nat_le m me.session.shape.rounds)) refl (eqb slot 0) refl (eqb slot 4) refl (eqb slot 1 || eqb slot 5) refl
+    go (eqb slot 2) refl (not (nat_le m me.session.shape.rounds)) refl (eqb slot 0) refl (eqb slot 4) refl
+    (eqb slot 1 || eqb slot 5) refl
   where
     m : ℕ
     m = round_now log
@@ -236,6 +254,10 @@ at-tick me stream u log is =
         passes-on u (begun log) out _ p (announced-passes me u out (2 * (m - 1) + 1) m (notice out) (λ e. absurd (omega (arith, e))))
     evictions out p false = p
 
+    again : (b : Bool) → Passes u (begun log) (cond b (repeat_manifest me.session (m - 1) (begun log)) (begun log))
+    again true = repeated-passes me.session u (begun log) (m - 1)
+    again false = record { time = refl; sends = refl }
+
     later : nat_le m me.session.shape.rounds ≡ false → is_due u (ticks log) ≡ false
     later e =
         and_left _ _ (ne_eqb m u.round (λ same. both_ways _ e (le-leb m me.session.shape.rounds (omega (arith, same, is.1)))))
@@ -261,15 +283,17 @@ at-tick me stream u log is =
     })
 
     go :
-        (p : Bool) → not (nat_le m me.session.shape.rounds) ≡ p → (q : Bool) → eqb slot 0 ≡ q → (r : Bool) → eqb slot 4 ≡ r
-        → (t : Bool) → (eqb slot 1 || eqb slot 5) ≡ t
-        → AtTick me u log (cond p (begun log) (cond q (announce_evictions me m after_manifest)
-        (cond r after_manifest (cond t (send_blocks me m 0 round (begun log)) (begun log)))))
-    go true e q f r g t h = quiet _ (later (not-true _ e)) (record { time = refl; sends = refl })
-    go false e true f r g t h = quiet _ (in-slot 0 f refl) (evictions _ manifest _)
-    go false e false f true g t h = quiet _ (in-slot 4 g refl) manifest
-    go false e false f false g true h = blocks (eqb m u.round) refl h
-    go false e false f false g false h = quiet _ (and_right (eqb m u.round) _ h) (record { time = refl; sends = refl })
+        (s : Bool) → eqb slot 2 ≡ s → (p : Bool) → not (nat_le m me.session.shape.rounds) ≡ p → (q : Bool) → eqb slot 0 ≡ q
+        → (r : Bool) → eqb slot 4 ≡ r → (t : Bool) → (eqb slot 1 || eqb slot 5) ≡ t
+        → AtTick me u log (cond s (cond (repeats_manifest me.session m) (repeat_manifest me.session (m - 1) (begun log)) (begun log))
+        (cond p (begun log) (cond q (announce_evictions me m after_manifest)
+        (cond r after_manifest (cond t (send_blocks me m 0 round (begun log)) (begun log))))))
+    go true c p e q f r g t h = quiet _ (in-slot 2 c refl) (again (repeats_manifest me.session m))
+    go false c true e q f r g t h = quiet _ (later (not-true _ e)) (record { time = refl; sends = refl })
+    go false c false e true f r g t h = quiet _ (in-slot 0 f refl) (evictions _ manifest _)
+    go false c false e false f true g t h = quiet _ (in-slot 4 g refl) manifest
+    go false c false e false f false g true h = blocks (eqb m u.round) refl h
+    go false c false e false f false g false h = quiet _ (and_right (eqb m u.round) _ h) (record { time = refl; sends = refl })
 
 -- ---- where none is evicted, all are served
 
@@ -306,13 +330,6 @@ fanout-served :
 fanout-served me u log e = ap (filter (is_in_fanout me u)) (all-served (kept log) (peers_of me.session) e)
 
 -- ---- the receivers at a tick
-
-ticks-on :
-    (me : Member) (stream : List ℕ) (log : Log) → ticks log < last_tick me.session
-    → caster_step me stream log event.Tick ≡ caster_tick me stream (begun (Ticked ∷ log))
-unfolding caster_step
-ticks-on me stream log early =
-    ap (λ b. cond b (begun log) (caster_tick me stream (begun (Ticked ∷ log)))) (lt-leb (last_tick me.session) (ticks log) early)
 
 pub to-the-fanout : GoesToTheFanout
 to-the-fanout me stream is inputs u released none round slot =

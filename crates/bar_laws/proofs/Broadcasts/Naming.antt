@@ -1,5 +1,5 @@
 -- Whom a notice of evictions names, evidence is kept against.
-use Rattle.bar_rules.specs.Broadcaster.Sending.{announce, announce_by, announce_evictions, announce_manifest, caster_signed, caster_step, caster_take, caster_tick, evicted, send_all, send_block, send_blocks, served}
+use Rattle.bar_rules.specs.Broadcaster.Sending.{announce, announce_by, announce_evictions, announce_manifest, caster_signed, caster_step, caster_take, caster_tick, evicted, repeat_manifest, repeats_manifest, send_block, send_blocks, served}
 use Rattle.bar_rules.specs.Broadcaster.Stream.{is_in_fanout, manifest_list, peers_of, round_blocks}
 use Rattle.bar_rules.specs.Member.{Member}
 use Rattle.bar_rules.specs.Peer.Log.{Entry, Kept, Log, Said, Ticked, first_said, has_kind_and_round, kept, kept_in, round_now, said_in, ticks}
@@ -17,6 +17,7 @@ use Rattle.std.specs.Prelude.{Option, Some, None, cond, filter, is_some, nat_le,
 use Rattle.std.specs.List.{list_any}
 use Rattle.std.specs.Option.{option_or}
 use Rattle.std.proofs.lemmas.Bool.{eqb-true}
+use Rattle.bar_laws.proofs.Broadcasts.SentToAll.{all-state, repeat-flat}
 use Rattle.bar_laws.proofs.Broadcasts.Steps.{judged-keeps}
 use Rattle.bar_laws.proofs.Logs.{SaidIn, no-value, some-equal}
 
@@ -48,10 +49,6 @@ names-other log x none h e (inl g) q n = absurd (no-value (said_in x) e (ap is_s
 names-other log x none h e (inr g) q n = kept-more x log q (h e g q n)
 
 -- ---- sending adds nothing
-
-all-state : (out : Out) (ps : List ℕ) (d : Datagram) → (send_all out ps d).state ≡ out.state
-all-state out [] d = refl
-all-state out (p ∷ ps) d = all-state (sending out p d) ps d
 
 block-state : (out : Out) (ps : List ℕ) (u : UpdateId) (block : List ℕ) → (send_block out ps u block).state ≡ out.state
 block-state out [] u block = refl
@@ -99,18 +96,24 @@ evictions-names me m out h = go (nat_lt 0 (length (evicted me.session out.state)
     go false = h
 
 tick-names : (me : Member) (stream : List ℕ) (out : Out) → NamesKept out.state → NamesKept (caster_tick me stream out).state
-tick-names me stream out h = go (not (nat_le m me.session.shape.rounds)) _ _ _
+tick-names me stream out h = go _ (not (nat_le m me.session.shape.rounds)) _ _ _
   where
     m : ℕ
     m = round_now out.state
 
-    go : (p q r t : Bool)
-        → NamesKept (cond p out (cond q (announce_evictions me m (announce_manifest me stream m out)) (cond r (announce_manifest me stream m out) (cond t (send_blocks me m 0 (round_blocks me.session stream m) out) out)))).state
-    go true q r t = h
-    go false true r t = evictions-names me m (announce_manifest me stream m out) (manifest-names me stream m out h)
-    go false false true t = manifest-names me stream m out h
-    go false false false true = subst NamesKept (sym (blocks-state me m 0 (round_blocks me.session stream m) out)) h
-    go false false false false = h
+    again : (b : Bool) → NamesKept (cond b (repeat_manifest me.session (m - 1) out) out).state
+    again true = subst (λ (o : Out). NamesKept o.state) (sym (repeat-flat me.session (m - 1) out).1) h
+    again false = h
+
+    go : (s p q r t : Bool)
+        → NamesKept (cond s (cond (repeats_manifest me.session m) (repeat_manifest me.session (m - 1) out) out)
+        (cond p out (cond q (announce_evictions me m (announce_manifest me stream m out)) (cond r (announce_manifest me stream m out) (cond t (send_blocks me m 0 (round_blocks me.session stream m) out) out))))).state
+    go true p q r t = again (repeats_manifest me.session m)
+    go false true q r t = h
+    go false false true r t = evictions-names me m (announce_manifest me stream m out) (manifest-names me stream m out h)
+    go false false false true t = manifest-names me stream m out h
+    go false false false false true = subst NamesKept (sym (blocks-state me m 0 (round_blocks me.session stream m) out)) h
+    go false false false false false = h
 
 -- ---- one input
 

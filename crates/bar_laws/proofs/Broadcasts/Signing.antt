@@ -113,7 +113,10 @@ first-tick me stream out is low high slot h = subst (λ z. HasManifest me stream
     begun = (manifest-keeps me stream (λ out. (m ≤ round_now out.state) × Unit {0}) (kept-begun me stream (λ out. Unit {0}) m (record { sent = λ out to d s h. tt; said = λ out d may new h. tt })) is m out low high (omega arith) (omega arith, tt)).0
 
     tick : caster_tick me stream out ≡ announce_evictions me m (announce_manifest me stream m out)
-    tick = cond-false (not (nat_le m me.session.shape.rounds)) _ _ (not_from_true _ (le-leb m me.session.shape.rounds high)) ∙ cond-true (eqb (slot_after (ticks out.state)) 0) _ _ (eq-eqb _ _ slot)
+    tick =
+        cond-false (eqb (slot_after (ticks out.state)) 2) _ _ (ap (λ s. eqb s 2) slot)
+        ∙ cond-false (not (nat_le m me.session.shape.rounds)) _ _ (not_from_true _ (le-leb m me.session.shape.rounds high))
+        ∙ cond-true (eqb (slot_after (ticks out.state)) 0) _ _ (eq-eqb _ _ slot)
 
 -- ---- one input
 

@@ -2,22 +2,25 @@
 use Rattle.bar_laws.specs.Broadcasting.{IsSignedInTime, manifest_of}
 use Rattle.bar_lms.specs.Schemes.{leaves_by}
 use Rattle.bar_rules.specs.Broadcaster.Party.{IsBroadcaster}
-use Rattle.bar_rules.specs.Broadcaster.Sending.{evicted, served, caster_signed, send_all, announce_by, announce, announce_manifest, announce_evictions, send_block, send_blocks, caster_tick, evict_by, judge_body, judge_datagram}
+use Rattle.bar_rules.specs.Broadcaster.Sending.{evicted, served, caster_signed, send_all, announce_by, announce, announce_manifest, announce_evictions, repeat_all, repeat_manifest, repeats_manifest, send_block, send_blocks, caster_tick, caster_step, evict_by, judge_body, judge_datagram}
 use Rattle.bar_rules.specs.Broadcaster.Stream.{round_blocks, manifest_list, caster_table, is_in_fanout, peers_of}
 use Rattle.bar_rules.specs.Judge.Verdict.{Verdict, Shown, NotShown, verdict}
 use Rattle.bar_rules.specs.Member.{Session, Member}
-use Rattle.bar_rules.specs.Peer.Log.{Kept, Log, Said, first_said, has_kind_and_round, kept, round_now}
+use Rattle.bar_session.specs.Time.{last_tick}
+use Rattle.bar_rules.specs.Peer.Log.{Kept, Log, Said, Ticked, first_said, has_kind_and_round, kept, round_now, ticks}
 use Rattle.bar_rules.specs.Peer.Run.{Out}
-use Rattle.bar_rules.specs.Runs.{sending}
+use Rattle.bar_rules.specs.Runs.{begun, sending}
 use Rattle.bar_rules.specs.Values.{unsigned}
 use Rattle.bar_window.specs.declared.update.UpdateId.{UpdateId}
 use Rattle.bar_wire.specs.Datagram.{kind_of, round_of, Datagram, Body, Manifest, Block, Evidence, Evict}
 use Rattle.bar_wire.specs.Grammar.{IsPeer}
+use Rattle.bar_wire.specs.Inputs as event
+use Rattle.bar_wire.specs.declared.kind.Kind.TheVariants as kinds
 use Rattle.bar_wire.specs.Limits.{leaves_a_round}
-use Rattle.std.proofs.Common.{◌≡◌, ℕ, Bool, true, false, List, [], ◌∷◌, ◌+◌, ◌-◌, ◌*◌, ◌<◌, ◌≤◌, not, length, arith, refl, ◌∙◌}
+use Rattle.std.proofs.Common.{◌≡◌, ℕ, Bool, true, false, List, [], ◌∷◌, ◌+◌, ◌-◌, ◌*◌, ◌<◌, ◌≤◌, not, length, arith, refl, ap, ◌∙◌}
 use Rattle.std.specs.Prelude.{Option, Some, None, is_none, is_some, cond, nat_le, nat_lt, filter}
 use Rattle.std.specs.List.{AllByRecursion}
-use Rattle.std.proofs.lemmas.Bool.{leb-true, ltb-true, not-false}
+use Rattle.std.proofs.lemmas.Bool.{leb-true, lt-leb, ltb-true, not-false}
 use Rattle.std.proofs.lemmas.List.Elements.{All-contains, filter_passes}
 use Rattle.bar_laws.proofs.Logs.{all-kept, all-map, all-of}
 use Rattle.bar_laws.proofs.Runs.{not_some}
@@ -65,6 +68,14 @@ announce-keeps me stream P k out leaf body may h = go (first_said (has_kind_and_
     go (Some c) e = all-keep me stream P k out (served me.session out.state) c (served-all me.session out.state) h
     go None e = all-keep me stream P k (record out { state = Said d ∷ out.state }) (served me.session out.state) d (served-those me.session out.state d) (k.said out d may e h)
 
+-- a manifest that was said goes out again
+repeat-keeps : (me : Member) (stream : List ℕ) (P : Out → Type 0) → IsKept me stream P → (round : ℕ) (out : Out) → P out → P (repeat_manifest me.session round out)
+repeat-keeps me stream P k round out h = go (first_said (has_kind_and_round kinds.Manifest round) out.state)
+  where
+    go : (o : Option Datagram) → P (repeat_all me.session out o)
+    go None = h
+    go (Some d) = all-keep me stream P k out (served me.session out.state) d (served-all me.session out.state) h
+
 block-keeps : (me : Member) (stream : List ℕ) (P : Out → Type 0) → IsKept me stream P → (out : Out) (ps : List ℕ) (u : UpdateId) (block : List ℕ) → AllByRecursion (IsServed me.session out.state) ps → P out → P (send_block out ps u block)
 block-keeps me stream P k out [] u block all h = h
 block-keeps me stream P k out (p ∷ ps) u block all h =
@@ -109,7 +120,7 @@ evictions-keep me stream P k is m out low high begun h = go (nat_lt 0 (length (e
     go false e = h
 
 pub tick-keeps : (me : Member) (stream : List ℕ) (P : Out → Type 0) → IsKept me stream P → IsBroadcaster me → (out : Out) → 1 ≤ round_now out.state → P out → P (caster_tick me stream out)
-tick-keeps me stream P k is out low h = go (not (nat_le m me.session.shape.rounds)) refl _ _ _
+tick-keeps me stream P k is out low h = go _ (not (nat_le m me.session.shape.rounds)) refl _ _ _
   where
     m : ℕ
     m = round_now out.state
@@ -125,13 +136,27 @@ tick-keeps me stream P k is out low h = go (not (nat_le m me.session.shape.round
         let first = manifest-keeps me stream (λ out. (m ≤ round_now out.state) × P out) (kept-begun me stream P m k) is m out low high (omega arith) (omega arith, h) in
         evictions-keep me stream P k is m (announce_manifest me stream m out) low high first.0 first.1
 
-    go : (p : Bool) → not (nat_le m me.session.shape.rounds) ≡ p → (q r t : Bool)
-        → P (cond p out (cond q (announce_evictions me m (announce_manifest me stream m out)) (cond r (announce_manifest me stream m out) (cond t (send_blocks me m 0 (round_blocks me.session stream m) out) out))))
-    go true e q r t = h
-    go false e true r t = both (within e)
-    go false e false true t = manifest (within e)
-    go false e false false true = blocks-keep me stream P k m 0 (round_blocks me.session stream m) out h
-    go false e false false false = h
+    again : (b : Bool) → P (cond b (repeat_manifest me.session (m - 1) out) out)
+    again true = repeat-keeps me stream P k (m - 1) out h
+    again false = h
+
+    go : (s p : Bool) → not (nat_le m me.session.shape.rounds) ≡ p → (q r t : Bool)
+        → P (cond s (cond (repeats_manifest me.session m) (repeat_manifest me.session (m - 1) out) out)
+        (cond p out (cond q (announce_evictions me m (announce_manifest me stream m out)) (cond r (announce_manifest me stream m out) (cond t (send_blocks me m 0 (round_blocks me.session stream m) out) out)))))
+    go true p e q r t = again (repeats_manifest me.session m)
+    go false true e q r t = h
+    go false false e true r t = both (within e)
+    go false false e false true t = manifest (within e)
+    go false false e false false true = blocks-keep me stream P k m 0 (round_blocks me.session stream m) out h
+    go false false e false false false = h
+
+-- before the last tick, a tick is taken
+pub ticks-on :
+    (me : Member) (stream : List ℕ) (log : Log) → ticks log < last_tick me.session
+    → caster_step me stream log event.Tick ≡ caster_tick me stream (begun (Ticked ∷ log))
+unfolding caster_step
+ticks-on me stream log early =
+    ap (λ b. cond b (begun log) (caster_tick me stream (begun (Ticked ∷ log)))) (lt-leb (last_tick me.session) (ticks log) early)
 
 -- ---- a datagram
 

@@ -1,6 +1,6 @@
 -- What one input adds to the broadcaster's log, and what it sends.
 use Rattle.bar_rules.specs.Broadcaster.Party.{IsBroadcaster}
-use Rattle.bar_rules.specs.Broadcaster.Sending.{evicted, served, caster_message, caster_signed, send_all, announce_by, announce, announce_manifest, announce_evictions, send_block, send_blocks, caster_tick, evict_by, judge_body, judge_datagram, caster_take, caster_step}
+use Rattle.bar_rules.specs.Broadcaster.Sending.{evicted, served, caster_message, caster_signed, send_all, announce_by, announce, announce_manifest, announce_evictions, repeat_all, repeat_manifest, repeats_manifest, send_block, send_blocks, caster_tick, evict_by, judge_body, judge_datagram, caster_take, caster_step}
 use Rattle.bar_rules.specs.Broadcaster.Stream.{round_blocks, manifest_list, caster_table, is_in_fanout}
 use Rattle.bar_wire.specs.Limits.{leaves_a_round}
 use Rattle.bar_wire.specs.Bodies.{evidence_in}
@@ -12,9 +12,10 @@ use Rattle.bar_rules.specs.Peer.Run.{Out}
 use Rattle.bar_rules.specs.Values.{datagram_of, is_signed_by, unsigned}
 use Rattle.bar_rules.specs.Judge.Verdict.{Verdict, Shown, NotShown, Fault, verdict}
 use Rattle.bar_window.specs.declared.update.UpdateId.{UpdateId}
-use Rattle.bar_wire.specs.Datagram.{kind_of, Datagram, Body, Manifest, Block, Evidence, Evict}
+use Rattle.bar_wire.specs.Datagram.{kind_of, Datagram, Message, Body, Manifest, Block, Evidence, Evict}
 use Rattle.bar_wire.specs.Inputs.{Input}
 use Rattle.bar_wire.specs.Inputs as event
+use Rattle.bar_wire.specs.declared.kind.Kind.TheVariants as kinds
 use Rattle.std.proofs.Common.{◌≡◌, ℕ, Bool, true, false, List, [], ◌∷◌, ◌+◌, ◌-◌, ◌*◌, ◌<◌, ◌≤◌, not, length, arith, refl, sym, ap, subst, inl, inr}
 use Rattle.std.specs.Prelude.{Option, Some, None, is_some, cond, nat_le, nat_lt, filter}
 use Rattle.bar_laws.proofs.Logs.{first_said-was, SaidIn, said-in, all-of, all-kept, all-map}
@@ -128,6 +129,17 @@ casts-announce me stream log o out leaf round body plain begun fits accepted a =
     go (Some c) e = casts-all me stream log o (served me.session out.state) out c a (said-in out.state c (first_said-was (has_kind_and_round (kind_of body) round) out.state c e).0)
     go None e = casts-all me stream log o (served me.session out.state) said d grown (inl refl)
 
+-- a manifest that was said goes out again
+casts-repeat : (me : Member) (stream : List ℕ) (log : Log) (o : Option Datagram) (out : Out) (round : ℕ) → Casts me stream log o out → Casts me stream log o (repeat_manifest me.session round out)
+casts-repeat me stream log o out round a = go (first_said test out.state) refl
+  where
+    test : Message → Bool
+    test = has_kind_and_round kinds.Manifest round
+
+    go : (q : Option Datagram) → first_said test out.state ≡ q → Casts me stream log o (repeat_all me.session out q)
+    go None e = a
+    go (Some d) e = casts-all me stream log o (served me.session out.state) out d a (said-in out.state d (first_said-was test out.state d e).0)
+
 abbrev IsPeerOf : Session → ℕ → Type 0
 IsPeerOf s p = (1 ≤ p) × (p ≤ s.shape.peers)
 
@@ -149,11 +161,11 @@ casts-blocks me stream log o m i (b ∷ blocks) out z s low high few whole a =
     (λ p peer. block-fits me.session (record { round = m; index = i }) b p s low high (omega (arith, few)) whole.0 peer.0 peer.1)
     (all-kept (IsPeerOf me.session) (is_in_fanout me (record { round = m; index = i })) (served me.session out.state) (all-of (IsPeerOf me.session) (served me.session out.state) (served-are-peers me.session out.state))) a)
 
-caster-accepted : (me : Member) (leaf : ℕ) (body : Body) → IsBroadcaster me → leaf < leaves_by me.session.top me.session.params → is_signed_by me.session (caster_signed me leaf body) ≡ true
+pub caster-accepted : (me : Member) (leaf : ℕ) (body : Body) → IsBroadcaster me → leaf < leaves_by me.session.top me.session.params → is_signed_by me.session (caster_signed me leaf body) ≡ true
 caster-accepted me leaf body is below = signed-accepted me.session 0 me.secret leaf (caster_message body) is.fits refl below
 
 casts-tick : (me : Member) (stream : List ℕ) (log : Log) (o : Option Datagram) (out : Out) → IsBroadcaster me → 1 ≤ round_now out.state → Casts me stream log o out → Casts me stream log o (caster_tick me stream out)
-casts-tick me stream log o out is low a = go (not (nat_le m me.session.shape.rounds)) refl _ _ _
+casts-tick me stream log o out is low a = go _ (not (nat_le m me.session.shape.rounds)) refl _ _ _
   where
     m : ℕ
     m = round_now out.state
@@ -184,15 +196,21 @@ casts-tick me stream log o out is low a = go (not (nat_le m me.session.shape.rou
     few-blocks : not (nat_le m me.session.shape.rounds) ≡ false → 0 + length (round_blocks me.session stream m) ≤ me.session.shape.per_round
     few-blocks e = let few : length (round_blocks me.session stream m) ≤ me.session.shape.per_round = blocks-are-few me.session stream m in omega (arith, few)
 
-    go : (p : Bool) → not (nat_le m me.session.shape.rounds) ≡ p → (q r t : Bool)
-        → Casts me stream log o (cond p out (cond q (announce_evictions me m (announce_manifest me stream m out)) (cond r (announce_manifest me stream m out) (cond t (send_blocks me m 0 (round_blocks me.session stream m) out) out))))
-    go true e q r t = a
-    go false e true r t = evictions (within e) (announce_manifest me stream m out) (manifest (within e)) _ refl
-    go false e false true t = manifest (within e)
-    go false e false false true =
+    again : (b : Bool) → Casts me stream log o (cond b (repeat_manifest me.session (m - 1) out) out)
+    again true = casts-repeat me stream log o out (m - 1) a
+    again false = a
+
+    go : (s p : Bool) → not (nat_le m me.session.shape.rounds) ≡ p → (q r t : Bool)
+        → Casts me stream log o (cond s (cond (repeats_manifest me.session m) (repeat_manifest me.session (m - 1) out) out)
+        (cond p out (cond q (announce_evictions me m (announce_manifest me stream m out)) (cond r (announce_manifest me stream m out) (cond t (send_blocks me m 0 (round_blocks me.session stream m) out) out)))))
+    go true p e q r t = again (repeats_manifest me.session m)
+    go false true e q r t = a
+    go false false e true r t = evictions (within e) (announce_manifest me stream m out) (manifest (within e)) _ refl
+    go false false e false true t = manifest (within e)
+    go false false e false false true =
         casts-blocks me stream log o m 0 (round_blocks me.session stream m) out is.party is.session low (within e) (few-blocks e)
         (all-of (λ (block : List ℕ). length block ≡ 1024) (round_blocks me.session stream m) (blocks-are-whole me.session stream m)) a
-    go false e false false false = a
+    go false false e false false false = a
 
 casts-begun : (me : Member) (stream : List ℕ) (log : Log) (o : Option Datagram) → AreOwn me.session stream log → IsFair me stream log → Casts me stream log o (begun log)
 casts-begun me stream log o own fair = record { adds = record { new = []; split = refl; added = tt; sent = tt }; own = own; fair = fair; fits = tt }

@@ -2,7 +2,7 @@
 use Rattle.bar_rules.specs.Peer.Evidence.{new_evidence}
 use Rattle.bar_rules.specs.Runs.{begun}
 use Rattle.bar_rules.specs.Peer.Admission.{is_admitted}
-use Rattle.bar_rules.specs.Peer.Exchanges.{request_kind, role_of, partner_in, revealed, open_exchanges, with_exchange, exchange_said, exchanges_said}
+use Rattle.bar_rules.specs.Peer.Exchanges.{role_of, partner_in, revealed, open_exchanges, with_exchange, exchange_said, exchanges_said}
 use Rattle.bar_rules.specs.Peer.Knowledge.{known}
 use Rattle.bar_rules.specs.Peer.Log.{kept, Log, Entry, Ticked, Heard, Said, Kept, said_in, first_said, ticks, round_now, is_announced}
 use Rattle.bar_rules.specs.Peer.Machine.{send_if, message_to}
@@ -13,7 +13,7 @@ use Rattle.bar_rules.specs.Peer.Replies.{reply_orders, orders_for, orders_when, 
 use Rattle.bar_rules.specs.Peer.Rules.{IsObedient}
 use Rattle.bar_rules.specs.Peer.Run.{Out, perform, perform_all, say, say_or_repeat, answered_to, answer_repeat, with_evidence, report_new, take_datagram, take_input, step}
 use Rattle.bar_rules.specs.Peer.Signing.{MaySay, signed, leaf_for}
-use Rattle.bar_rules.specs.Peer.Ticks.{orders_at_tick, again, lacks_answer, lacks_case, lacks_key, reveals, asking_partner, new_requests, reports}
+use Rattle.bar_rules.specs.Peer.Ticks.{orders_at_tick, again, asking_partner, new_requests, reports}
 use Rattle.bar_rules.specs.Values.{datagram_of, message_bytes, unsigned}
 use Rattle.bar_rules.specs.Peer.Machine as machine
 use Rattle.bar_rules.proofs.Rising.{all-inserted}
@@ -31,14 +31,14 @@ use Rattle.bar_wire.specs.Grammar.{IsDatagram, IsPeer, MaySend}
 use Rattle.bar_wire.specs.Inputs.{Input}
 use Rattle.bar_wire.specs.Inputs as event
 use Rattle.bar_wire.specs.Kinds.{is_signed_kind}
-use Rattle.std.proofs.Common.{◌≡◌, ◌≢◌, ℕ, ◌+◌, ◌<◌, ◌≤◌, ◌^◌, Bool, true, false, List, [], ◌∷◌, ◌++◌, length, refl, sym, ap, ◌∙◌, subst, inl, eqb, cond, not, arith}
+use Rattle.std.proofs.Common.{◌≡◌, ◌≢◌, ℕ, ◌+◌, ◌<◌, ◌≤◌, ◌^◌, Bool, true, false, List, [], ◌∷◌, length, refl, sym, ap, ◌∙◌, subst, inl, eqb, cond, not, arith}
 use Rattle.std.specs.Prelude.{Option, Some, None, option_map, map, nat_le}
 use Rattle.std.specs.List.{AllByRecursion}
 use Rattle.std.proofs.lemmas.Bool.{eqb-true, eq-eqb, both_ways}
 use Rattle.bar_wire.proofs.Lists.{AllByRecursion-push}
-use Rattle.bar_laws.proofs.Logs.{allowed-at, signed_long, IsFormed, IsBetween, between-by, party-peer, fits-formed, revealed-formed, heard-fits, was-heard-fits, part-in-range, first_said-was, said-rule, SaidIn, was-said, said-in, all-both, all-flat-map, all-kept}
+use Rattle.bar_laws.proofs.Logs.{when-all, again-all, allowed-at, signed_long, IsFormed, IsBetween, between-by, party-peer, fits-formed, revealed-formed, heard-fits, was-heard-fits, part-in-range, first_said-was, said-rule, SaidIn, was-said, said-in, all-both, all-flat-map, all-kept}
 use Rattle.bar_laws.proofs.Fitting.EvidenceFits.{evidence-fits}
-use Rattle.bar_laws.proofs.Runs.{keeps-leaves, send_if-log, step-obedient, repeated-heard, when-all, said-contains}
+use Rattle.bar_laws.proofs.Runs.{keeps-leaves, send_if-log, step-obedient, repeated-heard, said-contains}
 use Rattle.bar_laws.proofs.Fitting.SaidFits.{sign-formed, all-formed, round-small}
 
 -- ---- what is signed
@@ -237,19 +237,7 @@ opened-between me (e ∷ log) is h = go e h (opened-between me log is h.1)
     go (Kept q v) h a = a
 
 again-proper : (me : Member) (log : Log) (x : Exchange) → IsBetween me.session.shape x → AllByRecursion (IsProperOrder me) (again me (known me log) x)
-again-proper me log x b = go (lacks_answer me (known me log) x) (lacks_case me (known me log) x) (lacks_key me (known me log) x) x.kind (role_of me x)
-  where
-    shown : (k : XKind) (r : Role) → AllByRecursion (IsProperOrder me) (reveals k r x ++ Resend kinds.Case x ∷ [])
-    shown Balanced Initiator = (tt, (tt, tt))
-    shown Balanced Responder = (tt, tt)
-    shown Push Initiator = (tt, tt)
-    shown Push Responder = (tt, tt)
-
-    go : (t u v : Bool) (k : XKind) (r : Role) → AllByRecursion (IsProperOrder me) (cond t (Resend (request_kind x.kind) x ∷ []) (cond u (reveals k r x ++ Resend kinds.Case x ∷ []) (cond v (AskKey x ∷ []) [])))
-    go true u v k r = (tt, tt)
-    go false true v k r = shown k r
-    go false false true k r = (b, tt)
-    go false false false k r = tt
+again-proper me log x b = again-all (IsProperOrder me) me (known me log) x tt (λ _. (tt, tt)) (λ _. b)
 
 asking-proper : (me : Member) (log : Log) (kind : XKind) → AllByRecursion (IsProperOrder me) (asking_partner me (known me log) (round_now log) kind)
 asking-proper me log kind = when-all (IsProperOrder me) _ (Ask _ ∷ []) (λ _. (tt, tt))

@@ -1,6 +1,6 @@
 -- What is signed has few bytes.
-use Rattle.std.proofs.Common.{◌≡◌, ℕ, ◌+◌, ◌*◌, ◌≤◌, ◌==◌, true, length, ap, arith}
-use Rattle.std.specs.Prelude.{max}
+use Rattle.std.proofs.Common.{◌≡◌, ℕ, ◌+◌, ◌*◌, ◌≤◌, true, length, ap, arith}
+use Rattle.std.specs.Prelude.{max, nat_le}
 use Rattle.std.proofs.Math.Nat.{max-le}
 use Rattle.bar_session.proofs.Levels.{session_short}
 use Rattle.bar_window.proofs.Widths.{few_words, most_places}
@@ -22,7 +22,7 @@ record IsSmall (s : Session) : Type 0 where
   digests : s.shape.per_round ≤ 128
 
 few-a-round : (version : ℕ) → most_per_round version ≤ 128
-few-a-round version = most_places (version == 2)
+few-a-round version = most_places (nat_le 2 version)
 
 small : (s : Session) → IsSession s → IsSmall s
 small s is =

@@ -17,7 +17,7 @@ use Rattle.std.proofs.Common.{◌≡◌, Bool, true, false, [], ◌∷◌, refl,
 use Rattle.std.specs.Prelude.{Option, Some, None, is_some, option_map}
 use Rattle.std.specs.List.{list_all}
 use Rattle.std.proofs.lemmas.Bool.{and_from, eq-eqb}
-use Rattle.bar_laws.proofs.Runs.{some-more}
+use Rattle.bar_laws.proofs.Logs.{some-more}
 
 -- what makes a pair of a briefcase and a key show a bad opening
 pub record IsBadPair (s : Session) (t : Table) (d e : Datagram) (c : Briefcase) (k : KeyGiven) : Type 0 where

@@ -9,7 +9,7 @@ use Rattle.bar_rules.specs.Peer.Admission.{is_admitted, is_row_met, has_valid_si
 use Rattle.bar_rules.specs.Peer.Evidence.{is_tried, new_evidence}
 use Rattle.bar_rules.specs.Peer.Exchanges.{role_of, partner_in}
 use Rattle.bar_rules.specs.Peer.Knowledge.{known}
-use Rattle.bar_rules.specs.Peer.Log.{kept, kept_in, Log, Entry, Heard, Said, heard_in, if_passes, first_heard, first_said, has_heard, has_said, table, round_now, is_announced}
+use Rattle.bar_rules.specs.Peer.Log.{kept, kept_in, Log, Heard, Said, heard_in, if_passes, first_heard, first_said, has_heard, has_said, table, round_now, is_announced}
 use Rattle.bar_rules.specs.Member.{Member}
 use Rattle.bar_rules.specs.Peer.Rules.{IsObedient, Allows, IsSignedByRule}
 use Rattle.bar_rules.specs.Peer.Signing.{MaySay, MayGiveCase, windows_within}
@@ -29,13 +29,13 @@ use Rattle.bar_window.specs.declared.exchange.Role.TheVariants.{Initiator, Respo
 use Rattle.bar_window.specs.declared.update.UpdateId.{UpdateId}
 use Rattle.bar_window.proofs.Exchanges.{same_role_refl, same_exchange_refl, other-other}
 use Rattle.bar_wire.specs.Datagram.{Datagram, Case, Key, Briefcase, KeyGiven, is_of, is_signed, part_of, round_of, exchange_by, exchange_of, place_by, Place}
-use Rattle.std.proofs.Common.{◌≡◌, ℕ, ◌+◌, Bool, true, false, List, [], ◌∷◌, ◌++◌, refl, sym, ap, ◌∙◌, subst, ◌&&◌, not, inl, inr, map, take, drop, zero, suc, ◌<◌, length, arith}
-use Rattle.std.specs.Prelude.{Some, ◌⊎◌, is_some, option_and_then, option_map, nat_le, Contains, slice_index_or}
+use Rattle.std.proofs.Common.{◌≡◌, ℕ, ◌+◌, Bool, true, false, List, [], ◌∷◌, ◌++◌, refl, sym, ap, ◌∙◌, subst, ◌&&◌, not, inl, inr, map, take, drop}
+use Rattle.std.specs.Prelude.{Some, ◌⊎◌, is_some, option_and_then, option_map, nat_le, Contains}
 use Rattle.std.specs.List.{AllByRecursion, range_with_len}
 use Rattle.std.proofs.lemmas.Bool.{and_parts, and_from, eq-eqb, both_ways, cases_Bool, not_from_false}
 use Rattle.bar_laws.specs.Evidence.{OpensBadly}
 use Rattle.bar_laws.specs.Growing.{IsLater}
-use Rattle.bar_laws.proofs.Logs.{IsEntry, allowed-at, WasHeard, WasSaid, later-entry, find-later, first_heard-was, first_said-was, said-rule, some-is, terms_of-later, table-later, within-extends, known-digest-extends, admitted-row, all-take, all-filtered, IsForOneMember, heard-own, inside-all, IsCaseOf, is_of-case, sender-on, receiver-on, party-on, party-over, receiver-role, receiver-partner}
+use Rattle.bar_laws.proofs.Logs.{IsEntry, entry-of, allowed-at, WasHeard, WasSaid, later-entry, find-later, first_heard-was, first_said-was, said-rule, some-is, terms_of-later, table-later, within-extends, known-digest-extends, admitted-row, all-take, all-filtered, IsForOneMember, heard-own, inside-all, IsCaseOf, is_of-case, sender-on, receiver-on, party-on, party-over, receiver-role, receiver-partner}
 use Rattle.bar_laws.proofs.Judging.ShownStays.{terms_ok-extends}
 use Rattle.bar_laws.proofs.Judging.Accuses.{IsBadPair, bad-completed}
 use Rattle.bar_laws.proofs.Judging.KeptEvidence.{IsWatchful, watchful-at}
@@ -259,16 +259,8 @@ bad-key-kept me log before e k c h watchful place is found bad = go (cases_Bool 
         let f = some-is (first_heard (is_of kinds.Case x k.role) before) (key-row me before e k al.0.0 is).0 in
         absurd (none f.0 f.1 free)
 
-earlier : (e : Entry) (log : Log) (d : Datagram) → WasHeard log d → WasHeard (e ∷ log) d
-earlier e log d w = record { before = w.before; place = record { after = e ∷ w.place.after; split = ap (λ l. e ∷ l) w.place.split } }
-
 pub heard-was : (log : Log) (d : Datagram) → Contains log (Heard d) → WasHeard log d
-heard-was [] d h = absurd (omega (arith, h.1))
-heard-was (e ∷ log) d h = go h.0 h.1 h.2 (heard-was log d)
-  where
-    go : (k : ℕ) → k < length (e ∷ log) → slice_index_or (e ∷ log) k (Heard d) ≡ Heard d → (Contains log (Heard d) → WasHeard log d) → WasHeard (e ∷ log) d
-    go zero lt is rest = record { before = log; place = record { after = []; split = ap (λ y. y ∷ log) is } }
-    go (suc k) lt is rest = earlier e log d (rest (k, omega arith, is))
+heard-was log d h = let f = entry-of log (Heard d) h in record { before = f.0; place = f.1 }
 
 -- so where a key of an exchange opens the partner's briefcase badly, evidence against the partner is kept
 pub opens-badly-kept : (me : Member) (log : Log) (x : Exchange) (d : Datagram) → IsObedient me log → IsWatchful me log → OpensBadly me log x d → is_some (kept log (partner_in me x)) ≡ true

@@ -94,12 +94,12 @@ own-unheard me log d kind x role h w e own =
 
 -- ---- complete terms
 
-trade-both : (a : Option (List ℕ × List UpdateId)) (b : Option (List UpdateId)) (t : Terms) → trade_terms a b ≡ Some t → ((c : List ℕ × List UpdateId) × (a ≡ Some c)) × ((c : List UpdateId) × (b ≡ Some c))
+pub trade-both : (a : Option (List ℕ × List UpdateId)) (b : Option (List UpdateId)) (t : Terms) → trade_terms a b ≡ Some t → ((c : List ℕ × List UpdateId) × (a ≡ Some c)) × ((c : List UpdateId) × (b ≡ Some c))
 trade-both (Some a) (Some b) t e = ((a, refl), (b, refl))
 trade-both (Some a) None t e = cc
 trade-both None b t e = cc
 
-offer-both : (a : Option (List UpdateId × List UpdateId)) (b : Option (List UpdateId × List UpdateId × ℕ)) (t : Terms) → offer_terms a b ≡ Some t → ((c : List UpdateId × List UpdateId) × (a ≡ Some c)) × ((c : List UpdateId × List UpdateId × ℕ) × (b ≡ Some c))
+pub offer-both : (a : Option (List UpdateId × List UpdateId)) (b : Option (List UpdateId × List UpdateId × ℕ)) (t : Terms) → offer_terms a b ≡ Some t → ((c : List UpdateId × List UpdateId) × (a ≡ Some c)) × ((c : List UpdateId × List UpdateId × ℕ) × (b ≡ Some c))
 offer-both (Some a) (Some b) t e = ((a, refl), (b, refl))
 offer-both (Some a) None t e = cc
 offer-both None b t e = cc

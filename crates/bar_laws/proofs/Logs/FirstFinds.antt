@@ -3,9 +3,8 @@ use Rattle.bar_rules.specs.Peer.Log.{Log, Entry, earliest}
 use Rattle.bar_rules.specs.Member.{Member}
 use Rattle.bar_rules.specs.Peer.Rules.{IsObedient, Allows}
 use Rattle.std.specs.Option.{option_or}
-use Rattle.std.proofs.Common.{◌≡◌, [], ◌∷◌, ◌++◌, refl, ap, subst}
-use Rattle.std.specs.Prelude.{Option, Some, None, ◌⊎◌}
-use Rattle.std.proofs.Common.{inl, inr}
+use Rattle.std.proofs.Common.{◌≡◌, ℕ, zero, suc, ◌<◌, [], ◌∷◌, ◌++◌, length, refl, sym, ap, subst, inl, inr, arith}
+use Rattle.std.specs.Prelude.{Option, Some, None, ◌⊎◌, Contains, slice_index_or}
 
 -- an earlier find stays the first
 pub option_or-some : {A : Type 0} (o p : Option A) (a : A) → o ≡ Some a → option_or o p ≡ Some a
@@ -24,6 +23,21 @@ earliest-more f (x ∷ new) log a e = option_or-some (earliest f (new ++ log)) (
 pub record IsEntry (log before : Log) (e : Entry) : Type 0 where
   pub after : Log
   pub split : log ≡ after ++ e ∷ before
+
+pub entry-of : (log : Log) (e : Entry) → Contains log e → (before : Log) × IsEntry log before e
+entry-of [] e c = absurd (omega (arith, c.1))
+entry-of (x ∷ log) e c = go c.0 c.1 c.2 (entry-of log e)
+  where
+    go : (k : ℕ) → k < length (x ∷ log) → slice_index_or (x ∷ log) k e ≡ e → (Contains log e → (before : Log) × IsEntry log before e) → (before : Log) × IsEntry (x ∷ log) before e
+    go zero lt at f = (log, record { after = []; split = ap (λ y. y ∷ log) at })
+    go (suc k) lt at f = let w = f (k, omega (arith, lt), at) in (w.0, record { after = x ∷ w.1.after; split = ap (λ l. x ∷ l) w.1.split })
+
+pub contains-entry : (log before : Log) (e : Entry) → IsEntry log before e → Contains log e
+contains-entry log before e place = subst (λ l. Contains l e) (sym place.split) (go place.after)
+  where
+    go : (after : Log) → Contains (after ++ e ∷ before) e
+    go [] = (0, omega arith, refl)
+    go (x ∷ after) = let c = go after in (suc c.0, omega (arith, c.1), c.2)
 
 -- what was found was found in an entry, and in none before it
 pub record IsFind {A : Type 0} (f : Log → Entry → Option A) (log : Log) (a : A) : Type 0 where

@@ -1,21 +1,23 @@
 -- What the grammar says of an admitted datagram: its parties, its round, and that it reads back.
 use Rattle.bar_wire.specs.Limits.{everyone}
 use Rattle.bar_rules.specs.Peer.Admission.{is_for, is_to_all}
-use Rattle.bar_rules.specs.Peer.Log.{Log, Heard}
+use Rattle.bar_rules.specs.Peer.Log.{Log, Heard, first_heard, is_announced, names_party}
 use Rattle.bar_rules.specs.Member.{Session, Member}
 use Rattle.bar_rules.specs.Peer.Rules.{Allows, IsObedient}
 use Rattle.bar_rules.specs.Values.{datagram_of, datagram_bytes}
 use Rattle.bar_window.specs.declared.exchange.Role.{Role}
 use Rattle.bar_window.specs.declared.exchange.XKind.{XKind}
 use Rattle.bar_wire.specs.declared.shape.Shape.{Shape}
-use Rattle.bar_wire.specs.Datagram.{Message, Datagram, Body, Request, Response, Divulge, Query, Reply, Case, KeyReq, Key, kind_of, part_of}
-use Rattle.bar_wire.specs.Grammar.{IsDatagram, InRange, IsRound, IsPeer, MaySend}
-use Rattle.std.proofs.Common.{◌≡◌, ◌≢◌, ℕ, ◌≤◌, true, false, Bool, List, refl, sym, ◌∙◌, subst, eqb, cond, arith}
-use Rattle.std.specs.Prelude.{Some}
-use Rattle.std.proofs.lemmas.Bool.{eqb-true}
+use Rattle.bar_wire.specs.Bodies.{evictions_in}
+use Rattle.bar_wire.specs.Datagram.{Message, Datagram, Body, Request, Response, Divulge, Query, Reply, Case, KeyReq, Key, Evict, kind_of, part_of}
+use Rattle.bar_wire.specs.Grammar.{IsDatagram, InRange, IsRound, IsPeer, MaySend, RisesTo}
+use Rattle.std.proofs.Common.{◌≡◌, ◌≢◌, ℕ, ◌≤◌, true, false, Bool, List, [], ◌∷◌, refl, sym, ◌∙◌, subst, eqb, cond, arith}
+use Rattle.std.specs.Prelude.{Option, Some, None, is_some}
+use Rattle.std.specs.List.{list_any}
+use Rattle.std.proofs.lemmas.Bool.{both_ways, eqb-true, ne_eqb}
 use Rattle.bar_laws.proofs.Logs.Facts.{only_told, is_told}
 use Rattle.bar_laws.proofs.Logs.FirstFinds.{allowed-at}
-use Rattle.bar_laws.proofs.Logs.LaterLogs.{WasHeard}
+use Rattle.bar_laws.proofs.Logs.LaterLogs.{WasHeard, first_heard-was}
 use Rattle.bar_laws.proofs.Logs.Tables.{admitted-for}
 
 -- the bytes that are read are those of the datagram
@@ -101,3 +103,23 @@ pub heard-round : (me : Member) (before : Log) (d : Datagram) (p : ℕ × XKind 
 heard-round me before d p a e =
     let r : IsRound me.session.shape p.0 = part-in-range me.session.shape d.message.body p e (heard-fits me before d a).range in
     (omega (arith, r.0), r.1)
+
+-- ---- the broadcaster is never announced evicted
+
+rises-above : (high low : ℕ) (ps : List ℕ) → RisesTo high low ps → list_any (λ q. eqb q 0) ps ≡ false
+rises-above high low [] r = refl
+rises-above high low (p ∷ ps) r = rw (ne_eqb p 0 (λ z. absurd (omega (arith, z, r.0)))) (rises-above high p ps r.2)
+
+-- a notice names peers alone
+names-peers : (s : Shape) (b : Body) → InRange s b → list_any (λ q. eqb q 0) (evictions_in b) ≡ false
+names-peers s (Evict r ps) range = rises-above s.peers 0 ps range.1.2
+names-peers s b range = refl
+
+pub unannounced : (me : Member) (log : Log) → IsObedient me log → is_announced log 0 ≡ false
+unannounced me log h = go (first_heard (names_party 0) log) refl
+  where
+    go : (o : Option Datagram) → first_heard (names_party 0) log ≡ o → is_some o ≡ false
+    go None e = refl
+    go (Some d) e =
+        let was = first_heard-was (names_party 0) log d e in
+        absurd (both_ways (list_any (λ q. eqb q 0) (evictions_in d.message.body)) (names-peers me.session.shape d.message.body (was-heard-fits me log d was.0 h).range) was.1)

@@ -1,7 +1,7 @@
 -- Messages of one identity: a message that wasn't said for its exchange has no other of its identity said.
 use Rattle.bar_wire.specs.declared.kind.Kind.TheVariants as kinds
 use Rattle.bar_wire.specs.declared.kind.Kind.{Kind}
-use Rattle.bar_rules.specs.Peer.Log.{Log, Said, earliest, if_passes, said_in, first_said, has_said}
+use Rattle.bar_rules.specs.Peer.Log.{Log, Heard, Said, earliest, if_passes, heard_in, said_in, first_heard, first_said, has_heard, has_said}
 use Rattle.bar_rules.specs.Peer.Signing.{has_same_identity}
 use Rattle.bar_window.specs.declared.exchange.Exchange.{Exchange}
 use Rattle.bar_window.specs.declared.exchange.Role.{Role}
@@ -17,7 +17,12 @@ use Rattle.std.specs.Prelude.{Option, Some, None, is_some}
 use Rattle.std.specs.Bool.{then_some}
 use Rattle.std.proofs.lemmas.Bool.{and_parts, eqb-true, both_ways}
 use Rattle.bar_laws.proofs.Logs.EqualityTests.{no-value, other-kind}
-use Rattle.bar_laws.proofs.Logs.LaterLogs.{WasSaid, first_said-was, some-is}
+use Rattle.bar_laws.proofs.Logs.LaterLogs.{WasHeard, WasSaid, first_said-was, some-is}
+
+-- what is found stays found
+pub some-more : {A : Type 0} (o p : Option A) → is_some o ≡ true → is_some (option_or o p) ≡ true
+some-more (Some a) p e = refl
+some-more None p e = cc
 
 -- a message that was said and passes is found
 found-more : (p : Message → Bool) (d : Datagram) (new before : Log) → p d.message ≡ true → is_some (earliest (λ before e. if_passes p (said_in e)) (new ++ Said d ∷ before)) ≡ true
@@ -26,14 +31,22 @@ found-more p d [] before e = go (first_said p before)
     go : (o : Option Datagram) → is_some (option_or o (then_some (p d.message) d)) ≡ true
     go (Some c) = refl
     go None = rw e refl
-found-more p d (x ∷ new) before e = go _ _ (found-more p d new before e)
-  where
-    go : (o q : Option Datagram) → is_some o ≡ true → is_some (option_or o q) ≡ true
-    go (Some c) q e = refl
-    go None q e = cc
+found-more p d (x ∷ new) before e = some-more _ _ (found-more p d new before e)
 
 pub said-found : (p : Message → Bool) (log : Log) (d : Datagram) → WasSaid log d → p d.message ≡ true → has_said p log ≡ true
 said-found p log d w e = subst (λ l. has_said p l ≡ true) (sym w.place.split) (found-more p d w.place.after w.before e)
+
+-- so is one that was admitted and passes
+found-heard : (p : Message → Bool) (d : Datagram) (new before : Log) → p d.message ≡ true → is_some (earliest (λ before e. if_passes p (heard_in e)) (new ++ Heard d ∷ before)) ≡ true
+found-heard p d [] before e = go (first_heard p before)
+  where
+    go : (o : Option Datagram) → is_some (option_or o (then_some (p d.message) d)) ≡ true
+    go (Some c) = refl
+    go None = rw e refl
+found-heard p d (x ∷ new) before e = some-more _ _ (found-heard p d new before e)
+
+pub heard-found : (p : Message → Bool) (log : Log) (d : Datagram) → WasHeard log d → p d.message ≡ true → has_heard p log ≡ true
+heard-found p log d w e = subst (λ l. has_heard p l ≡ true) (sym w.place.split) (found-heard p d w.place.after w.before e)
 
 -- one name for each exchange: what has an identity's fields is of the same exchange and side
 pub record IsTwin (m n : Message) : Type 0 where

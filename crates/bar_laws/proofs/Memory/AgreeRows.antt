@@ -3,6 +3,7 @@ use Rattle.bar_wire.specs.Limits.{seats_a_round}
 use Rattle.bar_wire.specs.Bodies.{history_in, offer_in, reply_in, commitment_in}
 use Rattle.bar_terms.specs.Table.{Table, digest_of, is_within}
 use Rattle.bar_terms.specs.Terms.{offer_ok, offer_rounds}
+use Rattle.bar_wire.specs.Grammar.{is_third}
 use Rattle.bar_window.specs.Exchange.{other_role, same_role}
 use Rattle.bar_window.specs.declared.exchange.Exchange.{Exchange}
 use Rattle.bar_window.specs.declared.exchange.Role.{Role}
@@ -16,8 +17,8 @@ use Rattle.bar_wire.specs.Datagram.{Message, Datagram, Body, Manifest, Block, Re
 use Rattle.bar_rules.specs.Peer.Admission.{is_admitted, is_row_met, is_for, is_heard_again, is_named_again, may_ask, has_digest, meets_commitment, body_said, are_terms, terms_with, has_valid_signature}
 use Rattle.bar_rules.specs.Peer.Agreement.{promised_by, IsRepeatable, AgreesWith, IsRecent}
 use Rattle.bar_rules.specs.Peer.Choices.{wanted_of}
-use Rattle.bar_rules.specs.Peer.Exchanges.{role_of, request_kind}
-use Rattle.bar_rules.specs.Peer.Exchanges.{request_kind}
+use Rattle.bar_rules.specs.Peer.Debts.{is_due, is_owed, owes}
+use Rattle.bar_rules.specs.Peer.Exchanges.{role_of, partner_in, request_kind}
 use Rattle.bar_rules.specs.Peer.Knowledge.{deadline, table_of, Knowledge, this_round, holds, has_heard_of, has_said_of, request_deadline, answer_deadline}
 use Rattle.bar_rules.specs.Member.{Member, is_alive}
 use Rattle.bar_rules.specs.Secrets.{is_seed, partner_of, commitment_of}
@@ -27,7 +28,7 @@ use Rattle.std.proofs.Common.{◌≡◌, ℕ, ◌<◌, ◌≤◌, ◌+◌, ◌-�
 use Rattle.std.specs.Prelude.{Option, Some, None, is_some, option_map, option_and_then, nat_le, nat_lt, max}
 use Rattle.std.specs.Option.{option_map_or}
 use Rattle.std.specs.Str.{bytes_eq}
-use Rattle.std.specs.List.{AllByRecursion}
+use Rattle.std.specs.List.{AllByRecursion, list_any}
 use Rattle.std.proofs.lemmas.Bool.{and_parts, leb-true, ltb-true}
 use Rattle.bar_laws.proofs.Memory.AgreeLogs.{now, IsInTime, held-on}
 use Rattle.bar_laws.proofs.Memory.InLife.{InLife, rounds-in-life}
@@ -99,6 +100,25 @@ module _ (me : Member) (one two : Knowledge) (same : AgreesWith me one two) wher
   pub heard-same : (kind : Kind) (x : Exchange) (role : Role) → IsRecent me one x.round → has_heard_of one kind x role ≡ has_heard_of two kind x role
   heard-same kind x role r = ap is_some (same.heard kind x role r)
 
+  -- ---- debts
+
+  owed-same : (party : ℕ) (x : Exchange) → is_owed me one party x ≡ is_owed me two party x
+  owed-same party x =
+      let role : Role = role_of me x in
+      let other : Role = other_role role in
+      let due : Bool = eqb (partner_in me x) party && is_due me.session.shape.life x.round (this_round one) in
+      let recent : due ≡ true → IsRecent me one x.round =
+      (λ h. leb-true (this_round one) (x.round + me.session.shape.life) (and_parts _ _ (and_parts (eqb (partner_in me x) party) (is_due me.session.shape.life x.round (this_round one)) h).1).1)
+      in
+      and_last (due && has_said_of one kinds.Key x role) (not (has_heard_of one kinds.Key x other)) (not (has_heard_of two kinds.Key x other)) (λ h. ap not (heard-same kinds.Key x other (recent (and_parts _ _ h).0)))
+      ∙ ap (λ z. z && not (has_heard_of two kinds.Key x other)) (and_last due (has_said_of one kinds.Key x role) (has_said_of two kinds.Key x role) (λ h. said-same kinds.Key x role (recent h)))
+      ∙ ap (λ n. ((eqb (partner_in me x) party && is_due me.session.shape.life x.round n) && has_said_of two kinds.Key x role) && not (has_heard_of two kinds.Key x other)) (now me one two same)
+
+  pub owes-same : (party : ℕ) → owes me one party ≡ owes me two party
+  owes-same party = λ i. is_third me.session.shape && list_any (λ x. owed-same party x i) (same.opens i)
+
+  -- ---- bodies and terms
+
   pub body-same : (kind : Kind) (x : Exchange) (role : Role) → IsRepeatable me one kind x.round → IsRecent me one x.round → body_on me one kind x role ≡ body_on me two kind x role
   body-same kind x role s r = λ i. option_map (λ d. d.message.body) (cond (same_role (role_of me x) role) (same.said kind x role s i) (same.heard kind x role r i))
 
@@ -142,9 +162,11 @@ module _ (me : Member) (one two : Knowledge) (same : AgreesWith me one two) wher
     unfolding is_near
     ask-same kind from round seed =
         and_first _ _ (is_near kind round (this_round one))
-        (λ b. ap (λ n. (is_seed me.session from round seed && eqb (partner_of me.session seed kind from) me.party) && nat_lt n seats_a_round)
-        (same.requests kind round (soon-recent round (near-soon kind round b))))
-        ∙ ap (λ n. ((is_seed me.session from round seed && eqb (partner_of me.session seed kind from) me.party) && nat_lt (two.asked kind round) seats_a_round) && is_near kind round n) (now me one two same)
+        (λ b i.
+        ((is_seed me.session from round seed && eqb (partner_of me.session seed kind from) me.party) && nat_lt (same.requests kind round (soon-recent round (near-soon kind round b)) i) seats_a_round)
+        && not (owes-same from i))
+        ∙ ap (λ n. (((is_seed me.session from round seed && eqb (partner_of me.session seed kind from) me.party) && nat_lt (two.asked kind round) seats_a_round) && not (owes me two from)) && is_near kind round n)
+        (now me one two same)
 
     row-same : (from to : ℕ) (b : Body) → is_row_met me one from to b ≡ is_row_met me two from to b
     row-same from to (Manifest r digests) = ap (λ n. nat_le r (n + 1) && is_alive me.session r n) (now me one two same)

@@ -2,12 +2,12 @@
 use Rattle.bar_window.specs.Exchange.{other_role}
 use Rattle.bar_window.specs.declared.exchange.Exchange.{Exchange}
 use Rattle.bar_window.specs.declared.exchange.Role.{Role}
-use Rattle.bar_window.specs.declared.exchange.Role.TheVariants.{Initiator, Responder}
+use Rattle.bar_window.specs.declared.exchange.Role.TheVariants.{Responder}
 use Rattle.bar_window.specs.declared.exchange.XKind.{XKind}
 use Rattle.bar_window.specs.declared.exchange.XKind.TheVariants.{Balanced, Push}
 use Rattle.bar_wire.specs.declared.kind.Kind.TheVariants as kinds
 use Rattle.bar_wire.specs.Datagram.{Datagram}
-use Rattle.bar_wire.specs.Grammar.{words_of}
+use Rattle.bar_wire.specs.Grammar.{is_third, words_of}
 use Rattle.bar_wire.specs.Inputs.{Input}
 use Rattle.bar_wire.specs.Inputs as event
 use Rattle.bar_rules.specs.Runs.{begun}
@@ -19,22 +19,22 @@ use Rattle.bar_rules.specs.Peer.Machine.{logs, minds}
 use Rattle.bar_rules.specs.Peer.Machine as machine
 use Rattle.bar_rules.specs.Peer.Orders.{Order, Ask, AskKey, Resend, Report}
 use Rattle.bar_rules.specs.Peer.Replies.{orders_when}
-use Rattle.bar_rules.specs.Peer.Ticks.{is_initiator, reveals, lacks_answer, lacks_case, lacks_key, again, asking_partner, new_requests, reports, orders_at_tick, content_of, content_at, contents_of_round, contents_at_tick}
+use Rattle.bar_rules.specs.Peer.Ticks.{is_initiator, reveals, lacks_answer, lacks_partners_case, lacks_case, lacks_key, again, asking_partner, new_requests, reports, orders_at_tick, content_of, content_at, contents_of_round, contents_at_tick}
 use Rattle.bar_session.specs.Time.{last_tick, slot_after}
 use Rattle.bar_rules.specs.Member.{Member}
 use Rattle.bar_rules.specs.Peer.Rules.{IsObedient}
 use Rattle.bar_rules.specs.Secrets.{seed_of, partner_of}
 use Rattle.bar_rules.specs.Values.{datagram_of, updates_of}
-use Rattle.std.proofs.Common.{◌≡◌, ℕ, ◌≤◌, ◌+◌, ◌-◌, Bool, true, false, List, [], ◌∷◌, ◌++◌, length, refl, sym, ap, ◌∙◌, subst, ◌&&◌, not, eqb, cond, arith}
+use Rattle.std.proofs.Common.{◌≡◌, ℕ, ◌≤◌, ◌+◌, ◌-◌, Bool, true, false, List, [], ◌∷◌, ◌++◌, length, refl, sym, ap, ◌∙◌, subst, ◌&&◌, ◌||◌, not, eqb, cond, arith}
 use Rattle.std.specs.Prelude.{Option, Some, None, is_some, nat_le, nat_lt, map, flat_map, filter, option_to_list, ◌*◌}
 use Rattle.std.specs.List.{AllByRecursion, range_with_len}
 use Rattle.std.proofs.lemmas.Bool.{and_parts, leb-true}
 use Rattle.bar_laws.specs.Agreement.{AnswersAlike}
 use Rattle.bar_laws.proofs.Memory.AgreeLogs.{now, ticked-agree}
-use Rattle.bar_laws.proofs.Memory.AgreeRows.{said-same, heard-same}
+use Rattle.bar_laws.proofs.Memory.AgreeRows.{said-same, heard-same, owes-same}
 use Rattle.bar_laws.proofs.Memory.AgreeOrders.{told_by, IsTimely, IsAlike, perform_all-alike, young-same}
 use Rattle.bar_laws.proofs.Memory.AgreeReplies.{begun-alike, taken-alike, when-timely}
-use Rattle.bar_laws.proofs.Logs.{read-fits, all-both, all-that, all-flat-map, all-mapped, all-map}
+use Rattle.bar_laws.proofs.Logs.{again-all, read-fits, all-both, all-that, all-flat-map, all-mapped, all-map}
 use Rattle.bar_laws.proofs.Memory.InLife.{LogInLife, form-in-life, obedient-in-life}
 
 flat-same : {X Y : Type 0} (f g : X → List Y) (xs : List X) → AllByRecursion (λ x. f x ≡ g x) xs → flat_map f xs ≡ flat_map g xs
@@ -52,24 +52,11 @@ open-recent me log = all-that (λ x. IsRecent me (known me log) x.round) (λ x. 
 -- ---- orders in time
 
 again-timely : (me : Member) (k : Knowledge) (x : Exchange) → IsRecent me k x.round → AllByRecursion (IsTimely me.session.shape.life (this_round k)) (again me k x)
-again-timely me k x r = go (lacks_answer me k x) (lacks_case me k x) (lacks_key me k x) x.kind (role_of me x) (λ h. leb-true (this_round k) (x.round + answer_deadline) (and_parts _ _ h).1)
+again-timely me k x r = again-all (IsTimely me.session.shape.life (this_round k)) me k x (asked x.kind) (λ h. (r, leb-true (this_round k) (x.round + answer_deadline) (and_parts _ _ h).1)) (λ _. tt)
   where
-    shown : (sort : XKind) (role : Role) → this_round k ≤ x.round + answer_deadline → AllByRecursion (IsTimely me.session.shape.life (this_round k)) (reveals sort role x ++ Resend kinds.Case x ∷ [])
-    shown Balanced Initiator h = (r, (h, tt))
-    shown Balanced Responder h = (h, tt)
-    shown Push Initiator h = (h, tt)
-    shown Push Responder h = (h, tt)
-
     asked : (sort : XKind) → this_round k ≤ x.round + told_by me.session.shape.life (request_kind sort)
     asked Balanced = r
     asked Push = r
-
-    go : (a b c : Bool) (sort : XKind) (role : Role) → (b ≡ true → this_round k ≤ x.round + answer_deadline)
-        → AllByRecursion (IsTimely me.session.shape.life (this_round k)) (cond a (Resend (request_kind x.kind) x ∷ []) (cond b (reveals sort role x ++ Resend kinds.Case x ∷ []) (cond c (AskKey x ∷ []) [])))
-    go true b c sort role h = (asked x.kind, tt)
-    go false true c sort role h = shown sort role (h refl)
-    go false false true sort role h = (tt, tt)
-    go false false false sort role h = tt
 
 asking-timely : (me : Member) (k : Knowledge) (life : ℕ) (kind : XKind) → AllByRecursion (IsTimely life (this_round k)) (asking_partner me k (this_round k) kind)
 asking-timely me k life kind =
@@ -110,12 +97,18 @@ module _ (me : Member) (one two : Knowledge) (same : AgreesWith me one two) (lif
       (λ i. is_initiator role && not (heard-same me one two same (answer_kind x.kind) x Responder r i) && nat_le (now_is i) (x.round + request_deadline))
       in
       let case : lacks_case me one x ≡ lacks_case me two x =
-      (λ i. said-same me one two same kinds.Case x role r i && not (heard-same me one two same kinds.Case x other r i) && nat_le (now_is i) (x.round + answer_deadline))
+      (λ i.
+      said-same me one two same kinds.Case x role r i
+      && cond (is_third me.session.shape) (not (said-same me one two same kinds.Key x role r i || heard-same me one two same kinds.Key x other r i)) (not (heard-same me one two same kinds.Case x other r i))
+      && nat_le (now_is i) (x.round + answer_deadline))
       in
+      let partners : lacks_partners_case me one x ≡ lacks_partners_case me two x = (λ i. not (heard-same me one two same kinds.Case x other r i)) in
       let key : lacks_key me one x ≡ lacks_key me two x =
       (λ i. said-same me one two same kinds.Case x role r i && heard-same me one two same kinds.Case x other r i && not (heard-same me one two same kinds.Key x other r i) && nat_le (now_is i) (x.round + me.session.shape.life))
       in
-      (λ i. cond (answer i) (Resend (request_kind x.kind) x ∷ []) (cond (case i) (reveals x.kind role x ++ Resend kinds.Case x ∷ []) (cond (key i) (AskKey x ∷ []) [])))
+      (λ i.
+      cond (answer i) (Resend (request_kind x.kind) x ∷ [])
+      (orders_when (case i) (orders_when (partners i) (reveals x.kind role x) ++ Resend kinds.Case x ∷ []) ++ orders_when (key i) (AskKey x ∷ [])))
 
   open-same : flat_map (λ x. orders_when (not (one.is_announced (partner_in me x))) (again me one x)) one.opens ≡ flat_map (λ x. orders_when (not (two.is_announced (partner_in me x))) (again me two x)) two.opens
   open-same =
@@ -127,7 +120,7 @@ module _ (me : Member) (one two : Knowledge) (same : AgreesWith me one two) (lif
   asking-same : (round : ℕ) (kind : XKind) → asking_partner me one round kind ≡ asking_partner me two round kind
   asking-same round kind =
       let to : ℕ = partner_of me.session (seed_of me round) kind me.party in
-      ap (λ b. orders_when (not b) (Ask (record { round = round; kind = kind; initiator = me.party; responder = to }) ∷ [])) (same.announced to)
+      (λ i. orders_when (not (same.announced to i || owes-same me one two same to i)) (Ask (record { round = round; kind = kind; initiator = me.party; responder = to }) ∷ []))
 
   requests-same : (round : ℕ) → this_round one ≤ round + answer_deadline → new_requests me one round ≡ new_requests me two round
   requests-same round h = λ i. asking-same round Balanced i ++ orders_when (nat_lt 0 (length (young-same me one two same round life h i))) (asking-same round Push i)

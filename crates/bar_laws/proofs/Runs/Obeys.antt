@@ -5,16 +5,18 @@ use Rattle.bar_rules.specs.Peer.Admission.{is_row_met, are_terms, is_admitted}
 use Rattle.bar_rules.specs.Peer.Choices.{young_of, wanted_of}
 use Rattle.bar_rules.specs.Peer.Exchanges.{role_of, answer_kind, request_kind, partner_in}
 use Rattle.bar_rules.specs.Peer.Holdings.{block_of, is_held, history, case_heard_from}
-use Rattle.bar_rules.specs.Peer.Knowledge.{known}
-use Rattle.bar_rules.specs.Peer.Log.{Log, Heard, Said, earliest, if_passes, heard_in, first_said, has_said, has_heard, first_heard, round_now}
+use Rattle.bar_rules.specs.Peer.Debts.{owes}
+use Rattle.bar_rules.specs.Peer.Knowledge.{Knowledge, known}
+use Rattle.bar_rules.specs.Peer.Log.{Log, Heard, Said, if_passes, heard_in, first_said, has_said, has_heard, first_heard, round_now}
 use Rattle.bar_rules.specs.Peer.Machine.{message_to, send_if}
 use Rattle.bar_rules.specs.Member.{Session, Member}
 use Rattle.bar_rules.specs.Peer.Orders.{Order, Ask, Answer, Reveal, GiveCase, AskKey, GiveKey, Resend, Report, case_body, key_body, ask_body, answer_body, reply_body, reply_to}
-use Rattle.bar_rules.specs.Peer.Replies.{is_trade_worth, orders_when, orders_for, reply_orders}
+use Rattle.bar_rules.specs.Peer.Replies.{is_trade_worth, orders_for, reply_orders}
 use Rattle.bar_rules.specs.Peer.Rules.{IsObedient, Allows}
 use Rattle.bar_rules.specs.Peer.Run.{Out, perform, perform_all, say, say_new, say_or_repeat}
 use Rattle.bar_rules.specs.Secrets.{partner_of, seed_of}
 use Rattle.bar_rules.specs.Peer.Signing.{MaySign, MaySay, signed, has_same_identity, asking}
+use Rattle.bar_rules.specs.Peer.Ticks.{orders_at_tick}
 use Rattle.bar_rules.specs.Peer.Terms.{terms_of, terms_by, offer_terms, body_on}
 use Rattle.bar_rules.specs.Values.{updates_from, counts_ok}
 use Rattle.bar_terms.specs.Terms.{promised_updates, promised_junk}
@@ -31,9 +33,8 @@ use Rattle.bar_window.proofs.Exchanges.{same_role_refl, same_exchange_refl, othe
 use Rattle.bar_wire.specs.declared.kind.Kind.TheVariants as kinds
 use Rattle.bar_wire.specs.declared.kind.Kind.{Kind}
 use Rattle.bar_wire.specs.Datagram.{is_place, place_by, round_of, Message, Datagram, Body, Request, Response, Divulge, Query, Reply, Case, KeyReq, Briefcase, is_of, kind_number, part_of, exchange_by, identity_of, named}
-use Rattle.std.specs.Option.{option_or}
 use Rattle.std.specs.Str.{bytes_eq}
-use Rattle.std.proofs.Common.{◌≡◌, ℕ, ◌<◌, ◌≤◌, Bool, true, false, List, [], ◌∷◌, ◌++◌, refl, sym, ap, ◌∙◌, subst, inl, inr, ◌&&◌, eqb, length, ◌-◌}
+use Rattle.std.proofs.Common.{◌≡◌, ℕ, ◌<◌, ◌≤◌, Bool, true, false, List, [], ◌∷◌, refl, sym, ap, ◌∙◌, subst, inl, inr, ◌&&◌, eqb, length, ◌-◌}
 use Rattle.std.specs.Prelude.{nat_lt, filter, max}
 use Rattle.std.proofs.Common.{take, add-zero}
 use Rattle.std.specs.Prelude.{Option, Some, None, ◌⊎◌, is_some, option_map, option_and_then}
@@ -42,7 +43,7 @@ use Rattle.std.specs.Bool.{then_some}
 use Rattle.std.specs.Option.{option_map_or}
 use Rattle.std.proofs.lemmas.Bool.{and_parts, and_from, eqb-true, both_ways, ltb-true}
 use Rattle.bar_laws.specs.Growing.{IsLater}
-use Rattle.bar_laws.proofs.Logs.{terms-valid, IsValid, allowed-at, IsForOneMember, heard-own, heard-round, part-round, once-whole, is_whole, said-found, later-entry, some-is, WasHeard, first_heard-was, first_said-was, said-rule, find-later, terms_of-later, said-later, IsCaseOf, is_of-case, said-case, some-same, same_terms-is, admitted-row, role-initiator, round-by, receiver-role}
+use Rattle.bar_laws.proofs.Logs.{all-of, all-map, when-all, again-all, tick-all, heard-found, some-more, IsNoKey, still-unowed, terms-valid, IsValid, allowed-at, IsForOneMember, heard-own, heard-round, part-round, once-whole, is_whole, said-found, later-entry, some-is, WasHeard, first_heard-was, first_said-was, said-rule, find-later, terms_of-later, said-later, IsCaseOf, is_of-case, said-case, some-same, same_terms-is, admitted-row, role-initiator, round-by, receiver-role}
 use Rattle.bar_bytes.proofs.Tests.{eqb_refl}
 use Rattle.bar_bytes.proofs.Options.{or-none}
 
@@ -72,6 +73,7 @@ pub record IsRequest (me : Member) (log : Log) (x : Exchange) : Type 0 where
   pub high : x.round ≤ me.session.shape.rounds
   pub now : x.round ≡ round_now log
   pub chosen : x.responder ≡ partner_of me.session (seed_of me x.round) x.kind me.party
+  pub unowed : owes me (known me log) x.responder ≡ false
   pub some_young : x.kind ≡ Push → 0 < length (young_of me (known me log) x.round)
 
 -- what may be ordered: it stands while more is said
@@ -337,15 +339,19 @@ ask-rule me log x q = go x.kind refl
     chosen : (k : XKind) → x.kind ≡ k → partner_in me x ≡ partner_of me.session (seed_of me x.round) k me.party
     chosen k e = to ∙ subst (λ z. x.responder ≡ partner_of me.session (seed_of me x.round) z me.party) e q.chosen
 
+    unowed : owes me (known me log) (partner_in me x) ≡ false
+    unowed = subst (λ p. owes me (known me log) p ≡ false) (sym to) q.unowed
+
     go : (k : XKind) → x.kind ≡ k → MaySay me (known me log) (partner_in me x) (ask_body me (known me log) x k)
     go Balanced e =
         record {
           now = q.now;
           seeded = refl;
           chosen = chosen Balanced e;
+          unowed = unowed;
           committed = rw (to, asking-is Balanced e) refl;
         }
-    go Push e = record { now = q.now; seeded = refl; chosen = chosen Push e; offers = refl; asks = refl; some_young = q.some_young e }
+    go Push e = record { now = q.now; seeded = refl; chosen = chosen Push e; unowed = unowed; offers = refl; asks = refl; some_young = q.some_young e }
 
 ask-obedient : (me : Member) (out : Out) (x : Exchange) → IsObedient me out.state → MayBeOrdered me out.state (Ask x) → IsObedient me (perform me out (Ask x)).state
 ask-obedient me out x h (inl said) = go (first_said (is_of (request_kind x.kind) x (role_of me x)) out.state) refl
@@ -388,43 +394,74 @@ perform-obedient me out (Report q) h s = subst (λ l. IsObedient me l) (sym (sen
 
 -- ---- orders go on standing
 
--- an order leaves the log as it was or adds one message
-abbrev pub SaysOne : Log → Log → Type 0
-SaysOne old new = (new ≡ old) ⊎ ((d : Datagram) × (new ≡ Said d ∷ old))
+-- the orders of a tick say nothing new but requests
+abbrev pub GivesNothing : Order → Type 0
+GivesNothing (Answer x) = ⊥
+GivesNothing (GiveCase x) = ⊥
+GivesNothing (GiveKey x) = ⊥
+GivesNothing _ = Unit {0}
 
-say-grows : (me : Member) (out : Out) (kind : Kind) (x : Exchange) (o : Option Body) → SaysOne out.state (say me out kind x o).state
-say-grows me out kind x o = go (first_said (is_of kind x (role_of me x)) out.state) o
+-- those for a datagram ask nobody
+abbrev pub AsksNobody : Order → Type 0
+AsksNobody (Ask x) = ⊥
+AsksNobody _ = Unit {0}
+
+-- an order leaves the log as it was or adds one message, such as this
+abbrev pub SaysOne : (Datagram → Type 0) → Log → Log → Type 0
+SaysOne P old new = (new ≡ old) ⊎ ((d : Datagram) × (new ≡ Said d ∷ old) × P d)
+
+say-grows : (P : Datagram → Type 0) (me : Member) (out : Out) (kind : Kind) (x : Exchange) (o : Option Body) → ((b : Body) → o ≡ Some b → P (signed me (known me out.state) (message_to me x b)))
+    → SaysOne P out.state (say me out kind x o).state
+say-grows P me out kind x o f = go (first_said (is_of kind x (role_of me x)) out.state) o f
   where
-    go : (q : Option Datagram) (o : Option Body) → SaysOne out.state (say_or_repeat me out x q o).state
-    go (Some d) o = inl refl
-    go None None = inl refl
-    go None (Some b) = inr (signed me (known me out.state) (message_to me x b), refl)
+    go : (q : Option Datagram) (o : Option Body) → ((b : Body) → o ≡ Some b → P (signed me (known me out.state) (message_to me x b))) → SaysOne P out.state (say_or_repeat me out x q o).state
+    go (Some d) o f = inl refl
+    go None None f = inl refl
+    go None (Some b) f = inr (signed me (known me out.state) (message_to me x b), refl, f b refl)
 
-perform-grows : (me : Member) (out : Out) (o : Order) → SaysOne out.state (perform me out o).state
-perform-grows me out (Ask x) = say-grows me out _ x _
-perform-grows me out (Answer x) = say-grows me out _ x _
-perform-grows me out (GiveCase x) = say-grows me out kinds.Case x _
-perform-grows me out (GiveKey x) = say-grows me out kinds.Key x _
-perform-grows me out (Resend kind x) = say-grows me out kind x None
+abbrev IsAny : Datagram → Type 0
+IsAny d = Unit {0}
+
+perform-grows : (me : Member) (out : Out) (o : Order) → SaysOne IsAny out.state (perform me out o).state
+perform-grows me out (Ask x) = say-grows IsAny me out _ x _ (λ b e. tt)
+perform-grows me out (Answer x) = say-grows IsAny me out _ x _ (λ b e. tt)
+perform-grows me out (GiveCase x) = say-grows IsAny me out kinds.Case x _ (λ b e. tt)
+perform-grows me out (GiveKey x) = say-grows IsAny me out kinds.Key x _ (λ b e. tt)
+perform-grows me out (Resend kind x) = say-grows IsAny me out kind x None (λ b e. tt)
 perform-grows me out (Reveal x) = inl (send_if-log me out _ _)
 perform-grows me out (AskKey x) = inl refl
 perform-grows me out (Report q) = inl (send_if-log me out _ _)
 
-pub some-more : {A : Type 0} (o p : Option A) → is_some o ≡ true → is_some (option_or o p) ≡ true
-some-more (Some a) p e = refl
-some-more None p e = cc
+asks-no-key : (me : Member) (k : Knowledge) (x : Exchange) (b : Body) → Some (ask_body me k x x.kind) ≡ Some b → eqb (kind_number b) 10 ≡ false
+asks-no-key me k x b e = go x.kind e
+  where
+    go : (sort : XKind) → Some (ask_body me k x sort) ≡ Some b → eqb (kind_number b) 10 ≡ false
+    go Balanced e = let same : ask_body me k x Balanced ≡ b = cc in subst (λ z. eqb (kind_number z) 10 ≡ false) same refl
+    go Push e = let same : ask_body me k x Push ≡ b = cc in subst (λ z. eqb (kind_number z) 10 ≡ false) same refl
+
+-- so at a tick no KEY is said
+pub tick-grows : (me : Member) (out : Out) (o : Order) → GivesNothing o → SaysOne IsNoKey out.state (perform me out o).state
+tick-grows me out (Ask x) g = say-grows IsNoKey me out _ x _ (λ b e. asks-no-key me (known me out.state) x b e)
+tick-grows me out (Resend kind x) g = say-grows IsNoKey me out kind x None (λ b e. cc)
+tick-grows me out (Reveal x) g = inl (send_if-log me out _ _)
+tick-grows me out (AskKey x) g = inl refl
+tick-grows me out (Report q) g = inl (send_if-log me out _ _)
+tick-grows me out (Answer x) g = absurd g
+tick-grows me out (GiveCase x) g = absurd g
+tick-grows me out (GiveKey x) g = absurd g
 
 held-said : (s : Session) (log : Log) (d : Datagram) → is_held s (Said d ∷ log) ≡ is_held s log
 held-said s log d = λ i u. is_some (or-none (block_of s log u) i)
 
-request-said : (me : Member) (log : Log) (d : Datagram) (x : Exchange) → IsRequest me log x → IsRequest me (Said d ∷ log) x
-request-said me log d x q =
+request-said : (me : Member) (log : Log) (d : Datagram) (x : Exchange) → IsNoKey d → IsRequest me log x → IsRequest me (Said d ∷ log) x
+request-said me log d x n q =
     record {
       mine = q.mine;
       low = q.low;
       high = q.high;
       now = rw add-zero q.now;
       chosen = q.chosen;
+      unowed = still-unowed me log d x.responder n q.unowed;
       some_young = λ k. subst (λ (p : UpdateId → Bool). 0 < length (take me.session.cap (filter p (updates_from me.session (max 1 (x.round - 1)) x.round)))) (sym (held-said me.session log d)) (q.some_young k);
     }
 
@@ -437,30 +474,62 @@ worth-said me log d x e = go (terms_of me (known me log) x) refl e
         let g : terms_of me (known me (Said d ∷ log)) x ≡ Some t = terms_of-later me (Said d ∷ log) log x t (record { new = Said d ∷ []; split = refl }) f in
         subst (λ o. is_trade_worth me.session o ≡ true) (sym g) e
 
-stands-said : (me : Member) (log : Log) (d : Datagram) (o : Order) → MayBeOrdered me log o → MayBeOrdered me (Said d ∷ log) o
-stands-said me log d (Ask x) (inl s) = inl (some-more _ _ s)
-stands-said me log d (Ask x) (inr q) = inr (request-said me log d x q)
-stands-said me log d (Answer x) s = (s.0, s.1, some-more _ _ s.2)
-stands-said me log d (GiveCase x) (p, inl k) = (p, inl k)
-stands-said me log d (GiveCase x) (p, inr w) = (p, inr (worth-said me log d x w))
-stands-said me log d (GiveKey x) s = (s.0, some-more _ _ s.1, some-more _ _ s.2)
-stands-said me log d (Reveal x) s = s
-stands-said me log d (Resend kind x) s = s
-stands-said me log d (AskKey x) s = s
-stands-said me log d (Report q) s = s
+-- a message makes nobody a debtor, or nobody is asked
+abbrev MayFollow : Datagram → Order → Type 0
+MayFollow d o = IsNoKey d ⊎ AsksNobody o
 
-stands-one : (me : Member) (old new : Log) (o : Order) → SaysOne old new → MayBeOrdered me old o → MayBeOrdered me new o
-stands-one me old new o (inl e) s = subst (λ l. MayBeOrdered me l o) (sym e) s
-stands-one me old new o (inr g) s = subst (λ l. MayBeOrdered me l o) (sym g.1) (stands-said me old g.0 o s)
+stands-said : (me : Member) (log : Log) (d : Datagram) (o : Order) → MayFollow d o → MayBeOrdered me log o → MayBeOrdered me (Said d ∷ log) o
+stands-said me log d (Ask x) f (inl s) = inl (some-more _ _ s)
+stands-said me log d (Ask x) (inl n) (inr q) = inr (request-said me log d x n q)
+stands-said me log d (Ask x) (inr n) (inr q) = absurd n
+stands-said me log d (Answer x) f s = (s.0, s.1, some-more _ _ s.2)
+stands-said me log d (GiveCase x) f (p, inl k) = (p, inl k)
+stands-said me log d (GiveCase x) f (p, inr w) = (p, inr (worth-said me log d x w))
+stands-said me log d (GiveKey x) f s = (s.0, some-more _ _ s.1, some-more _ _ s.2)
+stands-said me log d (Reveal x) f s = s
+stands-said me log d (Resend kind x) f s = s
+stands-said me log d (AskKey x) f s = s
+stands-said me log d (Report q) f s = s
 
-all-one : (me : Member) (old new : Log) (os : List Order) → SaysOne old new → AllByRecursion (MayBeOrdered me old) os → AllByRecursion (MayBeOrdered me new) os
-all-one me old new [] g s = tt
-all-one me old new (o ∷ os) g s = (stands-one me old new o g s.0, all-one me old new os g s.1)
+all-said : (me : Member) (log : Log) (d : Datagram) (os : List Order) → AllByRecursion (MayFollow d) os → AllByRecursion (MayBeOrdered me log) os → AllByRecursion (MayBeOrdered me (Said d ∷ log)) os
+all-said me log d [] f s = tt
+all-said me log d (o ∷ os) f s = (stands-said me log d o f.0 s.0, all-said me log d os f.1 s.1)
 
-pub perform_all-obedient : (me : Member) (os : List Order) (out : Out) → IsObedient me out.state → AllByRecursion (MayBeOrdered me out.state) os → IsObedient me (perform_all me out os).state
-perform_all-obedient me [] out h s = h
-perform_all-obedient me (o ∷ os) out h s =
-    perform_all-obedient me os (perform me out o) (perform-obedient me out o h s.0) (all-one me out.state (perform me out o).state os (perform-grows me out o) s.1)
+all-one : (P : Datagram → Type 0) (me : Member) (old new : Log) (os : List Order) → ((d : Datagram) → P d → AllByRecursion (MayFollow d) os) → SaysOne P old new
+    → AllByRecursion (MayBeOrdered me old) os → AllByRecursion (MayBeOrdered me new) os
+all-one P me old new os f (inl e) s = subst (λ l. AllByRecursion (MayBeOrdered me l) os) (sym e) s
+all-one P me old new os f (inr g) s = subst (λ l. AllByRecursion (MayBeOrdered me l) os) (sym g.1) (all-said me old g.0 os (f g.0 g.2) s)
+
+-- the orders of one input: of a tick, or for a datagram
+abbrev pub AreOfOneInput : List Order → Type 0
+AreOfOneInput os = AllByRecursion GivesNothing os ⊎ AllByRecursion AsksNobody os
+
+pub perform_all-obedient : (me : Member) (os : List Order) (out : Out) → IsObedient me out.state → AllByRecursion (MayBeOrdered me out.state) os → AreOfOneInput os → IsObedient me (perform_all me out os).state
+perform_all-obedient me [] out h s q = h
+perform_all-obedient me (o ∷ os) out h s (inl q) =
+    perform_all-obedient me os (perform me out o) (perform-obedient me out o h s.0)
+    (all-one IsNoKey me out.state (perform me out o).state os (λ d n. all-of (MayFollow d) os (λ p c. inl n)) (tick-grows me out o q.0) s.1) (inl q.1)
+perform_all-obedient me (o ∷ os) out h s (inr q) =
+    perform_all-obedient me os (perform me out o) (perform-obedient me out o h s.0)
+    (all-one IsAny me out.state (perform me out o).state os (λ d n. all-map AsksNobody (MayFollow d) os (λ p a. inr a) q.1) (perform-grows me out o) s.1) (inr q.1)
+
+pub ticks-give-nothing : (me : Member) (k : Knowledge) → AllByRecursion GivesNothing (orders_at_tick me k)
+ticks-give-nothing me k =
+    tick-all GivesNothing (λ x. Unit {0}) me k (all-of (λ x. Unit {0}) k.opens (λ x c. tt)) (λ x r. again-all GivesNothing me k x tt (λ _. (tt, tt)) (λ _. tt))
+    (λ kind. when-all GivesNothing _ (Ask _ ∷ []) (λ _. (tt, tt))) (λ q. tt)
+
+pub replies-ask-nobody : (me : Member) (k : Knowledge) (is_new : Bool) (d : Datagram) → AllByRecursion AsksNobody (reply_orders me k is_new d)
+replies-ask-nobody me k is_new d = go d.message.from d.message.to d.message.body
+  where
+    go : (from to : ℕ) (b : Body) → AllByRecursion AsksNobody (orders_for me k is_new from to b)
+    go from to (Request r seed c) = when-all AsksNobody _ (Answer _ ∷ []) (λ _. (tt, tt))
+    go from to (Response r hb) = when-all AsksNobody _ (Reveal _ ∷ GiveCase _ ∷ []) (λ _. (tt, (tt, tt)))
+    go from to (Divulge r nonce ha) = when-all AsksNobody _ (GiveCase _ ∷ []) (λ _. (tt, tt))
+    go from to (Query r seed young aged) = when-all AsksNobody _ (Answer _ ∷ GiveCase _ ∷ []) (λ _. (tt, (tt, tt)))
+    go from to (Reply r want give junk) = when-all AsksNobody _ (GiveCase _ ∷ []) (λ _. (tt, tt))
+    go from to (Case c) = when-all AsksNobody _ (AskKey _ ∷ []) (λ _. (tt, tt))
+    go from to (KeyReq r kind role) = when-all AsksNobody _ (GiveKey _ ∷ []) (λ _. (tt, tt))
+    go from to _ = tt
 
 -- ---- the orders of a datagram
 
@@ -470,21 +539,6 @@ partner-party me r k role f t e n b = record { on = go role (receiver-role me r 
     go : (role : Role) → role_of me (exchange_by r k role f t) ≡ other_role role → party_on (exchange_by r k role f t) (role_of me (exchange_by r k role f t)) ≡ me.party
     go Initiator q = rw q e
     go Responder q = rw q e
-
-when-stands : (me : Member) (log : Log) (b : Bool) (os : List Order) → (b ≡ true → AllByRecursion (MayBeOrdered me log) os) → AllByRecursion (MayBeOrdered me log) (orders_when b os)
-when-stands me log true os f = f refl
-when-stands me log false os f = tt
-
-found-heard : (p : Message → Bool) (d : Datagram) (new before : Log) → p d.message ≡ true → is_some (earliest (λ before e. if_passes p (heard_in e)) (new ++ Heard d ∷ before)) ≡ true
-found-heard p d [] before e = go (first_heard p before)
-  where
-    go : (o : Option Datagram) → is_some (option_or o (then_some (p d.message) d)) ≡ true
-    go (Some c) = refl
-    go None = rw e refl
-found-heard p d (x ∷ new) before e = some-more _ _ (found-heard p d new before e)
-
-pub heard-found : (p : Message → Bool) (log : Log) (d : Datagram) → WasHeard log d → p d.message ≡ true → has_heard p log ≡ true
-heard-found p log d w e = subst (λ l. has_heard p l ≡ true) (sym w.place.split) (found-heard p d w.place.after w.before e)
 
 -- a message is of the exchange that it names
 pub names-itself : (m : Message) (kind : Kind) (r : ℕ) (k : XKind) (role : Role) → kind_number m.body ≡ code_of kind → part_of m.body ≡ Some (r, k, role) → is_of kind (exchange_by r k role m.from m.to) role m ≡ true
@@ -518,7 +572,7 @@ orders-stand me log is_new d h w = go d.message.body refl
     go : (b : Body) → d.message.body ≡ b → AllByRecursion (MayBeOrdered me log) (orders_for me (known me log) is_new d.message.from d.message.to b)
     go (Request r seed c) e =
         let o : IsForOneMember me d = own (Request r seed c) (r, Balanced, Initiator) e refl in
-        when-stands me log _ (Answer (exchange_by r Balanced Initiator d.message.from d.message.to) ∷ []) (λ z. (
+        when-all (MayBeOrdered me log) _ (Answer (exchange_by r Balanced Initiator d.message.from d.message.to) ∷ []) (λ z. (
           (
             partner-party me r Balanced Initiator d.message.from d.message.to o.to o.other (bounds (Request r seed c) (r, Balanced, Initiator) e refl),
             receiver-role me r Balanced Initiator d.message.from d.message.to o.to o.other,
@@ -528,13 +582,13 @@ orders-stand me log is_new d h w = go d.message.body refl
         ))
     go (Response r hb) e =
         let o : IsForOneMember me d = own (Response r hb) (r, Balanced, Responder) e refl in
-        when-stands me log _ (Reveal (exchange_by r Balanced Responder d.message.from d.message.to) ∷ GiveCase (exchange_by r Balanced Responder d.message.from d.message.to) ∷ []) (λ z. (tt, ((partner-party me r Balanced Responder d.message.from d.message.to o.to o.other (bounds (Response r hb) (r, Balanced, Responder) e refl), inr (and_parts _ _ z).1), tt)))
+        when-all (MayBeOrdered me log) _ (Reveal (exchange_by r Balanced Responder d.message.from d.message.to) ∷ GiveCase (exchange_by r Balanced Responder d.message.from d.message.to) ∷ []) (λ z. (tt, ((partner-party me r Balanced Responder d.message.from d.message.to o.to o.other (bounds (Response r hb) (r, Balanced, Responder) e refl), inr (and_parts _ _ z).1), tt)))
     go (Divulge r nonce ha) e =
         let o : IsForOneMember me d = own (Divulge r nonce ha) (r, Balanced, Initiator) e refl in
-        when-stands me log _ (GiveCase (exchange_by r Balanced Initiator d.message.from d.message.to) ∷ []) (λ z. ((partner-party me r Balanced Initiator d.message.from d.message.to o.to o.other (bounds (Divulge r nonce ha) (r, Balanced, Initiator) e refl), inr (and_parts _ _ z).1), tt))
+        when-all (MayBeOrdered me log) _ (GiveCase (exchange_by r Balanced Initiator d.message.from d.message.to) ∷ []) (λ z. ((partner-party me r Balanced Initiator d.message.from d.message.to o.to o.other (bounds (Divulge r nonce ha) (r, Balanced, Initiator) e refl), inr (and_parts _ _ z).1), tt))
     go (Query r seed young aged) e =
         let o : IsForOneMember me d = own (Query r seed young aged) (r, Push, Initiator) e refl in
-        when-stands me log _ (Answer (exchange_by r Push Initiator d.message.from d.message.to) ∷ GiveCase (exchange_by r Push Initiator d.message.from d.message.to) ∷ []) (λ z. (
+        when-all (MayBeOrdered me log) _ (Answer (exchange_by r Push Initiator d.message.from d.message.to) ∷ GiveCase (exchange_by r Push Initiator d.message.from d.message.to) ∷ []) (λ z. (
           (
             partner-party me r Push Initiator d.message.from d.message.to o.to o.other (bounds (Query r seed young aged) (r, Push, Initiator) e refl),
             receiver-role me r Push Initiator d.message.from d.message.to o.to o.other,
@@ -544,13 +598,13 @@ orders-stand me log is_new d h w = go d.message.body refl
         ))
     go (Reply r want give junk) e =
         let o : IsForOneMember me d = own (Reply r want give junk) (r, Push, Responder) e refl in
-        when-stands me log _ (GiveCase (exchange_by r Push Responder d.message.from d.message.to) ∷ []) (λ z. ((partner-party me r Push Responder d.message.from d.message.to o.to o.other (bounds (Reply r want give junk) (r, Push, Responder) e refl), inl refl), tt))
-    go (Case c) e = when-stands me log _ (AskKey (exchange_by c.round c.kind c.role d.message.from d.message.to) ∷ []) (λ z. (tt, tt))
+        when-all (MayBeOrdered me log) _ (GiveCase (exchange_by r Push Responder d.message.from d.message.to) ∷ []) (λ z. ((partner-party me r Push Responder d.message.from d.message.to o.to o.other (bounds (Reply r want give junk) (r, Push, Responder) e refl), inl refl), tt))
+    go (Case c) e = when-all (MayBeOrdered me log) _ (AskKey (exchange_by c.round c.kind c.role d.message.from d.message.to) ∷ []) (λ z. (tt, tt))
     go (KeyReq r k role) e =
         let o : IsForOneMember me d = own (KeyReq r k role) (r, k, role) e refl in
         let row = key_request-row me w.before d.message.from d.message.to r k role (subst (λ b. is_row_met me (known me w.before) d.message.from d.message.to b ≡ true) e (admitted-row me w.before d admitted)) in
         let side : role_of me (exchange_by r k role d.message.from d.message.to) ≡ other_role role = receiver-role me r k role d.message.from d.message.to o.to o.other in
-        when-stands me log _ (GiveKey (exchange_by r k role d.message.from d.message.to) ∷ []) (λ z. (
+        when-all (MayBeOrdered me log) _ (GiveKey (exchange_by r k role d.message.from d.message.to) ∷ []) (λ z. (
           (
             partner-party me r k role d.message.from d.message.to o.to o.other (bounds (KeyReq r k role) (r, k, role) e refl),
             rw side (said-more _ log w.before later row.0),

@@ -68,11 +68,11 @@ seat-row : (me : Member) (before : Log) (x : Exchange) (from to : ℕ) (b : Body
 seat-row me before x from to (Request r s c) Balanced n e row =
     let same : exchange_by r Balanced Initiator from to ≡ x = same_exchange-is (exchange_by r Balanced Initiator from to) x (and_parts _ _ e).0 in
     let round : r ≡ x.round = ap (λ (z : Exchange). z.round) same in
-    subst (λ z. count_heard (has_kind_and_round kinds.Request z) before < seats_a_round) round (ltb-true _ _ (and_parts _ _ (and_parts _ _ row).0).1)
+    subst (λ z. count_heard (has_kind_and_round kinds.Request z) before < seats_a_round) round (ltb-true _ _ (and_parts _ _ (and_parts _ _ (and_parts _ _ row).0).0).1)
 seat-row me before x from to (Query r s y o) Push n e row =
     let same : exchange_by r Push Initiator from to ≡ x = same_exchange-is (exchange_by r Push Initiator from to) x (and_parts _ _ e).0 in
     let round : r ≡ x.round = ap (λ (z : Exchange). z.round) same in
-    subst (λ z. count_heard (has_kind_and_round kinds.Query z) before < seats_a_round) round (ltb-true _ _ (and_parts _ _ (and_parts _ _ (and_parts _ _ row).1).0).1)
+    subst (λ z. count_heard (has_kind_and_round kinds.Query z) before < seats_a_round) round (ltb-true _ _ (and_parts _ _ (and_parts _ _ (and_parts _ _ (and_parts _ _ row).1).0).0).1)
 seat-row me before x from to b Balanced n e row = absurd (other-kind b (request_kind Balanced) refl n)
 seat-row me before x from to b Push n e row = absurd (other-kind b (request_kind Push) refl n)
 

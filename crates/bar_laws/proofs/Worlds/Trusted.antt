@@ -16,7 +16,7 @@ use Rattle.bar_laws.proofs.Worlds.Evictions.{caster-keeps-none, peer-keeps-none}
 use Rattle.bar_laws.proofs.Worlds.Openings.{key-opens-well}
 use Rattle.bar_laws.proofs.Worlds.Released.{table-extended}
 
-sound-after : (setup : Setup) (trusted : ℕ → Bool) (moves : List Move) → ForgesNothing setup trusted moves → IsSound setup trusted (after setup moves)
+pub sound-after : (setup : Setup) (trusted : ℕ → Bool) (moves : List Move) → ForgesNothing setup trusted moves → IsSound setup trusted (after setup moves)
 sound-after setup trusted moves h = run-sound setup trusted (initial setup) moves (steps-keep setup h.setup_is) (opened-sound setup trusted h.setup_is.parties) h.unforged
 
 not-zero : (p : ℕ) → 1 ≤ p → eqb p 0 ≡ false

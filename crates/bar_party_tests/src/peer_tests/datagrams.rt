@@ -20,7 +20,7 @@ pub fn front(kind: Kind, from: u8, to: u8, round: u8) -> [u8; 20] {
 }
 
 /// The block of an update, with its round and its index as content.
-fn block(round: u8, index: u8) -> [u8; 1024] {
+pub fn block(round: u8, index: u8) -> [u8; 1024] {
     block_with(2, [b'0'.wrapping_add(round), b'a'.wrapping_add(index)])
 }
 
@@ -34,7 +34,7 @@ pub fn blocks_of(alloc: Global, round: u8, count: u8) -> Result<Vec<[u8; 1024]>,
 }
 
 /// What a manifest has before its signature.
-fn manifest_message(
+pub fn manifest_message(
     alloc: Global,
     round: u8,
     blocks: &[[u8; 1024]],
@@ -64,7 +64,7 @@ pub fn manifest(
 }
 
 /// A BLOCK of the broadcaster.
-fn block_message(
+pub fn block_message(
     alloc: Global,
     to: u8,
     update: (u8, u8),

@@ -53,7 +53,7 @@ pub fn tell_round(
 pub type Row = (u16, usize, &'static [(Kind, usize)]);
 
 /// Whether these are sent, to this party.
-fn are_sent(sends: &[Sent], to: u16, kinds: &[(Kind, usize)]) -> bool {
+pub fn are_sent(sends: &[Sent], to: u16, kinds: &[(Kind, usize)]) -> bool {
     let mut all = sends.len() == kinds.len();
     for (sent, (kind, len)) in sends.iter().zip(kinds) {
         all = all

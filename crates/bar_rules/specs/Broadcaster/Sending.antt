@@ -1,5 +1,7 @@
 -- What the broadcaster sends, and whom it evicts.
-use Rattle.std.specs.Prelude.{ℕ, ◌+◌, ◌-◌, ◌*◌, ◌==◌, ◌||◌, not, List, [], ◌∷◌, length, filter, Option, Some, None, is_some, is_none, if◌then◌else◌, nat_le, nat_lt}
+use Rattle.std.specs.Prelude.{ℕ, ◌+◌, ◌-◌, ◌*◌, ◌==◌, ◌&&◌, ◌||◌, not, Bool, List, [], ◌∷◌, length, filter, Option, Some, None, is_some, is_none, if◌then◌else◌, nat_le, nat_lt}
+use Rattle.bar_wire.specs.Grammar.{is_third}
+use Rattle.bar_wire.specs.declared.kind.Kind.TheVariants as kinds
 use Rattle.bar_wire.specs.Limits.{everyone}
 use Rattle.bar_window.specs.declared.update.UpdateId.{UpdateId}
 use Rattle.bar_wire.specs.Datagram.{Message, Datagram, Body, Manifest, Block, Evidence, Evict, kind_of}
@@ -54,6 +56,18 @@ announce_evictions me m out =
     let parties : List ℕ = evicted me.session out.state in
     if nat_lt 0 (length parties) then announce me out (2 * (m - 1) + 1) m (Evict m parties) else out
 
+-- a manifest that was said goes out again
+abbrev pub repeat_all : Session → Outcome Log → Option Datagram → Outcome Log
+repeat_all s out None = out
+repeat_all s out (Some d) = send_all out (served s out.state) d
+
+abbrev pub repeat_manifest : Session → ℕ → Outcome Log → Outcome Log
+repeat_manifest s round out = repeat_all s out (first_said (has_kind_and_round kinds.Manifest round) out.state)
+
+-- in version 3 that of the round before, up to the round after the last
+abbrev pub repeats_manifest : Session → ℕ → Bool
+repeats_manifest s m = is_third s.shape && (nat_le 2 m && nat_le m (s.shape.rounds + 1))
+
 abbrev pub send_block : Outcome Log → List ℕ → UpdateId → List ℕ → Outcome Log
 send_block out [] u block = out
 send_block out (p ∷ ps) u block = send_block (sending out p (unsigned (record { from = 0; to = p; body = Block u block }))) ps u block
@@ -68,11 +82,12 @@ abbrev pub caster_tick : Member → List ℕ → Outcome Log → Outcome Log
 caster_tick me stream out =
     let m : ℕ = round_now out.state in
     let slot : ℕ = slot_after (ticks out.state) in
-    if not (nat_le m me.session.shape.rounds) then out
+    if slot == 2 then (if repeats_manifest me.session m then repeat_manifest me.session (m - 1) out else out)
+    else (if not (nat_le m me.session.shape.rounds) then out
     else (if slot == 0 then announce_evictions me m (announce_manifest me stream m out)
     else (if slot == 4 then announce_manifest me stream m out
     else (if (slot == 1) || (slot == 5) then send_blocks me m 0 (round_blocks me.session stream m) out
-    else out)))
+    else out))))
 
 -- the party that evidence names is evicted, once
 abbrev pub evict_by : Log → List (List ℕ) → Verdict → Log

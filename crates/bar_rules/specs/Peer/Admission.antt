@@ -25,6 +25,7 @@ use Rattle.bar_rules.specs.Values.{terms_ok, counts_ok, is_signed_by}
 use Rattle.bar_rules.specs.Secrets.{is_seed, partner_of, commitment_of}
 use Rattle.bar_rules.specs.Peer.Exchanges.{request_kind}
 use Rattle.bar_rules.specs.Peer.Knowledge.{Knowledge, table_of, this_round, is_in_time, holds, has_heard_of, has_said_of}
+use Rattle.bar_rules.specs.Peer.Debts.{owes}
 use Rattle.bar_rules.specs.Peer.Terms.{terms_of}
 use Rattle.bar_rules.specs.Peer.Choices.{wanted_of}
 
@@ -59,12 +60,13 @@ has_digest PastEnd block = false
 has_digest NoManifest block = false
 
 -- the sender may ask this member for an exchange of this kind: it has the seed of the round, which chooses this member, and fewer requests
--- of the round and kind were admitted than there are seats, a round early at most
+-- of the round and kind were admitted than there are seats, a round early at most; and it owes this member no key
 abbrev pub may_ask : Member → Knowledge → XKind → ℕ → ℕ → List ℕ → Bool
 may_ask me k kind from round seed =
     is_seed me.session from round seed
     && (partner_of me.session seed kind from == me.party)
     && nat_lt (k.asked kind round) seats_a_round
+    && not (owes me k from)
     && (nat_le round (this_round k + 1) && is_in_time me.session k (request_kind kind) round)
 
 abbrev pub body_said : Knowledge → Kind → Exchange → Role → Option Body

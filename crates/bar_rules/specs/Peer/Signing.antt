@@ -20,6 +20,7 @@ use Rattle.bar_rules.specs.Secrets.{nonce_of, briefcase_key, commitment_of, seed
 use Rattle.bar_rules.specs.Peer.Log.{Log, has_said}
 use Rattle.bar_rules.specs.Peer.Holdings.{history}
 use Rattle.bar_rules.specs.Peer.Knowledge.{Knowledge, table_of, known, this_round, has_heard_of, case_heard_of, case_said_of}
+use Rattle.bar_rules.specs.Peer.Debts.{owes}
 use Rattle.bar_rules.specs.Peer.Terms.{terms_of, body_on}
 use Rattle.bar_rules.specs.Peer.Choices.{young_of, aged_of, wanted_of, given_of}
 
@@ -32,20 +33,23 @@ abbrev pub windows_within : Member → Knowledge → Terms → Bool
 windows_within me k (forms.Balanced nonce ha hb) = is_within (table_of k) ha && is_within (table_of k) hb
 windows_within me k (forms.Push young aged want give junk) = is_within (table_of k) young && is_within (table_of k) aged
 
--- a REQUEST: in its round, with the round's seed, to the partner that it chooses, committing to the history of this moment
+-- a REQUEST: in its round, with the round's seed, to the partner that it chooses, who owes no key, committing to the history of this moment
 pub record MayRequest (me : Member) (k : Knowledge) (to round : ℕ) (seed commitment : List ℕ) : Type 0 where
   pub now : round ≡ this_round k
   pub seeded : seed ≡ seed_of me round
   pub chosen : to ≡ partner_of me.session seed Balanced me.party
+  pub unowed : owes me k to ≡ false
   pub committed :
       commitment ≡ commitment_of me.session (asking me round Balanced to) (nonce_of me (asking me round Balanced to))
       (history me.session k.block round)
 
--- a QUERY: in its round, with the round's seed, to the partner that it chooses, offering and asking for what is held and lacking now
+-- a QUERY: in its round, with the round's seed, to the partner that it chooses, who owes no key, offering and asking for what is held and
+-- lacking now
 pub record MayQuery (me : Member) (k : Knowledge) (to round : ℕ) (seed : List ℕ) (young aged : List UpdateId) : Type 0 where
   pub now : round ≡ this_round k
   pub seeded : seed ≡ seed_of me round
   pub chosen : to ≡ partner_of me.session seed Push me.party
+  pub unowed : owes me k to ≡ false
   pub offers : young ≡ young_of me k round
   pub asks : aged ≡ aged_of me k round
   pub some_young : 0 < length young

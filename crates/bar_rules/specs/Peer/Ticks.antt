@@ -1,7 +1,8 @@
 -- What a peer sends and plays at a tick.
-use Rattle.std.specs.Prelude.{ℕ, ◌+◌, ◌-◌, ◌==◌, ◌&&◌, not, Bool, true, false, List, [], ◌∷◌, ◌++◌, length, map, filter, flat_map, is_some, if◌then◌else◌, nat_le, nat_lt, option_to_list, slice_range}
+use Rattle.std.specs.Prelude.{ℕ, ◌+◌, ◌-◌, ◌==◌, ◌&&◌, ◌||◌, not, Bool, true, false, List, [], ◌∷◌, ◌++◌, length, map, filter, flat_map, is_some, if◌then◌else◌, nat_le, nat_lt, option_to_list, slice_range}
 use Rattle.std.specs.List.{range_with_len}
 use Rattle.bar_bytes.specs.Bytes.{first_u16}
+use Rattle.bar_wire.specs.Grammar.{is_third}
 use Rattle.bar_wire.specs.Limits.{largest_content}
 use Rattle.bar_window.specs.declared.update.UpdateId.{UpdateId}
 use Rattle.bar_window.specs.declared.exchange.Exchange.{Exchange}
@@ -17,6 +18,7 @@ use Rattle.bar_rules.specs.Values.{updates_of}
 use Rattle.bar_rules.specs.Secrets.{seed_of, partner_of}
 use Rattle.bar_rules.specs.Peer.Exchanges.{role_of, partner_in, request_kind, answer_kind}
 use Rattle.bar_rules.specs.Peer.Knowledge.{Knowledge, this_round, is_in_time, has_heard_of, has_said_of}
+use Rattle.bar_rules.specs.Peer.Debts.{owes}
 use Rattle.bar_rules.specs.Peer.Choices.{young_of}
 use Rattle.bar_rules.specs.Peer.Orders.{Order, Ask, Reveal, AskKey, Resend, Report}
 use Rattle.bar_rules.specs.Peer.Replies.{orders_when}
@@ -36,11 +38,19 @@ abbrev pub lacks_answer : Member → Knowledge → Exchange → Bool
 lacks_answer me k x =
     is_initiator (role_of me x) && not (has_heard_of k (answer_kind x.kind) x Responder) && is_in_time me.session k kinds.Request x.round
 
--- its own CASE is said, and the partner's isn't heard
+abbrev pub lacks_partners_case : Member → Knowledge → Exchange → Bool
+lacks_partners_case me k x = not (has_heard_of k kinds.Case x (other_role (role_of me x)))
+
+-- no KEY of the exchange is said or heard
+abbrev pub lacks_keys : Member → Knowledge → Exchange → Bool
+lacks_keys me k x = not (has_said_of k kinds.Key x (role_of me x) || has_heard_of k kinds.Key x (other_role (role_of me x)))
+
+-- Its own CASE is said, and as far as is known the partner may lack it: the partner's CASE isn't heard. In version 3: no KEY is said, which
+-- only a partner with both CASEs asks for, or heard.
 abbrev pub lacks_case : Member → Knowledge → Exchange → Bool
 lacks_case me k x =
     has_said_of k kinds.Case x (role_of me x)
-    && not (has_heard_of k kinds.Case x (other_role (role_of me x)))
+    && (if is_third me.session.shape then lacks_keys me k x else lacks_partners_case me k x)
     && is_in_time me.session k kinds.Case x.round
 
 -- its own CASE is said and the partner's is heard, but no KEY is
@@ -51,19 +61,23 @@ lacks_key me k x =
     && not (has_heard_of k kinds.Key x (other_role (role_of me x)))
     && is_in_time me.session k kinds.Key x.round
 
+-- the CASE, behind the DIVULGE of a balanced initiator that hasn't heard the partner's
+abbrev pub case_again : Member → Knowledge → Exchange → List Order
+case_again me k x = orders_when (lacks_partners_case me k x) (reveals x.kind (role_of me x) x) ++ Resend kinds.Case x ∷ []
+
+-- what waits for an answer; else the CASE and what asks for a KEY, of which in versions 1 and 2 one stands at most
 abbrev pub again : Member → Knowledge → Exchange → List Order
 again me k x =
     if lacks_answer me k x then Resend (request_kind x.kind) x ∷ []
-    else if lacks_case me k x then reveals x.kind (role_of me x) x ++ Resend kinds.Case x ∷ []
-    else if lacks_key me k x then AskKey x ∷ []
-    else []
+    else orders_when (lacks_case me k x) (case_again me k x) ++ orders_when (lacks_key me k x) (AskKey x ∷ [])
 
 -- ---- a round's new requests, and the reports of evidence
 
+-- a partner that is announced evicted, or owes this member a key, isn't asked
 abbrev pub asking_partner : Member → Knowledge → ℕ → XKind → List Order
 asking_partner me k round kind =
     let to : ℕ = partner_of me.session (seed_of me round) kind me.party in
-    orders_when (not (k.is_announced to)) (Ask (record { round = round; kind = kind; initiator = me.party; responder = to }) ∷ [])
+    orders_when (not (k.is_announced to || owes me k to)) (Ask (record { round = round; kind = kind; initiator = me.party; responder = to }) ∷ [])
 
 abbrev pub new_requests : Member → Knowledge → ℕ → List Order
 new_requests me k round =

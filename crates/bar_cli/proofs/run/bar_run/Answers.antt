@@ -8,7 +8,6 @@ use Rattle.bar_cli.specs.Replay.Plan.{replay_plan}
 use Rattle.bar_cli.specs.Verify.{verify_plan}
 use Rattle.bar_cli.proofs.JudgeRows.{judged_so, outcome, same_files}
 use Rattle.bar_cli.proofs.KeygenRows as making
-use Rattle.bar_cli.proofs.MemberLemmas.{keeps-rules}
 use Rattle.bar_cli.proofs.PackFronts as packed
 use Rattle.bar_cli.proofs.PackRows as packing
 use Rattle.bar_cli.proofs.ReplayRows as replaying
@@ -100,8 +99,7 @@ returns-clause-ruled g c = λ was.
       peer_headline = λ names is told.
           let ends = ends-as _ (peer names) _ _ _ _ _ is code (ran.ends (ap has_plan is)) in
           peer-headline c.accepted_secrets_are_held.ensures c.accepted_sessions_are_in_range.ensures
-          (keeps-rules c.signed_by_rule.ensures c.balanced.ensures.opened c.balanced.ensures.partners c.bad_keys_leave_evidence.ensures
-          c.kept_evidence_is_shown.ensures c.no_framing.ensures c.leaf_discipline.ensures)
+          c.peers_keep_the_rules.ensures
           c.rules_give_the_run.ensures.sends names _ _ c.report.result (λ zero. c.a_peer_is_done.ensures names _ _ (rw zero at ends) told)
           (c.a_peer_stands.ensures names _ _ _ ends told);
       broadcaster_done = λ names is told zero.

@@ -14,12 +14,13 @@ use Rattle.bar_laws.proofs.Logs.{role-initiator}
 use Rattle.bar_peer.specs.declared.order.Order.TheVariants as queued
 use Rattle.bar_peer.specs.Memory.{member_of}
 use Rattle.bar_peer.specs.Sending.{IsTimely, IsCarriedOut, HasOutcome}
+use Rattle.bar_peer.specs.Ticking.{is_unasked}
 use Rattle.bar_peer.proofs.Asked.{partner_is, none_asked, one_asked, asks_timely, carried_stands}
 use Rattle.bar_peer.proofs.Growing.{grows}
 use Rattle.bar_peer.proofs.partners.ask_partner.Goals as goal
 
-pub returns-then-is_named-clause-stands : goal.returns-then-is_named-clause-stands
-returns-then-is_named-clause-stands c = λ out before same obedient h room.
+pub returns-then-is_unasked-clause-stands : goal.returns-then-is_unasked-clause-stands
+returns-then-is_unasked-clause-stands c = λ out before same obedient h room.
     let m = c.args.memory.now in
     let me : Member = member_of m.who in
     let to : c.partner-to.result ≡ partner_of me.session (seed_of me (round_after m.ticks)) c.args.kind me.party =
@@ -29,11 +30,11 @@ returns-then-is_named-clause-stands c = λ out before same obedient h room.
     c.seed-seed.ensures.value
     c.partner-to.ensures.value
     in
-    let named : before.is_announced c.partner-to.result ≡ true =
-    same c.partner-to.result ∙ h.tells.announced c.partner-to.result ∙ sym c.is_named.ensures ∙ c.if-is_named.true
+    let unasked : is_unasked me before c.partner-to.result ≡ true =
+    same c.partner-to.result ∙ sym (c.is_unasked.ensures (known me out.state) h.tells) ∙ c.if-is_unasked.true
     in
     subst (λ (os : List Order). HasOutcome (perform_all me out os) m c.args.orders.now)
-    (none_asked me before (round_after m.ticks) c.args.kind c.partner-to.result to named)
+    (none_asked me before (round_after m.ticks) c.args.kind c.partner-to.result to unasked)
     h
 
 pub returns-then-ask-clause-stands : goal.returns-then-ask-clause-stands
@@ -49,8 +50,8 @@ returns-then-ask-clause-stands c = λ out before same obedient h room.
     in
     let x : Exchange = c.exchange_by-x.result in
     let after : Out = perform me out (Ask x) in
-    let kept : before.is_announced c.partner-to.result ≡ false =
-    same c.partner-to.result ∙ h.tells.announced c.partner-to.result ∙ sym c.is_named.ensures ∙ c.if-is_named.false
+    let asked : is_unasked me before c.partner-to.result ≡ false =
+    same c.partner-to.result ∙ sym (c.is_unasked.ensures (known me out.state) h.tells) ∙ c.if-is_unasked.false
     in
     let x_is : x ≡ record { round = round_after m.ticks; kind = c.args.kind; initiator = me.party; responder = c.partner-to.result } =
     c.exchange_by-x.ensures
@@ -62,7 +63,7 @@ returns-then-ask-clause-stands c = λ out before same obedient h room.
     })
     in
     let is : Ask x ∷ [] ≡ asking_partner me before (round_after m.ticks) c.args.kind =
-    one_asked me before (round_after m.ticks) c.args.kind c.partner-to.result x to kept x_is
+    one_asked me before (round_after m.ticks) c.args.kind c.partner-to.result x to asked x_is
     in
     let first : x.initiator ≡ me.party = ap (λ (y : Exchange). y.initiator) x_is in
     let now : x.round ≡ this_round (known me out.state) = ap (λ (y : Exchange). y.round) x_is ∙ ap round_after (sym h.tells.time) in
@@ -103,8 +104,8 @@ returns-else-ask-clause-stands c = λ out before same obedient h room.
     in
     let x : Exchange = c.exchange_by-x.result in
     let after : Out = perform me out (Ask x) in
-    let kept : before.is_announced c.partner-to.result ≡ false =
-    same c.partner-to.result ∙ h.tells.announced c.partner-to.result ∙ sym c.is_named.ensures ∙ c.if-is_named.false
+    let asked : is_unasked me before c.partner-to.result ≡ false =
+    same c.partner-to.result ∙ sym (c.is_unasked.ensures (known me out.state) h.tells) ∙ c.if-is_unasked.false
     in
     let x_is : x ≡ record { round = round_after m.ticks; kind = c.args.kind; initiator = me.party; responder = c.partner-to.result } =
     c.exchange_by-x.ensures
@@ -116,7 +117,7 @@ returns-else-ask-clause-stands c = λ out before same obedient h room.
     })
     in
     let is : Ask x ∷ [] ≡ asking_partner me before (round_after m.ticks) c.args.kind =
-    one_asked me before (round_after m.ticks) c.args.kind c.partner-to.result x to kept x_is
+    one_asked me before (round_after m.ticks) c.args.kind c.partner-to.result x to asked x_is
     in
     let first : x.initiator ≡ me.party = ap (λ (y : Exchange). y.initiator) x_is in
     let now : x.round ≡ this_round (known me out.state) = ap (λ (y : Exchange). y.round) x_is ∙ ap round_after (sym h.tells.time) in

@@ -38,7 +38,7 @@ returns-then-size-gt0-clause-stands c = λ out obedient h room.
     c.ask_partner-then-size-gt0.ensures.stands)
     in
     both_asked m.who round m n q c.args.orders.now p r c.ask_partner.ensures.stands push
-    c.ask_partner.ensures.length c.ask_partner.ensures.room.room out some obedient h room
+    c.ask_partner.ensures.length c.ask_partner.ensures.room.room out (ap round_after (sym h.tells.time)) some obedient h room
 
 pub returns-else-size-gt0-clause-stands : goal.returns-else-size-gt0-clause-stands
 returns-else-size-gt0-clause-stands c = λ out obedient h room.

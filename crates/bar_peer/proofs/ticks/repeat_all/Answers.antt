@@ -17,7 +17,8 @@ use Rattle.bar_peer.specs.Memory.{member_of}
 use Rattle.bar_peer.specs.Sending.{HasOutcome}
 use Rattle.bar_peer.specs.Ticking.{orders_of_open}
 use Rattle.bar_peer.proofs.Opens.{one_done, open_is_recent}
-use Rattle.bar_peer.proofs.Sent.{all_append, none_stand}
+use Rattle.bar_laws.proofs.Repeating.{all-append}
+use Rattle.bar_peer.proofs.Sent.{none_stand}
 use Rattle.bar_peer.proofs.Unlogged.{opens_state}
 use Rattle.bar_peer.proofs.ticks.repeat_all.Goals as goal
 
@@ -69,7 +70,7 @@ loop-preserved c =
           in
           subst (λ (o : Out). HasOutcome o m c.repeat_once.new.orders)
           ((λ i. perform_all me before (orders_of_open me (known me (state i)) x))
-          ∙ sym (all_append me (begun log) (flat_map f done) (f x))
+          ∙ sym (all-append me (begun log) (flat_map f done) (f x))
           ∙ ap (perform_all me (begun log)) (flat_map_more f [] done x))
           one;
     }

@@ -1,4 +1,4 @@
-use Rattle.std.proofs.Common.{◌≡◌, ◌∙◌, ◌*◌, ◌≤◌, ◌∷◌, false, length, ap, arith, sym}
+use Rattle.std.proofs.Common.{◌≡◌, ◌∙◌, ◌*◌, ◌≤◌, ◌∷◌, true, false, length, ap, arith, sym}
 use Rattle.std.specs.Prelude.{◌==◌}
 use Rattle.std.proofs.lemmas.Bool.{ne_eqb}
 use Rattle.bar_wire.specs.declared.shape.Shape.{Shape}
@@ -7,9 +7,32 @@ use Rattle.bar_rules.specs.Member.{Session}
 use Rattle.bar_rules.specs.Peer.Log.{Log, Ticked}
 use Rattle.bar_caster.specs.Memory.{member_of, stream_of}
 use Rattle.bar_caster.specs.StandsFor.{log_of}
-use Rattle.bar_caster.proofs.Ticked.{blocks-stand, first-passed, from-none, idle-stands, manifest-stands, past-stands, said-again, signs-so}
-use Rattle.bar_caster.proofs.Ticked.{stands-so}
+use Rattle.bar_caster.specs.Ticking.{says_again}
+use Rattle.bar_caster.proofs.Ticked.{again-stands, blocks-stand, first-passed, from-none, idle-stands, manifest-stands, past-stands, said-again}
+use Rattle.bar_caster.proofs.Ticked.{said-before, signs-so, stands-so}
 use Rattle.bar_caster.proofs.caster.Caster.go_on.Goals as goal
+
+pub returns-then-says_again-clause-stands : goal.returns-then-says_again-clause-stands
+returns-then-says_again-clause-stands g c inputs stood =
+    let m = c.args.self.now.memory in
+    let n = c.tick.new.self in
+    let same = c.tick.ensures.same in
+    let t = c.tick.ensures.tells inputs stood in
+    let log : Log = log_of m inputs in
+    let many : n.session.shape.peers ≡ m.session.shape.peers = ap (λ (s : Session). s.shape.peers) same.session in
+    let none : length c.args.self.now.orders.list.items ≡ 0 = ap length c.requires.empty in
+    let signs = signs-so m n log same (c.signs_once_a_round.ensures (member_of m) (stream_of m) m.is_broadcaster inputs) in
+    let again : says_again n.session n.ticks ≡ true = sym c.says_again.ensures ∙ c.if-says_again.true in
+    stands-so m _ _ (Ticked ∷ log) (record { session = same.session; secrets = same.secrets; stream = same.stream })
+    (again-stands _ _ (Ticked ∷ log)
+    (record { time = t.time; table = t.table; manifests = t.manifests; notice = t.notice; evictions = t.evictions })
+    again
+    (said-before (member_of n) (stream_of n) log signs (ap (says_again n.session) t.time ∙ again))
+    (from-none c.args.self.now.orders.list.items _ c.send_to_all.new.orders.list.items
+    (c.send_to_all.ensures.sent (Ticked ∷ log)
+    (record { time = t.time; table = t.table; manifests = t.manifests; notice = t.notice; evictions = t.evictions })
+    (omega (arith, many, none, c.args.self.now.room)))
+    c.requires.empty))
 
 pub returns-then-round-shape-clause-stands : goal.returns-then-round-shape-clause-stands
 returns-then-round-shape-clause-stands g c inputs stood =
@@ -21,6 +44,7 @@ returns-then-round-shape-clause-stands g c inputs stood =
     stands-so m _ _ (Ticked ∷ log_of m inputs) (record { session = same.session; secrets = same.secrets; stream = same.stream })
     (past-stands _ _ (Ticked ∷ log_of m inputs)
     (record { time = t.time; table = t.table; manifests = t.manifests; notice = t.notice; evictions = t.evictions })
+    (sym c.says_again.ensures ∙ c.if-says_again.false)
     (omega (arith, c.if-round-shape.true, rounds, c.round.ensures))
     c.requires.empty)
 
@@ -65,8 +89,8 @@ returns-in-4-clause-stands g c inputs stood =
     (said-again (member_of n) (stream_of n) log signs (omega (arith, t.time, at)) (omega (arith, t.time, high)))
     at
     high
-    (from-none c.args.self.now.orders.list.items _ c.send_to_all.new.orders.list.items
-    (c.send_to_all.ensures.sent (Ticked ∷ log)
+    (from-none c.args.self.now.orders.list.items _ c.send_to_all-in-4.new.orders.list.items
+    (c.send_to_all-in-4.ensures.sent (Ticked ∷ log)
     (record { time = t.time; table = t.table; manifests = t.manifests; notice = t.notice; evictions = t.evictions })
     (omega (arith, many, none, c.args.self.now.room)))
     c.requires.empty))
@@ -90,6 +114,7 @@ returns-in_default-clause-stands g c inputs stood =
     stands-so m _ _ (Ticked ∷ log_of m inputs) (record { session = same.session; secrets = same.secrets; stream = same.stream })
     (idle-stands _ _ (Ticked ∷ log_of m inputs)
     (record { time = t.time; table = t.table; manifests = t.manifests; notice = t.notice; evictions = t.evictions })
+    (sym c.says_again.ensures ∙ c.if-says_again.false)
     high
     zeroth
     first
