@@ -28,14 +28,13 @@ REPLACED = shutil.ignore_patterns("out", "proofs", "tests*")
 @dataclasses.dataclass(frozen=True)
 class Build:
     """A program of the folder of this name. The crate is the one in whose place it stands, or one of its own. It stands on a crate and all
-    that is below it, and on what else it needs, and it has some sources of the crates for its own.
+    that is below it, and on what else it needs.
     """
 
     name: str
     crate: str
     base: str = "bar_cli"
     needed: tuple = ()
-    shared: tuple = ()
 
     @property
     def folder(self):
@@ -44,14 +43,13 @@ class Build:
     def sources(self):
         """The program's sources, by their places in its crate."""
         places = {path.relative_to(self.folder).with_suffix(""): path for path in sorted(self.folder.rglob(f"*{TEMPLATE}"))}
-        own = {place if place.parts[0] == "proofs" else "src" / place: path for place, path in places.items()}
-        return own | {pathlib.Path("src", pathlib.Path(name).name): ROOT / "crates" / name for name in self.shared}
+        return {place if place.parts[0] == "proofs" else "src" / place: path for place, path in places.items()}
 
 
 # a party over a link of the tools, or one that lies; one over a link in memory; and what changes datagrams for a core and for readers
 PARTY = Build("party", "bar", needed=("bar_system", "bar_told"))
 NODE = Build("node", "node")
-FUZZ = Build("fuzz", "fuzz", "bar_party_tests", ("hex",), ("bar_party_tests/src/hostile_tests/texts.rt",))
+FUZZ = Build("fuzz", "fuzz", "bar_party_tests", ("hex",))
 
 
 def made_of():

@@ -180,6 +180,16 @@ class Ranges(unittest.TestCase):
                 changed = text.replace(old, new)
                 self.assertEqual(self.status_of(changed) != Status.SESSION, self.is_session(changed))
 
+    def test_numbers_of_peers(self):
+        """The public keys are made up: of the session's types, and all different."""
+        numbers, *_ = (EXAMPLE / "session.toml").read_text("utf-8").partition("\n[[peer]]\n")
+        types = re.search('\nkey = "(.{16})', numbers)[1]
+        for peers in (2, 3, 40, 200, 201):
+            tables = (f'\n[[peer]]\nkey = "{types}{peer:096x}"\nanchor = "{peer:064x}"\n' for peer in range(1, peers + 1))
+            text = "".join([numbers, "\n", *tables]).encode()
+            with self.subTest(peers=peers):
+                self.assertEqual((self.status_of(text) != Status.SESSION, self.is_session(text)), (peers <= 200,) * 2)
+
     def test_an_example_is_judged(self):
         self.assertEqual(self.status_of((EXAMPLE / "session.toml").read_bytes()), Status.DONE)
 

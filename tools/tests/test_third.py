@@ -1,35 +1,21 @@
 """Sessions of version 3, and of 1 and 2, worked out by hand: what two peers send for chosen inputs. These tests are skipped where the program
 isn't built.
 
-The manifests are those that a broadcaster sends; what peers take is chosen here, and replayed. Updates are named by round and index.
+What peers take is chosen here, and replayed. Updates are named by round and index.
 """
 import functools
-import pathlib
-import socket
-import struct
-import subprocess
-import tempfile
-import time
 import unittest
 
-from support import NUMBERS, RoomCase, bound, lines_of, need_program
+from support import need_program
 
-import barmaking
-import barprogram
-from barcasting import block_datagram
-from barformats import CASE, CONTENT, DIVULGE, KEY, KEYREQ, MANIFEST, QUERY, REPLY, REQUEST, RESPONSE, recording_of, sends_of
-from barprogram import PROGRAM, Status, words_of
-from barsession import party_words
-
-# the numbers of the sessions, whose signatures have two levels, since such keys are made fast
-CHOSEN = {"peers": 2, "rounds": 20, "life": 4, "cap": 4, "per_round": 8, "fanout": 1, "tick_ms": 10, "top": 5, "lms": 5, "ots": 3}
+from barformats import CASE, CONTENT, DIVULGE, KEY, KEYREQ, QUERY, REPLY, REQUEST, RESPONSE
+from chosen_peers import ChosenCase, Peer, block_of, kinds_of, of_round
 
 # what the two peers hold before the balanced exchange of round 6, and before the push
 FIRST, SECOND = ((3, 0), (3, 2), (5, 1), (5, 3)), ((3, 2), (4, 7))
 YOUNG = ((5, 0), (5, 1))
 
-# the rounds of which peers are given manifests
-MANIFESTS = {3, 4, 5, 7}
+ROUNDS, PER_ROUND = 20, 8
 
 
 def setUpModule():
@@ -37,91 +23,24 @@ def setUpModule():
     need_program("the tests of version 3")
 
 
-def kinds_of(datagrams):
-    return [it[3] for it in datagrams]
+def block(update):
+    number, index = update
+    return block_of(bytes((number * PER_ROUND + index + at) * 7 % 251 for at in range(CONTENT)))
 
 
-def number_of(datagram):
-    """The round of a datagram of an exchange."""
-    return struct.unpack_from(">I", datagram, 16)[0]
+@functools.cache
+def manifest(chosen, number):
+    """The manifest of a round of this stream."""
+    return chosen.manifest(number, [block((number, index)) for index in range(PER_ROUND)])
 
 
-def of_round(datagrams, number, *kinds):
-    """Those of a round, and of these kinds if any are named."""
-    return [it for it in datagrams if number_of(it) == number and (not kinds or it[3] in kinds)]
-
-
-class Peer:
-    """A peer of a session that takes chosen inputs."""
-
-    def __init__(self, made, number):
-        self.made, self.number, self.entries, self.ticks = made, number, [], 0
-
-    def add(self, entries):
-        """Takes these inputs, ticks where they are None, and returns what it sends for each."""
-        before = len(self.entries)
-        self.entries += entries
-        sent = {number: [] for number in range(before + 1, len(self.entries) + 1)}
-        for number, _, datagram in self.made.replayed(self.number, self.entries):
-            if number in sent:
-                sent[number].append(datagram)
-        return [*sent.values()]
-
-    def tick(self, until):
-        """Ticks up to a tick, and returns what it sends at that one."""
-        count, self.ticks = until - self.ticks, until
-        return self.add([None] * count)[-1]
-
-    def take(self, *datagrams):
-        """Takes datagrams, and returns what it sends for all of them."""
-        return [it for sent in self.add(datagrams) for it in sent]
+class Listener(Peer):
+    """A peer of a session that takes chosen inputs of the stream."""
 
     def know(self, rounds, updates):
         """Takes the manifests of rounds, and the blocks of updates."""
-        self.take(*(self.made.manifests[number] for number in rounds), *(self.made.block(update, self.number) for update in updates))
-
-
-class Made:
-    """A session that was made, and the manifests that its broadcaster sent in the first rounds."""
-
-    def __init__(self, room, version):
-        self.room, self.stream = room / f"v{version}", room / "stream"
-        wanted = barmaking.Wanted(self.room, self.stream, NUMBERS | CHOSEN | {"version": version}, "00ff")
-        self.folder, self.session = lines_of(lambda: barmaking.make(wanted, PROGRAM))[0]
-        self.manifests = self.sent()
-
-    def sent(self):
-        """Runs the broadcaster until these manifests came to the port of peer 1, which is bound before it starts."""
-        found, begin = {}, int(time.time() * 1000) + 200
-        with bound(self.session.port + 1) as taken:
-            taken.setsockopt(socket.SOL_SOCKET, socket.SO_RCVBUF, 1 << 22)
-            taken.settimeout(60)
-            words = party_words(self.folder, PROGRAM, 0, begin)
-            with subprocess.Popen(words, stdout=subprocess.DEVNULL, stderr=subprocess.DEVNULL) as caster:
-                try:
-                    while not found.keys() >= MANIFESTS:
-                        datagram = taken.recv(1 << 16)
-                        found |= {number_of(datagram): datagram} if datagram[3] == MANIFEST else {}
-                finally:
-                    caster.kill()
-        return found
-
-    def block(self, update, receiver):
-        at = CONTENT * ((update[0] - 1) * CHOSEN["per_round"] + update[1])
-        return block_datagram(self.session, update, receiver, self.stream.read_bytes()[at : at + CONTENT])
-
-    def replayed(self, party, entries):
-        """What a peer sends for these inputs: the number of the input, the receiver and the datagram."""
-        recording, out = self.room / "recording", self.room / "again"
-        head = b"BARL\x01" + bytes.fromhex(self.session.id) + party.to_bytes(2, "big")
-        recording.write_bytes(recording_of(head, entries))
-        files = {"session": self.folder.session, "key": self.folder.key(party), "recording": recording}
-        with (self.room / "transcript").open("w+") as transcript:
-            ran = barprogram.run_words(PROGRAM, words_of("replay", **files, played=out, found=out), stdout=transcript)
-            if ran.status != Status.DONE:
-                raise AssertionError(ran.told)
-            transcript.seek(0)
-            return [*sends_of(line.removesuffix("\n") for line in transcript)]
+        blocks = (self.chosen.block(update, self.number, block(update)) for update in updates)
+        self.take(*(manifest(self.chosen, number) for number in rounds), *blocks)
 
 
 class Exchange:
@@ -154,21 +73,12 @@ class Exchange:
         return self.asking.take(*asks[0])[0], self.asked.take(*asks[1])[0]
 
 
-class Third(RoomCase):
+class Third(ChosenCase):
     """Version 3, and for each row versions 1 and 2, in which nobody owes anything and nothing more is said again."""
 
-    @classmethod
-    def setUpClass(cls):
-        super().setUpClass()
-        room = tempfile.TemporaryDirectory()
-        cls.addClassCleanup(room.cleanup)
-        stream = pathlib.Path(room.name) / "stream"
-        stream.write_bytes(bytes(at * 7 % 251 for at in range(CHOSEN["rounds"] * CHOSEN["per_round"] * CONTENT)))
-        cls.session = functools.cache(lambda version: Made(stream.parent, version))
-
     def exchange(self, version=3, kind=REQUEST, asking=1):
-        made = type(self).session(version)
-        peers = Peer(made, asking), Peer(made, 3 - asking)
+        chosen = self.chosen(version=version, rounds=ROUNDS)
+        peers = Listener(chosen, asking), Listener(chosen, 3 - asking)
         return Exchange(*peers, kind)
 
     def in_debt(self, **words):
@@ -337,8 +247,8 @@ class Third(RoomCase):
     # ---- manifests are said again
 
     def test_a_late_manifest(self):
-        made = type(self).session(3)
-        one, two = Peer(made, 1), Peer(made, 2)
+        chosen = self.chosen(version=3, rounds=ROUNDS)
+        one, two = Listener(chosen, 1), Listener(chosen, 2)
         for peer in (one, two):
             peer.tick(40)
         one.know((3, 4), ((3, 0), (3, 2)))
@@ -348,11 +258,11 @@ class Third(RoomCase):
         answer = two.take(*request)
         self.assertEqual((kinds_of(answer), one.take(*answer)), ([RESPONSE], []))
         one.tick(43)
-        self.assertEqual(one.take(made.manifests[5]), [])
+        self.assertEqual(one.take(manifest(chosen, 5)), [])
         self.assertEqual(of_round(one.tick(44), 6, REQUEST), request)
         self.assertEqual(two.take(*request), answer)
         self.assertEqual(kinds_of(one.take(*answer)), [DIVULGE, CASE])
-        self.assertEqual(two.take(made.manifests[5]), [])
+        self.assertEqual(two.take(manifest(chosen, 5)), [])
 
 
 if __name__ == "__main__":

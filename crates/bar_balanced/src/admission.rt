@@ -7,17 +7,16 @@ ghost use Rattle.bar_wire.specs.Bodies.{choice_round, request_round};
 ghost use Rattle.bar_wire.specs.Views.{plain, IsView};
 ghost use Rattle.bar_rules.specs.Member.{Member};
 ghost use Rattle.bar_rules.specs.Peer.Admission.{is_row_met};
-ghost use Rattle.bar_rules.specs.Peer.Knowledge.{Knowledge, this_round};
+ghost use Rattle.bar_rules.specs.Peer.Knowledge.{Knowledge};
 ghost use Rattle.bar_store.specs.Holds.{Holds};
 ghost use Rattle.bar_ledger.specs.Recalls.{Recalls};
 ghost use Rattle.bar_exchange.specs.Placing.{StandsAt};
 ghost use Rattle.bar_balanced.specs.Balanced.{AreSpelled};
 
-use crate::asking::admits_request;
 use crate::divulge::admits_divulge;
 use crate::rows::admits_response;
 use bar_bytes::Steps;
-use bar_exchange::{Counts, admits_case, admits_key, admits_key_request};
+use bar_exchange::{Counts, admits_case, admits_key, admits_key_request, may_ask};
 use bar_ledger::Ledger;
 use bar_roster::Session;
 use bar_seeds::Checkpoints;
@@ -25,14 +24,13 @@ use bar_store::Store;
 use bar_wire::{Body, Place, View};
 use std::sync::ledger::Ledger as StepLedger;
 
-/// Whether a datagram at a place of a balanced exchange meets the row of its kind in this round. It counts the steps along the seeds of a
+/// Whether a datagram at a place of a balanced exchange meets the row of its kind. It counts the steps along the seeds of a
 /// REQUEST.
 #[tactic(auto, using(bar_seeds::proofs::CheckpointLemmas::moves_none))]
 pub fn admit<L: StepLedger>(
     session: &Session,
     store: &Store,
     ledger: &Ledger,
-    round: u32,
     view: &View<'_>,
     place: Place,
     points: &mut Checkpoints,
@@ -42,33 +40,26 @@ pub fn admit<L: StepLedger>(
     requires place { StandsAt view.now (Some place) }
     requires kind { place.x.kind ≡ Balanced }
     ensures row { (me : Member) (k : Knowledge) (bytes : List ℕ) → me.session ≡ session.now → Holds me k store.now
-        → Recalls me k ledger.now → AreSpelled me k → round ≡ this_round k → IsView session.now.shape bytes view.now
+        → Recalls me k ledger.now → AreSpelled me k → IsView session.now.shape bytes view.now
         → result ≡ is_row_met me k view.now.from view.now.to (plain view.now.body) }
     ensures cost { steps.new ≤ steps.old + request_round (plain view.now.body) }
     ensures kept { AreSeeds session.now points.new }
     ensures moves { MovesOn view.now.from points.old points.new }
     ensures reached { result ≡ true → choice_round (plain view.now.body) ≤ kept_round points.new view.now.from }
 {
-    let shape = session.shape();
     let Place { x, role } = place;
     match view.body {
-        Body::Request { seed, .. } => {
-            admits_request(
-                session, ledger, round, view.from, x.round, seed, points, steps,
-            )
-        }
-        Body::Response { hb, .. } => admits_response(store, ledger, round, x, &hb),
-        Body::Divulge { nonce, ha, .. } => {
-            admits_divulge(&shape, store, ledger, round, x, nonce, &ha)
-        }
+        Body::Request { seed, .. } => may_ask(session, ledger, x, seed, points, steps),
+        Body::Response { hb, .. } => admits_response(store, ledger, x, &hb),
+        Body::Divulge { nonce, ha, .. } => admits_divulge(store, ledger, x, nonce, &ha),
         Body::Case {
             updates,
             junk,
             terms,
             ..
-        } => admits_case(ledger, round, x, role, &terms, Counts { updates, junk }),
-        Body::KeyReq { .. } => admits_key_request(ledger, round, x, role),
-        Body::Key { .. } => admits_key(ledger, round, x, role),
+        } => admits_case(ledger, x, role, &terms, Counts { updates, junk }),
+        Body::KeyReq { .. } => admits_key_request(ledger, x, role),
+        Body::Key { .. } => admits_key(ledger, x, role),
         _ => false,
     }
 }

@@ -10,12 +10,12 @@ ghost use Rattle.bar_wire.specs.Views.{IsWindowIn};
 ghost use Rattle.bar_rules.specs.Member.{Member};
 ghost use Rattle.bar_rules.specs.Peer.Admission.{is_row_met, meets_commitment};
 ghost use Rattle.bar_rules.specs.Peer.Agreement.{IsRecent};
-ghost use Rattle.bar_rules.specs.Peer.Knowledge.{Knowledge, this_round};
+ghost use Rattle.bar_rules.specs.Peer.Knowledge.{Knowledge};
 ghost use Rattle.bar_store.specs.Holds.{Holds};
 ghost use Rattle.bar_ledger.specs.Recalls.{Recalls};
 ghost use Rattle.bar_balanced.specs.Balanced.{AreSpelled};
 
-use bar_exchange::{ANSWER_DEADLINE, has_digests, has_heard, is_window_in, is_within};
+use bar_exchange::{ANSWER_DEADLINE, has_digests, is_window_in};
 use bar_ledger::Ledger;
 use bar_seeds::commitment;
 use bar_store::Store;
@@ -36,24 +36,19 @@ fn commitment_in(bytes: &[u8], shape: &Shape) -> Option<[u8; 32]>
 }
 
 /// Whether a nonce and a history meet the commitment of the REQUEST that was heard of an exchange.
-fn meets_commitment(
-    shape: &Shape,
-    ledger: &Ledger,
-    x: Exchange,
-    nonce: &[u8; 32],
-    ha: &Window,
-) -> bool
-    ensures { (me : Member) (k : Knowledge) → me.session.shape ≡ shape.now → Recalls me k ledger.now → AreSpelled me k
+fn meets_commitment(ledger: &Ledger, x: Exchange, nonce: &[u8; 32], ha: &Window) -> bool
+    ensures { (me : Member) (k : Knowledge) → Recalls me k ledger.now → AreSpelled me k
         → IsRecent me k x.round → IsWindowIn me.session.shape x.round ha.now
         → result ≡ meets_commitment me k x nonce.now (members ha.now) }
 {
-    if !is_window_in(ha, shape, x.round) {
+    let shape = ledger.shape();
+    if !is_window_in(ha, &shape, x.round) {
         return false;
     }
     let Some(bytes) = ledger.heard(x, Kind::Request) else {
         return false;
     };
-    let Some(committed) = commitment_in(bytes, shape) else {
+    let Some(committed) = commitment_in(bytes, &shape) else {
         return false;
     };
     committed == commitment(&shape.id, x, nonce, ha, shape.life)
@@ -61,26 +56,24 @@ fn meets_commitment(
 
 /// The row of a DIVULGE.
 pub(crate) fn admits_divulge(
-    shape: &Shape,
     store: &Store,
     ledger: &Ledger,
-    round: u32,
     x: Exchange,
     nonce: &[u8; 32],
     ha: &Window,
 ) -> bool
-    ensures { (me : Member) (k : Knowledge) (from to r : ℕ) → me.session.shape ≡ shape.now → Holds me k store.now → Recalls me k ledger.now
-        → AreSpelled me k → 2 ≤ me.session.shape.life → round ≡ this_round k → x ≡ exchange_by r Balanced Initiator from to
+    ensures { (me : Member) (k : Knowledge) (from to r : ℕ) → Holds me k store.now → Recalls me k ledger.now
+        → AreSpelled me k → 2 ≤ me.session.shape.life → x ≡ exchange_by r Balanced Initiator from to
         → IsWindowIn me.session.shape r ha.now → result ≡ is_row_met me k from to (Divulge r nonce.now (members ha.now)) }
 {
-    if !is_within(round, x.round, ANSWER_DEADLINE) {
+    if !ledger.is_within(x, ANSWER_DEADLINE) {
         return false;
     }
-    if has_heard(ledger, x, Kind::Divulge, Role::Initiator) {
+    if ledger.has_heard(x, Kind::Divulge, Role::Initiator) {
         return false;
     }
     if !has_digests(store, ha) {
         return false;
     }
-    meets_commitment(shape, ledger, x, nonce, ha)
+    meets_commitment(ledger, x, nonce, ha)
 }

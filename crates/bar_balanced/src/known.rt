@@ -8,7 +8,7 @@ ghost use Rattle.bar_rules.specs.Peer.Knowledge.{Knowledge};
 ghost use Rattle.bar_rules.specs.Peer.Writing.{answer_of};
 ghost use Rattle.bar_exchange.specs.Writing.{AreSourcesOf};
 
-use bar_exchange::{Sources, kept_terms, knows_answer, knows_commit};
+use bar_exchange::{Sources, kept_terms};
 use bar_window::{Exchange, Terms, Window};
 
 /// The nonce and the history that the initiator commits to, where they are known.
@@ -17,7 +17,7 @@ pub(crate) fn revealed(sources: &Sources<'_>, x: Exchange) -> Option<([u8; 32], 
         → option_map (λ c. (c.0, members c.1)) result ≡ k.revealed x }
     ensures windows { IfSome result (λ c. IsWindowIn sources.now.session.now.shape x.round c.1) }
 {
-    if !knows_commit(sources.ledger, x) {
+    if !sources.ledger.knows_commit(x) {
         return None;
     }
     let Terms::Balanced { nonce, ha, .. } = kept_terms(sources, x)? else {
@@ -32,7 +32,7 @@ pub(crate) fn answered(sources: &Sources<'_>, x: Exchange) -> Option<Window>
         → option_map members result ≡ answer_of me k x }
     ensures windows { IfSome result (IsWindowIn sources.now.session.now.shape x.round) }
 {
-    if !knows_answer(sources.ledger, x) {
+    if !sources.ledger.knows_answer(x) {
         return None;
     }
     let Terms::Balanced { hb, .. } = kept_terms(sources, x)? else {

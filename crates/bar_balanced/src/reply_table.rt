@@ -13,7 +13,7 @@ ghost use Rattle.bar_exchange.specs.Placing.{StandsAt};
 ghost use Rattle.bar_exchange.specs.Says.{orders_of_reply, AreFitting};
 
 use crate::worth::is_worth;
-use bar_exchange::{ANSWER_DEADLINE, REQUEST_DEADLINE, Say, Says, is_within};
+use bar_exchange::{ANSWER_DEADLINE, REQUEST_DEADLINE, Say, Says};
 use bar_ledger::Ledger;
 use bar_roster::Session;
 use bar_window::Exchange;
@@ -41,32 +41,31 @@ fn to_response(ledger: &Ledger, x: Exchange, is_new: bool) -> Says
 }
 
 /// To a DIVULGE: the CASE.
-fn to_divulge(ledger: &Ledger, round: u32, x: Exchange, is_new: bool) -> Says
+fn to_divulge(ledger: &Ledger, x: Exchange, is_new: bool) -> Says
     ensures fitting { AreFitting result }
-    ensures orders { (me : Member) (k : Knowledge) → 2 ≤ me.session.shape.life → Recalls me k ledger.now → round ≡ this_round k
+    ensures orders { (me : Member) (k : Knowledge) → 2 ≤ me.session.shape.life → Recalls me k ledger.now
         → (is_new ≡ true → IsRecent me k x.round)
         → orders_of_reply result ≡
         orders_when ((is_new || nat_le (this_round k) (x.round + 2)) && is_trade_worth me.session (terms_of me k x)) (GiveCase x ∷ []) }
 {
-    if is_new || is_within(round, x.round, ANSWER_DEADLINE) {
+    if is_new || ledger.is_within(x, ANSWER_DEADLINE) {
         Says::one_when(is_worth(ledger, x), Kind::Case, x)
     } else {
         Says::Nothing
     }
 }
 
-/// What is answered to a datagram at a place of a balanced exchange that is admitted now or comes again, in this round.
+/// What is answered to a datagram at a place of a balanced exchange that is admitted now or comes again.
 pub fn replies(
     session: &Session,
     ledger: &Ledger,
-    round: u32,
     view: &View<'_>,
     place: Place,
     is_new: bool,
 ) -> Says
     requires place { StandsAt view.now (Some place) }
     requires kind { place.x.kind ≡ Balanced }
-    ensures orders { (me : Member) (k : Knowledge) → me.session ≡ session.now → Recalls me k ledger.now → round ≡ this_round k
+    ensures orders { (me : Member) (k : Knowledge) → me.session ≡ session.now → Recalls me k ledger.now
         → (is_new ≡ true → IsRecent me k place.x.round)
         → orders_of_reply result ≡ reply_orders me k is_new (datagram session.now.shape view.now) }
     ensures fitting { AreFitting result }
@@ -75,18 +74,14 @@ pub fn replies(
     let x = place.x;
     match view.body {
         Body::Request { .. } => Says::one_when(
-            is_new || is_within(round, x.round, REQUEST_DEADLINE),
+            is_new || ledger.is_within(x, REQUEST_DEADLINE),
             Kind::Response,
             x,
         ),
         Body::Response { .. } => to_response(ledger, x, is_new),
-        Body::Divulge { .. } => to_divulge(ledger, round, x, is_new),
+        Body::Divulge { .. } => to_divulge(ledger, x, is_new),
         Body::Case { .. } => Says::one_when(is_new, Kind::KeyReq, x),
-        Body::KeyReq { .. } => Says::one_when(
-            is_new || is_within(round, x.round, life),
-            Kind::Key,
-            x,
-        ),
+        Body::KeyReq { .. } => Says::one_when(is_new || ledger.is_within(x, life), Kind::Key, x),
         _ => Says::Nothing,
     }
 }

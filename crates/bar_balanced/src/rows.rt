@@ -6,31 +6,26 @@ ghost use Rattle.bar_window.specs.Window.{members};
 ghost use Rattle.bar_wire.specs.Datagram.{Response, exchange_by};
 ghost use Rattle.bar_rules.specs.Member.{Member};
 ghost use Rattle.bar_rules.specs.Peer.Admission.{is_row_met};
-ghost use Rattle.bar_rules.specs.Peer.Knowledge.{Knowledge, this_round};
+ghost use Rattle.bar_rules.specs.Peer.Knowledge.{Knowledge};
 ghost use Rattle.bar_store.specs.Holds.{Holds};
 ghost use Rattle.bar_ledger.specs.Recalls.{Recalls};
 
-use bar_exchange::{ANSWER_DEADLINE, has_asked, has_digests, is_within};
+use bar_exchange::{ANSWER_DEADLINE, has_digests};
 use bar_ledger::Ledger;
 use bar_store::Store;
-use bar_window::{Exchange, Window};
+use bar_window::{Exchange, Role, Window};
+use bar_wire::Kind;
 
 /// The row of a RESPONSE.
-pub(crate) fn admits_response(
-    store: &Store,
-    ledger: &Ledger,
-    round: u32,
-    x: Exchange,
-    hb: &Window,
-) -> bool
+pub(crate) fn admits_response(store: &Store, ledger: &Ledger, x: Exchange, hb: &Window) -> bool
     ensures { (me : Member) (k : Knowledge) (from to r : ℕ) → Holds me k store.now → Recalls me k ledger.now → 2 ≤ me.session.shape.life
-        → round ≡ this_round k → x ≡ exchange_by r Balanced Responder from to
+        → x ≡ exchange_by r Balanced Responder from to
         → result ≡ is_row_met me k from to (Response r (members hb.now)) }
 {
-    if !is_within(round, x.round, ANSWER_DEADLINE) {
+    if !ledger.is_within(x, ANSWER_DEADLINE) {
         return false;
     }
-    if !has_asked(ledger, x) {
+    if !ledger.has_said(x, Kind::Request, Role::Initiator) {
         return false;
     }
     has_digests(store, hb)

@@ -1,6 +1,7 @@
 //! Hashes of another program, and kernels beside plain loops, around the numbers of their lanes.
 
-use bar_lanes::{Head, and_not, count, sha_eight, xor_into};
+use bar_lanes::{Digests, Heads, Tails, and_not, count, sha_eight, xor_into};
+use std::simd::u32x8;
 
 // From Python's hashlib, of the messages below.
 const DIGESTS: [[u8; 32]; 8] = [
@@ -68,19 +69,36 @@ fn eight_hashes_are_those_of_others(rt: HostRuntime) {
     }
 }
 
-// From Python's hashlib, of 55 bytes of 7.
-const OF_SEVENS: [u8; 32] = [
-    0x94, 0x3c, 0xc6, 0x18, 0x60, 0x77, 0x6c, 0xa8, 0xe7, 0x8a, 0x36, 0x5d, 0x98, 0x80, 0x36, 0xed,
-    0x2a, 0xde, 0x2c, 0xa4, 0xac, 0xa3, 0x23, 0x6d, 0xd9, 0x50, 0x1a, 0xdc, 0x4f, 0xbb, 0xaa, 0x27,
-];
+#[test]
+fn messages_in_parts_have_the_hashes_of_others(rt: HostRuntime) {
+    let messages = messages();
+    let (mut heads, mut places, mut values) = ([[0u8; 20]; 8], [[0u8; 3]; 8], [[0u8; 32]; 8]);
+    for j in 0..8 {
+        heads[j].copy_from_slice(&messages[j][..20]);
+        places[j].copy_from_slice(&messages[j][20..23]);
+        values[j].copy_from_slice(&messages[j][23..]);
+    }
+    let tails = Tails::new(&places, &Digests::new(&values));
+    let mut words = [u32x8::splat(0); 64];
+    let digests = Heads::new(&heads).hash(&tails, &mut words).to_bytes();
+    for j in 0..8 {
+        assert_eq!(rt; digests[j], DIGESTS[j]);
+    }
+}
 
 #[test]
-fn messages_that_begin_alike_have_the_hash_of_others(rt: HostRuntime) {
-    let messages = [[7; 55]; 8];
-    let mut digests = [[0u8; 32]; 8];
-    Head::new(&[7; 20]).sha_eight(&messages, &mut digests);
+fn lanes_go_on_by_their_counts(rt: HostRuntime) {
+    let counts = u32x8::from_array([0, 1, 2, 3, 4, 5, 6, 7]);
+    let mut tails = Tails::new(&[[0; 3]; 8], &Digests::new(&[[0; 32]; 8]));
+    tails.go_on(&Digests::new(&[[1; 32]; 8]), counts, 3);
+    let others = Tails::new(&[[0; 3]; 8], &Digests::new(&[[2; 32]; 8]));
+    tails.take(&others, counts, 5);
+    let mut digests = tails.values();
+    digests.take(&Digests::new(&[[3; 32]; 8]), counts, 0);
+    let values = digests.to_bytes();
+    let wanted = [3, 0, 0, 0, 1, 2, 1, 1];
     for j in 0..8 {
-        assert_eq!(rt; digests[j], OF_SEVENS);
+        assert_eq!(rt; values[j], [wanted[j]; 32]);
     }
 }
 

@@ -10,7 +10,9 @@ use Rattle.bar_outside.specs.Ends.{EndsWith}
 use Rattle.bar_outside.specs.Faults.{code_of_fault, fault_of_file, line_of_fault}
 use Rattle.bar_outside.specs.Plan.{Outside, Plan, no_memory, with_files}
 use Rattle.bar_outside.specs.declared.files.FileFault.{FileFault}
-use Rattle.bar_outside.proofs.Ending.{EndsWith-accepted, EndsWith-ending, EndsWith-memory, EndsWith-reading, EndsWith-refused, EndsWith-unread}
+use Rattle.bar_outside.proofs.Ending.{EndsWith-ending, EndsWith-memory, EndsWith-unread}
+use Rattle.bar_outside.proofs.StageEnds.{EndsWith-accepts, EndsWith-refuses, EndsWith-stage, EndsWith-stage_memory, EndsWith-stage_refused}
+use Rattle.bar_outside.specs.Stages.{Stages, plan_by, refuses}
 use Rattle.bar_window.specs.declared.exchange.Exchange.{Exchange}
 use Rattle.bar_wire.specs.Inputs.{Input}
 use Rattle.bar_wire.specs.declared.shape.Shape.{Shape}
@@ -22,10 +24,9 @@ use Rattle.bar_audit.specs.Audits.{Audits}
 use Rattle.bar_audit.specs.Exchanges.{unbalanced}
 use Rattle.bar_audit.specs.Listed.{recorded}
 use Rattle.bar_audit.specs.Recordings.{Recording}
-use Rattle.bar_cli.specs.Audit.Plan.{AuditFiles, Leaves, all_parties, audit_text, balance_of, inputs_listed, is_range, parties_of, parties_plan, recording_name, recordings_plan, telling_plan}
+use Rattle.bar_cli.specs.Audit.Plan.{AuditFiles, Leaves, all_parties, all_plan, audit_text, balance_of, inputs_listed, is_range, parties_of, parties_stages, recording_name, recordings_stages, telling_plan}
 use Rattle.bar_cli.specs.Audit.Text.{text_for}
 use Rattle.bar_cli.specs.Refusals.{parties_refused, recording_refused}
-use Rattle.bar_cli.proofs.AuditEnds.{with-recording}
 
 -- how many parties there are
 abbrev pub count : AuditFiles → ℕ
@@ -35,11 +36,8 @@ count names = suc (names.last - names.first)
 abbrev pub parties_left : AuditFiles → ℕ → List ℕ
 parties_left names place = range_with_len (names.first + place) (count names - place)
 
-abbrev pub all_plan : AuditFiles → SessionData → Content → Plan
-all_plan names s = recordings_plan names.results s (all_parties names) []
-
 abbrev pub left_plan : AuditFiles → SessionData → ℕ → List Recording → Content → Plan
-left_plan names s place given = recordings_plan names.results s (parties_left names place) given
+left_plan names s place given = plan_by (recordings_stages names.results s (parties_left names place) given)
 
 -- the recordings before a place were accepted and given to the auditor, and the rest is left
 pub record Gathered (names : AuditFiles) (s : SessionData) (place : ℕ) (audit : Audit) (old now : Disk) : Type 0 where
@@ -60,7 +58,7 @@ gathered-none names s audit old knows = record {
   recordings = [];
   knows = knows;
   leaves = λ w new status line e.
-      subst (λ parties. EndsWith (recordings_plan names.results s parties []) (with_files w old) new status line) (all-left names) e;
+      subst (λ parties. EndsWith (plan_by (recordings_stages names.results s parties [])) (with_files w old) new status line) (all-left names) e;
 }
 
 next-party : (first place n : ℕ) → place < n →
@@ -81,7 +79,7 @@ module _ (names : AuditFiles) (s : SessionData) (place : ℕ) (audit : Audit) (o
   pub gathered-all : count names ≤ place → (w : Outside) →
       Leaves (all_plan names s) (telling_plan s g.recordings) (with_files w old) (with_files w now)
   gathered-all past w =
-      subst (λ n. Leaves (all_plan names s) (recordings_plan names.results s (range_with_len (names.first + place) n) g.recordings)
+      subst (λ n. Leaves (all_plan names s) (plan_by (recordings_stages names.results s (range_with_len (names.first + place) n) g.recordings))
       (with_files w old) (with_files w now)) (let none : count names - place ≡ 0 = omega (arith, past) in none) (g.leaves w)
 
   module _ (within : place < count names) where
@@ -93,9 +91,9 @@ module _ (names : AuditFiles) (s : SessionData) (place : ℕ) (audit : Audit) (o
     party = names.first + place
 
     next-leaves : (w : Outside) →
-        Leaves (all_plan names s) (recordings_plan names.results s (party ∷ after) g.recordings) (with_files w old) (with_files w now)
+        Leaves (all_plan names s) (plan_by (recordings_stages names.results s (party ∷ after) g.recordings)) (with_files w old) (with_files w now)
     next-leaves w =
-        subst (λ parties. Leaves (all_plan names s) (recordings_plan names.results s parties g.recordings) (with_files w old) (with_files w now))
+        subst (λ parties. Leaves (all_plan names s) (plan_by (recordings_stages names.results s parties g.recordings)) (with_files w old) (with_files w now))
         (next-party names.first place (count names) within) (g.leaves w)
 
     -- it wasn't read
@@ -104,30 +102,25 @@ module _ (names : AuditFiles) (s : SessionData) (place : ℕ) (audit : Audit) (o
         (code_of_fault (fault_of_file cause)) (line_of_fault (fault_of_file cause))
     gathered-unread mid cause reads w =
         next-leaves w (with_files w mid) _ _
-        (EndsWith-unread (recording_name names.results party) (with-recording names.results s after party g.recordings) now mid w cause reads)
+        (EndsWith-unread (recording_name names.results party) _ now mid w cause reads)
 
     module _ (mid : Disk) (bytes : Vec ℕ Global) (reads : Reads (recording_name names.results party) now mid (Ok bytes)) where
-      -- what ends behind it
-      behind : (w new : Outside) (status : ℕ) (line : List ℕ) →
-          EndsWith (with-recording names.results s after party g.recordings bytes.items) (with_files w mid) new status line →
-          EndsWith (all_plan names s) (with_files w old) new status line
-      behind w new status line e =
-          next-leaves w new status line
-          (EndsWith-reading (recording_name names.results party) (with-recording names.results s after party g.recordings) now mid w new bytes
-          status line reads e)
+      abbrev others : List Input → Stages
+      others inputs = recordings_stages names.results s after (g.recordings ++ (record { party = party; inputs = inputs }) ∷ [])
 
       -- memory is wanting behind it
       pub gathered-late : (w : Outside) → EndsWith (all_plan names s) (with_files w old) (with_files w mid) 70 no_memory
       gathered-late w =
-          behind w (with_files w mid) 70 no_memory
-          (EndsWith-memory (with-recording names.results s after party g.recordings bytes.items) (with_files w mid))
+          next-leaves w (with_files w mid) 70 no_memory
+          (EndsWith-stage_memory (recording_name names.results party) (inputs_listed s party) 8 recording_refused others now mid w bytes reads)
 
       -- it is refused
       pub gathered-refused : (fault : RecordFault) → inputs_listed s party bytes.items ≡ Err fault → (w : Outside) →
           EndsWith (all_plan names s) (with_files w old) (with_files w mid) 8 (recording_refused fault)
       gathered-refused fault is w =
-          behind w (with_files w mid) 8 (recording_refused fault)
-          (EndsWith-refused _ fault _ _ _ _ _ _ is (EndsWith-ending 8 (recording_refused fault) (with_files w mid) refl))
+          next-leaves w (with_files w mid) 8 (recording_refused fault)
+          (EndsWith-stage_refused (recording_name names.results party) (inputs_listed s party) 8 recording_refused others now mid w bytes reads
+          fault refl is)
 
       -- it is accepted, and given to the auditor
       pub gathered-more : (inputs : List Input) (more : Audit) → inputs_listed s party bytes.items ≡ Ok inputs →
@@ -137,7 +130,9 @@ module _ (names : AuditFiles) (s : SessionData) (place : ℕ) (audit : Audit) (o
       gathered-more inputs more is adds = record {
         recordings = g.recordings ++ (record { party = party; inputs = inputs }) ∷ [];
         knows = adds g.recordings g.knows;
-        leaves = λ w new status line e. behind w new status line (EndsWith-accepted _ inputs _ _ _ _ _ _ is e);
+        leaves = λ w new status line e. next-leaves w new status line
+            (EndsWith-stage (recording_name names.results party) (inputs_listed s party) 8 recording_refused others now mid w bytes reads inputs
+            new status line is e);
       }
 
 -- ---- the parties
@@ -149,18 +144,18 @@ range-is names some shape tested is same test e = sym (ap (λ (shape : Shape). i
 
 -- they are refused
 pub refused-parties : (names : AuditFiles) (s : SessionData) (old : Outside) → is_range names s.shape.peers ≡ false →
-    EndsWith (parties_plan names s) old old 8 parties_refused
+    EndsWith (plan_by (parties_stages names s)) old old 8 parties_refused
 refused-parties names s old none =
-    EndsWith-refused (ok_or (parties_of names s) (tt {0})) (tt {0}) _ _ _ _ _ _
+    EndsWith-refuses (parties_of names s) (λ parties. recordings_stages names.results s parties []) (λ _. refuses 8 parties_refused) _ _ _ _ tt
     (ap (λ b. ok_or (then_some b (all_parties names)) (tt {0})) none) (EndsWith-ending 8 parties_refused old refl)
 
 -- or accepted
 pub accepted-parties : (names : AuditFiles) (s : SessionData) (old new : Outside) (status : ℕ) (line : List ℕ) →
     is_range names s.shape.peers ≡ true → EndsWith (all_plan names s) old new status line →
-    EndsWith (parties_plan names s) old new status line
+    EndsWith (plan_by (parties_stages names s)) old new status line
 accepted-parties names s old new status line range h =
-    EndsWith-accepted (ok_or (parties_of names s) (tt {0})) (all_parties names) _ _ _ _ _ _
-    (ap (λ b. ok_or (then_some b (all_parties names)) (tt {0})) range) h
+    EndsWith-accepts (parties_of names s) (λ parties. recordings_stages names.results s parties []) (λ _. refuses 8 parties_refused) _ _ _ _
+    (all_parties names) (ap (λ b. ok_or (then_some b (all_parties names)) (tt {0})) range) h
 
 -- ---- what is told
 

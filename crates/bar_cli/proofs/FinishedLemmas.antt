@@ -1,5 +1,5 @@
 -- The replay of what a peer left that is done.
-use Rattle.std.proofs.Common.{◌≡◌, ◌≤◌, ◌∙◌, ℕ, List, ◌++◌, Bool, true, false, nat_le, Option, None, Some, Ok, IfSome, IsSome, IsTrue, is_some, cond, refl, sym, ap, subst, arith, length}
+use Rattle.std.proofs.Common.{◌≡◌, ◌≤◌, ◌∙◌, ℕ, List, ◌++◌, Bool, true, false, nat_le, Option, None, Some, Ok, IfSome, IsSome, is_some, cond, refl, sym, ap, subst, arith, length}
 use Rattle.std.specs.List.{AllByRecursion}
 use Rattle.std.specs.Option.{option_and_then}
 use Rattle.std.specs.Result.{result_map_both}
@@ -110,41 +110,49 @@ module _ (peer : PeerNames) (names : ReplayFiles) (before after old : Outside) (
         inputs = inputs;
         by_key = record {
           in_session = record {
-            text = a.in_session.text;
+            bytes = a.in_session.bytes;
             read = readable-same old.files.content before.files.content names.session peer.session left.session ∙ a.in_session.read;
             is = a.in_session.is;
           };
-          bytes = text_of done.session done.secrets true;
-          read = readable-short old.files.content names.key _ key (short-key short done.session a.bytes done.secrets a.is);
-          is = spent-key back done.session a.bytes done.secrets a.is;
+          in_key = record {
+            bytes = text_of done.session done.secrets true;
+            read = readable-short old.files.content names.key _ key (short-key short done.session a.bytes done.secrets a.is);
+            is = spent-key back done.session a.bytes done.secrets a.is;
+          };
         };
-        bytes = recording_bytes done.session.shape.id done.secrets.party inputs;
-        read = readable-known old.files.content names.recording _ recording left.not_large;
-        is = whole-recording reads stays done.session done.secrets.party (inputs_of done.given) done.is_given.within;
+        in_recording = record {
+          bytes = recording_bytes done.session.shape.id done.secrets.party inputs;
+          read = readable-known old.files.content names.recording _ recording left.not_large;
+          is = whole-recording reads stays done.session done.secrets.party (inputs_of done.given) done.is_given.within;
+        };
       }
 
 -- ---- files are accepted in one way
 
 same-session : (names : ReplayFiles) (content : Content) (a b : Accepted names content) → a.session ≡ b.session
 same-session names content a b =
-    let text = some-same (readable content names.session) a.by_key.in_session.text b.by_key.in_session.text
+    let text = some-same (readable content names.session) a.by_key.in_session.bytes b.by_key.in_session.bytes
     a.by_key.in_session.read b.by_key.in_session.read in
     let e = sym a.by_key.in_session.is ∙ ap session_of text ∙ b.by_key.in_session.is in
     cc
 
 same-secrets : (names : ReplayFiles) (content : Content) (a b : Accepted names content) → a.secrets ≡ b.secrets
 same-secrets names content a b =
-    let bytes = some-same (readable content names.key) a.by_key.bytes b.by_key.bytes a.by_key.read b.by_key.read in
-    let e = sym a.by_key.is ∙ ap (secrets_of_key a.session) bytes
-    ∙ ap (λ (s : SessionData). secrets_of_key s b.by_key.bytes) (same-session names content a b) ∙ b.by_key.is in
+    let one = a.by_key.in_key in
+    let two = b.by_key.in_key in
+    let bytes = some-same (readable content names.key) one.bytes two.bytes one.read two.read in
+    let e = sym one.is ∙ ap (secrets_of_key a.session) bytes
+    ∙ ap (λ (s : SessionData). secrets_of_key s two.bytes) (same-session names content a b) ∙ two.is in
     cc
 
 same-inputs : (names : ReplayFiles) (content : Content) (a b : Accepted names content) → a.inputs ≡ b.inputs
 same-inputs names content a b =
-    let bytes = some-same (readable content names.recording) a.bytes b.bytes a.read b.read in
-    let e = sym a.is ∙ ap (recording_of a.session a.secrets.party) bytes
-    ∙ ap (λ (s : SessionData). recording_of s a.secrets.party b.bytes) (same-session names content a b)
-    ∙ ap (λ (k : Secrets). recording_of b.session k.party b.bytes) (same-secrets names content a b) ∙ b.is in
+    let one = a.in_recording in
+    let two = b.in_recording in
+    let bytes = some-same (readable content names.recording) one.bytes two.bytes one.read two.read in
+    let e = sym one.is ∙ ap (recording_of a.session a.secrets.party) bytes
+    ∙ ap (λ (s : SessionData). recording_of s a.secrets.party two.bytes) (same-session names content a b)
+    ∙ ap (λ (k : Secrets). recording_of b.session k.party two.bytes) (same-secrets names content a b) ∙ two.is in
     cc
 
 -- ---- and so what was replayed is what the peer did

@@ -1,43 +1,18 @@
 -- The rows of the status table, from how `judge` ended.
-use Rattle.std.proofs.Common.{◌≡◌, ◌⊎◌, ℕ, List, [], Option, Some, None, Result, Ok, Err, false, true, IsTrue, refl, sym, ap, ◌∙◌, subst, IsSomeAnd, inl, inr}
-use Rattle.std.specs.Option.{ok_or}
-use Rattle.bar_outside.specs.Disk.{Content, Failure, readable}
-use Rattle.bar_outside.specs.Plan.{Outside, Plan, Names, ending, is_stop}
-use Rattle.bar_outside.specs.Ends.{SameFiles, NothingPrinted}
-use Rattle.bar_outside.specs.Stages.{Went, IsUnchanged, ReadsFirst, EndsThere, HasShown, ShowsThere, NamesFirst}
-use Rattle.bar_outside.proofs.Unlinked.{IsUnlinked, unlinked-accepting, unlinked-reading}
-use Rattle.bar_terms.specs.Table.{Lists}
+use Rattle.std.proofs.Common.{◌≡◌, ◌⊎◌, ◌==◌, ℕ, List, false, IsTrue, refl, subst, inl, inr}
+use Rattle.bar_outside.specs.Disk.{Content}
+use Rattle.bar_outside.specs.Plan.{Outside, Plan, is_stop}
+use Rattle.bar_outside.specs.Stages.{GoesInOrder}
+use Rattle.bar_outside.proofs.StageRows.{IsWithin, Sorts, cause_at, sorts-last, sorts-stage, stage-within, unlinked-within}
+use Rattle.bar_outside.proofs.Unlinked.{IsUnlinked}
 use Rattle.bar_roster.specs.declared.fault.SessionFault.{SessionFault}
-use Rattle.bar_session.specs.SessionData.{SessionData}
 use Rattle.bar_rules.specs.Judge.Verdict.{Verdict, Fault, Why, Shown, NotShown}
-use Rattle.bar_proof.specs.ProofFile.{evidence_of}
-use Rattle.bar_cli.specs.Judge.Judging.{lists_of, verdict_of, verdict_line, status_of_verdict}
-use Rattle.bar_cli.specs.Judge.Plan.{JudgeFiles, HasSession, HasTable, JudgeAccepted, HasBadSession, HasBadTable, HasBadEvidence, HasJudged, Judged, JudgedFront, IsJudgeCall, by_datagrams, by_lists, by_session, evidence_plan, judge_plan, table_plan, verdict_in}
+use Rattle.bar_session_files.specs.Accepting.{HasBadSession, session_of}
+use Rattle.bar_cli.specs.Judge.Judging.{datagrams_in, lists_of, verdict_of, verdict_line, status_of_verdict}
+use Rattle.bar_cli.specs.Judge.Plan.{JudgeFiles, JudgeAccepted, HasBadTable, HasBadEvidence, HasJudged, IsJudgeCall, evidence_stages, judge_plan, judge_stages, saying, saying_end, table_stages, verdict_in}
 use Rattle.bar_cli.specs.Refusals.{session_refused, table_refused, evidence_refused}
-use Rattle.bar_session_files.specs.Accepting.{session_of}
-use Rattle.bar_cli.proofs.EndLemmas.{differ, go-on}
-
--- what comes behind each read
-
-abbrev with-evidence : SessionData → Lists → List ℕ → Content → Plan
-with-evidence session lists bytes = by_datagrams session lists (evidence_of bytes)
-
-abbrev with-table : JudgeFiles → SessionData → List ℕ → Content → Plan
-with-table names session bytes = by_lists names session (lists_of session bytes)
-
-abbrev with-session : JudgeFiles → List ℕ → Content → Plan
-with-session names text = by_session names (session_of text)
-
--- nothing is done over the link
-pub unlinked-plan : (names : JudgeFiles) (content : Content) → IsUnlinked (judge_plan names content).actions
-unlinked-plan names content =
-    unlinked-reading names.session (with-session names) content
-    (λ text. unlinked-accepting (session_of text) (table_plan names) _ content
-    (λ session. unlinked-reading names.table (with-table names session) content
-    (λ table. unlinked-accepting (lists_of session table) (evidence_plan names session) _ content
-    (λ lists. unlinked-reading names.evidence (with-evidence session lists) content
-    (λ bytes. unlinked-accepting (ok_or (evidence_of bytes) (tt {0})) _ _ content (λ datagrams. tt) (λ none. tt)))
-    (λ at. tt))) (λ fault. tt))
+use Rattle.bar_cli.proofs.EndLemmas.{differ}
+use Rattle.bar_cli.proofs.SayingRows.{SaysInOrder, says-in-order}
 
 -- ---- the status of a verdict
 
@@ -45,180 +20,91 @@ pub says-on : (v : Verdict) → is_stop (status_of_verdict v) ≡ false
 says-on (Shown party fault) = refl
 says-on (NotShown why) = refl
 
-pub is-shown : (v : Verdict) → 0 ≡ status_of_verdict v → (party : ℕ) × (fault : Fault) × (v ≡ Shown party fault)
+is-shown : (v : Verdict) → 0 ≡ status_of_verdict v → (party : ℕ) × (fault : Fault) × (v ≡ Shown party fault)
 is-shown (Shown party fault) e = (party, fault, refl)
 is-shown (NotShown why) e = absurd (differ 0 1 refl e)
 
-pub is-not_shown : (v : Verdict) → 1 ≡ status_of_verdict v → (why : Why) × (v ≡ NotShown why)
+is-not_shown : (v : Verdict) → 1 ≡ status_of_verdict v → (why : Why) × (v ≡ NotShown why)
 is-not_shown (Shown party fault) e = absurd (differ 1 0 refl e)
 is-not_shown (NotShown why) e = (why, refl)
 
-pub no-refusal : (v : Verdict) (status : ℕ) → is_stop status ≡ false → 4 ≡ status ⊎ 8 ≡ status → status ≡ status_of_verdict v → ⊥
-no-refusal (Shown party fault) status go which e =
-    elim which [ inl four ↦ differ 4 0 refl (four ∙ e) | inr eight ↦ differ 8 0 refl (eight ∙ e) ]
-no-refusal (NotShown why) status go which e =
-    elim which [ inl four ↦ differ 4 1 refl (four ∙ e) | inr eight ↦ differ 8 1 refl (eight ∙ e) ]
+pub verdict-small : (v : Verdict) → (status_of_verdict v ≡ 0) ⊎ (status_of_verdict v ≡ 1)
+verdict-small (Shown party fault) = inl refl
+verdict-small (NotShown why) = inr refl
 
--- ---- how far a judge came
+-- at 0 a fault is shown, at 1 none
 
--- the file that was refused
-abbrev pub IsRefused : JudgeFiles → Content → ℕ → Type 0
-IsRefused names content status =
-    ((status ≡ 4) × (fault : SessionFault) × HasBadSession names content fault)
-    ⊎ ((status ≡ 8) × (((at : ℕ) × HasBadTable names content at) ⊎ HasBadEvidence names content))
+pub shown-so : (P : Verdict → Type 0) → (v : Verdict) × (0 ≡ status_of_verdict v) × P v → (party : ℕ) × (fault : Fault) × P (Shown party fault)
+shown-so P j = let s = is-shown j.0 j.1 in (s.0, s.1, subst P s.2 j.2)
 
--- nothing was changed or printed, for a stop or a refusal; or all were accepted, and the line of the verdict was printed
-abbrev pub Outcome : JudgeFiles → Outside → Outside → ℕ → Type 0
-Outcome names old new status =
-    (IsUnchanged status old new × ((is_stop status ≡ true) ⊎ IsRefused names old.files.content status))
-    ⊎ ((a : JudgeAccepted names old.files.content)
-    × HasShown (verdict_line (verdict_in names old.files.content a))
-    (status_of_verdict (verdict_in names old.files.content a)) old new status)
+pub not_shown-so : (P : Verdict → Type 0) → (v : Verdict) × (1 ≡ status_of_verdict v) × P v → (why : Why) × P (NotShown why)
+not_shown-so P j = let s = is-not_shown j.0 j.1 in (s.0, subst P s.1 j.2)
 
-module _ (reads : ReadsFirst) (ends : EndsThere) (shows : ShowsThere) (names : JudgeFiles) (old new : Outside) (status : ℕ)
-    (told : IsTrue new.files.told) where
-  refused : (final : ℕ) (line : List ℕ) → Went (ending final line old.files.content) old new status →
-      (status ≡ final → IsRefused names old.files.content status) → Outcome names old new status
-  refused final line w why =
-      let e = ends final line old new status told w in inl (e.0, elim e.1 [ inl same ↦ inr (why same) | inr stop ↦ inl stop ])
+-- ---- its stages
 
-  outcome-datagrams : (session : SessionData) (lists : Lists) (bytes : List ℕ) (o : Option (List (List ℕ))) →
-      HasTable names old.files.content session lists → readable old.files.content names.evidence ≡ Some bytes → evidence_of bytes ≡ o →
-      Went (by_datagrams session lists o old.files.content) old new status →
-      Outcome names old new status
-  outcome-datagrams session lists bytes None t r e w =
-      refused 8 evidence_refused w
-      (λ s. inr (s, inr (record { session = session; lists = lists; by_table = t; bytes = bytes; read = r; is = e })))
-  outcome-datagrams session lists bytes (Some ds) t r e w = inr (
-    record { session = session; lists = lists; datagrams = ds; by_table = t; bytes = bytes; read = r; is = e },
-    shows (verdict_line (verdict_of session lists ds)) (status_of_verdict (verdict_of session lists ds)) [] old new status told w,
-  )
+pub within : (names : JudgeFiles) → IsWithin (IsJudgeCall names) (judge_stages names)
+within names =
+    stage-within (IsJudgeCall names) names.session session_of 4 session_refused (table_stages names) (inl refl)
+    (λ s. stage-within (IsJudgeCall names) names.table (lists_of s) 8 table_refused (evidence_stages names s) (inr (inl refl))
+    (λ lists. stage-within (IsJudgeCall names) names.evidence datagrams_in 8 (λ _. evidence_refused)
+    (λ datagrams. saying (verdict_of s lists datagrams)) (inr (inr refl))
+    (λ datagrams. record { unlinked = tt; calls = λ call h. absurd h })))
 
-  outcome-lists : (session : SessionData) (bytes : List ℕ) (r : Result Lists ℕ) →
-      HasSession names old.files.content session → readable old.files.content names.table ≡ Some bytes → lists_of session bytes ≡ r →
-      Went (by_lists names session r old.files.content) old new status →
-      Outcome names old new status
-  outcome-lists session bytes (Err at) s r e w =
-      refused 8 (table_refused at) w (λ k. inr (k, inl (at, record { session = session; in_session = s; bytes = bytes; read = r; is = e })))
-  outcome-lists session bytes (Ok lists) s r e w =
-      elim (reads names.evidence (with-evidence session lists) old new status told w) [
-        | inl same ↦ inl (same.0, inl same.1)
-        | inr on ↦
-            outcome-datagrams session lists on.bytes (evidence_of on.bytes)
-            (record { in_session = s; bytes = bytes; read = r; is = e }) on.read refl on.rest
-      ]
+-- nothing is done over the link
+pub unlinked-plan : (names : JudgeFiles) (content : Content) → IsUnlinked (judge_plan names content).actions
+unlinked-plan names content = unlinked-within (IsJudgeCall names) (judge_stages names) content (within names)
 
-  outcome-session : (text : List ℕ) (r : Result SessionData SessionFault) → readable old.files.content names.session ≡ Some text →
-      session_of text ≡ r →
-      Went (by_session names r old.files.content) old new status →
-      Outcome names old new status
-  outcome-session text (Err fault) r e w =
-      refused 4 (session_refused fault) w (λ s. inl (s, fault, record { text = text; read = r; is = e }))
-  outcome-session text (Ok session) r e w =
-      elim (reads names.table (with-table names session) old new status told w) [
-        | inl same ↦ inl (same.0, inl same.1)
-        | inr on ↦ outcome-lists session on.bytes (lists_of session on.bytes)
-            (record { text = text; read = r; is = e }) on.read refl on.rest
-      ]
+module _ (names : JudgeFiles) (content : Content) where
+  abbrev pub judge_end : JudgeAccepted names content → Plan
+  judge_end a = saying_end (verdict_in names content a)
 
-  pub outcome : Went (judge_plan names old.files.content) old new status → Outcome names old new status
-  outcome w =
-      elim (reads names.session (with-session names) old new status told w) [
-        | inl same ↦ inl (same.0, inl same.1)
-        | inr on ↦ outcome-session on.bytes (session_of on.bytes) on.read refl on.rest
-      ]
+  -- what was refused, by the status
+  abbrev pub Causes : ℕ → Type 0
+  Causes status =
+      cause_at (status == 4) ((fault : SessionFault) × HasBadSession names.session content fault)
+      (cause_at (status == 8) (((at : ℕ) × HasBadTable names content at) ⊎ HasBadEvidence names content) ⊥)
+
+  sorts : Sorts Causes judge_end content (judge_stages names)
+  sorts =
+      sorts-stage Causes judge_end content names.session session_of 4 session_refused (table_stages names) (λ fault bad. (fault, bad))
+      (λ s has. sorts-stage Causes judge_end content names.table (lists_of s) 8 table_refused (evidence_stages names s)
+      (λ at bad. inl (at, record { session = s; in_session = has; in_table = bad }))
+      (λ lists has_table. sorts-stage Causes judge_end content names.evidence datagrams_in 8 (λ _. evidence_refused)
+      (λ datagrams. saying (verdict_of s lists datagrams))
+      (λ none bad. inr (record {
+        session = s;
+        lists = lists;
+        by_table = record { in_session = has; in_table = has_table };
+        in_evidence = bad;
+      }))
+      (λ datagrams has_evidence. sorts-last Causes judge_end content (record {
+        session = s;
+        lists = lists;
+        datagrams = datagrams;
+        by_table = record { in_session = has; in_table = has_table };
+        in_evidence = has_evidence;
+      }))))
 
 -- ---- the rows
 
--- a verdict of this status was printed
-pub judged : (names : JudgeFiles) (old new : Outside) (status : ℕ) → is_stop status ≡ false →
-    (IsRefused names old.files.content status → ⊥) →
-    Outcome names old new status → (v : Verdict) × (status ≡ status_of_verdict v) × Judged names v old new
-judged names old new status go not_refused (inl r) = absurd (elim r.1 [ inl stop ↦ go-on status go stop | inr why ↦ not_refused why ])
-judged names old new status go not_refused (inr a) = (
-  verdict_in names old.files.content a.0,
-  elim a.1.ended [ inl same ↦ same | inr stop ↦ absurd (go-on status go stop) ],
-  record { accepted = a.0; is = refl; printed = a.1.whole go; files = a.1.files },
-)
+module _ (names : JudgeFiles) (old new : Outside) (status : ℕ) (told : IsTrue new.files.told)
+    (order : GoesInOrder (judge_stages names) old new status) where
+  abbrev content : Content
+  content = old.files.content
 
--- so it is at 0 and at 1
-pub judged_so : (names : JudgeFiles) (old new : Outside) (status : ℕ) → (status ≡ 0) ⊎ (status ≡ 1) → Outcome names old new status →
-    HasJudged names status old new
-judged_so names old new status (inl e) o =
-    judged names old new status (ap is_stop e)
-    (λ r. elim r [ inl k ↦ differ 0 4 refl (sym e ∙ k.0) | inr k ↦ differ 0 8 refl (sym e ∙ k.0) ]) o
-judged_so names old new status (inr e) o =
-    judged names old new status (ap is_stop e)
-    (λ r. elim r [ inl k ↦ differ 1 4 refl (sym e ∙ k.0) | inr k ↦ differ 1 8 refl (sym e ∙ k.0) ]) o
+  abbrev line : JudgeAccepted names content → List ℕ
+  line a = verdict_line (verdict_in names content a)
 
-module _ (names : JudgeFiles) (old new : Outside) where
-  pub shown : Outcome names old new 0 → (party : ℕ) × (fault : Fault) × Judged names (Shown party fault) old new
-  shown o =
-      let j = judged_so names old new 0 (inl refl) o in
-      let s = is-shown j.0 j.1 in
-      (s.0, s.1, subst (λ v. Judged names v old new) s.2 j.2)
+  abbrev final : JudgeAccepted names content → ℕ
+  final a = status_of_verdict (verdict_in names content a)
 
-  pub not_shown : Outcome names old new 1 → (why : Why) × Judged names (NotShown why) old new
-  not_shown o =
-      let j = judged_so names old new 1 (inr refl) o in
-      let s = is-not_shown j.0 j.1 in
-      (s.0, subst (λ v. Judged names v old new) s.1 j.2)
+  pub judge-order : SaysInOrder (Causes names content) line final old new status
+  judge-order =
+      says-in-order (Causes names content) line final old new status (λ a. verdict-small (verdict_in names content a)) (λ why. why)
+      (λ why. why) (judge_stages names) told (sorts names content) order.gone
 
-  -- at a refusal nothing was printed
-  pub refused_so : (status : ℕ) → is_stop status ≡ false → (4 ≡ status) ⊎ (8 ≡ status) → Outcome names old new status →
-      IsUnchanged status old new × IsRefused names old.files.content status
-  refused_so status go which (inl r) = (r.0, elim r.1 [ inl stop ↦ absurd (go-on status go stop) | inr why ↦ why ])
-  refused_so status go which (inr a) =
-      absurd (elim a.1.ended [
-        | inl same ↦ no-refusal (verdict_in names old.files.content a.0) status go which same
-        | inr stop ↦ go-on status go stop
-      ])
-
-  pub bad_session : Outcome names old new 4 → (fault : SessionFault) × HasBadSession names old.files.content fault
-  bad_session o = elim (refused_so 4 refl (inl refl) o).1 [ inl k ↦ (k.1, k.2) | inr k ↦ absurd (differ 4 8 refl k.0) ]
-
-  pub bad_input : Outcome names old new 8 → ((at : ℕ) × HasBadTable names old.files.content at) ⊎ HasBadEvidence names old.files.content
-  bad_input o = elim (refused_so 8 refl (inr refl) o).1 [ inl k ↦ absurd (differ 8 4 refl k.0) | inr k ↦ k.1 ]
-
-  pub front_at_output : Outcome names old new 7 → JudgedFront names old new
-  front_at_output (inl r) = absurd (r.0.no_output refl)
-  front_at_output (inr a) = record { accepted = a.0; printed = a.1.front }
-
-  pub front_or_nothing : (status : ℕ) → Outcome names old new status → NothingPrinted old new ⊎ JudgedFront names old new
-  front_or_nothing status (inl r) = inl r.0.out
-  front_or_nothing status (inr a) = inr (record { accepted = a.0; printed = a.1.front })
-
-  pub same_files : (status : ℕ) → Outcome names old new status → SameFiles old new
-  same_files status (inl r) = r.0.files
-  same_files status (inr a) = a.1.files
-
--- ---- the calls
-
-module _ (first : NamesFirst) (names : JudgeFiles) (content : Content) (call : Failure) where
-  call-said : (session : SessionData) (lists : Lists) (o : Option (List (List ℕ))) →
-      Names (by_datagrams session lists o content).actions call → ⊥
-  call-said session lists None h = h
-  call-said session lists (Some ds) h = h
-
-  call-lists : (session : SessionData) (r : Result Lists ℕ) →
-      Names (by_lists names session r content).actions call → IsJudgeCall names call
-  call-lists session (Err at) h = absurd h
-  call-lists session (Ok lists) h =
-      elim (first names.evidence (with-evidence session lists) content call h)
-      [ inl e ↦ inr (inr e) | inr m ↦ absurd (call-said session lists (evidence_of m.0) m.2) ]
-
-  call-session : (r : Result SessionData SessionFault) →
-      Names (by_session names r content).actions call → IsJudgeCall names call
-  call-session (Err fault) h = absurd h
-  call-session (Ok session) h =
-      elim (first names.table (with-table names session) content call h)
-      [ inl e ↦ inr (inl e) | inr m ↦ call-lists session (lists_of session m.0) m.2 ]
-
-  pub call-named : Names (judge_plan names content).actions call → IsJudgeCall names call
-  call-named h =
-      elim (first names.session (with-session names) content call h) [ inl e ↦ inl e | inr m ↦ call-session (session_of m.0) m.2 ]
-
-pub named-some : (first : NamesFirst) (names : JudgeFiles) (content : Content) (o : Option Failure) →
-    IsSomeAnd o (Names (judge_plan names content).actions) → IsSomeAnd o (IsJudgeCall names)
-named-some first names content (Some call) h = call-named first names content call h
-named-some first names content None h = h
+  -- a verdict of this status was printed
+  pub judged : (status ≡ 0) ⊎ (status ≡ 1) → HasJudged names status old new
+  judged which =
+      let a = judge-order.ended which in
+      (verdict_in names content a.0, a.1, record { accepted = a.0; is = refl; printed = a.2; files = judge-order.files })

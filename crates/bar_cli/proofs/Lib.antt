@@ -2,11 +2,11 @@ pub mod TurnLemmas
 pub mod ReplayLemmas
 pub mod UpToLemmas
 pub mod EndLemmas
+pub mod SayingRows
 pub mod StatusLemmas
 pub mod MemberLemmas
 pub mod Spoken
 pub mod ReplayRows
-pub mod AuditEnds
 pub mod AuditLemmas
 pub mod AuditRows
 pub mod EvidenceLemmas
@@ -17,7 +17,6 @@ pub mod PackRows
 pub mod PackFronts
 pub mod MadeFiles
 pub mod KeygenRows
-pub mod KeygenFronts
 pub mod CoreTurns
 pub mod WrittenOut
 pub mod RunLemmas

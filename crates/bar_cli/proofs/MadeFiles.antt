@@ -1,7 +1,8 @@
 -- What is left of making a file: it is created and written, and then lines are printed.
-use Rattle.std.proofs.Common.{◌≡◌, ◌≢◌, ◌⊎◌, Option, ℕ, List, [], ◌∷◌, ◌++◌, Some, IsTrue, Result, refl, ap, ◌∙◌, subst, inl, inr, take, append-nil}
+use Rattle.std.proofs.Common.{◌≡◌, ◌≢◌, ◌⊎◌, Option, ℕ, List, [], ◌∷◌, ◌++◌, Some, IsTrue, Result, refl, sym, ap, ◌∙◌, subst, inl, inr, take, append-nil}
 use Rattle.std.specs.List.{concat}
-use Rattle.bar_outside.specs.Disk.{Content, CreatedFiles, created}
+use Rattle.bar_outside.specs.Disk.{Content, CreatedFiles, Failure, created}
+use Rattle.bar_outside.specs.declared.files.CallKind.TheVariants.{Append, Create}
 use Rattle.bar_outside.specs.Plan.{Outside, Action, CanRun, Ran, Reached, Touches, IsShowNext, content_after, shown}
 use Rattle.bar_outside.specs.Plan.Action.{create, append, show}
 use Rattle.bar_outside.specs.Follows.{Follows}
@@ -9,6 +10,7 @@ use Rattle.bar_outside.specs.Stages.{IsUnchanged}
 use Rattle.bar_outside.specs.declared.fault.Fault.{Fault}
 use Rattle.bar_outside.proofs.ActionLists.{with_file-same}
 use Rattle.bar_outside.proofs.Contents.{put_at-same, put_at-other, appended-same, appended-other}
+use Rattle.bar_outside.proofs.StageRows.{IsEndWithin}
 use Rattle.bar_outside.proofs.Untouched.{untouched-reached}
 use Rattle.bar_cli.specs.Replay.Turns.{Turn, played_bytes, shown_bytes}
 use Rattle.bar_cli.proofs.UpToLemmas.{IsStopped, IsMadeAt, IsUpTo, stopped-played, unchanged-by}
@@ -26,6 +28,17 @@ pub made-of : {T : Type 0} (path text same lines others : List ℕ) (old new : O
 made-of path text same lines others old new r e f h =
     subst (λ (xs : List ℕ). Follows (making path xs others) old new r) e
     (subst (λ (xs : List ℕ). Follows (making path text xs) old new r) f h)
+
+-- the calls of the files that it makes
+pub making-within : (C : Failure → Type 0) (path text lines : List ℕ) → C (record { kind = Create; path = path }) →
+    C (record { kind = Append; path = path }) → IsEndWithin C (record { actions = making path text lines; status = 0; line = [] })
+making-within C path text lines creates appends = record {
+  unlinked = tt;
+  calls = λ call h. elim h [
+    | inl e ↦ subst C (sym e) creates
+    | inr more ↦ elim more [ inl e ↦ subst C (sym e) appends | inr none ↦ absurd none ]
+  ];
+}
 
 -- ---- all of it
 

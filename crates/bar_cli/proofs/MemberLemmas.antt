@@ -42,12 +42,12 @@ pub is-member : AreHeld → AreInRange → (names : ReplayFiles) (content : Cont
     IsMember (peer_of names content a)
 unfolding secrets_of_key
 is-member held ranged names content a =
-    member-of held ranged false a.by_key.in_session.text a.by_key.bytes a.session a.secrets a.by_key.in_session.is a.by_key.is
+    member-of held ranged false a.by_key.in_session.bytes a.by_key.in_key.bytes a.session a.secrets a.by_key.in_session.is a.by_key.in_key.is
 
 is-live_member : AreHeld → AreInRange → (names : PeerNames) (content : Content) (s : SessionData) (k : Secrets) →
     PeerAccepted names content s k → IsMember (member_by s k)
 unfolding fresh_key_of
-is-live_member held ranged names content s k a = member-of held ranged true a.in_session.text a.bytes s k a.in_session.is a.is
+is-live_member held ranged names content s k a = member-of held ranged true a.in_session.bytes a.bytes s k a.in_session.is a.is
 
 -- what holds of each peer and its inputs holds of the peer of a replay at each moment of its recording
 pub of-each_moment : AreHeld → AreInRange → (P : Member → List Input → Type 0) → OfEachPeer P →

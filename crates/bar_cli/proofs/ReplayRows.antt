@@ -1,14 +1,16 @@
 -- The rows of the status table, from how a replay ended.
-use Rattle.std.proofs.Common.{◌≡◌, ◌⊎◌, ◌==◌, ℕ, List, [], ◌∷◌, ◌++◌, true, false, IsTrue, Option, Some, None, Result, Ok, Err, refl, sym, ap, ◌∙◌, subst, IsSomeAnd, inl, inr, map, take, length, ◌≢◌, ◌<◌, ◌^◌, append-nil, append_assoc, arith}
+use Rattle.std.proofs.Common.{◌≡◌, ◌⊎◌, ◌==◌, ℕ, List, [], ◌∷◌, ◌++◌, false, IsTrue, Some, refl, sym, ap, ◌∙◌, subst, inl, inr, map, take, length, ◌≢◌, ◌<◌, ◌^◌, append-nil, append_assoc, arith}
 use Rattle.std.proofs.Math.Seq.{take-length}
 use Rattle.std.specs.List.{AllByRecursion}
-use Rattle.bar_outside.specs.Disk.{Content, Failure, readable}
-use Rattle.bar_outside.specs.Plan.{Outside, Plan, Begun, Reached, IsShowNext, Names, Touches, accepting, ending, content_after, shown, is_stop, Action}
+use Rattle.bar_outside.specs.Disk.{Content, Failure}
+use Rattle.bar_outside.specs.Plan.{Outside, Plan, Begun, Reached, IsShowNext, Names, Touches, content_after, shown, is_stop, Action}
 use Rattle.bar_outside.specs.Plan.Action.{append, show}
-use Rattle.bar_outside.specs.Stages.{Went, IsUnchanged, ReadsFirst, EndsThere, NamesFirst}
+use Rattle.bar_outside.specs.Stages.{GoesInOrder, IsUnchanged}
+use Rattle.bar_outside.specs.Stages.Stages.{does}
+use Rattle.bar_outside.proofs.StageRows.{IsEndWithin, IsWithin, Outcome as Came, Sorts, cause_at, outcome as sorted, refused-at, sorts-last, sorts-stage, stage-within, unlinked-within}
 use Rattle.bar_outside.proofs.ActionLists.{Names-split, Reached-both, content_after-append, shown-append}
 use Rattle.bar_outside.proofs.Appends.{named-appends, touched-appends}
-use Rattle.bar_outside.proofs.Unlinked.{IsUnlinked, unlinked-accepting, unlinked-reading}
+use Rattle.bar_outside.proofs.Unlinked.{IsUnlinked}
 use Rattle.bar_outside.proofs.Untouched.{Touches-split, untouched-reached}
 use Rattle.bar_wire.specs.Inputs.{Input}
 use Rattle.bar_seeds.specs.declared.secrets.Secrets.{Secrets}
@@ -24,114 +26,16 @@ use Rattle.bar_findings.proofs.Holding.{AreWritten, begun-others, evidence-there
 use Rattle.bar_findings.proofs.Names.{AreDistinct, finding-names, findings-distinct}
 use Rattle.bar_cli.specs.Replay.Found.{evidence_of, found_by, manifest_of}
 use Rattle.bar_cli.specs.Refusals.{session_refused, key_refused, recording_refused}
-use Rattle.bar_session_files.specs.Accepting.{secrets_of_key, session_of}
+use Rattle.bar_session_files.specs.Accepting.{HasBadSession, secrets_of_key, session_of}
 use Rattle.bar_cli.specs.Replay.Recordings.{recording_of}
 use Rattle.bar_cli.specs.Replay.Turns.{Turn, shown_bytes, turns_actions}
-use Rattle.bar_cli.specs.Replay.Plan.{ReplayFiles, SessionAccepted, SessionRefused, KeyAccepted, KeyRefused, InputRefused, Accepted, Replayed, PlayedFront, PlayedUpTo, FoundUpTo, HasOwnNames, OthersAreSame, ChangesNothing, IsMade, IsReplayCall, found_in, peer_of, turns_in, turns_of, transcript_of, replay_plan, key_plan, recording_plan, run_plan, playing_actions, replay_actions}
+use Rattle.bar_cli.specs.Replay.Plan.{ReplayFiles, KeyRefused, InputRefused, Accepted, Replayed, PlayedFront, PlayedUpTo, FoundUpTo, HasOwnNames, OthersAreSame, ChangesNothing, IsMade, IsReplayCall, found_in, key_stages, peer_of, playing_actions, recording_stages, replay_actions, replay_plan, replay_stages, run_end, transcript_of, turns_in, turns_of}
 use Rattle.bar_cli.proofs.EndLemmas.{differ, go-on}
 use Rattle.bar_session_files.proofs.Accepted.{AreHeld, AreInRange, held-here, in-range_here}
 use Rattle.bar_laws.proofs.Logs.{all-map}
 use Rattle.bar_cli.proofs.ReplayLemmas.{all-played, final-found, final-other, final-played, others-unplayed, shown-playing, shown-replay, unlinked-playing, unlinked-replay}
 use Rattle.bar_cli.proofs.TurnLemmas.{played-turns, shown-turns_from}
 use Rattle.bar_cli.proofs.UpToLemmas.{IsStopped, stopped-played, unchanged-by, front-played, front-shown}
-
--- what comes behind each read, by what the bytes stand for
-
-abbrev by-inputs : ReplayFiles → SessionData → Secrets → Result (List Input) RecordFault → Content → Plan
-by-inputs names session secrets inputs =
-    accepting inputs (run_plan names session secrets) (λ fault. ending 8 (recording_refused fault))
-
-abbrev by-secrets : ReplayFiles → SessionData → Result Secrets KeyFileFault → Content → Plan
-by-secrets names session secrets = accepting secrets (recording_plan names session) (λ fault. ending 5 (key_refused fault))
-
-abbrev by-session : ReplayFiles → Result SessionData SessionFault → Content → Plan
-by-session names session = accepting session (key_plan names) (λ fault. ending 4 (session_refused fault))
-
-abbrev with-recording : ReplayFiles → SessionData → Secrets → List ℕ → Content → Plan
-with-recording names session secrets bytes = by-inputs names session secrets (recording_of session secrets.party bytes)
-
-abbrev with-key : ReplayFiles → SessionData → List ℕ → Content → Plan
-with-key names session bytes = by-secrets names session (secrets_of_key session bytes)
-
-abbrev with-session : ReplayFiles → List ℕ → Content → Plan
-with-session names text = by-session names (session_of text)
-
--- nothing is done over the link
-pub unlinked-plan : (names : ReplayFiles) (content : Content) → IsUnlinked (replay_plan names content).actions
-unlinked-plan names content =
-    unlinked-reading names.session (with-session names) content
-    (λ text. unlinked-accepting (session_of text) (key_plan names) _ content
-    (λ session. unlinked-reading names.key (with-key names session) content
-    (λ key. unlinked-accepting (secrets_of_key session key) (recording_plan names session) _ content
-    (λ secrets. unlinked-reading names.recording (with-recording names session secrets) content
-    (λ bytes. unlinked-accepting (recording_of session secrets.party bytes) (run_plan names session secrets) _ content
-    (λ inputs. unlinked-replay names (turns_of session secrets inputs) (found_by names.found (member_by session secrets) inputs))
-    (λ fault. tt))) (λ fault. tt))) (λ fault. tt))
-
--- ---- how far a replay came
-
--- the file that was refused
-abbrev pub IsRefused : ReplayFiles → Content → ℕ → Type 0
-IsRefused names content status =
-    ((status ≡ 4) × ((text : List ℕ) × (fault : SessionFault) × SessionRefused names content text fault))
-    ⊎ (((status ≡ 5) × ((session : SessionData) × (bytes : List ℕ) × (fault : KeyFileFault) × KeyRefused names content session bytes fault))
-    ⊎ ((status ≡ 8)
-    × ((session : SessionData) × (secrets : Secrets) × (bytes : List ℕ) × (fault : RecordFault)
-    × InputRefused names content session secrets bytes fault)))
-
--- nothing was changed or printed, for a stop or a refusal; or all were accepted, and the turns went so
-abbrev pub Outcome : ReplayFiles → Outside → Outside → ℕ → Type 0
-Outcome names old new status =
-    (IsUnchanged status old new × ((is_stop status ≡ true) ⊎ IsRefused names old.files.content status))
-    ⊎ ((a : Accepted names old.files.content) × Went (run_plan names a.session a.secrets a.inputs old.files.content) old new status)
-
-module _ (reads : ReadsFirst) (ends : EndsThere) (names : ReplayFiles) (old new : Outside) (status : ℕ) (told : IsTrue new.files.told) where
-  refused : (final : ℕ) (line : List ℕ) → Went (ending final line old.files.content) old new status →
-      (status ≡ final → IsRefused names old.files.content status) → Outcome names old new status
-  refused final line w why =
-      let e = ends final line old new status told w in inl (e.0, elim e.1 [ inl same ↦ inr (why same) | inr stop ↦ inl stop ])
-
-  outcome-inputs : (session : SessionData) (secrets : Secrets) (bytes : List ℕ) (o : Result (List Input) RecordFault) →
-      KeyAccepted names old.files.content session secrets → readable old.files.content names.recording ≡ Some bytes →
-      recording_of session secrets.party bytes ≡ o → Went (by-inputs names session secrets o old.files.content) old new status →
-      Outcome names old new status
-  outcome-inputs session secrets bytes (Err fault) k r e w =
-      refused 8 (recording_refused fault) w
-      (λ s. inr (inr (s, (session, secrets, bytes, fault, record { by_key = k; read = r; is = e }))))
-  outcome-inputs session secrets bytes (Ok inputs) k r e w =
-      inr (record { session = session; secrets = secrets; inputs = inputs; by_key = k; bytes = bytes; read = r; is = e }, w)
-
-  outcome-secrets : (session : SessionData) (bytes : List ℕ) (r : Result Secrets KeyFileFault) →
-      SessionAccepted names old.files.content session → readable old.files.content names.key ≡ Some bytes →
-      secrets_of_key session bytes ≡ r →
-      Went (by-secrets names session r old.files.content) old new status → Outcome names old new status
-  outcome-secrets session bytes (Err fault) s r e w =
-      refused 5 (key_refused fault) w (λ k. inr (inl (k, (session, bytes, fault, record { in_session = s; read = r; is = e }))))
-  outcome-secrets session bytes (Ok secrets) s r e w =
-      elim (reads names.recording (with-recording names session secrets) old new status told w) [
-        | inl same ↦ inl (same.0, inl same.1)
-        | inr on ↦
-            outcome-inputs session secrets on.bytes (recording_of session secrets.party on.bytes)
-            (record { in_session = s; bytes = bytes; read = r; is = e }) on.read refl on.rest
-      ]
-
-  outcome-session : (text : List ℕ) (r : Result SessionData SessionFault) → readable old.files.content names.session ≡ Some text →
-      session_of text ≡ r →
-      Went (by-session names r old.files.content) old new status → Outcome names old new status
-  outcome-session text (Err fault) r e w = refused 4 (session_refused fault) w (λ s. inl (s, (text, fault, record { read = r; is = e })))
-  outcome-session text (Ok session) r e w =
-      elim (reads names.key (with-key names session) old new status told w) [
-        | inl same ↦ inl (same.0, inl same.1)
-        | inr on ↦ outcome-secrets session on.bytes (secrets_of_key session on.bytes)
-            (record { text = text; read = r; is = e }) on.read refl on.rest
-      ]
-
-  pub outcome : Went (replay_plan names old.files.content) old new status → Outcome names old new status
-  outcome w =
-      elim (reads names.session (with-session names) old new status told w) [
-        | inl same ↦ inl (same.0, inl same.1)
-        | inr on ↦ outcome-session on.bytes (session_of on.bytes) on.read refl on.rest
-      ]
 
 -- ---- what was found
 
@@ -154,7 +58,7 @@ own-names names me inputs own =
 -- no two of its files have one name
 distinct-in : AreInRange → (names : ReplayFiles) (content : Content) (a : Accepted names content) → AreDistinct (found_in names content a)
 distinct-in ranged names content a =
-    let most = (in-range_here ranged a.by_key.in_session.text a.session a.by_key.in_session.is).shape.peers_high in
+    let most = (in-range_here ranged a.by_key.in_session.bytes a.session a.by_key.in_session.is).shape.peers_high in
     let few : a.session.shape.peers < 2 ^ 64 = omega arith in
     findings-distinct names.found (manifest_of (peer_of names content a) a.inputs) a.session.shape.rounds
     (evidence_of (peer_of names content a) a.inputs) a.session.shape.peers few
@@ -169,15 +73,96 @@ written-some names me inputs content done distinct b =
     some : found_by names.found me inputs ≡ [] → ⊥
     some e = cc
 
+-- ---- the calls that it makes
+
+named-shows : (lines : List (List ℕ)) (rest : List Action) (call : Failure) → Names (map show lines ++ rest) call → Names rest call
+named-shows [] rest call h = h
+named-shows (x ∷ xs) rest call h = named-shows xs rest call h
+
+named-turns : (names : ReplayFiles) (turns : List Turn) (call : Failure) →
+    Names (turns_actions names.played turns) call → IsReplayCall names call
+named-turns names [] call h = absurd h
+named-turns names (t ∷ ts) call h =
+    elim (named-appends names.played t.contents (map show t.lines ++ turns_actions names.played ts) call
+    (subst (λ plan. Names plan call)
+    (append_assoc (map (append names.played) t.contents) (map show t.lines) (turns_actions names.played ts)) h)) [
+      | inl e ↦ inr (inl (inr e))
+      | inr k ↦ named-turns names ts call (named-shows t.lines (turns_actions names.played ts) call k)
+    ]
+
+named-run : (names : ReplayFiles) (turns : List Turn) (me : Member) (inputs : List Input) (call : Failure) →
+    Names (replay_actions names turns (found_by names.found me inputs)) call → IsReplayCall names call
+named-run names turns me inputs call (inl e) = inr (inl (inl e))
+named-run names turns me inputs call (inr h) =
+    elim (Names-split (turns_actions names.played turns) (findings_actions (found_by names.found me inputs)) call h) [
+      | inl now ↦ named-turns names turns call now
+      | inr later ↦
+          inr (inr (named-findings (IsFindingName names.found) (found_by names.found me inputs) call (found-names names me inputs) later))
+    ]
+
+-- ---- its stages
+
+run-within : (names : ReplayFiles) (s : SessionData) (k : Secrets) (inputs : List Input) →
+    IsEndWithin (IsReplayCall names) (run_end names s k inputs)
+run-within names s k inputs = record {
+  unlinked = unlinked-replay names (turns_of s k inputs) (found_by names.found (member_by s k) inputs);
+  calls = named-run names (turns_of s k inputs) (member_by s k) inputs;
+}
+
+pub within : (names : ReplayFiles) → IsWithin (IsReplayCall names) (replay_stages names)
+within names =
+    stage-within (IsReplayCall names) names.session session_of 4 session_refused (key_stages names) (inl (inl refl))
+    (λ s. stage-within (IsReplayCall names) names.key (secrets_of_key s) 5 key_refused (recording_stages names s) (inl (inr (inl refl)))
+    (λ k. stage-within (IsReplayCall names) names.recording (recording_of s k.party) 8 recording_refused
+    (λ inputs. does (run_end names s k inputs)) (inl (inr (inr refl))) (run-within names s k)))
+
+-- nothing is done over the link
+pub unlinked-plan : (names : ReplayFiles) (content : Content) → IsUnlinked (replay_plan names content).actions
+unlinked-plan names content = unlinked-within (IsReplayCall names) (replay_stages names) content (within names)
+
+module _ (names : ReplayFiles) (content : Content) where
+  abbrev pub replay_end : Accepted names content → Plan
+  replay_end a = run_end names a.session a.secrets a.inputs
+
+  -- what was refused, by the status
+  abbrev pub Causes : ℕ → Type 0
+  Causes status =
+      cause_at (status == 4) ((fault : SessionFault) × HasBadSession names.session content fault)
+      (cause_at (status == 5) ((s : SessionData) × (fault : KeyFileFault) × KeyRefused names content s fault)
+      (cause_at (status == 8) ((s : SessionData) × (k : Secrets) × (fault : RecordFault) × InputRefused names content s k fault) ⊥))
+
+  sorts : Sorts Causes replay_end content (replay_stages names)
+  sorts =
+      sorts-stage Causes replay_end content names.session session_of 4 session_refused (key_stages names) (λ fault bad. (fault, bad))
+      (λ s has. sorts-stage Causes replay_end content names.key (secrets_of_key s) 5 key_refused (recording_stages names s)
+      (λ fault bad. (s, fault, record { in_session = has; in_key = bad }))
+      (λ k in_key. sorts-stage Causes replay_end content names.recording (recording_of s k.party) 8 recording_refused
+      (λ inputs. does (run_end names s k inputs))
+      (λ fault bad. (s, k, fault, record { by_key = record { in_session = has; in_key = in_key }; in_recording = bad }))
+      (λ inputs in_recording. sorts-last Causes replay_end content (record {
+        session = s;
+        secrets = k;
+        inputs = inputs;
+        by_key = record { in_session = has; in_key = in_key };
+        in_recording = in_recording;
+      }))))
+
+-- nothing was changed or printed, for a stop or a refusal; or all were accepted, and the turns went so
+abbrev pub Outcome : ReplayFiles → Outside → Outside → ℕ → Type 0
+Outcome names old new status = Came (Causes names old.files.content) (replay_end names old.files.content) old new status
+
+pub outcome : (names : ReplayFiles) (old new : Outside) (status : ℕ) → IsTrue new.files.told → GoesInOrder (replay_stages names) old new status →
+    Outcome names old new status
+outcome names old new status told order =
+    sorted (Causes names old.files.content) (replay_end names old.files.content) old new status (replay_stages names) told
+    (sorts names old.files.content) order.gone
+
 -- ---- the rows
 
 module _ (names : ReplayFiles) (old new : Outside) where
   -- at 0 the turns went to their end
   pub replayed : AreHeld → AreInRange → IsTrue new.files.told → Outcome names old new 0 → Replayed names old new
-  replayed held ranged told (inl r) = absurd (elim r.1 [
-    | inl stop ↦ go-on 0 refl stop
-    | inr why ↦ elim why [ inl k ↦ differ 0 4 refl k.0 | inr two ↦ elim two [ inl k ↦ differ 0 5 refl k.0 | inr k ↦ differ 0 8 refl k.0 ] ]
-  ])
+  replayed held ranged told (inl r) = absurd (elim r.1 [ inl stop ↦ go-on 0 refl stop | inr none ↦ none ])
   replayed held ranged told (inr p) =
       let a = p.0 in
       let ran = (p.1.carried refl).ran in
@@ -189,7 +174,7 @@ module _ (names : ReplayFiles) (old new : Outside) where
       (final-found names turns findings old.files.content (distinct-in ranged names old.files.content a)) in
       record {
         accepted = a;
-        fits = (held-here held a.session a.by_key.bytes a.secrets a.by_key.is).fits;
+        fits = (held-here held a.session a.by_key.in_key.bytes a.secrets a.by_key.in_key.is).fits;
         played = λ own. ap (λ (holds : Content). holds names.played) ran.files
             ∙ final-played names turns findings old.files.content (own-names names me a.inputs own)
             ∙ ap Some (played-turns me 1 [] a.inputs);
@@ -204,42 +189,17 @@ module _ (names : ReplayFiles) (old new : Outside) where
       }
 
   -- at a refusal nothing was changed or printed
-  pub refused_so : (status : ℕ) → (status == 0) ≡ false → is_stop status ≡ false → Outcome names old new status →
-      IsUnchanged status old new × IsRefused names old.files.content status
-  refused_so status other go (inl r) = (r.0, elim r.1 [ inl stop ↦ absurd (go-on status go stop) | inr why ↦ why ])
-  refused_so status other go (inr p) = absurd (differ status 0 other (p.1.carried go).is)
-
-  pub refused-session : Outcome names old new 4 → (text : List ℕ) × (fault : SessionFault)
-      × SessionRefused names old.files.content text fault
-  refused-session o =
-      elim (refused_so 4 refl refl o).1 [
-        | inl k ↦ k.1
-        | inr two ↦ absurd (elim two [ inl k ↦ differ 4 5 refl k.0 | inr k ↦ differ 4 8 refl k.0 ])
-      ]
-
-  pub refused-key : Outcome names old new 5 →
-      (session : SessionData) × (bytes : List ℕ) × (fault : KeyFileFault) × KeyRefused names old.files.content session bytes fault
-  refused-key o =
-      elim (refused_so 5 refl refl o).1 [
-        | inl k ↦ absurd (differ 5 4 refl k.0)
-        | inr two ↦ elim two [ inl k ↦ k.1 | inr k ↦ absurd (differ 5 8 refl k.0) ]
-      ]
-
-  pub refused-input : Outcome names old new 8 →
-      (session : SessionData) × (secrets : Secrets) × (bytes : List ℕ) × (fault : RecordFault)
-      × InputRefused names old.files.content session secrets bytes fault
-  refused-input o =
-      elim (refused_so 8 refl refl o).1 [
-        | inl k ↦ absurd (differ 8 4 refl k.0)
-        | inr two ↦ elim two [ inl k ↦ absurd (differ 8 5 refl k.0) | inr k ↦ k.1 ]
-      ]
+  pub refused : (status : ℕ) → (status == 0) ≡ false → is_stop status ≡ false → Outcome names old new status →
+      IsUnchanged status old new × Causes names old.files.content status
+  refused status other go o =
+      refused-at (Causes names old.files.content) (replay_end names old.files.content) old new status go (λ a e. differ status 0 other e) o
 
 pub as-untouched : (status : ℕ) (old new : Outside) → IsUnchanged status old new → ChangesNothing old new
 as-untouched status old new same = record { files = same.files; out = same.out }
 
 pub refused-untouched : (names : ReplayFiles) (old new : Outside) (status : ℕ) → (status == 0) ≡ false → is_stop status ≡ false →
     Outcome names old new status → ChangesNothing old new
-refused-untouched names old new status other go o = as-untouched status old new (refused_so names old new status other go o).0
+refused-untouched names old new status other go o = as-untouched status old new (refused names old new status other go o).0
 
 -- the turns touch the played file alone
 
@@ -449,62 +409,3 @@ a_front ranged names old new status told o =
         ]
       ]
     ]
-
--- ---- the calls
-
-named-shows : (lines : List (List ℕ)) (rest : List Action) (call : Failure) → Names (map show lines ++ rest) call → Names rest call
-named-shows [] rest call h = h
-named-shows (x ∷ xs) rest call h = named-shows xs rest call h
-
-named-turns : (names : ReplayFiles) (turns : List Turn) (call : Failure) →
-    Names (turns_actions names.played turns) call → IsReplayCall names call
-named-turns names [] call h = absurd h
-named-turns names (t ∷ ts) call h =
-    elim (named-appends names.played t.contents (map show t.lines ++ turns_actions names.played ts) call
-    (subst (λ plan. Names plan call)
-    (append_assoc (map (append names.played) t.contents) (map show t.lines) (turns_actions names.played ts)) h)) [
-      | inl e ↦ inr (inl (inr e))
-      | inr k ↦ named-turns names ts call (named-shows t.lines (turns_actions names.played ts) call k)
-    ]
-
-named-run : (names : ReplayFiles) (turns : List Turn) (me : Member) (inputs : List Input) (call : Failure) →
-    Names (replay_actions names turns (found_by names.found me inputs)) call → IsReplayCall names call
-named-run names turns me inputs call (inl e) = inr (inl (inl e))
-named-run names turns me inputs call (inr h) =
-    elim (Names-split (turns_actions names.played turns) (findings_actions (found_by names.found me inputs)) call h) [
-      | inl now ↦ named-turns names turns call now
-      | inr later ↦
-          inr (inr (named-findings (IsFindingName names.found) (found_by names.found me inputs) call (found-names names me inputs) later))
-    ]
-
-module _ (first : NamesFirst) (names : ReplayFiles) (content : Content) (call : Failure) where
-  call-inputs : (session : SessionData) (secrets : Secrets) (o : Result (List Input) RecordFault) →
-      Names (by-inputs names session secrets o content).actions call → IsReplayCall names call
-  call-inputs session secrets (Err fault) h = absurd h
-  call-inputs session secrets (Ok inputs) h = named-run names (turns_of session secrets inputs) (member_by session secrets) inputs call h
-
-  call-secrets : (session : SessionData) (r : Result Secrets KeyFileFault) → Names (by-secrets names session r content).actions call →
-      IsReplayCall names call
-  call-secrets session (Err fault) h = absurd h
-  call-secrets session (Ok secrets) h =
-      elim (first names.recording (with-recording names session secrets) content call h) [
-        | inl e ↦ inl (inr (inr e))
-        | inr m ↦ call-inputs session secrets (recording_of session secrets.party m.0) m.2
-      ]
-
-  call-session : (r : Result SessionData SessionFault) → Names (by-session names r content).actions call → IsReplayCall names call
-  call-session (Err fault) h = absurd h
-  call-session (Ok session) h =
-      elim (first names.key (with-key names session) content call h) [
-        | inl e ↦ inl (inr (inl e))
-        | inr m ↦ call-secrets session (secrets_of_key session m.0) m.2
-      ]
-
-  pub call-named : Names (replay_plan names content).actions call → IsReplayCall names call
-  call-named h =
-      elim (first names.session (with-session names) content call h) [ inl e ↦ inl (inl e) | inr m ↦ call-session (session_of m.0) m.2 ]
-
-pub named-some : (first : NamesFirst) (names : ReplayFiles) (content : Content) (o : Option Failure) →
-    IsSomeAnd o (Names (replay_plan names content).actions) → IsSomeAnd o (IsReplayCall names)
-named-some first names content (Some call) h = call-named first names content call h
-named-some first names content None h = h

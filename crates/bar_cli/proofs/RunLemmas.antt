@@ -2,16 +2,16 @@
 use Rattle.std.proofs.Common.{◌≡◌, ◌⊎◌, ◌||◌, ℕ, Bool, true, false, true≢false, is_err, List, [], ◌++◌, Option, None, Some, Result, Ok, Err, IsTrue, refl, sym, ap, ◌∙◌, subst, take, inl, inr, arith}
 use Rattle.bar_outside.specs.Disk.{Content, Disk, readable}
 use Rattle.bar_outside.specs.Ends.{EndsWith, IsFixed, Prints, Says, is_plain}
-use Rattle.bar_outside.specs.Plan.{Outside, Plan, accepting, ending, line_at, no_memory, outside, read_then, reading}
+use Rattle.bar_outside.specs.Plan.{Outside, Plan, line_at, no_memory, outside, read_then}
+use Rattle.bar_outside.specs.Stages.{Stages, accepts, plan_by, refuses, stage}
+use Rattle.bar_outside.specs.Stages.Stages.{does}
 use Rattle.bar_outside.specs.Stream.{Stream}
 use Rattle.bar_outside.specs.Wire.{Arrival, Wire}
 use Rattle.bar_outside.proofs.Ending.{EndsWith-memory, Ends-or_memory, said, said-fixed}
-use Rattle.bar_seeds.specs.declared.secrets.Secrets.{Secrets}
-use Rattle.bar_session.specs.SessionData.{SessionData}
 use Rattle.bar_session_files.specs.Accepting.{fresh_key_of, session_of}
-use Rattle.bar_party_commands.specs.Streams.{room_of, stream_in, stream_refused}
-use Rattle.bar_party_commands.specs.CasterPlan.{CasterNames, caster_key_plan, caster_plan, caster_run_plan, caster_stream_plan}
-use Rattle.bar_party_commands.specs.PeerPlan.{PeerNames, peer_key_plan, peer_plan, peer_run_plan}
+use Rattle.bar_party_commands.specs.Streams.{no_room, stream_in}
+use Rattle.bar_party_commands.specs.CasterPlan.{CasterNames, caster_end, caster_key_stages, caster_plan, caster_stream_stages}
+use Rattle.bar_party_commands.specs.PeerPlan.{PeerNames, peer_end, peer_key_stages, peer_plan}
 use Rattle.bar_session_files.specs.Refusals.{key_refused, session_refused}
 use Rattle.bar_party_commands.specs.Running.{RunEnds, RunEndsWith}
 use Rattle.bar_outside.proofs.Following.{Ran-nothing}
@@ -20,7 +20,7 @@ use Rattle.bar_node.proofs.Doing.{none-more}
 use Rattle.bar_party_commands.proofs.Reaching.{nothing-reached, reached-unlinked}
 use Rattle.bar_party_commands.proofs.RunFollowing.{heard-nothing}
 use Rattle.bar_cli.specs.Line.{Line, peer, broadcaster, replay, keygen, audit, judge, session_run, simulate, plan_of, reads_nothing, usage, pack, verify}
-use Rattle.bar_cli.specs.Keygen.Plan.{secret_plan, leaves_for}
+use Rattle.bar_cli.specs.Keygen.Plan.{secret_stages, leaves_for}
 
 -- ---- which plan it was
 
@@ -68,67 +68,38 @@ ends-as words line old new status result text is code r =
 
 -- ---- the line of its end is the same whatever the link gives
 
-reading-line : (path : List ℕ) (some others : List ℕ → Content → Plan) (content : Content) →
-    ((bytes : List ℕ) → (some bytes content).line ≡ (others bytes content).line) →
-    (reading path some content).line ≡ (reading path others content).line
-reading-line path some others content h = by_bytes (readable content path)
+stage-line : {A E : Type 0} (path : List ℕ) (meaning : List ℕ → Result A E) (status : ℕ) (line : E → List ℕ) (some others : A → Stages)
+    (content : Content) → ((meant : A) → (plan_by (some meant) content).line ≡ (plan_by (others meant) content).line) →
+    (plan_by (stage path meaning status line some) content).line ≡ (plan_by (stage path meaning status line others) content).line
+stage-line {A} {E} path meaning status line some others content h = by_bytes (readable content path)
   where
-    by_bytes : (o : Option (List ℕ)) → (read_then path some content o).line ≡ (read_then path others content o).line
+    by-meaning : (A → Stages) → Result A E → Content → Plan
+    by-meaning on r = plan_by (accepts r on (λ fault. refuses status (line fault)))
+
+    by_meaning : (r : Result A E) → (by-meaning some r content).line ≡ (by-meaning others r content).line
+    by_meaning (Ok meant) = h meant
+    by_meaning (Err fault) = refl
+
+    by_bytes : (o : Option (List ℕ)) →
+        (read_then path (λ bytes. by-meaning some (meaning bytes)) content o).line
+        ≡ (read_then path (λ bytes. by-meaning others (meaning bytes)) content o).line
     by_bytes None = refl
-    by_bytes (Some bytes) = h bytes
-
-accepting-line : {A E : Type 0} (r : Result A E) (some others : A → Content → Plan) (refused : E → Content → Plan) (content : Content) →
-    ((meant : A) → (some meant content).line ≡ (others meant content).line) →
-    (accepting r some refused content).line ≡ (accepting r others refused content).line
-accepting-line (Ok meant) some others refused content h = h meant
-accepting-line (Err fault) some others refused content h = refl
-
--- what comes behind each read, by what the link gives
-
-abbrev peer-with_session : PeerNames → List Arrival → List ℕ → Content → Plan
-peer-with_session names given text =
-    accepting (session_of text) (peer_key_plan names given) (λ fault. ending 4 (session_refused fault))
-
-abbrev peer-with_key : PeerNames → List Arrival → SessionData → List ℕ → Content → Plan
-peer-with_key names given s bytes =
-    accepting (fresh_key_of false s bytes) (peer_run_plan names s given) (λ fault. ending 5 (key_refused fault))
-
-abbrev caster-with_session : CasterNames → List Arrival → List ℕ → Content → Plan
-caster-with_session names given text =
-    accepting (session_of text) (caster_key_plan names given) (λ fault. ending 4 (session_refused fault))
-
-abbrev caster-with_key : CasterNames → List Arrival → SessionData → List ℕ → Content → Plan
-caster-with_key names given s bytes =
-    accepting (fresh_key_of true s bytes) (caster_stream_plan names s given) (λ fault. ending 5 (key_refused fault))
-
-abbrev caster-with_stream : CasterNames → List Arrival → SessionData → Secrets → List ℕ → Content → Plan
-caster-with_stream names given s k bytes =
-    accepting (stream_in s bytes) (caster_run_plan names s k given) (λ have. ending 8 (stream_refused have (room_of s)))
+    by_bytes (Some bytes) = by_meaning (meaning bytes)
 
 peer-line : (names : PeerNames) (given : List Arrival) (content : Content) →
     (peer_plan names given content).line ≡ (peer_plan names [] content).line
 peer-line names given content =
-    reading-line names.session (peer-with_session names given) (peer-with_session names []) content (λ text.
-    accepting-line (session_of text) (peer_key_plan names given) (peer_key_plan names [])
-    (λ fault. ending 4 (session_refused fault)) content
-    (λ s.
-    reading-line names.key (peer-with_key names given s) (peer-with_key names [] s) content (λ bytes.
-    accepting-line (fresh_key_of false s bytes) (peer_run_plan names s given) (peer_run_plan names s [])
-    (λ fault. ending 5 (key_refused fault)) content (λ k. refl))))
+    stage-line names.session session_of 4 session_refused (peer_key_stages names given) (peer_key_stages names []) content (λ s.
+    stage-line names.key (fresh_key_of false s) 5 key_refused (λ k. does (peer_end names given s k)) (λ k. does (peer_end names [] s k))
+    content (λ k. refl))
 
 broadcaster-line : (names : CasterNames) (given : List Arrival) (content : Content) →
     (caster_plan names given content).line ≡ (caster_plan names [] content).line
 broadcaster-line names given content =
-    reading-line names.session (caster-with_session names given) (caster-with_session names []) content (λ text.
-    accepting-line (session_of text) (caster_key_plan names given) (caster_key_plan names [])
-    (λ fault. ending 4 (session_refused fault)) content
-    (λ s.
-    reading-line names.key (caster-with_key names given s) (caster-with_key names [] s) content (λ bytes.
-    accepting-line (fresh_key_of true s bytes) (caster_stream_plan names s given) (caster_stream_plan names s [])
-    (λ fault. ending 5 (key_refused fault)) content (λ k.
-    reading-line names.stream (caster-with_stream names given s k) (caster-with_stream names [] s k) content (λ stream.
-    accepting-line (stream_in s stream) (caster_run_plan names s k given) (caster_run_plan names s k [])
-    (λ have. ending 8 (stream_refused have (room_of s))) content (λ fits. refl))))))
+    stage-line names.session session_of 4 session_refused (caster_key_stages names given) (caster_key_stages names []) content (λ s.
+    stage-line names.key (fresh_key_of true s) 5 key_refused (caster_stream_stages names given s) (caster_stream_stages names [] s) content
+    (λ k. stage-line names.stream (stream_in s) 8 (no_room s) (λ stream. does (caster_end names given s k stream))
+    (λ stream. does (caster_end names [] s k stream)) content (λ stream. refl)))
 
 plan-line : (words : Option Line) (given : List Arrival) (content : Content) →
     (plan_of words given content).line ≡ (plan_of words [] content).line
@@ -164,8 +135,8 @@ usage-line words given content text none is = is ∙ sym (ap (λ asked. (plan_of
 
 -- ---- plans that are the same whatever the files hold
 
-refused-fixed : {A E : Type 0} (r : Result A E) (others : A → Content → Plan) (line : E → List ℕ) (content : Content) → is_err r ≡ true →
-    IsFixed (accepting r others (λ fault. ending 4 (line fault))) content
+refused-fixed : {A E : Type 0} (r : Result A E) (others : A → Stages) (line : E → List ℕ) (content : Content) → is_err r ≡ true →
+    IsFixed (plan_by (accepts r others (λ fault. refuses 4 (line fault)))) content
 refused-fixed (Ok meant) others line content h = absurd (true≢false (sym h))
 refused-fixed (Err fault) others line content h = record { same = λ other. refl; unread = tt }
 
@@ -176,7 +147,7 @@ plan-fixed (Some (peer names)) given content h = absurd (true≢false (sym h))
 plan-fixed (Some (broadcaster names)) given content h = absurd (true≢false (sym h))
 plan-fixed (Some (replay names)) given content h = absurd (true≢false (sym h))
 plan-fixed (Some (keygen asked)) given content h =
-    refused-fixed (leaves_for asked) (λ _. secret_plan asked) session_refused content h
+    refused-fixed (leaves_for asked) (λ _. secret_stages asked) session_refused content h
 plan-fixed (Some (audit names)) given content h = absurd (true≢false (sym h))
 plan-fixed (Some (judge names)) given content h = absurd (true≢false (sym h))
 plan-fixed (Some (pack names)) given content h = absurd (true≢false (sym h))

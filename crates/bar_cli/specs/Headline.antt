@@ -1,6 +1,6 @@
 -- The headline: what holds of the run of a peer over a link, and of the run that a replay shows, of the peer of the key, whatever its inputs
 -- are.
-use Rattle.std.specs.Prelude.{◌≡◌, ◌≢◌, ◌⊎◌, ◌≤◌, ℕ, List, [], ◌∷◌, ◌++◌, Some, IsTrue, length, take}
+use Rattle.std.specs.Prelude.{◌≡◌, ◌≢◌, ◌⊎◌, ◌≤◌, ℕ, List, [], ◌∷◌, ◌++◌, Some, length, take}
 use Rattle.std.specs.List.{AllByRecursion}
 use Rattle.bar_outside.specs.Disk.{Content}
 use Rattle.bar_outside.specs.Ends.{NothingPrinted}

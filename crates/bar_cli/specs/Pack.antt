@@ -1,22 +1,20 @@
 -- What `pack` does.
-use Rattle.std.specs.Prelude.{◌≡◌, ◌≢◌, ◌⊎◌, ℕ, List, [], ◌∷◌, ◌++◌, codes, length, Option, Some, None, Result, Ok, Err, take, IsTrue}
+use Rattle.std.specs.Prelude.{◌≡◌, ◌≢◌, ◌⊎◌, ℕ, List, [], ◌∷◌, ◌++◌, codes, length, Some, Ok, Err, take}
 use Rattle.std.specs.Fmt.{decimal}
-use Rattle.std.specs.Option.{ok_or}
 use Rattle.bar_outside.specs.Disk.{Content, Failure, readable}
 use Rattle.bar_outside.specs.declared.files.CallKind.TheVariants.{Read, Create, Append}
-use Rattle.bar_outside.specs.Plan.{Action, Outside, Plan, reading, accepting, ending, doing}
+use Rattle.bar_outside.specs.Plan.{Action, Outside, Plan}
 use Rattle.bar_outside.specs.Plan.Action.{create, append, show}
 use Rattle.bar_outside.specs.Ends.{SameFiles, NothingPrinted}
+use Rattle.bar_outside.specs.Stages.{Stages, accepts, plan_by, refuses}
+use Rattle.bar_outside.specs.Stages.Stages.{does, reads}
 use Rattle.bar_terms.specs.Table.{Lists}
-use Rattle.bar_roster.specs.declared.fault.SessionFault.{SessionFault}
 use Rattle.bar_session.specs.SessionData.{SessionData}
 use Rattle.bar_rules.specs.Judge.Verdict.{Fault, Why, Verdict, Shown, NotShown}
 use Rattle.bar_proof.specs.Packing.{IsPacked, IsSpelled, packed_bytes}
-use Rattle.bar_proof.specs.ProofFile.{evidence_of}
-use Rattle.bar_session_files.specs.Accepting.{HasSession, session_of}
-use Rattle.bar_cli.specs.Judge.Judging.{AreBytes, lists_of, verdict_of, verdict_line}
-use Rattle.bar_cli.specs.Judge.Plan.{saying_plan}
-use Rattle.bar_cli.specs.Refusals.{session_refused, table_refused, evidence_refused}
+use Rattle.bar_session_files.specs.Accepting.{HasSession, session_stage}
+use Rattle.bar_cli.specs.Judge.Judging.{AreBytes, datagrams_in, lists_of, status_of_verdict, verdict_of, verdict_line}
+use Rattle.bar_cli.specs.Refusals.{table_refused, evidence_refused}
 
 -- the files of `pack`: three that it reads, and the proof file
 pub record PackFiles : Type 0 where
@@ -33,35 +31,40 @@ packed_line file = codes "packed " ++ (decimal (length file) ++ codes " bytes\n"
 abbrev pub packing_actions : List ℕ → List ℕ → List Action
 packing_actions proof file = create proof ∷ append proof file ∷ show (packed_line file) ∷ []
 
--- so it is where a fault is shown; else the reason is printed
-abbrev pub by_verdict : PackFiles → List ℕ → Verdict → Content → Plan
-by_verdict names file (Shown party fault) = doing (packing_actions names.proof file) 0 []
-by_verdict names file (NotShown why) = saying_plan (NotShown why)
+-- ---- its stages
 
--- the evidence is accepted or refused
-abbrev pub by_datagrams : PackFiles → SessionData → List ℕ → Lists → Option (List (List ℕ)) → Content → Plan
-by_datagrams names session table lists datagrams =
-    accepting (ok_or datagrams (tt {0})) (λ ds. by_verdict names (packed_bytes session lists table ds) (verdict_of session lists ds))
-    (λ _. ending 8 evidence_refused)
+-- so it is if a fault is shown; else the reason is printed
+abbrev pub verdict_actions : PackFiles → List ℕ → Verdict → List Action
+verdict_actions names file (Shown party fault) = packing_actions names.proof file
+verdict_actions names file (NotShown why) = show (verdict_line (NotShown why)) ∷ []
+
+abbrev pub packing_end : PackFiles → List ℕ → Verdict → Plan
+packing_end names file verdict = record { actions = verdict_actions names file verdict; status = status_of_verdict verdict; line = [] }
+
+-- the evidence is accepted, and judged, or refused
+abbrev pub evidence_stages : PackFiles → SessionData → List ℕ → List ℕ → Lists → Stages
+evidence_stages names session table evidence lists =
+    accepts (datagrams_in evidence)
+    (λ datagrams. does (packing_end names (packed_bytes session lists table datagrams) (verdict_of session lists datagrams)))
+    (λ _. refuses 8 evidence_refused)
 
 -- the table is accepted or refused before
-abbrev pub by_lists : PackFiles → SessionData → List ℕ → List ℕ → Result Lists ℕ → Content → Plan
-by_lists names session table evidence lists =
-    accepting lists (λ ls. by_datagrams names session table ls (evidence_of evidence)) (λ at. ending 8 (table_refused at))
+abbrev pub inputs_stages : PackFiles → SessionData → List ℕ → List ℕ → Stages
+inputs_stages names session table evidence =
+    accepts (lists_of session table) (evidence_stages names session table evidence) (λ at. refuses 8 (table_refused at))
 
 -- both are read before
-abbrev pub evidence_plan : PackFiles → SessionData → List ℕ → Content → Plan
-evidence_plan names session table = reading names.evidence (λ evidence. by_lists names session table evidence (lists_of session table))
+abbrev pub reading_stages : PackFiles → SessionData → Stages
+reading_stages names session = reads names.table (λ table. reads names.evidence (inputs_stages names session table))
 
-abbrev pub table_plan : PackFiles → SessionData → Content → Plan
-table_plan names session = reading names.table (evidence_plan names session)
-
--- the session is read, and accepted or refused, before either is read
-abbrev pub by_session : PackFiles → Result SessionData SessionFault → Content → Plan
-by_session names session = accepting session (table_plan names) (λ fault. ending 4 (session_refused fault))
+-- and the session before either is read
+abbrev pub pack_stages : PackFiles → Stages
+pack_stages names = session_stage names.session (reading_stages names)
 
 abbrev pub pack_plan : PackFiles → Content → Plan
-pack_plan names = reading names.session (λ text. by_session names (session_of text))
+pack_plan names = plan_by (pack_stages names)
+
+-- ---- what was accepted, and what was refused
 
 -- the session's text is there and accepted, and the table and the evidence are there
 pub record HasInputs (names : PackFiles) (content : Content) : Type 0 where
@@ -82,7 +85,7 @@ pub record HasTable (names : PackFiles) (content : Content) : Type 0 where
 pub record PackAccepted (names : PackFiles) (content : Content) : Type 0 where
   pub by_table : HasTable names content
   pub datagrams : List (List ℕ)
-  pub is : evidence_of by_table.inputs.evidence ≡ Some datagrams
+  pub is : datagrams_in by_table.inputs.evidence ≡ Ok datagrams
 
 -- the table is refused at this place
 pub record HasBadTable (names : PackFiles) (content : Content) (at : ℕ) : Type 0 where
@@ -92,7 +95,7 @@ pub record HasBadTable (names : PackFiles) (content : Content) (at : ℕ) : Type
 -- the table is accepted, and the evidence is refused
 pub record HasBadEvidence (names : PackFiles) (content : Content) : Type 0 where
   pub by_table : HasTable names content
-  pub is : evidence_of by_table.inputs.evidence ≡ None
+  pub is : datagrams_in by_table.inputs.evidence ≡ Err tt
 
 -- what the rules say of it
 abbrev pub verdict_in : (names : PackFiles) (content : Content) → PackAccepted names content → Verdict

@@ -2,18 +2,17 @@
 use Rattle.std.specs.Prelude.{◌≡◌, ◌⊎◌, ◌==◌, ◌||◌, ℕ, Bool, false, List, [], ◌∷◌, ◌++◌, IsTrue, codes, if◌then◌else◌}
 use Rattle.bar_outside.specs.Children.{Children}
 use Rattle.bar_outside.specs.Disk.{Content}
-use Rattle.bar_outside.specs.Plan.{Outside, Plan, accepting, ending, file_failed, no_memory, output_failed, reading, with_out}
+use Rattle.bar_outside.specs.Plan.{Outside, Plan, file_failed, no_memory, output_failed, with_out}
 use Rattle.bar_outside.specs.Ends.{EndsWith, SameFiles}
+use Rattle.bar_outside.specs.Stages.{finishes, plan_by}
 use Rattle.bar_child_processes.specs.Names.{SessionNames}
 use Rattle.bar_child_processes.specs.Sessions.{SessionRan}
 use Rattle.bar_session.specs.SessionData.{SessionData}
-use Rattle.bar_session_files.specs.Accepting.{HasSession, session_of}
-use Rattle.bar_cli.specs.Refusals.{session_refused}
+use Rattle.bar_session_files.specs.Accepting.{HasSession, session_stage}
 
 -- The session is read, and accepted or refused. What comes behind goes by what the children do.
 abbrev pub session_plan : SessionNames → Content → Plan
-session_plan names =
-    reading names.session (λ text. accepting (session_of text) (λ s. ending 0 []) (λ fault. ending 4 (session_refused fault)))
+session_plan names = plan_by (session_stage names.session (λ s. finishes [] 0 []))
 
 abbrev pub child_failed : List ℕ
 child_failed = codes "bar: child failed" ++ 10 ∷ []

@@ -3,10 +3,11 @@ ghost use Rattle.std.specs.Prelude.{◌≡◌, List, [], false, IfOk, IsTrue};
 ghost use Rattle.bar_outside.specs.Disk.{Content};
 ghost use Rattle.bar_outside.specs.Plan.{Outside, with_files, with_out};
 ghost use Rattle.bar_outside.specs.Ends.{EndsWith};
+ghost use Rattle.bar_outside.specs.Stages.{plan_by};
 ghost use Rattle.bar_rules.specs.Member.{Session as RulesSession};
 ghost use Rattle.bar_audit.specs.Audits.{Audits};
 ghost use Rattle.bar_audit.specs.Recordings.{Recording};
-ghost use Rattle.bar_cli.specs.Audit.Plan.{audit_plan, is_range, parties_plan, telling_plan};
+ghost use Rattle.bar_cli.specs.Audit.Plan.{audit_plan, is_range, parties_stages, telling_plan};
 ghost use Rattle.bar_cli.specs.Audit.Text.{status_of_balance};
 ghost use Rattle.bar_cli.specs.Printing.{audit_may_print};
 ghost use Rattle.bar_cli.specs.Status.{code_of, code_of_run, is_audit_end, said_at, said_by_run};
@@ -65,7 +66,7 @@ fn audit_session<F: Files, K: Sink>(
     files: &mut F,
     out: &mut K,
 ) -> Result<Status, Fault>
-    ensures ends { (w : Outside) (was : Content) → EndsWith (parties_plan (audit_view names.now) session.now)
+    ensures ends { (w : Outside) (was : Content) → EndsWith (plan_by (parties_stages (audit_view names.now) session.now))
         (with_out (with_files w (F.disk files.old was)) (K.stream out.old)) (with_out (with_files w (F.disk files.new was)) (K.stream out.new))
         (code_of_run result) (said_by_run result) }
     ensures answers { IfOk result (λ status. IsTrue (is_audit_end status)) }

@@ -3,9 +3,10 @@ ghost use Rattle.std.specs.Prelude.{◌≡◌, [], false, IfOk, IsTrue, string_b
 ghost use Rattle.bar_outside.specs.Disk.{Content};
 ghost use Rattle.bar_outside.specs.Plan.{Outside, with_files, with_out};
 ghost use Rattle.bar_outside.specs.Ends.{EndsWith};
+ghost use Rattle.bar_outside.specs.Stages.{plan_by};
 ghost use Rattle.bar_terms.specs.Table.{Lists, digests_of};
 ghost use Rattle.bar_judge.specs.Verdicts.{plain_verdict};
-ghost use Rattle.bar_cli.specs.Judge.Plan.{evidence_plan, judge_plan, saying_plan, table_plan};
+ghost use Rattle.bar_cli.specs.Judge.Plan.{evidence_stages, judge_plan, saying_plan, table_stages};
 ghost use Rattle.bar_cli.specs.Judge.Judging.{status_of_verdict, verdict_line};
 ghost use Rattle.bar_cli.specs.Printing.{judge_may_print};
 ghost use Rattle.bar_cli.specs.Status.{code_of, code_of_run, said_at, said_by_run, is_judge_end};
@@ -55,7 +56,7 @@ fn judge_session<F: Files, K: Sink>(
     files: &mut F,
     out: &mut K,
 ) -> Result<Status, Fault>
-    ensures ends { (w : Outside) (was : Content) → EndsWith (table_plan (judge_view names.now) session.now)
+    ensures ends { (w : Outside) (was : Content) → EndsWith (plan_by (table_stages (judge_view names.now) session.now))
         (with_out (with_files w (F.disk files.old was)) (K.stream out.old)) (with_out (with_files w (F.disk files.new was)) (K.stream out.new))
         (code_of_run result) (said_by_run result) }
     ensures answers { IfOk result (λ status. IsTrue (is_judge_end status)) }
@@ -79,7 +80,7 @@ fn judge_table<F: Files, K: Sink>(
     out: &mut K,
 ) -> Result<Status, Fault>
     ensures ends { (w : Outside) (was : Content) (lists : Lists) → digests_of table.now.lists ≡ digests_of lists →
-        EndsWith (evidence_plan (judge_view names.now) session.now lists)
+        EndsWith (plan_by (evidence_stages (judge_view names.now) session.now lists))
         (with_out (with_files w (F.disk files.old was)) (K.stream out.old)) (with_out (with_files w (F.disk files.new was)) (K.stream out.new))
         (code_of_run result) (said_by_run result) }
     ensures answers { IfOk result (λ status. IsTrue (is_judge_end status)) }

@@ -3,9 +3,10 @@ ghost use Rattle.std.specs.Prelude.{◌≡◌, ◌≢◌, ◌↔◌, Ok, Err, So
 ghost use Rattle.bar_outside.specs.Disk.{Content};
 ghost use Rattle.bar_outside.specs.Plan.{Outside, with_files, with_out};
 ghost use Rattle.bar_outside.specs.Ends.{EndsWith};
+ghost use Rattle.bar_outside.specs.Stages.{plan_by};
 ghost use Rattle.bar_lms.specs.Params.{lms_type};
 ghost use Rattle.bar_roster.specs.KeyText.{key_text_of};
-ghost use Rattle.bar_cli.specs.Keygen.Plan.{HasFewLeaves, anchor_for, anchor_line, key_line, key_made, keygen_plan, leaves_for, lines_of, public_of, secret_of, secret_plan};
+ghost use Rattle.bar_cli.specs.Keygen.Plan.{HasFewLeaves, anchor_for, anchor_line, key_line, key_made, keygen_plan, leaves_for, lines_of, public_of, secret_of, secret_stages};
 ghost use Rattle.bar_cli.specs.Printing.{keygen_may_print};
 ghost use Rattle.bar_cli.specs.Status.{code_of_run, said_by_run, is_keygen_end};
 ghost use Rattle.bar_cli.specs.Views.{keygen_view};
@@ -61,7 +62,7 @@ fn keygen_by_secret<F: Files, K: Sink>(
     files: &mut F,
     out: &mut K,
 ) -> Result<Status, Fault>
-    ensures ends { (w : Outside) (was : Content) → EndsWith (secret_plan (keygen_view asked.now))
+    ensures ends { (w : Outside) (was : Content) → EndsWith (plan_by (secret_stages (keygen_view asked.now)))
         (with_out (with_files w (F.disk files.old was)) (K.stream out.old))
         (with_out (with_files w (F.disk files.new was)) (K.stream out.new)) (code_of_run result) (said_by_run result) }
     ensures answers { IfOk result (λ status. IsTrue (is_keygen_end status)) }

@@ -3,9 +3,9 @@ ghost use Rattle.std.specs.Prelude.{◌≡◌, false, IfOk, IsTrue, string_bytes
 ghost use Rattle.bar_outside.specs.Disk.{Content};
 ghost use Rattle.bar_outside.specs.Plan.{Outside, with_files, with_out};
 ghost use Rattle.bar_outside.specs.Ends.{EndsWith};
+ghost use Rattle.bar_outside.specs.Stages.{plan_by};
 ghost use Rattle.bar_rules.specs.Judge.Verdict.{NotShown};
-ghost use Rattle.bar_cli.specs.Judge.Judging.{lists_of};
-ghost use Rattle.bar_cli.specs.Pack.{by_lists, pack_plan, packed_line, table_plan};
+ghost use Rattle.bar_cli.specs.Pack.{inputs_stages, pack_plan, packed_line, reading_stages};
 ghost use Rattle.bar_cli.specs.Printing.{judge_may_print};
 ghost use Rattle.bar_cli.specs.Status.{code_of, code_of_run, is_proof_end, said_by_run};
 ghost use Rattle.bar_cli.specs.Views.{packing_view};
@@ -55,7 +55,7 @@ fn pack_session<F: Files, K: Sink>(
     files: &mut F,
     out: &mut K,
 ) -> Result<Status, Fault>
-    ensures ends { (w : Outside) (was : Content) → EndsWith (table_plan (packing_view names.now) session.now)
+    ensures ends { (w : Outside) (was : Content) → EndsWith (plan_by (reading_stages (packing_view names.now) session.now))
         (with_out (with_files w (F.disk files.old was)) (K.stream out.old)) (with_out (with_files w (F.disk files.new was)) (K.stream out.new))
         (code_of_run result) (said_by_run result) }
     ensures answers { IfOk result (λ status. IsTrue (is_proof_end (code_of status))) }
@@ -77,7 +77,7 @@ fn pack_inputs<F: Files, K: Sink>(
     out: &mut K,
 ) -> Result<Status, Fault>
     ensures ends { (w : Outside) (was : Content) →
-        EndsWith (by_lists (packing_view names.now) session.now table.now evidence.now (lists_of session.now table.now))
+        EndsWith (plan_by (inputs_stages (packing_view names.now) session.now table.now evidence.now))
         (with_out (with_files w (F.disk files.old was)) (K.stream out.old)) (with_out (with_files w (F.disk files.new was)) (K.stream out.new))
         (code_of_run result) (said_by_run result) }
     ensures answers { IfOk result (λ status. IsTrue (is_proof_end (code_of status))) }

@@ -23,7 +23,7 @@ use crate::simulate::simulate_seed;
 use crate::status::{Status, report, status_of, status_of_live};
 use crate::verify::verify;
 use bar_arguments::WordsFault;
-use bar_outside::{Files, Link, Sink, Spawner, plans_go_in_order};
+use bar_outside::{Files, Link, Sink, Spawner, stages_go_in_order};
 use bar_party_commands::{
     a_bound_broadcaster_has_spent_its_key, a_bound_peer_has_spent_its_key, a_broadcaster_is_done,
     a_broadcaster_stands, a_peer_is_done, a_peer_stands, broadcaster,
@@ -74,9 +74,9 @@ pub fn bar_run<F: Files, L: Link, K: Sink, S: Spawner>(
     only_its_files_are_changed_by_a_broadcaster();
     only_its_files_are_changed_by_a_peer();
     peers_keep_the_rules();
-    plans_go_in_order();
     proofs_are_spelled();
     rules_give_the_run();
+    stages_go_in_order();
     tables_are_spelled();
     what_is_shown_is_packed();
     let status = run_words(alloc, words, files, link, out, spawn);

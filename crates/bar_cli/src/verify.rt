@@ -3,7 +3,8 @@ ghost use Rattle.std.specs.Prelude.{◌≡◌, false, IfOk, IsTrue};
 ghost use Rattle.bar_outside.specs.Disk.{Content};
 ghost use Rattle.bar_outside.specs.Plan.{Outside, with_files, with_out};
 ghost use Rattle.bar_outside.specs.Ends.{EndsWith};
-ghost use Rattle.bar_cli.specs.Verify.{proof_plan, verify_plan};
+ghost use Rattle.bar_outside.specs.Stages.{plan_by};
+ghost use Rattle.bar_cli.specs.Verify.{proof_stages, verify_plan};
 ghost use Rattle.bar_cli.specs.Printing.{judge_may_print};
 ghost use Rattle.bar_cli.specs.Status.{code_of, code_of_run, is_proof_end, said_by_run};
 ghost use Rattle.bar_cli.specs.Views.{verify_view};
@@ -51,7 +52,7 @@ fn verify_session<F: Files, K: Sink>(
     files: &mut F,
     out: &mut K,
 ) -> Result<Status, Fault>
-    ensures ends { (w : Outside) (was : Content) → EndsWith (proof_plan (verify_view names.now) session.now)
+    ensures ends { (w : Outside) (was : Content) → EndsWith (plan_by (proof_stages (verify_view names.now) session.now))
         (with_out (with_files w (F.disk files.old was)) (K.stream out.old)) (with_out (with_files w (F.disk files.new was)) (K.stream out.new))
         (code_of_run result) (said_by_run result) }
     ensures answers { IfOk result (λ status. IsTrue (is_proof_end (code_of status))) }

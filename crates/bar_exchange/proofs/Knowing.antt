@@ -10,10 +10,9 @@ use Rattle.bar_window.specs.Terms.{Terms, plain_terms}
 use Rattle.bar_rules.specs.Member.{Member}
 use Rattle.bar_ledger.specs.declared.ledger.Ledger.{Ledger}
 use Rattle.bar_ledger.specs.Kept.{Kept}
-use Rattle.bar_ledger.specs.Lookups.{if_known}
+use Rattle.bar_ledger.specs.Lookups.{if_known, is_known_in}
 use Rattle.bar_ledger.specs.Memory.{find_in}
 use Rattle.bar_ledger.specs.Recalls.{IsKeptBy, kind_of_terms}
-use Rattle.bar_exchange.specs.Writing.{is_known_in}
 
 -- a part of the terms that a ledger knows
 abbrev pub part_in : {X : Type 0} → (Role → Kept → Bool) → (Terms → Option X) → Ledger → Exchange → Option X

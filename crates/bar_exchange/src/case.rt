@@ -8,17 +8,17 @@ ghost use Rattle.bar_wire.specs.Views.{AreTermWindows};
 ghost use Rattle.bar_rules.specs.Member.{Member, Session};
 ghost use Rattle.bar_rules.specs.Values.{counts_ok};
 ghost use Rattle.bar_rules.specs.Peer.Admission.{is_row_met};
-ghost use Rattle.bar_rules.specs.Peer.Knowledge.{Knowledge, this_round};
+ghost use Rattle.bar_rules.specs.Peer.Knowledge.{Knowledge};
 ghost use Rattle.bar_ledger.specs.Recalls.{Recalls};
 ghost use Rattle.bar_exchange.specs.Counts.{HasCounts};
 
 use crate::aligned::are_aligned;
 use crate::counts::Counts;
-use crate::recall::{has_said_case, is_within};
 use crate::same_terms::are_terms;
 use bar_ledger::{ANSWER_DEADLINE, Ledger};
 use bar_terms::balanced_count;
 use bar_window::{Exchange, Role, Terms, Window};
+use bar_wire::Kind;
 
 /// Whether counts are those of a side's promise by what is wanted and given in a push.
 fn are_of_push(counts: Counts, role: Role, want: &Window, give: &Window, junk: u8) -> bool
@@ -51,23 +51,16 @@ fn are_promised(counts: Counts, terms: &Terms, role: Role, cap: u8) -> bool
 }
 
 /// The row of a CASE of a side.
-pub fn admits_case(
-    ledger: &Ledger,
-    round: u32,
-    x: Exchange,
-    role: Role,
-    terms: &Terms,
-    counts: Counts,
-) -> bool
+pub fn admits_case(ledger: &Ledger, x: Exchange, role: Role, terms: &Terms, counts: Counts) -> bool
     ensures { (me : Member) (k : Knowledge) (from to : ℕ) (c : Briefcase) → Recalls me k ledger.now → 2 ≤ me.session.shape.life
-        → round ≡ this_round k → x ≡ exchange_by c.round c.kind role from to → c.role ≡ role
+        → x ≡ exchange_by c.round c.kind role from to → c.role ≡ role
         → AreTermWindows me.session.shape c.round terms.now → HasCounts counts c → c.terms ≡ plain_terms terms.now
         → result ≡ is_row_met me k from to (Case c) }
 {
-    if !is_within(round, x.round, ANSWER_DEADLINE) {
+    if !ledger.is_within(x, ANSWER_DEADLINE) {
         return false;
     }
-    if !has_said_case(ledger, x, role.other()) {
+    if !ledger.has_said(x, Kind::Case, role.other()) {
         return false;
     }
     if !are_terms(ledger, x, terms) {

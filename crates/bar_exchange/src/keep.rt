@@ -3,26 +3,15 @@ ghost use Rattle.std.specs.Prelude.{◌≡◌, true, Some, None};
 ghost use Rattle.bar_window.specs.declared.exchange.Role.TheVariants.{Initiator};
 ghost use Rattle.bar_wire.specs.Datagram.{Datagram, kind_of, exchange_of, place_of};
 ghost use Rattle.bar_rules.specs.Member.{Member, IsMember};
-ghost use Rattle.bar_rules.specs.Peer.Exchanges.{request_kind};
 ghost use Rattle.bar_rules.specs.Peer.Knowledge.{Knowledge, with_heard};
 ghost use Rattle.bar_ledger.specs.Memory.{HasSame, MayHear};
 ghost use Rattle.bar_ledger.specs.Recalls.{Recalls};
 ghost use Rattle.bar_exchange.specs.Keeping.{IsAdmittedNow, HasRoomLeft, IsBegunWith, is_later};
 ghost use Rattle.bar_exchange.specs.Parts.{ChangesKept, asked_entry, with_heard_part};
 
-use bar_ledger::{Entry, Ledger};
-use bar_window::{Exchange, Role, Terms, XKind};
+use bar_ledger::{Entry, Ledger, opening_kind};
+use bar_window::{Exchange, Role, Terms};
 use bar_wire::Kind;
-
-/// The kind of datagram that asks for an exchange.
-fn request_kind(kind: XKind) -> Kind
-    ensures { result ≡ request_kind kind }
-{
-    match kind {
-        XKind::Balanced => Kind::Request,
-        XKind::Push => Kind::Query,
-    }
-}
 
 /// The entry of an exchange that this peer is asked for, in which nothing is said yet.
 fn asked_entry(x: Exchange, seat: u8, terms: Terms) -> Entry
@@ -57,7 +46,7 @@ pub fn keep_request(ledger: &mut Ledger, x: Exchange, terms: Terms, bytes: &[u8]
         return;
     }
     ledger.add(asked_entry(x, seat, terms));
-    let kind = request_kind(x.kind);
+    let kind = opening_kind(x.kind, Role::Initiator);
     if !ledger.may_hear(x, kind, bytes) {
         return;
     }

@@ -5,47 +5,10 @@ ghost use Rattle.bar_rules.specs.Peer.Evidence.{between, shared_from};
 ghost use Rattle.bar_ledger.specs.Naming.{names};
 ghost use Rattle.bar_exchange.specs.Naming.{passing_as, passing_in, passing_beside, passing_among, side_beside};
 
-use crate::recall::heard_from;
 use bar_ledger::{Ledger, names, opening_kind};
 use bar_seal::Verifier;
 use bar_window::{Exchange, Role, XKind};
 use bar_wire::Kind;
-
-/// The datagram of a kind that was heard from a side of an exchange, where its signature names a leaf.
-fn naming_as<'a, V: Verifier>(
-    verifier: &V,
-    ledger: &'a Ledger,
-    kind: Kind,
-    y: Exchange,
-    role: Role,
-    leaf: u32,
-) -> Option<&'a [u8]>
-    ensures { option_copied result ≡ passing_as (names (V.leaf_named verifier.now) (V.signature_len verifier.now) leaf) ledger.now
-        kind y role }
-{
-    let heard = heard_from(ledger, y, kind, role)?;
-    names(verifier, Some(heard), leaf).then_some(heard)
-}
-
-/// The first of a side's signed datagrams of an exchange whose signature names a leaf.
-fn naming_in<'a, V: Verifier>(
-    verifier: &V,
-    ledger: &'a Ledger,
-    y: Exchange,
-    role: Role,
-    leaf: u32,
-) -> Option<&'a [u8]>
-    ensures { option_copied result ≡ passing_in (names (V.leaf_named verifier.now) (V.signature_len verifier.now) leaf) ledger.now y role }
-{
-    let opening = opening_kind(y.kind, role);
-    if let Some(heard) = naming_as(verifier, ledger, opening, y, role, leaf) {
-        return Some(heard);
-    }
-    if let Some(heard) = naming_as(verifier, ledger, Kind::Case, y, role, leaf) {
-        return Some(heard);
-    }
-    naming_as(verifier, ledger, Kind::Key, y, role, leaf)
-}
 
 /// The side of an exchange that isn't a party's own.
 fn side_beside(party: u16, y: Exchange) -> Role
@@ -56,22 +19,6 @@ fn side_beside(party: u16, y: Exchange) -> Role
     } else {
         Role::Initiator
     }
-}
-
-/// The first of an exchange, where that is another one than this.
-fn naming_beside<'a, V: Verifier>(
-    verifier: &V,
-    ledger: &'a Ledger,
-    x: Exchange,
-    y: Exchange,
-    leaf: u32,
-) -> Option<&'a [u8]>
-    ensures { option_copied result ≡ passing_beside (names (V.leaf_named verifier.now) (V.signature_len verifier.now) leaf) ledger.now x y }
-{
-    if x == y {
-        return None;
-    }
-    naming_in(verifier, ledger, y, side_beside(ledger.me(), y), leaf)
 }
 
 /// The two exchanges of a round and kind that two parties can have, in order.
@@ -93,64 +40,95 @@ fn between(p: u16, q: u16, round: u32, kind: XKind) -> (Exchange, Exchange)
     if p < q { (one, two) } else { (two, one) }
 }
 
-/// The first of the two exchanges of a round and kind with a party.
-fn naming_between<'a, V: Verifier>(
-    verifier: &V,
+/// What is looked for: a datagram that was heard in another exchange than one, with a party, and whose signature names a leaf.
+#[derive(Drop)]
+struct Search<'v, 'a, V: Verifier> {
+    verifier: &'v V,
+    leaf: u32,
     ledger: &'a Ledger,
     x: Exchange,
     party: u16,
-    round: u32,
-    kind: XKind,
-    leaf: u32,
-) -> Option<&'a [u8]>
-    ensures { option_copied result ≡ passing_among (names (V.leaf_named verifier.now) (V.signature_len verifier.now) leaf) ledger.now x
-        (between ledger.now.me party round kind) }
-{
-    let (one, two) = between(ledger.me(), party, round, kind);
-    match naming_beside(verifier, ledger, x, one, leaf) {
-        Some(heard) => Some(heard),
-        None => naming_beside(verifier, ledger, x, two, leaf),
-    }
 }
 
-/// The first of the exchanges of a round with a party.
-fn naming_in_round<'a, V: Verifier>(
-    verifier: &V,
-    ledger: &'a Ledger,
-    x: Exchange,
-    party: u16,
-    round: u32,
-    leaf: u32,
-) -> Option<&'a [u8]>
-    ensures { option_copied result ≡ passing_among (names (V.leaf_named verifier.now) (V.signature_len verifier.now) leaf) ledger.now x
-        (between ledger.now.me party round Balanced ++ between ledger.now.me party round Push) }
-{
-    match naming_between(verifier, ledger, x, party, round, XKind::Balanced, leaf) {
-        Some(heard) => Some(heard),
-        None => naming_between(verifier, ledger, x, party, round, XKind::Push, leaf),
+impl<'v, 'a, V: Verifier> Search<'v, 'a, V> {
+    /// The datagram of a kind that was heard from a side of an exchange, where its signature names the leaf.
+    fn of_kind(&self, kind: Kind, y: Exchange, role: Role) -> Option<&'a [u8]>
+        ensures { option_copied result ≡ passing_as
+            (names (V.leaf_named self.now.verifier.now) (V.signature_len self.now.verifier.now) self.now.leaf)
+            self.now.ledger.now kind y role }
+    {
+        let heard = self.ledger.heard_from(y, kind, role)?;
+        names(self.verifier, Some(heard), self.leaf).then_some(heard)
     }
-}
 
-/// The first of the exchanges of some rounds with a party, as far as rounds have numbers.
-fn naming_from<'a, V: Verifier>(
-    verifier: &V,
-    ledger: &'a Ledger,
-    x: Exchange,
-    party: u16,
-    first: u32,
-    count: u32,
-    leaf: u32,
-) -> Option<&'a [u8]>
-    ensures { first + count ≤ 4294967295 → option_copied result ≡ passing_among
-        (names (V.leaf_named verifier.now) (V.signature_len verifier.now) leaf) ledger.now x (shared_from ledger.now.me party first count) }
-{
-    for after in 0..count {
-        let round = first.checked_add(after)?;
-        if let Some(heard) = naming_in_round(verifier, ledger, x, party, round, leaf) {
+    /// The first of a side's signed datagrams of an exchange whose signature names the leaf.
+    fn of_side(&self, y: Exchange, role: Role) -> Option<&'a [u8]>
+        ensures { option_copied result ≡ passing_in
+            (names (V.leaf_named self.now.verifier.now) (V.signature_len self.now.verifier.now) self.now.leaf)
+            self.now.ledger.now y role }
+    {
+        let opening = opening_kind(y.kind, role);
+        if let Some(heard) = self.of_kind(opening, y, role) {
             return Some(heard);
         }
+        if let Some(heard) = self.of_kind(Kind::Case, y, role) {
+            return Some(heard);
+        }
+        self.of_kind(Kind::Key, y, role)
     }
-    None
+
+    /// The first of an exchange, where that is another one.
+    fn beside(&self, y: Exchange) -> Option<&'a [u8]>
+        ensures { option_copied result ≡ passing_beside
+            (names (V.leaf_named self.now.verifier.now) (V.signature_len self.now.verifier.now) self.now.leaf)
+            self.now.ledger.now self.now.x y }
+    {
+        if self.x == y {
+            return None;
+        }
+        self.of_side(y, side_beside(self.ledger.me(), y))
+    }
+
+    /// The first of the two exchanges of a round and kind with the party.
+    fn of_round_and_kind(&self, round: u32, kind: XKind) -> Option<&'a [u8]>
+        ensures { option_copied result ≡ passing_among
+            (names (V.leaf_named self.now.verifier.now) (V.signature_len self.now.verifier.now) self.now.leaf)
+            self.now.ledger.now self.now.x (between self.now.ledger.now.me self.now.party round kind) }
+    {
+        let (one, two) = between(self.ledger.me(), self.party, round, kind);
+        match self.beside(one) {
+            Some(heard) => Some(heard),
+            None => self.beside(two),
+        }
+    }
+
+    /// The first of the exchanges of a round with the party.
+    fn of_round(&self, round: u32) -> Option<&'a [u8]>
+        ensures { option_copied result ≡ passing_among
+            (names (V.leaf_named self.now.verifier.now) (V.signature_len self.now.verifier.now) self.now.leaf)
+            self.now.ledger.now self.now.x
+            (between self.now.ledger.now.me self.now.party round Balanced ++ between self.now.ledger.now.me self.now.party round Push) }
+    {
+        match self.of_round_and_kind(round, XKind::Balanced) {
+            Some(heard) => Some(heard),
+            None => self.of_round_and_kind(round, XKind::Push),
+        }
+    }
+
+    /// The first of the exchanges of some rounds with the party, as far as rounds have numbers.
+    fn of_rounds(&self, first: u32, count: u32) -> Option<&'a [u8]>
+        ensures { first + count ≤ 4294967295 → option_copied result ≡ passing_among
+            (names (V.leaf_named self.now.verifier.now) (V.signature_len self.now.verifier.now) self.now.leaf)
+            self.now.ledger.now self.now.x (shared_from self.now.ledger.now.me self.now.party first count) }
+    {
+        for after in 0..count {
+            let round = first.checked_add(after)?;
+            if let Some(heard) = self.of_round(round) {
+                return Some(heard);
+            }
+        }
+        None
+    }
 }
 
 /// The first signed datagram that was heard in another exchange than this one with a party, whose signature names a leaf: of the
@@ -172,5 +150,12 @@ pub fn naming_elsewhere<'a, V: Verifier>(
     }
     let first = ledger.round().saturating_sub(u32::from(ledger.life()));
     let count = u32::from(ledger.life()) + 2;
-    naming_from(verifier, ledger, x, party, first, count, leaf)
+    let search = Search {
+        verifier,
+        leaf,
+        ledger,
+        x,
+        party,
+    };
+    search.of_rounds(first, count)
 }

@@ -6,11 +6,10 @@ ghost use Rattle.bar_terms.specs.Table.{is_within};
 ghost use Rattle.bar_wire.specs.Datagram.{KeyReq, Key, exchange_by};
 ghost use Rattle.bar_rules.specs.Member.{Member};
 ghost use Rattle.bar_rules.specs.Peer.Admission.{is_row_met};
-ghost use Rattle.bar_rules.specs.Peer.Knowledge.{Knowledge, this_round, table_of};
+ghost use Rattle.bar_rules.specs.Peer.Knowledge.{Knowledge, table_of};
 ghost use Rattle.bar_store.specs.Holds.{Holds};
 ghost use Rattle.bar_ledger.specs.Recalls.{Recalls};
 
-use crate::recall::{has_heard, has_said_case, is_within};
 use bar_ledger::Ledger;
 use bar_store::Store;
 use bar_terms::within;
@@ -25,33 +24,33 @@ pub fn has_digests(store: &Store, updates: &Window) -> bool
 }
 
 /// The row of a KEYREQ of a side.
-pub fn admits_key_request(ledger: &Ledger, round: u32, x: Exchange, role: Role) -> bool
-    ensures { (me : Member) (k : Knowledge) (kind : XKind) (from to r : ℕ) → Recalls me k ledger.now → round ≡ this_round k
+pub fn admits_key_request(ledger: &Ledger, x: Exchange, role: Role) -> bool
+    ensures { (me : Member) (k : Knowledge) (kind : XKind) (from to r : ℕ) → Recalls me k ledger.now
         → x ≡ exchange_by r kind role from to → result ≡ is_row_met me k from to (KeyReq r kind role) }
 {
-    if !is_within(round, x.round, ledger.life()) {
+    if !ledger.is_within(x, ledger.life()) {
         return false;
     }
-    if !has_said_case(ledger, x, role.other()) {
+    if !ledger.has_said(x, Kind::Case, role.other()) {
         return false;
     }
-    if !has_heard(ledger, x, Kind::Case, role) {
+    if !ledger.has_heard(x, Kind::Case, role) {
         return false;
     }
-    !has_heard(ledger, x, Kind::KeyReq, role)
+    !ledger.has_heard(x, Kind::KeyReq, role)
 }
 
 /// The row of a KEY of a side.
-pub fn admits_key(ledger: &Ledger, round: u32, x: Exchange, role: Role) -> bool
-    ensures { (me : Member) (k : Knowledge) (kind : XKind) (from to r : ℕ) (key : List ℕ) → Recalls me k ledger.now → round ≡ this_round k
+pub fn admits_key(ledger: &Ledger, x: Exchange, role: Role) -> bool
+    ensures { (me : Member) (k : Knowledge) (kind : XKind) (from to r : ℕ) (key : List ℕ) → Recalls me k ledger.now
         → x ≡ exchange_by r kind role from to
         → result ≡ is_row_met me k from to (Key (record { round = r; kind = kind; role = role; key = key })) }
 {
-    if !is_within(round, x.round, ledger.life()) {
+    if !ledger.is_within(x, ledger.life()) {
         return false;
     }
-    if !has_said_case(ledger, x, role.other()) {
+    if !ledger.has_said(x, Kind::Case, role.other()) {
         return false;
     }
-    has_heard(ledger, x, Kind::Case, role)
+    ledger.has_heard(x, Kind::Case, role)
 }

@@ -16,8 +16,7 @@ ghost use Rattle.bar_rules.specs.Peer.Writing.{body_now};
 ghost use Rattle.bar_store.specs.Held.{block_in};
 ghost use Rattle.bar_exchange.specs.Writing.{AreSourcesOf, CanSeal, IsSealable, IsWritten, LeavesRest};
 
-use crate::known::{is_complete, kept_terms};
-use crate::recall::side;
+use crate::known::kept_terms;
 use crate::sources::Sources;
 use crate::writing::write_message;
 use bar_case::seal;
@@ -32,7 +31,7 @@ fn complete_terms(sources: &Sources<'_>, x: Exchange) -> Option<Terms>
         → option_map plain_terms result ≡ terms_of me k x }
     ensures windows { IfSome result (AreTermWindows sources.now.session.now.shape x.round) }
 {
-    if !is_complete(sources.ledger, x) {
+    if !sources.ledger.is_complete(x) {
         return None;
     }
     kept_terms(sources, x)
@@ -85,7 +84,7 @@ pub fn write_case(sources: &Sources<'_>, x: Exchange, out: &mut [u8]) -> Option<
     let shape = sources.session.shape();
     let cap = sources.session.cap();
     let terms = complete_terms(sources, x)?;
-    let role = side(sources.ledger, x);
+    let role = sources.ledger.side(x);
     if !can_seal(sources.store, &terms, role, cap) {
         return None;
     }

@@ -1,21 +1,19 @@
-//! What is said again at a tick of what comes behind the answer.
+//! What is said again at a tick.
 ghost use Rattle.std.specs.Prelude.{◌≡◌, ◌++◌, [], ◌∷◌, true};
 ghost use Rattle.bar_rules.specs.Member.{Member, IsMember};
 ghost use Rattle.bar_rules.specs.Peer.Agreement.{IsRecent};
 ghost use Rattle.bar_rules.specs.Peer.Exchanges.{role_of};
-ghost use Rattle.bar_rules.specs.Peer.Knowledge.{Knowledge, this_round};
+ghost use Rattle.bar_rules.specs.Peer.Knowledge.{Knowledge};
 ghost use Rattle.bar_wire.specs.declared.kind.Kind.TheVariants.{Case};
 ghost use Rattle.bar_rules.specs.Peer.Orders.{AskKey, Resend};
 ghost use Rattle.bar_rules.specs.Peer.Replies.{orders_when};
-ghost use Rattle.bar_rules.specs.Peer.Ticks.{lacks_case, lacks_key, lacks_keys, reveals, case_again};
+ghost use Rattle.bar_rules.specs.Peer.Ticks.{lacks_answer, lacks_case, lacks_key, lacks_keys, reveals, case_again, again};
 ghost use Rattle.bar_ledger.specs.Recalls.{Recalls};
 ghost use Rattle.bar_exchange.specs.Says.{orders_at_tick};
 
-use crate::marked::has_said;
-use crate::recall::{has_heard, has_said_case, is_within, side};
 use crate::say::Say;
 use crate::says::Says;
-use bar_ledger::{ANSWER_DEADLINE, Ledger};
+use bar_ledger::{ANSWER_DEADLINE, Ledger, REQUEST_DEADLINE, opening_kind};
 use bar_window::{Exchange, Role, XKind};
 use bar_wire::Kind;
 
@@ -24,42 +22,42 @@ fn lacks_keys(ledger: &Ledger, x: Exchange, role: Role) -> bool
     ensures { (me : Member) (k : Knowledge) → Recalls me k ledger.now → IsRecent me k x.round → role ≡ role_of me x
         → result ≡ lacks_keys me k x }
 {
-    !has_said(ledger, x, Kind::Key, role) && !has_heard(ledger, x, Kind::Key, role.other())
+    !ledger.has_said(x, Kind::Key, role) && !ledger.has_heard(x, Kind::Key, role.other())
 }
 
 /// Whether this peer's CASE is said and the partner may lack it: the partner's isn't heard, or in version 3 no KEY is said or heard.
-fn lacks_case(ledger: &Ledger, round: u32, x: Exchange) -> bool
-    ensures { (me : Member) (k : Knowledge) → IsMember me → Recalls me k ledger.now → round ≡ this_round k → result ≡ lacks_case me k x }
+fn lacks_case(ledger: &Ledger, x: Exchange) -> bool
+    ensures { (me : Member) (k : Knowledge) → IsMember me → Recalls me k ledger.now → result ≡ lacks_case me k x }
 {
-    let role = side(ledger, x);
-    if !is_within(round, x.round, ANSWER_DEADLINE) {
+    let role = ledger.side(x);
+    if !ledger.is_within(x, ANSWER_DEADLINE) {
         return false;
     }
-    if !has_said_case(ledger, x, role) {
+    if !ledger.has_said(x, Kind::Case, role) {
         return false;
     }
     if ledger.shape().is_third() {
         lacks_keys(ledger, x, role)
     } else {
-        !has_heard(ledger, x, Kind::Case, role.other())
+        !ledger.has_heard(x, Kind::Case, role.other())
     }
 }
 
 /// Whether this peer's CASE is said and the partner's is heard, but no KEY is.
-fn lacks_key(ledger: &Ledger, round: u32, x: Exchange) -> bool
-    ensures { (me : Member) (k : Knowledge) → Recalls me k ledger.now → round ≡ this_round k → result ≡ lacks_key me k x }
+fn lacks_key(ledger: &Ledger, x: Exchange) -> bool
+    ensures { (me : Member) (k : Knowledge) → Recalls me k ledger.now → result ≡ lacks_key me k x }
 {
-    let role = side(ledger, x);
-    if !is_within(round, x.round, ledger.life()) {
+    let role = ledger.side(x);
+    if !ledger.is_within(x, ledger.life()) {
         return false;
     }
-    if !has_said_case(ledger, x, role) {
+    if !ledger.has_said(x, Kind::Case, role) {
         return false;
     }
-    if !has_heard(ledger, x, Kind::Case, role.other()) {
+    if !ledger.has_heard(x, Kind::Case, role.other()) {
         return false;
     }
-    !has_heard(ledger, x, Kind::Key, role.other())
+    !ledger.has_heard(x, Kind::Key, role.other())
 }
 
 /// The CASE again, behind the DIVULGE of a balanced initiator.
@@ -87,8 +85,8 @@ fn case_again(ledger: &Ledger, x: Exchange) -> Says
     ensures { (me : Member) (k : Knowledge) → IsMember me → Recalls me k ledger.now → lacks_case me k x ≡ true
         → orders_at_tick result ≡ case_again me k x ++ orders_when (lacks_key me k x) (AskKey x ∷ []) }
 {
-    let role = side(ledger, x);
-    if !has_heard(ledger, x, Kind::Case, role.other()) {
+    let role = ledger.side(x);
+    if !ledger.has_heard(x, Kind::Case, role.other()) {
         return case_revealed(x, role);
     }
     let case = Say {
@@ -102,20 +100,42 @@ fn case_again(ledger: &Ledger, x: Exchange) -> Says
     Says::Two(case, key_request)
 }
 
-/// What is said again at a tick of this round of an exchange that is answered: its CASE, and what goes with it or asks for the KEY.
-pub fn later_again(ledger: &Ledger, round: u32, x: Exchange) -> Says
-    ensures { (me : Member) (k : Knowledge) → IsMember me → Recalls me k ledger.now → round ≡ this_round k
+/// What is said again of an exchange that is answered: its CASE, and what goes with it or asks for the KEY.
+fn later_again(ledger: &Ledger, x: Exchange) -> Says
+    ensures { (me : Member) (k : Knowledge) → IsMember me → Recalls me k ledger.now
         → orders_at_tick result
         ≡ orders_when (lacks_case me k x) (case_again me k x) ++ orders_when (lacks_key me k x) (AskKey x ∷ []) }
 {
-    if lacks_case(ledger, round, x) {
+    if lacks_case(ledger, x) {
         case_again(ledger, x)
-    } else if lacks_key(ledger, round, x) {
+    } else if lacks_key(ledger, x) {
         Says::One(Say {
             kind: Kind::KeyReq,
             x,
         })
     } else {
         Says::Nothing
+    }
+}
+
+/// Whether this peer asked for an exchange and has no answer.
+fn lacks_answer(ledger: &Ledger, x: Exchange) -> bool
+    ensures { (me : Member) (k : Knowledge) → IsMember me → Recalls me k ledger.now → result ≡ lacks_answer me k x }
+{
+    let answer = opening_kind(x.kind, Role::Responder);
+    ledger.is_within(x, REQUEST_DEADLINE)
+        && x.initiator == ledger.me()
+        && !ledger.has_heard(x, answer, Role::Responder)
+}
+
+/// What is said again at a tick of an open exchange: the request where it has no answer, and else what comes behind the answer.
+pub fn again(ledger: &Ledger, x: Exchange) -> Says
+    ensures { (me : Member) (k : Knowledge) → IsMember me → Recalls me k ledger.now → orders_at_tick result ≡ again me k x }
+{
+    if lacks_answer(ledger, x) {
+        let kind = opening_kind(x.kind, Role::Initiator);
+        Says::One(Say { kind, x })
+    } else {
+        later_again(ledger, x)
     }
 }

@@ -9,7 +9,6 @@ ghost use Rattle.bar_rules.specs.Peer.Knowledge.{Knowledge};
 ghost use Rattle.bar_rules.specs.Peer.Writing.{body_now};
 ghost use Rattle.bar_exchange.specs.Writing.{AreSourcesOf, IsWritten, LeavesRest, bytes_to, largest_message};
 
-use crate::recall::side;
 use crate::sources::Sources;
 use bar_window::Exchange;
 use bar_wire::{Body, encode};
@@ -24,7 +23,7 @@ pub fn write_message(sources: &Sources<'_>, x: Exchange, body: &Body<'_>, out: &
     ensures front { LeavesRest out.old (Some result) out.new }
 {
     let shape = sources.session.shape();
-    let role = side(sources.ledger, x);
+    let role = sources.ledger.side(x);
     encode(
         sources.ledger.me(),
         x.party(role.other()),
@@ -41,7 +40,7 @@ pub fn write_key_request(sources: &Sources<'_>, x: Exchange, out: &mut [u8]) -> 
         → IsWritten me x (body_now me k kinds.KeyReq x) (Some result) out.new }
     ensures front { LeavesRest out.old (Some result) out.new }
 {
-    let role = side(sources.ledger, x);
+    let role = sources.ledger.side(x);
     let body = Body::KeyReq {
         round: x.round,
         xkind: x.kind,
@@ -57,7 +56,7 @@ pub fn write_key(sources: &Sources<'_>, x: Exchange, out: &mut [u8]) -> usize
         → IsWritten me x (body_now me k kinds.Key x) (Some result) out.new }
     ensures front { LeavesRest out.old (Some result) out.new }
 {
-    let role = side(sources.ledger, x);
+    let role = sources.ledger.side(x);
     let key = sources.secrets.key(x, role);
     let body = Body::Key {
         round: x.round,

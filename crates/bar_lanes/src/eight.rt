@@ -21,28 +21,41 @@ pub(crate) fn block(message: &[u8; 55]) -> [u8; 64]
     block
 }
 
-// The word at byte `at` of a block (FIPS 180-4, 5.2.1).
-fn word(block: &[u8; 64], at: usize) -> u32
-    requires { at + 4 ≤ 64 }
-    ensures { result ≡ word_at block.now at }
+// The word at byte `at` of bytes (FIPS 180-4, 5.2.1).
+fn word_in(bytes: &[u8], at: usize) -> u32
+    requires { at + 4 ≤ length bytes.now }
+    ensures is { result ≡ word_at bytes.now at }
+    ensures bytes { (i : ℕ) → slice_index bytes.now i < 256 }
 {
-    u32::from_be_bytes([block[at], block[at + 1], block[at + 2], block[at + 3]])
+    u32::from_be_bytes([bytes[at], bytes[at + 1], bytes[at + 2], bytes[at + 3]])
 }
 
-// Word k of each block, a lane for each.
-pub(crate) fn words_at(blocks: &[[u8; 64]; 8], k: usize) -> u32x8
-    requires { k < 16 }
-    ensures { (j : ℕ) → j < 8 → slice_index result j ≡ word_at (slice_index_or blocks.now j []) (4 * k) }
+// The same of a row of N bytes.
+fn word<const N: usize>(row: &[u8; N], at: usize) -> u32
+    requires { at + 4 ≤ N }
+    ensures is { result ≡ word_at row.now at }
+    ensures long { length row.now ≡ N }
+    ensures bytes { (i : ℕ) → slice_index row.now i < 256 }
+{
+    word_in(row.as_slice(), at)
+}
+
+// Word k of each row of bytes, a lane for each.
+pub(crate) fn words_at<const N: usize>(rows: &[[u8; N]; 8], k: usize) -> u32x8
+    requires { 4 * k + 4 ≤ N }
+    ensures is { (j : ℕ) → j < 8 → slice_index result j ≡ word_at (slice_index_or rows.now j []) (4 * k) }
+    ensures long { (j : ℕ) → j < 8 → length (slice_index_or rows.now j []) ≡ N }
+    ensures bytes { (j i : ℕ) → j < 8 → slice_index (slice_index_or rows.now j []) i < 256 }
 {
     u32x8::from_array([
-        word(&blocks[0], 4 * k),
-        word(&blocks[1], 4 * k),
-        word(&blocks[2], 4 * k),
-        word(&blocks[3], 4 * k),
-        word(&blocks[4], 4 * k),
-        word(&blocks[5], 4 * k),
-        word(&blocks[6], 4 * k),
-        word(&blocks[7], 4 * k),
+        word(&rows[0], 4 * k),
+        word(&rows[1], 4 * k),
+        word(&rows[2], 4 * k),
+        word(&rows[3], 4 * k),
+        word(&rows[4], 4 * k),
+        word(&rows[5], 4 * k),
+        word(&rows[6], 4 * k),
+        word(&rows[7], 4 * k),
     ])
 }
 

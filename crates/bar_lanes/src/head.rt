@@ -1,96 +1,91 @@
-//! SHA-256 of eight messages of 55 bytes that begin alike. What their beginning alone tells is computed once.
+//! SHA-256 of eight messages of 55 bytes. What their first 20 bytes alone tell is computed once.
 
-ghost use Rattle.std.specs.Prelude.{◌≡◌, ℕ, ◌*◌, ◌+◌, ◌<◌, List, [], take, slice_index, slice_index_or};
-ghost use Rattle.sha2.specs.Sha256.{word_at, compress, initial_hash_256, rounds, schedule, sha256};
-ghost use Rattle.bar_lanes.specs.Lane.{hash_lane, IsScheduled, IsHeadState, late_at};
+ghost use Rattle.std.specs.Prelude.{◌≡◌, ℕ, ◌*◌, ◌/◌, ◌%◌, ◌^◌, ◌+◌, ◌<◌, ◌++◌, List, [], bit_or, length, take, slice_index, slice_index_or};
+ghost use Rattle.sha2.specs.Sha256.{initial_hash_256, padded_message, rounds, schedule, sha256};
+ghost use Rattle.bar_lanes.specs.Lane.{hash_lane, head_lane, Begins, IsHeadState, IsScheduled, late_at};
+ghost use Rattle.bar_lanes.specs.declared.beginning.Beginning.{Beginning};
+ghost use Rattle.bar_lanes.specs.declared.state.State.{State};
 
-use crate::eight::{block, digest_at, initial_hash, lanes_of, words_at};
+use crate::beginning::Beginning;
+use crate::digests::Digests;
+use crate::eight::{initial_hash, words_at};
+use crate::late::Late;
 use crate::rounds::{Words, fill_words, last_steps, small_sigma0, small_sigma1, step};
-use crate::vectors::add;
+use crate::state::State;
+use crate::tails::Tails;
+use crate::vectors::{add, or, shift_left, shift_right};
 use std::marker::Model;
 use std::simd::u32x8;
 
-/// The 20 bytes with which messages begin, five words of a block. With them stands what they tell of each block that begins so: the state
-/// behind the first five rounds, and of the words 16 to 19 of the schedule the summands that come from words 0 to 4.
+/// The first 20 bytes of eight messages of 55, which are five words of a block each. With them stands what they tell of each block that begins
+/// so: of the words 16 to 19 of the schedule the summands that come from words 0 to 4, and the state after the first five rounds. Contracts see
+/// the list of these 20 bytes of each.
 #[derive(Drop)]
-pub struct Head {
-    bytes: [u8; 20],
-    late: [u32; 4],
-    working: [u32; 8],
+pub struct Heads {
+    words: Beginning,
+    late: Late,
+    working: State,
 }
 
-impl Model for Head {
-    ghost use Rattle.std.specs.Prelude.{◌≡◌, ℕ, List, take};
-    ghost use Rattle.bar_lanes.specs.Lane.{IsHeadState};
+impl Model for Heads {
+    ghost use Rattle.std.specs.Prelude.{◌≡◌, ℕ, ◌<◌, List, take};
+    ghost use Rattle.bar_lanes.specs.Lane.{head_lane, of_lanes, IsHeadState};
 
-    ghost Value = { List ℕ };
+    ghost Value = { List (List ℕ) };
 
-    ghost view = { λ h. h.bytes };
+    ghost view = { λ h. of_lanes (head_lane h.words) };
 
-    ghost invariant = { λ h. (block : List ℕ) → take 20 block ≡ h.bytes → IsHeadState block h.late h.working };
+    ghost invariant = { λ h. (j : ℕ) (block : List ℕ) → j < 8 → take 20 block ≡ head_lane h.words j
+        → IsHeadState block j h.words h.late h.working };
 }
 
-// Word k of what messages begin with, in each lane.
-fn head_word(bytes: &[u8; 20], k: usize) -> u32x8
-    requires { k < 5 }
-    ensures { (j : ℕ) (block : List ℕ) → j < 8 → take 20 block ≡ bytes.now → slice_index result j ≡ word_at block (4 * k) }
+// The words of the first 20 bytes of messages.
+fn head_words(bytes: &[[u8; 20]; 8]) -> Beginning
+    ensures bytes { (j : ℕ) → j < 8 → head_lane result j ≡ slice_index_or bytes.now j [] }
+    ensures words { (j : ℕ) → j < 8 → Begins (slice_index_or bytes.now j []) j result }
 {
-    let at = 4 * k;
-    u32x8::splat(u32::from_be_bytes([bytes[at], bytes[at + 1], bytes[at + 2], bytes[at + 3]]))
-}
-
-// Writes the words of what messages begin with.
-fn put_head(words: &mut Words, bytes: &[u8; 20])
-    ensures { (j : ℕ) (block : List ℕ) → j < 8 → take 20 block ≡ bytes.now → IsScheduled block j words.new 5 }
-{
-    'words: for k in 0..5 {
-        words[k] = head_word(bytes, k);
+    Beginning {
+        a: words_at(bytes, 0),
+        b: words_at(bytes, 1),
+        c: words_at(bytes, 2),
+        d: words_at(bytes, 3),
+        e: words_at(bytes, 4),
     }
 }
 
-// What word 16 + k of the schedule has of words k and k + 1.
-fn late_word(words: &Words, k: usize) -> u32
-    requires { k < 4 }
-    ensures { (block : List ℕ) → IsScheduled block 0 words.now 5 → result ≡ late_at block k }
+// Writes the words of the first 20 bytes.
+#[inline(always)]
+fn put_head(words: &mut Words, head: Beginning)
+    ensures { (j : ℕ) (block : List ℕ) → j < 8 → Begins block j head → IsScheduled block j words.new 5 }
 {
-    let lanes = add(small_sigma0(words[k + 1]), words[k]).to_array();
-    lanes[0]
+    words[0] = head.a;
+    words[1] = head.b;
+    words[2] = head.c;
+    words[3] = head.d;
+    words[4] = head.e;
+}
+
+// What word 16 + k of the schedule has of words k and k + 1.
+fn late_word(words: &Words, k: usize) -> u32x8
+    requires { k < 4 }
+    ensures { (j : ℕ) (block : List ℕ) → j < 8 → IsScheduled block j words.now 5 → slice_index result j ≡ late_at block k }
+{
+    add(small_sigma0(words[k + 1]), words[k])
 }
 
 // The same for the words 16 to 19.
-fn late_words(words: &Words) -> [u32; 4]
-    ensures { (block : List ℕ) → IsScheduled block 0 words.now 5 → (k : ℕ) → k < 4 → slice_index result k ≡ late_at block k }
+fn late_words(words: &Words) -> Late
+    ensures first { (j : ℕ) (block : List ℕ) → j < 8 → IsScheduled block j words.now 5 → slice_index result.a j ≡ late_at block 0 }
+    ensures second { (j : ℕ) (block : List ℕ) → j < 8 → IsScheduled block j words.now 5 → slice_index result.b j ≡ late_at block 1 }
+    ensures third { (j : ℕ) (block : List ℕ) → j < 8 → IsScheduled block j words.now 5 → slice_index result.c j ≡ late_at block 2 }
+    ensures fourth { (j : ℕ) (block : List ℕ) → j < 8 → IsScheduled block j words.now 5 → slice_index result.d j ≡ late_at block 3 }
 {
-    [
-        late_word(words, 0),
-        late_word(words, 1),
-        late_word(words, 2),
-        late_word(words, 3),
-    ]
-}
-
-// The state in the first lane.
-fn first_lane(states: [u32x8; 8]) -> [u32; 8]
-    ensures { result ≡ hash_lane 0 states }
-{
-    let [a, b, c, d, e, f, g, h] = lanes_of(states);
-    [a[0], b[0], c[0], d[0], e[0], f[0], g[0], h[0]]
-}
-
-// A state in each lane.
-fn in_lanes(state: &[u32; 8]) -> [u32x8; 8]
-    ensures { (j : ℕ) → j < 8 → hash_lane j result ≡ state.now }
-{
-    [
-        u32x8::splat(state[0]),
-        u32x8::splat(state[1]),
-        u32x8::splat(state[2]),
-        u32x8::splat(state[3]),
-        u32x8::splat(state[4]),
-        u32x8::splat(state[5]),
-        u32x8::splat(state[6]),
-        u32x8::splat(state[7]),
-    ]
+    Late {
+        a: late_word(words, 0),
+        b: late_word(words, 1),
+        c: late_word(words, 2),
+        d: late_word(words, 3),
+    }
 }
 
 // The states behind the first five rounds.
@@ -107,33 +102,65 @@ fn first_steps(words: &Words) -> [u32x8; 8]
 
 // Word 16 + k of the schedule.
 #[inline(always)]
-fn next_word(words: &Words, late: u32, k: usize) -> u32x8
+fn next_word(words: &Words, late: u32x8, k: usize) -> u32x8
     requires { k < 4 }
-    ensures { (j : ℕ) (block : List ℕ) → j < 8 → IsScheduled block j words.now (16 + k) → late ≡ late_at block k
+    ensures { (j : ℕ) (block : List ℕ) → j < 8 → IsScheduled block j words.now (16 + k) → slice_index late j ≡ late_at block k
         → slice_index result j ≡ slice_index (schedule block 48) (16 + k) }
 {
     let near = add(small_sigma1(words[k + 14]), words[k + 9]);
-    add(near, u32x8::splat(late))
+    add(near, late)
 }
 
-// Writes words 5 to 15 of blocks.
-fn put_rest(words: &mut Words, blocks: &[[u8; 64]; 8])
-    ensures { (j : ℕ) → j < 8 → IsScheduled (slice_index_or blocks.now j []) j words.old 5
-        → IsScheduled (slice_index_or blocks.now j []) j words.new 16 }
+// The word of blocks that has the last three bytes of one word of their values and the first of the next.
+#[inline(always)]
+fn between(word: u32x8, next: u32x8) -> u32x8
+    ensures is { (j : ℕ) → j < 8 → slice_index result j ≡ bit_or (slice_index word j * 2 ^ 8 % 2 ^ 32) (slice_index next j / 2 ^ 24) }
+    ensures words { (j : ℕ) → j < 8 → (slice_index word j < 2 ^ 32) × (slice_index next j < 2 ^ 32) }
 {
-    'load: for k in 5..16 {
-        words[k] = words_at(blocks, k);
-    }
+    or(shift_left(word, 8), shift_right(next, 24))
+}
+
+// The word of blocks that has their chains' place and the first byte of the first word of their values.
+#[inline(always)]
+fn place_word(place: u32x8, first: u32x8) -> u32x8
+    ensures is { (j : ℕ) → j < 8 → slice_index result j ≡ bit_or (slice_index place j) (slice_index first j / 2 ^ 24) }
+    ensures words { (j : ℕ) → j < 8 → (slice_index place j < 2 ^ 32) × (slice_index first j < 2 ^ 32) }
+{
+    or(place, shift_right(first, 24))
+}
+
+// Writes words 5 to 15 of the blocks of messages.
+#[inline(always)]
+fn put_tails(words: &mut Words, tails: &Tails)
+    ensures long { (j : ℕ) → j < 8 → length (slice_index_or tails.now j []) ≡ 35 }
+    ensures words { (j : ℕ) (head : List ℕ) → j < 8 → length head ≡ 20
+        → IsScheduled (padded_message (head ++ slice_index_or tails.now j [])) j words.old 5
+        → IsScheduled (padded_message (head ++ slice_index_or tails.now j [])) j words.new 16 }
+{
+    let values = tails.values;
+    words[5] = place_word(tails.place, values.a);
+    words[6] = between(values.a, values.b);
+    words[7] = between(values.b, values.c);
+    words[8] = between(values.c, values.d);
+    words[9] = between(values.d, values.e);
+    words[10] = between(values.e, values.f);
+    words[11] = between(values.f, values.g);
+    words[12] = between(values.g, values.h);
+    words[13] = between(values.h, u32x8::splat(0x8000_0000));
+    words[14] = u32x8::splat(0);
+    words[15] = u32x8::splat(440);
 }
 
 // Writes words 16 to 19 of schedules.
-fn put_late(words: &mut Words, late: &[u32; 4])
-    ensures { (j : ℕ) (block : List ℕ) → j < 8 → IsScheduled block j words.old 16
-        → ((k : ℕ) → k < 4 → slice_index late.now k ≡ late_at block k) → IsScheduled block j words.new 20 }
+#[inline(always)]
+fn put_late(words: &mut Words, late: Late)
+    ensures { (j : ℕ) (block : List ℕ) (head : Beginning) (working : State) → j < 8 → IsScheduled block j words.old 16
+        → IsHeadState block j head late working → IsScheduled block j words.new 20 }
 {
-    'late: for k in 0..4 {
-        words[16 + k] = next_word(words, late[k], k);
-    }
+    words[16] = next_word(words, late.a, 0);
+    words[17] = next_word(words, late.b, 1);
+    words[18] = next_word(words, late.c, 2);
+    words[19] = next_word(words, late.d, 3);
 }
 
 // The states of rounds 5 to 7.
@@ -148,48 +175,32 @@ fn three_steps(words: &Words, working: [u32x8; 8]) -> [u32x8; 8]
     step(words, working, 7)
 }
 
-impl Head {
-    /// What messages that begin with these bytes have in common.
-    pub fn new(bytes: &[u8; 20]) -> Head
-        ensures { result ≡ bytes.now }
+impl Heads {
+    /// What eight messages with these first bytes have of them.
+    pub fn new(bytes: &[[u8; 20]; 8]) -> Heads
+        ensures { (j : ℕ) → j < 8 → slice_index_or result j [] ≡ slice_index_or bytes.now j [] }
     {
+        let head = head_words(bytes);
         let mut words = [u32x8::splat(0); 64];
-        put_head(&mut words, bytes);
-        let late = late_words(&words);
-        let working = first_lane(first_steps(&words));
-        Head {
-            bytes: *bytes,
-            late,
-            working,
+        put_head(&mut words, head);
+        Heads {
+            words: head,
+            late: late_words(&words),
+            working: State::of(first_steps(&words)),
         }
     }
 
-    // The hash values of eight blocks that begin so: eight words, with a lane for each block.
-    fn hashes(&self, blocks: &[[u8; 64]; 8]) -> [[u32; 8]; 8]
-        requires { (j : ℕ) → j < 8 → take 20 (slice_index_or blocks.now j []) ≡ self.now }
-        ensures { (j : ℕ) → j < 8 → hash_lane j result ≡ compress initial_hash_256 (slice_index_or blocks.now j []) }
+    /// The SHA-256 of each of the eight messages that have these bytes after their first 20 (FIPS 180-4, 6.2). The words of their schedules are
+    /// written anew, so that a loop needs room for them once.
+    pub fn hash(&self, tails: &Tails, words: &mut Words) -> Digests
+        ensures { (j : ℕ) → j < 8 → slice_index_or result j [] ≡ sha256 (slice_index_or self.now j [] ++ slice_index_or tails.now j []) }
     {
-        let mut words = [u32x8::splat(0); 64];
-        put_head(&mut words, &self.bytes);
-        put_rest(&mut words, blocks);
-        put_late(&mut words, &self.late);
-        fill_words(&mut words, 20);
-        let working = three_steps(&words, in_lanes(&self.working));
-        lanes_of(last_steps(&words, working, 2, &initial_hash()))
-    }
-
-    /// Writes the SHA-256 of each of eight messages of 55 bytes that begin so, digest j being that of message j (FIPS 180-4, 6.2).
-    pub fn sha_eight(&self, messages: &[[u8; 55]; 8], out: &mut [[u8; 32]; 8])
-        requires { (j : ℕ) → j < 8 → take 20 (slice_index_or messages.now j []) ≡ self.now }
-        ensures { (j : ℕ) → j < 8 → slice_index_or out.new j [] ≡ sha256 (slice_index_or messages.now j []) }
-    {
-        let mut blocks = [[0u8; 64]; 8];
-        'fill: for j in 0..8 {
-            blocks[j] = block(&messages[j]);
-        }
-        let lanes = self.hashes(&blocks);
-        'write: for j in 0..8 {
-            out[j] = digest_at(&lanes, j);
-        }
+        put_head(words, self.words);
+        put_tails(words, tails);
+        put_late(words, self.late);
+        fill_words(words, 20);
+        let working = three_steps(words, self.working.words());
+        let state = State::of(last_steps(words, working, 2, &initial_hash()));
+        Digests { state }
     }
 }

@@ -9,7 +9,7 @@ use crate::vectors::{add, and, not, rotate_right, shift_right, xor};
 use std::simd::u32x8;
 
 /// The words of eight schedules (FIPS 180-4, 6.2.2), a vector for each.
-pub(crate) type Words = [u32x8; 64];
+pub type Words = [u32x8; 64];
 
 // The round constants (FIPS 180-4, 4.2.2).
 const ROUND_CONSTANTS: [u32; 64] = [

@@ -1,6 +1,6 @@
 //! Operators on vectors of eight words, each lane by itself (FIPS 180-4, 3.2).
 
-ghost use Rattle.std.specs.Prelude.{◌≡◌, ℕ, ◌*◌, ◌%◌, ◌<◌, ◌/◌, ◌^◌, ◌-◌, bit_and, bit_or, bit_xor, slice_index};
+ghost use Rattle.std.specs.Prelude.{◌≡◌, ◌==◌, ℕ, ◌*◌, ◌%◌, ◌<◌, ◌/◌, ◌^◌, ◌-◌, bit_and, bit_or, bit_xor, if◌then◌else◌, nat_lt, slice_index};
 ghost use Rattle.std.specs.Int.{w32, rotate_right, bit_not};
 ghost use Rattle.sha2.specs.Sha256.{add32};
 
@@ -71,4 +71,20 @@ pub(crate) fn rotate_right(a: u32x8, k: u32) -> u32x8
     ensures { (j : ℕ) → j < 8 → slice_index result j ≡ rotate_right w32 (slice_index a j) k }
 {
     or(shift_right(a, k), shift_left(a, 32 - k))
+}
+
+// The lanes of `new` where n is below the lane of `counts`, and those of `old` elsewhere.
+#[inline(always)]
+pub(crate) fn where_below(n: u32, counts: u32x8, new: u32x8, old: u32x8) -> u32x8
+    ensures { (j : ℕ) → j < 8 → slice_index result j ≡ (if nat_lt n (slice_index counts j) then slice_index new j else slice_index old j) }
+{
+    u32x8::splat(n).simd_lt(counts).select(new, old)
+}
+
+// The lanes of `new` where the lane of `counts` is n, and those of `old` elsewhere.
+#[inline(always)]
+pub(crate) fn where_equal(n: u32, counts: u32x8, new: u32x8, old: u32x8) -> u32x8
+    ensures { (j : ℕ) → j < 8 → slice_index result j ≡ (if slice_index counts j == n then slice_index new j else slice_index old j) }
+{
+    counts.simd_eq(u32x8::splat(n)).select(new, old)
 }

@@ -67,6 +67,14 @@ abbrev pub knows_offer : Role → Kept → Bool
 knows_offer Initiator k = k.entry.first_said
 knows_offer Responder k = is_some k.first
 
+-- whether both sides' parts are known
+abbrev pub complete_by : Role → Kept → Bool
+complete_by role k = k.entry.complete
+
+-- whether a part of the terms of an exchange is known
+abbrev pub is_known_in : (Role → Kept → Bool) → Ledger → Exchange → Bool
+is_known_in knows l x = option_map_or (λ k. knows k.entry.role k) (find_in l x) false
+
 abbrev pub commit_of : Terms → Option (List ℕ × List UpdateId)
 commit_of (Balanced nonce ha hb) = Some (nonce, ha)
 commit_of (Push young aged want give junk) = None

@@ -1,4 +1,6 @@
+use crate::exchanges::opening_kind;
 use bar_window::{Exchange, Role, Terms};
+use bar_wire::Kind;
 
 /// What a peer knows of an exchange besides what it heard.
 #[derive(Clone, Copy, Debug)]
@@ -16,4 +18,30 @@ pub struct Entry {
     pub first_said: bool,
     pub case_said: bool,
     pub key_said: bool,
+}
+
+impl Entry {
+    ghost use Rattle.std.specs.Prelude.{◌≡◌};
+    ghost use Rattle.bar_ledger.specs.Lookups.{is_said};
+
+    /// Whether it has the mark of a kind: that this peer said its CASE, its KEY or its first signed datagram.
+    pub(crate) fn is_said(&self, kind: Kind) -> bool
+        ensures { result ≡ is_said kind self.now }
+    {
+        let opens = kind == opening_kind(self.x.kind, self.role);
+        match kind {
+            Kind::Case => self.case_said,
+            Kind::Key => self.key_said,
+            Kind::Manifest
+            | Kind::Block
+            | Kind::Request
+            | Kind::Response
+            | Kind::Divulge
+            | Kind::Query
+            | Kind::Reply
+            | Kind::KeyReq
+            | Kind::Evidence
+            | Kind::Evict => opens && self.first_said,
+        }
+    }
 }

@@ -6,11 +6,9 @@ ghost use Rattle.bar_ledger.specs.Hearing.{hears, is_opening};
 ghost use Rattle.bar_ledger.specs.Naming.{is_beside};
 ghost use Rattle.bar_ledger.specs.Order.{is_above, is_below, best_with};
 
+use crate::deadlines::ANSWER_DEADLINE;
 use bar_window::{Exchange, Role, XKind};
 use bar_wire::Kind;
-
-/// For how many rounds after its own all of an exchange is admitted and sent again that comes after its request, up to the CASEs.
-pub const ANSWER_DEADLINE: u8 = 2;
 
 /// Whether an exchange is past the time of its CASEs in a round, and its KEYs may still be given.
 pub(crate) fn is_due(x: Exchange, life: u8, now: u32) -> bool

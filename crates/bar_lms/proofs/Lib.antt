@@ -3,6 +3,7 @@ pub mod DigitLemmas
 pub mod GroupLemmas
 pub mod LaneLemmas
 pub mod ListLemmas
+pub mod TailLemmas
 pub mod TreeLemmas
 pub mod TreeFill
 pub mod SignLemmas

@@ -1,16 +1,18 @@
 -- How far a command came, by the parts of its plan.
-use Rattle.std.proofs.Common.{◌≡◌, ◌⊎◌, ℕ, List, [], ◌∷◌, ◌++◌, Option, None, Some, true, refl, sym, ap, ◌∙◌, subst, IsTrue, inl, inr, length, take, append-nil, true≢false}
+use Rattle.std.proofs.Common.{◌≡◌, ◌⊎◌, ℕ, List, [], ◌∷◌, ◌++◌, Option, None, Some, Result, Ok, Err, IsSomeAnd, true, false, refl, sym, ap, ◌∙◌, subst, IsTrue, inl, inr, length, take, append-nil, true≢false}
 use Rattle.std.proofs.lemmas.Bool.{cases_Bool}
 use Rattle.std.proofs.Math.Seq.{take-length}
-use Rattle.bar_outside.specs.Disk.{Content, readable}
+use Rattle.bar_outside.specs.Causes.{Rose}
+use Rattle.bar_outside.specs.Disk.{Content, Failure, readable}
 use Rattle.bar_outside.specs.declared.files.CallKind.TheVariants.{Read}
 use Rattle.bar_outside.specs.Plan.{Outside, Action, Plan, Ran, Reached, Begun, IsPartOf, IsPartOfNext, IsShowNext, IsFilesNext, IsLinkNext, Names, ending, doing, read_then, is_stop, content_after, shown, traffic_after}
 use Rattle.bar_outside.specs.Plan.Action.{read, create, append, show, link}
-use Rattle.bar_outside.specs.Ends.{UnlessStopped}
-use Rattle.bar_outside.specs.Stages.{Went, IsUnchanged, WentOn, ReadsFirst, EndsThere, ShowsThere, NamesFirst}
+use Rattle.bar_outside.specs.Ends.{Carried, Ends, OfEachEnd, UnlessStopped}
+use Rattle.bar_outside.specs.Stages.{Stages, Went, IsUnchanged, WentOn, ReadsFirst, EndsThere, ShowsThere, NamesFirst, ComesTo, EachStage, Gone, GoesInOrder, IsCallOf, IsAccepted, IsRefused, SaysItsLine, accepts, plan_by, refuses, stage}
+use Rattle.bar_outside.specs.Stages.Stages.{reads, does}
 use Rattle.bar_outside.proofs.ActionLists.{Begun-first, Begun-none, Reached-whole, no-next, no-part-read}
-use Rattle.bar_outside.proofs.Ending.{no_stop}
-use Rattle.bar_outside.proofs.Unlinked.{same-traffic}
+use Rattle.bar_outside.proofs.Ending.{line_at-else, no_stop}
+use Rattle.bar_outside.proofs.Unlinked.{same-traffic, stop-cases}
 
 -- nothing was done
 undone : (status : ℕ) (old new : Outside) (plan : List Action) (r : Reached plan status old new) → IsTrue new.files.told → r.done ≡ [] →
@@ -149,3 +151,142 @@ names_first path others content call h = by_content (readable content path) refl
     by_content None e (inr none) = absurd none
     by_content (Some bytes) e (inl one) = inl one
     by_content (Some bytes) e (inr rest) = inr (bytes, e, rest)
+
+-- ---- stages
+
+pub gone-stages : (stages : Stages) (old new : Outside) (status : ℕ) → IsTrue new.files.told →
+    Went (plan_by stages old.files.content) old new status → Gone stages old new status
+gone-stages (does end) old new status told w = inr (end, refl, w)
+gone-stages (reads path others) old new status told w =
+    elim (reads_first path (λ bytes. plan_by (others bytes)) old new status told w) [
+      | inl same ↦ inl same
+      | inr on ↦ elim (gone-stages (others on.bytes) old new status told on.rest) [
+        | inl same ↦ inl same
+        | inr end ↦ inr (end.0, (on.bytes, on.read, end.1), end.2)
+      ]
+    ]
+
+-- the plan has the status and the line of the end to which the stages come
+
+pub status-comes : (stages : Stages) (content : Content) (end : Plan) → ComesTo stages content end →
+    (plan_by stages content).status ≡ end.status
+status-comes (does last) content end c = ap (λ (p : Plan). p.status) c
+status-comes (reads path others) content end c =
+    ap (λ o. (read_then path (λ bytes. plan_by (others bytes)) content o).status) c.1 ∙ status-comes (others c.0) content end c.2
+
+line-comes : (stages : Stages) (content : Content) (end : Plan) → ComesTo stages content end → (plan_by stages content).line ≡ end.line
+line-comes (does last) content end c = ap (λ (p : Plan). p.line) c
+line-comes (reads path others) content end c =
+    ap (λ o. (read_then path (λ bytes. plan_by (others bytes)) content o).line) c.1 ∙ line-comes (others c.0) content end c.2
+
+pub says_its_line : SaysItsLine
+says_its_line stages content end c go =
+    line_at-else (plan_by stages content) end.status go ∙ line-comes stages content end c
+
+-- the calls of the plan are those of the stages
+calls-stages : (stages : Stages) (content : Content) (call : Failure) → Names (plan_by stages content).actions call → IsCallOf stages call
+calls-stages (does end) content call h = h
+calls-stages (reads path others) content call h =
+    elim (names_first path (λ bytes. plan_by (others bytes)) content call h) [
+      | inl e ↦ inl e
+      | inr more ↦ inr (more.0, calls-stages (others more.0) content call more.2)
+    ]
+
+calls-some : (stages : Stages) (content : Content) (o : Option Failure) → IsSomeAnd o (Names (plan_by stages content).actions) →
+    IsSomeAnd o (IsCallOf stages)
+calls-some stages content (Some call) h = calls-stages stages content call h
+calls-some stages content None h = h
+
+-- a plan with this status was carried out to its end, where no count rose
+done-so : (plan : Content → Plan) (old new : Outside) (status final : ℕ) → Ends plan old new status → IsTrue new.files.told →
+    (plan old.files.content).status ≡ final → (Rose old.files.faults new.files.faults → ⊥) → (Rose old.out.faults new.out.faults → ⊥) →
+    (Rose old.wire.faults new.wire.faults → ⊥) → (status ≡ final) ⊎ (status ≡ 70)
+done-so plan old new status final ends told same no_file no_output no_link =
+    elim (cases_Bool (is_stop status)) [
+      | inr go ↦ inl ((ends.carried told go).is ∙ same)
+      | inl stop ↦ elim (stop-cases status stop) [
+        | inl file ↦ absurd (no_file (ends.file_rose file))
+        | inr more ↦ elim more [
+          | inl wire ↦ absurd (no_link (ends.link_rose wire))
+          | inr others ↦ elim others [ inl output ↦ absurd (no_output (ends.output_rose output)) | inr memory ↦ inr memory ]
+        ]
+      ]
+    ]
+
+pub goes_in_order : (stages : Stages) → OfEachEnd (plan_by stages) (GoesInOrder stages)
+goes_in_order stages old new status ends told =
+    let w : Went (plan_by stages old.files.content) old new status = record { carried = ends.carried told; part = ends.part told } in
+    record {
+      gone = gone-stages stages old new status told w;
+      stopped = λ end c.
+          subst (λ final. UnlessStopped final status) (status-comes stages old.files.content end c)
+          (unless_stopped (plan_by stages old.files.content) old new status w);
+      without_faults = λ end c.
+          done-so (plan_by stages) old new status end.status ends told (status-comes stages old.files.content end c);
+      reliable = λ end c reliable.
+          subst (λ final. (status ≡ final) ⊎ (status ≡ 70)) (status-comes stages old.files.content end c) (ends.complete reliable told);
+      named = λ e. calls-some stages old.files.content new.files.failed (ends.file_named e told);
+    }
+
+-- ---- what a command shows of its own stages
+
+-- what was read was accepted or refused
+pub comes-accepts : {A E : Type 0} (r : Result A E) (others : A → Stages) (refused : E → Stages) (content : Content) (end : Plan) →
+    ComesTo (accepts r others refused) content end →
+    ((meant : A) × (r ≡ Ok meant) × ComesTo (others meant) content end) ⊎ ((fault : E) × (r ≡ Err fault) × ComesTo (refused fault) content end)
+comes-accepts (Ok meant) others refused content end c = inl (meant, refl, c)
+comes-accepts (Err fault) others refused content end c = inr (fault, refl, c)
+
+pub each-accepts : {A E : Type 0} (P : List ℕ → Type 0) (Q : Plan → Type 0) (r : Result A E) (others : A → Stages) (refused : E → Stages) →
+    ((meant : A) → EachStage P Q (others meant)) → ((fault : E) → EachStage P Q (refused fault)) → EachStage P Q (accepts r others refused)
+each-accepts P Q (Ok meant) others refused h k = h meant
+each-accepts P Q (Err fault) others refused h k = k fault
+
+-- each call is a read of a file with the property, or one of an end with it
+pub each-call : (P : List ℕ → Type 0) (Q : Plan → Type 0) (stages : Stages) (call : Failure) → EachStage P Q stages → IsCallOf stages call →
+    ((path : List ℕ) × P path × (call ≡ record { kind = Read; path = path })) ⊎ ((end : Plan) × Q end × Names end.actions call)
+each-call P Q (does end) call h k = inr (end, h, k)
+each-call P Q (reads path others) call h (inl e) = inl (path, h.0, e)
+each-call P Q (reads path others) call h (inr more) = each-call P Q (others more.0) call (h.1 more.0) more.1
+
+-- a stage was accepted, and the others come to the end; or it was refused, and this is the end
+pub comes-stage : {A E : Type 0} (path : List ℕ) (meaning : List ℕ → Result A E) (status : ℕ) (line : E → List ℕ) (others : A → Stages)
+    (content : Content) (end : Plan) → ComesTo (stage path meaning status line others) content end →
+    ((meant : A) × IsAccepted path meaning content meant × ComesTo (others meant) content end)
+    ⊎ ((fault : E) × IsRefused path meaning content fault × ComesTo (refuses status (line fault)) content end)
+comes-stage path meaning status line others content end c =
+    elim (comes-accepts (meaning c.0) others (λ fault. refuses status (line fault)) content end c.2) [
+      | inl more ↦ inl (more.0, record { bytes = c.0; read = c.1; is = more.1 }, more.2)
+      | inr bad ↦ inr (bad.0, record { bytes = c.0; read = c.1; is = bad.1 }, bad.2)
+    ]
+
+pub stage-comes : {A E : Type 0} (path : List ℕ) (meaning : List ℕ → Result A E) (status : ℕ) (line : E → List ℕ) (others : A → Stages)
+    (content : Content) (meant : A) (end : Plan) → IsAccepted path meaning content meant → ComesTo (others meant) content end →
+    ComesTo (stage path meaning status line others) content end
+stage-comes path meaning status line others content meant end h c =
+    (h.bytes, h.read, subst (λ r. ComesTo (accepts r others (λ fault. refuses status (line fault))) content end) (sym h.is) c)
+
+pub stage-refused : {A E : Type 0} (path : List ℕ) (meaning : List ℕ → Result A E) (status : ℕ) (line : E → List ℕ) (others : A → Stages)
+    (content : Content) (fault : E) → IsRefused path meaning content fault →
+    ComesTo (stage path meaning status line others) content (record { actions = []; status = status; line = line fault })
+stage-refused path meaning status line others content fault h = (
+  h.bytes,
+  h.read,
+  subst (λ r. ComesTo (accepts r others (λ fault. refuses status (line fault))) content
+      (record { actions = []; status = status; line = line fault })) (sym h.is) refl,
+)
+
+pub each-stage : {A E : Type 0} (P : List ℕ → Type 0) (Q : Plan → Type 0) (path : List ℕ) (meaning : List ℕ → Result A E) (status : ℕ)
+    (line : E → List ℕ) (others : A → Stages) → P path →
+    ((fault : E) → Q (record { actions = []; status = status; line = line fault })) → ((meant : A) → EachStage P Q (others meant)) →
+    EachStage P Q (stage path meaning status line others)
+each-stage P Q path meaning status line others h k more =
+    (h, λ bytes. each-accepts P Q (meaning bytes) others (λ fault. refuses status (line fault)) more k)
+
+-- ---- at a status that is no stop, and at the stops
+
+-- the end to which the stages come was carried out
+pub end-carried : (stages : Stages) (old new : Outside) (status : ℕ) → is_stop status ≡ false → Gone stages old new status →
+    (end : Plan) × ComesTo stages old.files.content end × Carried end old new status
+end-carried stages old new status go (inl same) = absurd (true≢false (sym same.1 ∙ go))
+end-carried stages old new status go (inr end) = (end.0, end.1, end.2.carried go)

@@ -119,7 +119,7 @@ no-link plan status old new h r e = no-call r.begun.rest (unlinked-rest r.begun.
 
 -- ---- a stop has a cause
 
-stop-cases : (status : ℕ) → is_stop status ≡ true → (status ≡ 3) ⊎ ((status ≡ 6) ⊎ ((status ≡ 7) ⊎ (status ≡ 70)))
+pub stop-cases : (status : ℕ) → is_stop status ≡ true → (status ≡ 3) ⊎ ((status ≡ 6) ⊎ ((status ≡ 7) ⊎ (status ≡ 70)))
 stop-cases status h = by_tests (status == 3) (status == 6) (status == 7) (status == 70) refl refl refl refl h
   where
     by_tests : (a b c d : Bool) → (status == 3) ≡ a → (status == 6) ≡ b → (status == 7) ≡ c → (status == 70) ≡ d →

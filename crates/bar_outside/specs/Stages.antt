@@ -1,12 +1,63 @@
--- How far a command came, told by the parts of its plan.
-use Rattle.std.specs.Prelude.{◌≡◌, ◌≢◌, ◌⊎◌, ℕ, List, [], ◌∷◌, ◌++◌, Some, IsTrue, take, true, false}
+-- What a command does, stage by stage, and how far it came.
+use Rattle.std.specs.Prelude.{◌≡◌, ◌≢◌, ◌⊎◌, ℕ, List, [], ◌∷◌, ◌++◌, Some, Result, Ok, Err, IsSomeAnd, IsTrue, take, true, false}
+use Rattle.bar_outside.specs.Causes.{Rose}
 use Rattle.bar_outside.specs.Disk.{Content, Failure, readable}
 use Rattle.bar_outside.specs.declared.files.CallKind.TheVariants.{Read}
-use Rattle.bar_outside.specs.Plan.{Outside, Plan, Reached, Names, reading, ending, doing, is_stop}
+use Rattle.bar_outside.specs.Plan.{Action, Outside, Plan, Reached, Names, read_then, reading, ending, doing, is_stop, line_at}
 use Rattle.bar_outside.specs.Plan.Action.{show}
+use Rattle.bar_outside.specs.Follows.{IsReliable}
 use Rattle.bar_outside.specs.Ends.{Carried, UnlessStopped, SameFiles, SameTraffic, NothingPrinted}
 
--- the plan was carried out to its end, or a front of it was done, up to a stop
+-- The stages of a command: a file is read, and the stages after it go by its bytes; or nothing more is read, these actions are done, and the
+-- command ends with a status and a line.
+pub data Stages : Type 0 where
+  reads : (path : List ℕ) → (others : List ℕ → Stages) → Stages
+  does : (end : Plan) → Stages
+
+-- what was read is accepted, and the stages go on by what it means; or it is refused for a fault
+abbrev pub accepts : {A E : Type 0} → Result A E → (A → Stages) → (E → Stages) → Stages
+accepts (Ok meant) others refused = others meant
+accepts (Err fault) others refused = refused fault
+
+-- these actions are done, and then the command ends with this status and line
+abbrev pub finishes : List Action → ℕ → List ℕ → Stages
+finishes actions status line = does (record { actions = actions; status = status; line = line })
+
+-- the command ends with this status and line, and does nothing
+abbrev pub refuses : ℕ → List ℕ → Stages
+refuses status line = finishes [] status line
+
+-- a file is read, and the stages go on by what its bytes mean; or these are refused with this status and a line for the fault
+abbrev pub stage : {A E : Type 0} → List ℕ → (List ℕ → Result A E) → ℕ → (E → List ℕ) → (A → Stages) → Stages
+stage path meaning status line others = reads path (λ bytes. accepts (meaning bytes) others (λ fault. refuses status (line fault)))
+
+-- the plan of a command with these stages
+abbrev pub plan_by : Stages → Content → Plan
+plan_by (reads path others) content = read_then path (λ bytes. plan_by (others bytes)) content (readable content path)
+plan_by (does end) content = end
+
+-- over these files the stages come to this end: each file that they read is there
+abbrev pub ComesTo : Stages → Content → Plan → Type 0
+ComesTo (reads path others) content end = (bytes : List ℕ) × (readable content path ≡ Some bytes) × ComesTo (others bytes) content end
+ComesTo (does last) content end = last ≡ end
+
+-- the file is there, and its bytes mean this
+pub record IsAccepted {A E : Type 0} (path : List ℕ) (meaning : List ℕ → Result A E) (content : Content) (meant : A) : Type 0 where
+  pub bytes : List ℕ
+  pub read : readable content path ≡ Some bytes
+  pub is : meaning bytes ≡ Ok meant
+
+-- the file is there, and its bytes are refused for this fault
+pub record IsRefused {A E : Type 0} (path : List ℕ) (meaning : List ℕ → Result A E) (content : Content) (fault : E) : Type 0 where
+  pub bytes : List ℕ
+  pub read : readable content path ≡ Some bytes
+  pub is : meaning bytes ≡ Err fault
+
+-- each file that may be read has this property of its name, and each end to which the stages may come has that one
+abbrev pub EachStage : (List ℕ → Type 0) → (Plan → Type 0) → Stages → Type 0
+EachStage P Q (reads path others) = P path × ((bytes : List ℕ) → EachStage P Q (others bytes))
+EachStage P Q (does end) = Q end
+
 pub record Went (plan : Plan) (old new : Outside) (status : ℕ) : Type 0 where
   pub carried : is_stop status ≡ false → Carried plan old new status
   pub part : Reached plan.actions status old new
@@ -59,3 +110,37 @@ NamesFirst =
     Names (reading path others content).actions call →
     (call ≡ record { kind = Read; path = path })
     ⊎ ((bytes : List ℕ) × (readable content path ≡ Some bytes) × Names (others bytes content).actions call)
+
+-- Nothing was changed, for a stop; or all files were read, and the end to which the stages come was carried out, or begun up to a stop.
+abbrev pub Gone : Stages → Outside → Outside → ℕ → Type 0
+Gone stages old new status =
+    (IsUnchanged status old new × (is_stop status ≡ true))
+    ⊎ ((end : Plan) × ComesTo stages old.files.content end × Went end old new status)
+
+-- a call that a command with these stages makes: a read of one of its files, or one of an end
+abbrev pub IsCallOf : Stages → Failure → Type 0
+IsCallOf (reads path others) call = (call ≡ record { kind = Read; path = path }) ⊎ ((bytes : List ℕ) × IsCallOf (others bytes) call)
+IsCallOf (does end) call = Names end.actions call
+
+-- the command ends with the status of this end, but for want of memory
+abbrev pub EndsBy : Plan → ℕ → Type 0
+EndsBy end status = (status ≡ end.status) ⊎ (status ≡ 70)
+
+-- What holds of a command with these stages that ended with this status.
+pub record GoesInOrder (stages : Stages) (old new : Outside) (status : ℕ) : Type 0 where
+  -- how far it came, at whatever status; so a status that is no stop is that of the end to which the stages come
+  pub gone : Gone stages old new status
+  -- the status of that end comes, unless a fault or want of memory stops it
+  pub stopped : (end : Plan) → ComesTo stages old.files.content end → UnlessStopped end.status status
+  -- it comes but for want of memory where no count rose, and where nothing fails by itself
+  pub without_faults : (end : Plan) → ComesTo stages old.files.content end → (Rose old.files.faults new.files.faults → ⊥) →
+      (Rose old.out.faults new.out.faults → ⊥) → (Rose old.wire.faults new.wire.faults → ⊥) → EndsBy end status
+  pub reliable : (end : Plan) → ComesTo stages old.files.content end → IsReliable old → EndsBy end status
+  -- at 3 the last call that failed is one of the stages
+  pub named : status ≡ 3 → IsSomeAnd new.files.failed (IsCallOf stages)
+
+-- the line of an end to which the stages come is that of its status
+abbrev pub SaysItsLine : Type 0
+SaysItsLine =
+    (stages : Stages) (content : Content) (end : Plan) → ComesTo stages content end → is_stop end.status ≡ false →
+    line_at (plan_by stages content) end.status ≡ end.line

@@ -4,7 +4,7 @@ ghost use Rattle.bar_outside.specs.Causes.{Rose};
 ghost use Rattle.bar_outside.specs.Disk.{Content};
 ghost use Rattle.bar_outside.specs.Plan.{Plan, Touches, is_stop};
 ghost use Rattle.bar_outside.specs.Ends.{Carried, OfEachEnd};
-ghost use Rattle.bar_outside.specs.Stages.{EndsThere, NamesFirst, ReadsFirst, ShowsThere, Went};
+ghost use Rattle.bar_outside.specs.Stages.{EndsThere, GoesInOrder, NamesFirst, ReadsFirst, SaysItsLine, ShowsThere, Stages, Went, plan_by};
 
 /// Whatever the status, a file that no action of the plan creates or adds to is as it was.
 pub fn others_stay()
@@ -34,4 +34,13 @@ pub fn plans_go_in_order()
     ensures shows { ShowsThere }
     // which calls it makes
     ensures names { NamesFirst }
+{}
+
+/// What any stages of a command tell of how it ends: from these the meaning of each status follows.
+pub fn stages_go_in_order()
+    ensures goes { (stages : Stages) → OfEachEnd (plan_by stages) (GoesInOrder stages) }
+    ensures line { SaysItsLine }
+    // what was done at an end that does nothing, and at one that prints a line
+    ensures ends { EndsThere }
+    ensures shows { ShowsThere }
 {}

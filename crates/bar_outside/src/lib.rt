@@ -26,7 +26,9 @@ pub use actions::{
 };
 pub use fault::Fault;
 pub use files::{CallKind, FileFault, Files, LARGEST_FILE};
-pub use laws::{carried_or_stopped, done_without_faults, others_stay, plans_go_in_order};
+pub use laws::{
+    carried_or_stopped, done_without_faults, others_stay, plans_go_in_order, stages_go_in_order,
+};
 pub use link::{LARGEST_PACKET, Link, LinkFault, Taken};
 pub use mem_call::MemCall;
 pub use mem_files::MemFiles;

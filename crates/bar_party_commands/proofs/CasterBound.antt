@@ -1,5 +1,5 @@
 -- What stands behind the binding of a broadcaster's link, and before it.
-use Rattle.std.proofs.Common.{◌≡◌, ◌⊎◌, ◌==◌, ℕ, List, [], true, Some, ◌∙◌, inl, inr, IsTrue, refl, sym, subst, arith, true≢false}
+use Rattle.std.proofs.Common.{◌≡◌, ◌⊎◌, ◌==◌, ℕ, List, [], true, Some, ◌∙◌, inl, inr, IsTrue, refl, subst}
 use Rattle.std.proofs.lemmas.Bool.{cases_Bool, eqb-true}
 use Rattle.bar_outside.specs.Disk.{Content, created}
 use Rattle.bar_outside.specs.Wire.{Arrival}
@@ -13,7 +13,7 @@ use Rattle.bar_party_commands.specs.CasterStands.{IsBound, IsBoundOrUnused, IsCa
 use Rattle.bar_party_commands.specs.Running.{place_of, spending, spent_text}
 use Rattle.bar_party_commands.proofs.Endings.{as-untouched, not-zero}
 use Rattle.bar_session_files.proofs.Accepted.{AreHeld, fits-here}
-use Rattle.bar_party_commands.proofs.CasterRows.{IsRunFile, Outcome, caster-kinds, caster_last}
+use Rattle.bar_party_commands.proofs.CasterRows.{IsRunFile, Outcome, accepted-zero, caster-kinds, caster_last}
 use Rattle.bar_party_commands.proofs.RunSplits.{IsBehind, all-behind, begun-first, bound-behind, kept-behind, split-binding}
 
 pub is-of : AreHeld → (names : CasterNames) (content : Content) (s : SessionData) (k : Secrets) (stream : List ℕ) →
@@ -68,33 +68,27 @@ module _ (held : AreHeld) (names : CasterNames) (given : List Arrival) (old new 
 
   -- at 0 it is bound and the key is spent
   bound-at_zero : Outcome names given old new 0 → IsSpent
-  bound-at_zero (inl stayed) = absurd (elim stayed.1 [
-    | inl stop ↦ true≢false (sym stop)
-    | inr why ↦ elim why [
-      | inl k ↦ let e = k.0 in omega arith
-      | inr two ↦ elim two [ inl k ↦ let e = k.0 in omega arith | inr k ↦ let e = k.0 in omega arith ]
-    ]
-  ])
-  bound-at_zero (inr b) =
-      let s : SessionData = b.session in
-      let k : Secrets = b.secrets in
-      let stream : List ℕ = b.stream in (
+  bound-at_zero o =
+      let b = accepted-zero names given old new o in
+      let s : SessionData = b.0.session in
+      let k : Secrets = b.0.secrets in
+      let stream : List ℕ = b.0.stream in (
         s,
         k,
         stream,
-        is-of held names old.files.content s k stream b.accepted,
-        is-bound names s k stream given (b.went.carried refl).ran told (all-caster names s k stream given),
+        is-of held names old.files.content s k stream b.0.accepted,
+        is-bound names s k stream given (b.1.carried refl).ran told (all-caster names s k stream given),
       )
 
   bound-at_other : (status : ℕ) → (status ≡ 0 → ⊥) → Outcome names given old new status → IsBoundOrUnused names old new status
   bound-at_other status other (inl r) = inl (inl (as-untouched status old new r.0), other)
   bound-at_other status other (inr b) =
-      let s : SessionData = b.session in
-      let k : Secrets = b.secrets in
-      let stream : List ℕ = b.stream in
+      let s : SessionData = b.0.session in
+      let k : Secrets = b.0.secrets in
+      let stream : List ℕ = b.0.stream in
       let kinds = caster-kinds names s k stream given in
-      let d = b.went.part in
-      let of = is-of held names old.files.content s k stream b.accepted in
+      let d = b.1.part in
+      let of = is-of held names old.files.content s k stream b.0.accepted in
       elim (split-caster names s k stream given d.begun) [
         | inl front ↦ inl (
           inr (record { session = s; secrets = k; stream = stream; is_of = of; begun = begun-first kinds d.ran front }),

@@ -1,52 +1,33 @@
 -- How far a broadcaster came, from how it ended.
-use Rattle.std.proofs.Common.{◌≡◌, ◌⊎◌, ◌<◌, ℕ, Bool, List, ◌∷◌, true, false, nat_le, length, cond, None, Some, Result, Ok, Err, refl, sym, ap, ◌∙◌, subst, inl, inr, IsTrue, arith, true≢false}
+use Rattle.std.proofs.Common.{◌≡◌, ◌⊎◌, ◌<◌, ◌==◌, ℕ, Bool, List, true, false, nat_le, length, cond, None, Some, Result, Ok, Err, refl, sym, ap, ◌∙◌, inl, inr, IsTrue}
 use Rattle.std.proofs.lemmas.Bool.{leb-false}
-use Rattle.bar_outside.specs.Disk.{Content, readable}
+use Rattle.bar_outside.specs.Disk.{Content}
+use Rattle.bar_outside.specs.Ends.{UnlessStopped}
 use Rattle.bar_outside.specs.Wire.{Arrival}
-use Rattle.bar_outside.specs.Plan.{Action, Outside, Plan, Touches, accepting, before, ending, is_stop, read_then}
-use Rattle.bar_outside.specs.Plan.Action.{read}
-use Rattle.bar_outside.specs.Stages.{EndsThere, IsUnchanged, ReadsFirst, Went}
+use Rattle.bar_outside.specs.Plan.{Action, Outside, Plan, Touches, is_stop}
+use Rattle.bar_outside.specs.Stages.{ComesTo, GoesInOrder, IsAccepted, Went}
+use Rattle.bar_outside.specs.Stages.Stages.{does}
+use Rattle.bar_outside.proofs.Stages.{stage-comes, stage-refused, status-comes}
+use Rattle.bar_outside.proofs.StageRows.{Outcome as Came, Sorts, accepted-at, cause_at, outcome as sorted, refusal, refused-at, sorts-last, sorts-stage}
 use Rattle.bar_outside.proofs.Untouched.{untouched-reached}
 use Rattle.bar_seeds.specs.declared.secrets.Secrets.{Secrets}
-use Rattle.bar_roster.specs.declared.fault.SessionFault.{SessionFault}
-use Rattle.bar_roster.specs.declared.key_fault.KeyFileFault.{KeyFileFault}
 use Rattle.bar_session.specs.SessionData.{SessionData}
 use Rattle.bar_findings.specs.Findings.{IsFindingName}
 use Rattle.bar_node.specs.Runs.{AsksToTheEnd, is_ended}
 use Rattle.bar_session_files.specs.Accepting.{HasSession, fresh_key_of, session_of}
-use Rattle.bar_party_commands.specs.Streams.{room_of, stream_in, stream_refused}
-use Rattle.bar_party_commands.specs.CasterPlan.{CasterAccepted, CasterNames, caster_actions, caster_key_plan, caster_plan, caster_run, caster_run_plan, caster_stream_plan, rules_by}
+use Rattle.bar_party_commands.specs.Streams.{no_room, room_of, stream_in}
+use Rattle.bar_party_commands.specs.CasterPlan.{CasterAccepted, CasterNames, caster_actions, caster_end, caster_key_stages, caster_plan, caster_run, caster_stages, caster_stream_stages, rules_by}
 use Rattle.bar_party_commands.specs.CasterStands.{IsCasterFile, KeyRefused, SessionRefused, StreamRefused}
 use Rattle.bar_session_files.specs.Refusals.{key_refused, session_refused}
 use Rattle.bar_party_commands.specs.Running.{AsksNoFurther, HasReached, place_of, spending, status_of}
 use Rattle.bar_party_commands.specs.Stands.{IsUntouched}
 use Rattle.bar_party_commands.specs.Summaries.{at_end, caster_summary}
 use Rattle.bar_party_commands.proofs.Endings.{as-untouched, no-refusal, not-ended}
-use Rattle.bar_party_commands.proofs.Reaching.{behind-read}
+use Rattle.bar_party_commands.proofs.Reaching.{reached-end}
+use Rattle.bar_party_commands.proofs.Streams.{stream-is_long}
 use Rattle.bar_party_commands.proofs.Printed.{caster-prints, end-prints}
 use Rattle.bar_node.proofs.RunActions.{of-run}
 use Rattle.bar_party_commands.proofs.RunSplits.{AreOfKinds, touched-binding}
-
--- what comes behind each read, by what the bytes stand for
-
-abbrev by-stream : CasterNames → SessionData → List Arrival → Secrets → Result (List ℕ) ℕ → Content → Plan
-by-stream names s given k stream =
-    accepting stream (caster_run_plan names s k given) (λ have. ending 8 (stream_refused have (room_of s)))
-
-abbrev by-secrets : CasterNames → List Arrival → SessionData → Result Secrets KeyFileFault → Content → Plan
-by-secrets names given s secrets = accepting secrets (caster_stream_plan names s given) (λ fault. ending 5 (key_refused fault))
-
-abbrev by-session : CasterNames → List Arrival → Result SessionData SessionFault → Content → Plan
-by-session names given session = accepting session (caster_key_plan names given) (λ fault. ending 4 (session_refused fault))
-
-abbrev with-stream : CasterNames → SessionData → List Arrival → Secrets → List ℕ → Content → Plan
-with-stream names s given k bytes = by-stream names s given k (stream_in s bytes)
-
-abbrev with-key : CasterNames → List Arrival → SessionData → List ℕ → Content → Plan
-with-key names given s bytes = by-secrets names given s (fresh_key_of true s bytes)
-
-abbrev with-session : CasterNames → List Arrival → List ℕ → Content → Plan
-with-session names given text = by-session names given (session_of text)
 
 -- ---- a stream fits, or is longer than the room
 
@@ -60,111 +41,158 @@ by-room s bytes = by_test (nat_le (length bytes) (room_of s)) refl
     by_test false e =
         inr (ap (λ b. cond {A = Result (List ℕ) ℕ} b (Ok bytes) (Err (length bytes))) e, leb-false (length bytes) (room_of s) e)
 
+-- what is accepted is the stream itself
+itself : (s : SessionData) (bytes stream : List ℕ) → stream_in s bytes ≡ Ok stream → bytes ≡ stream
+itself s bytes stream e = elim (by-room s bytes) [
+  | inl fits ↦ let same : ◌≡◌ {A = Result (List ℕ) ℕ} (Ok bytes) (Ok stream) = sym fits ∙ e in cc
+  | inr long ↦ let same : ◌≡◌ {A = Result (List ℕ) ℕ} (Err (length bytes)) (Ok stream) = sym long.0 ∙ e in absurd cc
+]
+
+-- and what is refused is longer
+longer : (s : SessionData) (bytes : List ℕ) (have : ℕ) → stream_in s bytes ≡ Err have → room_of s < length bytes
+longer s bytes have e = elim (by-room s bytes) [
+  | inl fits ↦ let same : ◌≡◌ {A = Result (List ℕ) ℕ} (Ok bytes) (Err have) = sym fits ∙ e in absurd cc
+  | inr long ↦ long.1
+]
+
 -- ---- how far it came
 
--- the file that was refused
-abbrev pub IsRefused : CasterNames → Content → ℕ → Type 0
-IsRefused names content status =
-    ((status ≡ 4) × SessionRefused names content)
-    ⊎ (((status ≡ 5) × KeyRefused names content) ⊎ ((status ≡ 8) × StreamRefused names content))
-
--- all three files were accepted, and what follows went so
-pub record HasBegun (names : CasterNames) (given : List Arrival) (old new : Outside) (status : ℕ) : Type 0 where
+-- all three files are accepted
+pub record AreAccepted (names : CasterNames) (content : Content) : Type 0 where
   pub session : SessionData
   pub secrets : Secrets
   pub stream : List ℕ
-  pub accepted : CasterAccepted names old.files.content session secrets stream
-  pub went : Went (caster_run_plan names session secrets given stream old.files.content) old new status
+  pub accepted : CasterAccepted names content session secrets stream
 
--- nothing was changed, for a stop or a refusal; or all three files were accepted
+module _ (names : CasterNames) (given : List Arrival) (content : Content) where
+  -- the end of a run
+  abbrev pub last : AreAccepted names content → Plan
+  last a = caster_end names given a.session a.secrets a.stream
+
+  -- what was refused, by the status
+  abbrev pub Causes : ℕ → Type 0
+  Causes status =
+      cause_at (status == 4) (SessionRefused names content)
+      (cause_at (status == 5) (KeyRefused names content) (cause_at (status == 8) (StreamRefused names content) ⊥))
+
+  all-accepted : (s : SessionData) (k : Secrets) (stream : List ℕ) → HasSession names.session content s →
+      IsAccepted names.key (fresh_key_of true s) content k → IsAccepted names.stream (stream_in s) content stream →
+      CasterAccepted names content s k stream
+  all-accepted s k stream has key there =
+      let same = itself s there.bytes stream there.is in
+      record {
+        in_session = has;
+        bytes = key.bytes;
+        read = key.read;
+        is = key.is;
+        stream_read = there.read ∙ ap Some same;
+        fits = ap (stream_in s) (sym same) ∙ there.is;
+      }
+
+  sorts : Sorts Causes last content (caster_stages names given)
+  sorts =
+      sorts-stage Causes last content names.session session_of 4 session_refused (caster_key_stages names given)
+      (λ fault bad. (fault, bad))
+      (λ s has. sorts-stage Causes last content names.key (fresh_key_of true s) 5 key_refused (caster_stream_stages names given s)
+      (λ fault bad. (s, fault, has, bad))
+      (λ k key. sorts-stage Causes last content names.stream (stream_in s) 8 (no_room s)
+      (λ stream. does (caster_end names given s k stream))
+      (λ have bad. (s, k, bad.bytes, has, key, bad.read, longer s bad.bytes have bad.is))
+      (λ stream there. sorts-last Causes last content (record {
+        session = s;
+        secrets = k;
+        stream = stream;
+        accepted = all-accepted s k stream has key there;
+      }))))
+
+-- nothing was changed, for a stop or a refusal; or all three files were accepted, and the run went so
 abbrev pub Outcome : CasterNames → List Arrival → Outside → Outside → ℕ → Type 0
-Outcome names given old new status =
-    (IsUnchanged status old new × ((is_stop status ≡ true) ⊎ IsRefused names old.files.content status))
-    ⊎ HasBegun names given old new status
+Outcome names given old new status = Came (Causes names given old.files.content) (last names given old.files.content) old new status
 
-module _ (reads : ReadsFirst) (ends : EndsThere) (names : CasterNames) (given : List Arrival) (old new : Outside) (status : ℕ)
-    (told : IsTrue new.files.told) where
-  refused : (final : ℕ) (line : List ℕ) → Went (ending final line old.files.content) old new status →
-      (status ≡ final → IsRefused names old.files.content status) → Outcome names given old new status
-  refused final line w why =
-      let e = ends final line old new status told w in inl (e.0, elim e.1 [ inl same ↦ inr (why same) | inr stop ↦ inl stop ])
+-- what is accepted comes to the end of what is behind it
+module _ (names : CasterNames) (given : List Arrival) (content : Content) (end : Plan) where
+  behind-session : (s : SessionData) → HasSession names.session content s → ComesTo (caster_key_stages names given s) content end →
+      ComesTo (caster_stages names given) content end
+  behind-session s = stage-comes names.session session_of 4 session_refused (caster_key_stages names given) content s end
 
-  outcome-stream : (s : SessionData) (bytes : List ℕ) (k : Secrets) (stream : List ℕ) → HasSession names.session old.files.content s →
-      readable old.files.content names.key ≡ Some bytes → fresh_key_of true s bytes ≡ Ok k →
-      readable old.files.content names.stream ≡ Some stream → Went (with-stream names s given k stream old.files.content) old new status →
-      Outcome names given old new status
-  outcome-stream s bytes k stream h r e there w =
-      elim (by-room s stream) [
-        | inl fits ↦
-            inr (record {
-              session = s;
-              secrets = k;
-              stream = stream;
-              accepted = record { in_session = h; bytes = bytes; read = r; is = e; stream_read = there; fits = fits };
-              went = subst (λ x. Went (by-stream names s given k x old.files.content) old new status) fits w;
-            })
-        | inr long ↦
-            refused 8 (stream_refused (length stream) (room_of s))
-            (subst (λ x. Went (by-stream names s given k x old.files.content) old new status) long.0 w)
-            (λ is. inr (inr (is, (s, bytes, k, stream, h, r, e, there, long.1))))
-      ]
+  behind-key : (s : SessionData) (k : Secrets) → IsAccepted names.key (fresh_key_of true s) content k →
+      ComesTo (caster_stream_stages names given s k) content end → ComesTo (caster_key_stages names given s) content end
+  behind-key s k = stage-comes names.key (fresh_key_of true s) 5 key_refused (caster_stream_stages names given s) content k end
 
-  outcome-secrets : (s : SessionData) (bytes : List ℕ) (r : Result Secrets KeyFileFault) → HasSession names.session old.files.content s →
-      readable old.files.content names.key ≡ Some bytes → fresh_key_of true s bytes ≡ r →
-      Went (by-secrets names given s r old.files.content) old new status → Outcome names given old new status
-  outcome-secrets s bytes (Err fault) h r e w = refused 5 (key_refused fault) w (λ is. inr (inl (is, (s, bytes, fault, h, r, e))))
-  outcome-secrets s bytes (Ok k) h r e w =
-      elim (reads names.stream (with-stream names s given k) old new status told w) [
-        | inl same ↦ inl (same.0, inl same.1)
-        | inr on ↦ outcome-stream s bytes k on.bytes h r e on.read on.rest
-      ]
+module _ (names : CasterNames) (given : List Arrival) (old new : Outside) (status : ℕ) where
+  abbrev content : Content
+  content = old.files.content
 
-  outcome-session : (text : List ℕ) (r : Result SessionData SessionFault) → readable old.files.content names.session ≡ Some text →
-      session_of text ≡ r → Went (by-session names given r old.files.content) old new status → Outcome names given old new status
-  outcome-session text (Err fault) r e w = refused 4 (session_refused fault) w (λ is. inl (is, (text, fault, r, e)))
-  outcome-session text (Ok s) r e w =
-      elim (reads names.key (with-key names given s) old new status told w) [
-        | inl same ↦ inl (same.0, inl same.1)
-        | inr on ↦
-            outcome-secrets s on.bytes (fresh_key_of true s on.bytes) (record { text = text; read = r; is = e }) on.read refl on.rest
-      ]
+  pub outcome : IsTrue new.files.told → GoesInOrder (caster_stages names given) old new status → Outcome names given old new status
+  outcome told order =
+      sorted (Causes names given content) (last names given content) old new status (caster_stages names given) told
+      (sorts names given content) order.gone
 
-  pub outcome : Went (caster_plan names given old.files.content) old new status → Outcome names given old new status
-  outcome w =
-      elim (reads names.session (with-session names given) old new status told w) [
-        | inl same ↦ inl (same.0, inl same.1)
-        | inr on ↦ outcome-session on.bytes (session_of on.bytes) on.read refl on.rest
-      ]
+  -- at the status of a refusal nothing was changed
+  pub refused : is_stop status ≡ false → (status ≡ 0 → ⊥) → (status ≡ 6 → ⊥) → Outcome names given old new status →
+      Causes names given content status × IsUntouched old new
+  refused go other behind o =
+      let r = refused-at (Causes names given content) (last names given content) old new status go
+      (λ a. no-refusal (is_ended (rules_by a.session a.secrets a.stream) given) status other behind) o in
+      (r.1, as-untouched status old new r.0)
 
--- where all three files are accepted, they are read, and the plan goes on with the run
-accepted-plan : (names : CasterNames) (given : List Arrival) (content : Content) (s : SessionData) (k : Secrets) (stream : List ℕ) →
-    CasterAccepted names content s k stream →
-    caster_plan names given content
-    ≡ before (read names.session) (before (read names.key) (before (read names.stream) (caster_run_plan names s k given stream content)))
-accepted-plan names given content s k stream a =
-    let behind = λ (p : Plan). before (read names.session) (before (read names.key) p) in
-    ap (read_then names.session (with-session names given) content) a.in_session.read
-    ∙ ap (λ r. before (read names.session) (by-session names given r content)) a.in_session.is
-    ∙ ap (λ o. before (read names.session) (read_then names.key (with-key names given s) content o)) a.read
-    ∙ ap (λ r. behind (by-secrets names given s r content)) a.is
-    ∙ ap (λ o. behind (read_then names.stream (with-stream names s given k) content o)) a.stream_read
-    ∙ ap (λ r. behind (before (read names.stream) (by-stream names s given k r content))) a.fits
+  -- what is refused has its status, unless something stops the command
+  module _ (order : GoesInOrder (caster_stages names given) old new status) where
+    pub stopped-session : SessionRefused names content → UnlessStopped 4 status
+    stopped-session bad =
+        order.stopped (refusal 4 (session_refused bad.0))
+        (stage-refused names.session session_of 4 session_refused (caster_key_stages names given) content bad.0 bad.1)
 
--- its status is that of the run
-pub accepted-status : (names : CasterNames) (given : List Arrival) (content : Content) (s : SessionData) (k : Secrets) (stream : List ℕ) →
-    CasterAccepted names content s k stream → (caster_plan names given content).status ≡ status_of (rules_by s k stream) given
-accepted-status names given content s k stream a = ap (λ (p : Plan). p.status) (accepted-plan names given content s k stream a)
+    pub stopped-key : KeyRefused names content → UnlessStopped 5 status
+    stopped-key bad =
+        order.stopped (refusal 5 (key_refused bad.1))
+        (behind-session names given content (refusal 5 (key_refused bad.1)) bad.0 bad.2
+        (stage-refused names.key (fresh_key_of true bad.0) 5 key_refused (caster_stream_stages names given bad.0) content bad.1 bad.3))
+
+    pub stopped-stream : StreamRefused names content → UnlessStopped 8 status
+    stopped-stream bad =
+        let s : SessionData = bad.0 in
+        let k : Secrets = bad.1 in
+        let have : ℕ = length bad.2 in
+        let end : Plan = refusal 8 (no_room s have) in
+        order.stopped end
+        (behind-session names given content end s bad.3
+        (behind-key names given content end s k bad.4
+        (stage-refused names.stream (stream_in s) 8 (no_room s) (λ stream. does (caster_end names given s k stream)) content have
+        (record { bytes = bad.2; read = bad.5; is = stream-is_long s bad.2 bad.6 }))))
+
+-- at 0 all three files were accepted
+pub accepted-zero : (names : CasterNames) (given : List Arrival) (old new : Outside) → Outcome names given old new 0 →
+    (a : AreAccepted names old.files.content) × Went (last names given old.files.content a) old new 0
+accepted-zero names given old new =
+    accepted-at (Causes names given old.files.content) (last names given old.files.content) old new 0 refl (λ none. none)
+
+-- ---- where all three files are accepted
+
+module _ (names : CasterNames) (given : List Arrival) (content : Content) (s : SessionData) (k : Secrets) (stream : List ℕ)
+    (a : CasterAccepted names content s k stream) where
+  abbrev end : Plan
+  end = caster_end names given s k stream
+
+  -- the stages come to the end of the run
+  pub accepted-comes : ComesTo (caster_stages names given) content end
+  accepted-comes =
+      behind-session names given content end s a.in_session
+      (behind-key names given content end s k (record { bytes = a.bytes; read = a.read; is = a.is })
+      (stage-comes names.stream (stream_in s) 8 (no_room s) (λ stream. does (caster_end names given s k stream)) content stream end
+      (record { bytes = stream; read = a.stream_read; is = a.fits }) refl))
+
+  -- its status is that of the run
+  pub accepted-status : (caster_plan names given content).status ≡ status_of (rules_by s k stream) given
+  accepted-status = status-comes (caster_stages names given) content end accepted-comes
 
 -- and it came as far in the run
 pub accepted-reached : (names : CasterNames) (given : List Arrival) (s : SessionData) (k : Secrets) (stream : List ℕ) (old new : Outside) →
     CasterAccepted names old.files.content s k stream → HasReached (caster_plan names given old.files.content).actions given old new →
     HasReached (caster_actions names s k stream given) given old new
-accepted-reached names given s k stream old new a r =
-    let actions = caster_actions names s k stream given in
-    behind-read names.stream actions given old new
-    (behind-read names.key (read names.stream ∷ actions) given old new
-    (behind-read names.session (read names.key ∷ read names.stream ∷ actions) given old new
-    (subst (λ (p : Plan). HasReached p.actions given old new) (accepted-plan names given old.files.content s k stream a) r)))
+accepted-reached names given s k stream old new a =
+    reached-end (caster_stages names given) old.files.content (caster_end names given s k stream) given old new
+    (accepted-comes names given old.files.content s k stream a)
 
 -- the link was asked no further than up to the end of the run
 pub accepted-asked : (names : CasterNames) (given : List Arrival) (content : Content) (s : SessionData) (k : Secrets) (stream : List ℕ) →
@@ -172,32 +200,6 @@ pub accepted-asked : (names : CasterNames) (given : List Arrival) (content : Con
     AsksToTheEnd (rules_by s k stream) given
 accepted-asked names given content s k stream a asked front next rest e =
     not-ended (is_ended (rules_by s k stream) front) (sym (accepted-status names front content s k stream a) ∙ asked front next rest e)
-
--- ---- refusals
-
--- at the status of a refusal nothing was changed
-pub refused-so : (names : CasterNames) (given : List Arrival) (old new : Outside) (status : ℕ) → (status ≡ 0 → ⊥) →
-    is_stop status ≡ false → (status ≡ 6 → ⊥) → Outcome names given old new status →
-    IsUntouched old new × IsRefused names old.files.content status
-refused-so names given old new status other go behind (inl r) =
-    (as-untouched status old new r.0, elim r.1 [ inl stop ↦ absurd (true≢false (sym stop ∙ go)) | inr why ↦ why ])
-refused-so names given old new status other go behind (inr b) =
-    absurd (no-refusal (is_ended (rules_by b.session b.secrets b.stream) given) status other behind (b.went.carried go).is)
-
-pub refused-session : (names : CasterNames) (content : Content) → IsRefused names content 4 → SessionRefused names content
-refused-session names content (inl k) = k.1
-refused-session names content (inr (inl k)) = let e = k.0 in absurd (omega arith)
-refused-session names content (inr (inr k)) = let e = k.0 in absurd (omega arith)
-
-pub refused-key : (names : CasterNames) (content : Content) → IsRefused names content 5 → KeyRefused names content
-refused-key names content (inl k) = let e = k.0 in absurd (omega arith)
-refused-key names content (inr (inl k)) = k.1
-refused-key names content (inr (inr k)) = let e = k.0 in absurd (omega arith)
-
-pub refused-stream : (names : CasterNames) (content : Content) → IsRefused names content 8 → StreamRefused names content
-refused-stream names content (inl k) = let e = k.0 in absurd (omega arith)
-refused-stream names content (inr (inl k)) = let e = k.0 in absurd (omega arith)
-refused-stream names content (inr (inr k)) = k.1
 
 -- ---- the actions of a broadcaster, by kinds
 
@@ -231,5 +233,5 @@ pub others-untouched : (names : CasterNames) (given : List Arrival) (path : List
     IsTrue new.files.told → (IsCasterFile names path → ⊥) → Outcome names given old new status → new.files.content path ≡ old.files.content path
 others-untouched names given path old new status told none (inl r) = ap (λ (holds : Content). holds path) r.0.files
 others-untouched names given path old new status told none (inr b) =
-    untouched-reached (caster_actions names b.session b.secrets b.stream given) path old new status b.went.part told
-    (λ t. none (touched names b.session b.secrets b.stream given path t))
+    untouched-reached (caster_actions names b.0.session b.0.secrets b.0.stream given) path old new status b.1.part told
+    (λ t. none (touched names b.0.session b.0.secrets b.0.stream given path t))

@@ -1,5 +1,5 @@
 -- What a broadcaster has done that ended, or was stopped.
-use Rattle.std.proofs.Common.{◌≡◌, ◌≢◌, ℕ, List, ◌++◌, [], cond, Option, None, refl, ap, ◌∙◌, inl, inr, IsTrue, true≢false, sym, arith}
+use Rattle.std.proofs.Common.{◌≡◌, ◌≢◌, ℕ, List, ◌++◌, [], cond, Option, None, refl, ap, ◌∙◌, inl, inr, IsTrue, arith}
 use Rattle.bar_outside.specs.Wire.{Arrival}
 use Rattle.bar_outside.specs.Plan.{Action, Outside, Ran, Touches, shown}
 use Rattle.bar_outside.proofs.Untouched.{content-untouched}
@@ -19,7 +19,7 @@ use Rattle.bar_party_commands.specs.Running.{AsksNoFurther, HasHeard, HasReached
 use Rattle.bar_party_commands.specs.Summaries.{caster_summary}
 use Rattle.bar_session_files.proofs.Accepted.{AreHeld, AreInRange, few-peers}
 use Rattle.bar_party_commands.proofs.CasterBound.{IsCasterBehind, all-caster, is-bound, is-of, split-caster}
-use Rattle.bar_party_commands.proofs.CasterRows.{Outcome, accepted-asked, accepted-reached, caster-kinds}
+use Rattle.bar_party_commands.proofs.CasterRows.{Outcome, accepted-asked, accepted-reached, accepted-zero, caster-kinds}
 use Rattle.bar_party_commands.proofs.Endings.{as-untouched, ended-at}
 use Rattle.bar_party_commands.proofs.Printed.{front-at_end}
 use Rattle.bar_party_commands.proofs.RunLaws.{Finds, WholeSent, found-at, others-at}
@@ -80,12 +80,12 @@ module _ (held : AreHeld) (few : IsFew) (names : CasterNames) (given : List Arri
   pub caster-stands : PartSent → (status : ℕ) → Outcome names given old new status → CasterStands names old new
   caster-stands sent status (inl stayed) = inl (as-untouched status old new stayed.0)
   caster-stands sent status (inr b) =
-      let s : SessionData = b.session in
-      let k : Secrets = b.secrets in
-      let stream : List ℕ = b.stream in
+      let s : SessionData = b.0.session in
+      let k : Secrets = b.0.secrets in
+      let stream : List ℕ = b.0.stream in
       let kinds = caster-kinds names s k stream given in
-      let d = accepted-reached names given s k stream old new b.accepted reached in
-      let of = is-of held names old.files.content s k stream b.accepted in
+      let d = accepted-reached names given s k stream old new b.0.accepted reached in
+      let of = is-of held names old.files.content s k stream b.0.accepted in
       elim (split-caster names s k stream given d.begun) [
         | inl front ↦
             inr (inl (record { session = s; secrets = k; stream = stream; is_of = of; begun = begun-first kinds d.ran front }))
@@ -97,7 +97,7 @@ module _ (held : AreHeld) (few : IsFew) (names : CasterNames) (given : List Arri
               is_of = of;
               bound = is-bound names s k stream given d.ran told behind;
               given = given;
-              is_given = is-given s k stream b.accepted;
+              is_given = is-given s k stream b.0.accepted;
               taken = heard.taken;
               told_end = told-end s k stream d.ran d.received behind;
               run = part-sent s k stream d.ran d.received behind sent;
@@ -107,31 +107,25 @@ module _ (held : AreHeld) (few : IsFew) (names : CasterNames) (given : List Arri
 
   -- at 0 all was done
   pub caster-done : AreInRange → RulesSend → WholeSent → Finds → Outcome names given old new 0 → CasterDone names old new
-  caster-done ranged sends all_sent finds (inl stayed) = absurd (elim stayed.1 [
-    | inl stop ↦ true≢false (sym stop)
-    | inr why ↦ elim why [
-      | inl k ↦ let e = k.0 in omega arith
-      | inr other ↦ elim other [ inl k ↦ let e = k.0 in omega arith | inr k ↦ let e = k.0 in omega arith ]
-    ]
-  ])
-  caster-done ranged sends all_sent finds (inr b) =
-      let s : SessionData = b.session in
-      let k : Secrets = b.secrets in
-      let stream : List ℕ = b.stream in
+  caster-done ranged sends all_sent finds o =
+      let b = accepted-zero names given old new o in
+      let s : SessionData = b.0.session in
+      let k : Secrets = b.0.secrets in
+      let stream : List ℕ = b.0.stream in
       let kinds = caster-kinds names s k stream given in
-      let c = b.went.carried refl in
+      let c = b.1.carried refl in
       let all = all-caster names s k stream given in
       let whole : Ran (node_plan None None names.found (r s k stream) given) (bound s k) new = ran-behind kinds c.ran all in
       let ended : IsTrue (is_ended (r s k stream) given) = ended-at (is_ended (r s k stream) given) 0 (λ e. absurd (omega arith)) c.is in
-      let few_others = few-peers ranged names.session old.files.content s b.accepted.in_session in
+      let few_others = few-peers ranged names.session old.files.content s b.0.accepted.in_session in
       record {
         session = s;
         secrets = k;
         stream = stream;
-        is_of = is-of held names old.files.content s k stream b.accepted;
+        is_of = is-of held names old.files.content s k stream b.0.accepted;
         bound = is-bound names s k stream given c.ran told all;
         given = given;
-        is_given = is-given s k stream b.accepted;
+        is_given = is-given s k stream b.0.accepted;
         taken = heard.taken;
         told_end = ended-behind kinds c.ran all ∙ ap has_end (received-run None None names.found (r s k stream) given);
         ended = ended;

@@ -1,5 +1,5 @@
 -- What stands behind the binding of a peer's link, and before it.
-use Rattle.std.proofs.Common.{◌≡◌, ◌⊎◌, ◌==◌, ℕ, List, [], false, Some, ◌∙◌, inl, inr, IsTrue, refl, sym, subst, arith, true≢false}
+use Rattle.std.proofs.Common.{◌≡◌, ◌⊎◌, ◌==◌, ℕ, List, [], false, Some, ◌∙◌, inl, inr, IsTrue, refl, subst}
 use Rattle.std.proofs.lemmas.Bool.{cases_Bool, eqb-true}
 use Rattle.bar_outside.specs.Disk.{Content, appended, created}
 use Rattle.bar_outside.specs.Wire.{Arrival}
@@ -13,7 +13,7 @@ use Rattle.bar_party_commands.specs.PeerStands.{HasOwnNames, IsBound, IsBoundOrU
 use Rattle.bar_party_commands.specs.Running.{place_of, spent_text}
 use Rattle.bar_party_commands.proofs.Endings.{as-untouched, not-zero}
 use Rattle.bar_session_files.proofs.Accepted.{AreHeld, fits-here}
-use Rattle.bar_party_commands.proofs.PeerRows.{IsRunFile, Outcome, peer-kinds, peer_last}
+use Rattle.bar_party_commands.proofs.PeerRows.{IsRunFile, Outcome, accepted-zero, peer-kinds, peer_last}
 use Rattle.bar_party_commands.proofs.RunSplits.{IsBehind, all-behind, begun-first, bound-behind, kept-behind, split-binding}
 
 pub is-of : AreHeld → (names : PeerNames) (content : Content) (s : SessionData) (k : Secrets) → PeerAccepted names content s k →
@@ -96,26 +96,23 @@ module _ (held : AreHeld) (names : PeerNames) (given : List Arrival) (old new : 
 
   -- at 0 it is bound and the key is spent
   bound-at_zero : Outcome names given old new 0 → IsSpent
-  bound-at_zero (inl stayed) = absurd (elim stayed.1 [
-    | inl stop ↦ true≢false (sym stop)
-    | inr why ↦ elim why [ inl k ↦ let e = k.0 in omega arith | inr k ↦ let e = k.0 in omega arith ]
-  ])
-  bound-at_zero (inr b) =
-      let s : SessionData = b.session in
-      let k : Secrets = b.secrets in (
+  bound-at_zero o =
+      let b = accepted-zero names given old new o in
+      let s : SessionData = b.0.session in
+      let k : Secrets = b.0.secrets in (
         s,
         k,
-        is-of held names old.files.content s k b.accepted,
-        is-bound names s k given (b.went.carried refl).ran told (all-peer names s k given),
+        is-of held names old.files.content s k b.0.accepted,
+        is-bound names s k given (b.1.carried refl).ran told (all-peer names s k given),
       )
 
   bound-at_other : (status : ℕ) → (status ≡ 0 → ⊥) → Outcome names given old new status → IsBoundOrUnused names old new status
   bound-at_other status other (inl r) = inl (inl (as-untouched status old new r.0), other)
   bound-at_other status other (inr b) =
-      let s : SessionData = b.session in
-      let k : Secrets = b.secrets in
-      let d = b.went.part in
-      let of = is-of held names old.files.content s k b.accepted in
+      let s : SessionData = b.0.session in
+      let k : Secrets = b.0.secrets in
+      let d = b.1.part in
+      let of = is-of held names old.files.content s k b.0.accepted in
       elim (split-peer names s k given d.begun) [
         | inl front ↦ inl (
           inr (record { session = s; secrets = k; is_of = of; begun = begun-first (peer-kinds names s k given) d.ran front }),

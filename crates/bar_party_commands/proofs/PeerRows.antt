@@ -1,141 +1,131 @@
 -- How far a peer came, from how it ended.
-use Rattle.std.proofs.Common.{◌≡◌, ◌⊎◌, ℕ, List, ◌∷◌, subst, true, false, Some, Result, Ok, Err, refl, sym, ap, ◌∙◌, inl, inr, IsTrue, true≢false, arith}
-use Rattle.bar_outside.specs.Disk.{Content, readable}
+use Rattle.std.proofs.Common.{◌≡◌, ◌⊎◌, ◌==◌, ℕ, List, false, Some, refl, sym, ap, ◌∙◌, inl, inr, IsTrue}
+use Rattle.bar_outside.specs.Disk.{Content}
+use Rattle.bar_outside.specs.Ends.{UnlessStopped}
 use Rattle.bar_outside.specs.Wire.{Arrival}
-use Rattle.bar_outside.specs.Plan.{Action, Outside, Plan, Touches, accepting, before, ending, is_stop, read_then}
-use Rattle.bar_outside.specs.Plan.Action.{read}
-use Rattle.bar_outside.specs.Stages.{EndsThere, IsUnchanged, ReadsFirst, Went}
+use Rattle.bar_outside.specs.Plan.{Action, Outside, Plan, Touches, is_stop}
+use Rattle.bar_outside.specs.Stages.{ComesTo, GoesInOrder, Went}
+use Rattle.bar_outside.specs.Stages.Stages.{does}
+use Rattle.bar_outside.proofs.Stages.{stage-comes, stage-refused, status-comes}
+use Rattle.bar_outside.proofs.StageRows.{Outcome as Came, Sorts, accepted-at, cause_at, outcome as sorted, refusal, refused-at, sorts-last, sorts-stage}
 use Rattle.bar_outside.proofs.Untouched.{untouched-reached}
 use Rattle.bar_seeds.specs.declared.secrets.Secrets.{Secrets}
-use Rattle.bar_roster.specs.declared.fault.SessionFault.{SessionFault}
-use Rattle.bar_roster.specs.declared.key_fault.KeyFileFault.{KeyFileFault}
 use Rattle.bar_session.specs.SessionData.{SessionData}
 use Rattle.bar_findings.specs.Findings.{IsFindingName}
 use Rattle.bar_node.specs.Runs.{AsksToTheEnd, is_ended}
-use Rattle.bar_session_files.specs.Accepting.{HasSession, fresh_key_of, session_of}
-use Rattle.bar_party_commands.specs.PeerPlan.{PeerAccepted, PeerNames, before_binding, peer_actions, peer_key_plan, peer_plan, peer_run, peer_run_plan, rules_by}
+use Rattle.bar_session_files.specs.Accepting.{fresh_key_of, session_of}
+use Rattle.bar_party_commands.specs.PeerPlan.{PeerAccepted, PeerNames, before_binding, peer_actions, peer_end, peer_key_stages, peer_plan, peer_run, peer_stages, rules_by}
 use Rattle.bar_party_commands.specs.PeerStands.{IsPeerFile, KeyRefused, SessionRefused}
 use Rattle.bar_session_files.specs.Refusals.{key_refused, session_refused}
 use Rattle.bar_party_commands.specs.Running.{AsksNoFurther, HasReached, place_of, status_of}
 use Rattle.bar_party_commands.specs.Stands.{IsUntouched}
 use Rattle.bar_party_commands.specs.Summaries.{at_end, peer_summary}
 use Rattle.bar_party_commands.proofs.Endings.{as-untouched, no-refusal, not-ended}
-use Rattle.bar_party_commands.proofs.Reaching.{behind-read}
+use Rattle.bar_party_commands.proofs.Reaching.{reached-end}
 use Rattle.bar_node.proofs.RunActions.{of-run}
 use Rattle.bar_party_commands.proofs.RunSplits.{AreOfKinds, touched-binding}
 use Rattle.bar_party_commands.proofs.Printed.{end-prints, peer-prints}
 
--- what comes behind each read, by what the bytes stand for
-
-abbrev by-secrets : PeerNames → List Arrival → SessionData → Result Secrets KeyFileFault → Content → Plan
-by-secrets names given s secrets = accepting secrets (peer_run_plan names s given) (λ fault. ending 5 (key_refused fault))
-
-abbrev by-session : PeerNames → List Arrival → Result SessionData SessionFault → Content → Plan
-by-session names given session = accepting session (peer_key_plan names given) (λ fault. ending 4 (session_refused fault))
-
-abbrev with-key : PeerNames → List Arrival → SessionData → List ℕ → Content → Plan
-with-key names given s bytes = by-secrets names given s (fresh_key_of false s bytes)
-
-abbrev with-session : PeerNames → List Arrival → List ℕ → Content → Plan
-with-session names given text = by-session names given (session_of text)
-
 -- ---- how far it came
 
--- the file that was refused
-abbrev pub IsRefused : PeerNames → Content → ℕ → Type 0
-IsRefused names content status = ((status ≡ 4) × SessionRefused names content) ⊎ ((status ≡ 5) × KeyRefused names content)
-
--- both files were accepted, and what follows went so
-pub record HasBegun (names : PeerNames) (given : List Arrival) (old new : Outside) (status : ℕ) : Type 0 where
+-- both files are accepted
+pub record AreAccepted (names : PeerNames) (content : Content) : Type 0 where
   pub session : SessionData
   pub secrets : Secrets
-  pub accepted : PeerAccepted names old.files.content session secrets
-  pub went : Went (peer_run_plan names session given secrets old.files.content) old new status
+  pub accepted : PeerAccepted names content session secrets
 
--- nothing was changed, for a stop or a refusal; or both files were accepted
+module _ (names : PeerNames) (given : List Arrival) (content : Content) where
+  -- the end of a run
+  abbrev pub last : AreAccepted names content → Plan
+  last a = peer_end names given a.session a.secrets
+
+  -- what was refused, by the status
+  abbrev pub Causes : ℕ → Type 0
+  Causes status = cause_at (status == 4) (SessionRefused names content) (cause_at (status == 5) (KeyRefused names content) ⊥)
+
+  sorts : Sorts Causes last content (peer_stages names given)
+  sorts =
+      sorts-stage Causes last content names.session session_of 4 session_refused (peer_key_stages names given) (λ fault bad. (fault, bad))
+      (λ s has. sorts-stage Causes last content names.key (fresh_key_of false s) 5 key_refused (λ k. does (peer_end names given s k))
+      (λ fault bad. (s, fault, has, bad))
+      (λ k key. sorts-last Causes last content (record {
+        session = s;
+        secrets = k;
+        accepted = record { in_session = has; bytes = key.bytes; read = key.read; is = key.is };
+      })))
+
+-- nothing was changed, for a stop or a refusal; or both files were accepted, and the run went so
 abbrev pub Outcome : PeerNames → List Arrival → Outside → Outside → ℕ → Type 0
-Outcome names given old new status =
-    (IsUnchanged status old new × ((is_stop status ≡ true) ⊎ IsRefused names old.files.content status))
-    ⊎ HasBegun names given old new status
+Outcome names given old new status = Came (Causes names given old.files.content) (last names given old.files.content) old new status
 
-module _ (reads : ReadsFirst) (ends : EndsThere) (names : PeerNames) (given : List Arrival) (old new : Outside) (status : ℕ)
-    (told : IsTrue new.files.told) where
-  refused : (final : ℕ) (line : List ℕ) → Went (ending final line old.files.content) old new status →
-      (status ≡ final → IsRefused names old.files.content status) → Outcome names given old new status
-  refused final line w why =
-      let e = ends final line old new status told w in inl (e.0, elim e.1 [ inl same ↦ inr (why same) | inr stop ↦ inl stop ])
+module _ (names : PeerNames) (given : List Arrival) (old new : Outside) (status : ℕ) where
+  abbrev content : Content
+  content = old.files.content
 
-  outcome-secrets : (s : SessionData) (bytes : List ℕ) (r : Result Secrets KeyFileFault) → HasSession names.session old.files.content s →
-      readable old.files.content names.key ≡ Some bytes → fresh_key_of false s bytes ≡ r →
-      Went (by-secrets names given s r old.files.content) old new status → Outcome names given old new status
-  outcome-secrets s bytes (Err fault) h r e w = refused 5 (key_refused fault) w (λ k. inr (k, (s, bytes, fault, h, r, e)))
-  outcome-secrets s bytes (Ok k) h r e w =
-      inr (record { session = s; secrets = k; accepted = record { in_session = h; bytes = bytes; read = r; is = e }; went = w })
+  pub outcome : IsTrue new.files.told → GoesInOrder (peer_stages names given) old new status → Outcome names given old new status
+  outcome told order =
+      sorted (Causes names given content) (last names given content) old new status (peer_stages names given) told
+      (sorts names given content) order.gone
 
-  outcome-session : (text : List ℕ) (r : Result SessionData SessionFault) → readable old.files.content names.session ≡ Some text →
-      session_of text ≡ r → Went (by-session names given r old.files.content) old new status → Outcome names given old new status
-  outcome-session text (Err fault) r e w = refused 4 (session_refused fault) w (λ k. inl (k, (text, fault, r, e)))
-  outcome-session text (Ok s) r e w =
-      elim (reads names.key (with-key names given s) old new status told w) [
-        | inl same ↦ inl (same.0, inl same.1)
-        | inr on ↦
-            outcome-secrets s on.bytes (fresh_key_of false s on.bytes) (record { text = text; read = r; is = e }) on.read refl on.rest
-      ]
+  -- at the status of a refusal nothing was changed
+  pub refused : is_stop status ≡ false → (status ≡ 0 → ⊥) → (status ≡ 6 → ⊥) → Outcome names given old new status →
+      Causes names given content status × IsUntouched old new
+  refused go other behind o =
+      let r = refused-at (Causes names given content) (last names given content) old new status go
+      (λ a. no-refusal (is_ended (rules_by a.session a.secrets) given) status other behind) o in
+      (r.1, as-untouched status old new r.0)
 
-  pub outcome : Went (peer_plan names given old.files.content) old new status → Outcome names given old new status
-  outcome w =
-      elim (reads names.session (with-session names given) old new status told w) [
-        | inl same ↦ inl (same.0, inl same.1)
-        | inr on ↦ outcome-session on.bytes (session_of on.bytes) on.read refl on.rest
-      ]
+  -- what is refused has its status, unless something stops the command
+  module _ (order : GoesInOrder (peer_stages names given) old new status) where
+    pub stopped-session : SessionRefused names content → UnlessStopped 4 status
+    stopped-session bad =
+        order.stopped (refusal 4 (session_refused bad.0))
+        (stage-refused names.session session_of 4 session_refused (peer_key_stages names given) content bad.0 bad.1)
 
--- where both files are accepted, they are read, and the plan goes on with the run
-accepted-plan : (names : PeerNames) (given : List Arrival) (content : Content) (s : SessionData) (k : Secrets) →
-    PeerAccepted names content s k →
-    peer_plan names given content ≡ before (read names.session) (before (read names.key) (peer_run_plan names s given k content))
-accepted-plan names given content s k a =
-    ap (read_then names.session (with-session names given) content) a.in_session.read
-    ∙ ap (λ r. before (read names.session) (by-session names given r content)) a.in_session.is
-    ∙ ap (λ o. before (read names.session) (read_then names.key (with-key names given s) content o)) a.read
-    ∙ ap (λ r. before (read names.session) (before (read names.key) (by-secrets names given s r content))) a.is
+    pub stopped-key : KeyRefused names content → UnlessStopped 5 status
+    stopped-key bad =
+        order.stopped (refusal 5 (key_refused bad.1))
+        (stage-comes names.session session_of 4 session_refused (peer_key_stages names given) content bad.0
+        (refusal 5 (key_refused bad.1)) bad.2
+        (stage-refused names.key (fresh_key_of false bad.0) 5 key_refused (λ k. does (peer_end names given bad.0 k)) content bad.1 bad.3))
 
--- its status is that of the run
-pub accepted-status : (names : PeerNames) (given : List Arrival) (content : Content) (s : SessionData) (k : Secrets) →
-    PeerAccepted names content s k → (peer_plan names given content).status ≡ status_of (rules_by s k) given
-accepted-status names given content s k a = ap (λ (p : Plan). p.status) (accepted-plan names given content s k a)
+-- at 0 both files were accepted
+pub accepted-zero : (names : PeerNames) (given : List Arrival) (old new : Outside) → Outcome names given old new 0 →
+    (a : AreAccepted names old.files.content) × Went (last names given old.files.content a) old new 0
+accepted-zero names given old new =
+    accepted-at (Causes names given old.files.content) (last names given old.files.content) old new 0 refl (λ none. none)
+
+-- ---- where both files are accepted
+
+module _ (names : PeerNames) (given : List Arrival) (content : Content) (s : SessionData) (k : Secrets) (a : PeerAccepted names content s k)
+  where
+    abbrev end : Plan
+    end = peer_end names given s k
+
+    -- the stages come to the end of the run
+    pub accepted-comes : ComesTo (peer_stages names given) content end
+    accepted-comes =
+        stage-comes names.session session_of 4 session_refused (peer_key_stages names given) content s end a.in_session
+        (stage-comes names.key (fresh_key_of false s) 5 key_refused (λ k. does (peer_end names given s k)) content k end
+        (record { bytes = a.bytes; read = a.read; is = a.is }) refl)
+
+    -- its status is that of the run
+    pub accepted-status : (peer_plan names given content).status ≡ status_of (rules_by s k) given
+    accepted-status = status-comes (peer_stages names given) content end accepted-comes
 
 -- and it came as far in the run
 pub accepted-reached : (names : PeerNames) (given : List Arrival) (s : SessionData) (k : Secrets) (old new : Outside) →
     PeerAccepted names old.files.content s k → HasReached (peer_plan names given old.files.content).actions given old new →
     HasReached (peer_actions names s k given) given old new
-accepted-reached names given s k old new a r =
-    behind-read names.key (peer_actions names s k given) given old new
-    (behind-read names.session (read names.key ∷ peer_actions names s k given) given old new
-    (subst (λ (p : Plan). HasReached p.actions given old new) (accepted-plan names given old.files.content s k a) r))
+accepted-reached names given s k old new a =
+    reached-end (peer_stages names given) old.files.content (peer_end names given s k) given old new
+    (accepted-comes names given old.files.content s k a)
 
 -- the link was asked no further than up to the end of the run
 pub accepted-asked : (names : PeerNames) (given : List Arrival) (content : Content) (s : SessionData) (k : Secrets) →
     PeerAccepted names content s k → AsksNoFurther (λ front. peer_plan names front content) given → AsksToTheEnd (rules_by s k) given
 accepted-asked names given content s k a asked front next rest e =
     not-ended (is_ended (rules_by s k) front) (sym (accepted-status names front content s k a) ∙ asked front next rest e)
-
--- ---- refusals
-
--- at the status of a refusal nothing was changed
-pub refused-so : (names : PeerNames) (given : List Arrival) (old new : Outside) (status : ℕ) → (status ≡ 0 → ⊥) → is_stop status ≡ false →
-    (status ≡ 6 → ⊥) → Outcome names given old new status → IsUntouched old new × IsRefused names old.files.content status
-refused-so names given old new status other go behind (inl r) =
-    (as-untouched status old new r.0, elim r.1 [ inl stop ↦ absurd (true≢false (sym stop ∙ go)) | inr why ↦ why ])
-refused-so names given old new status other go behind (inr b) =
-    absurd (no-refusal (is_ended (rules_by b.session b.secrets) given) status other behind (b.went.carried go).is)
-
-pub refused-session : (names : PeerNames) (content : Content) → IsRefused names content 4 → SessionRefused names content
-refused-session names content (inl k) = k.1
-refused-session names content (inr k) = let e = k.0 in absurd (omega arith)
-
-pub refused-key : (names : PeerNames) (content : Content) → IsRefused names content 5 → KeyRefused names content
-refused-key names content (inl k) = let e = k.0 in absurd (omega arith)
-refused-key names content (inr k) = k.1
 
 -- ---- the actions of a peer, by kinds
 
@@ -180,5 +170,5 @@ pub others-untouched : (names : PeerNames) (given : List Arrival) (path : List �
     (IsPeerFile names path → ⊥) → Outcome names given old new status → new.files.content path ≡ old.files.content path
 others-untouched names given path old new status told none (inl r) = ap (λ (holds : Content). holds path) r.0.files
 others-untouched names given path old new status told none (inr b) =
-    untouched-reached (peer_actions names b.session b.secrets given) path old new status b.went.part told
-    (λ t. none (touched names b.session b.secrets given path t))
+    untouched-reached (peer_actions names b.0.session b.0.secrets given) path old new status b.1.part told
+    (λ t. none (touched names b.0.session b.0.secrets given path t))

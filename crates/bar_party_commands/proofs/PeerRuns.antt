@@ -1,5 +1,5 @@
 -- What a peer has done that ended, or was stopped.
-use Rattle.std.proofs.Common.{◌≡◌, ◌≢◌, ◌<◌, ◌^◌, ℕ, List, [], ◌++◌, cond, Some, refl, ap, ◌∙◌, inl, inr, IsTrue, true≢false, sym, arith}
+use Rattle.std.proofs.Common.{◌≡◌, ◌≢◌, ◌<◌, ◌^◌, ℕ, List, [], ◌++◌, cond, Some, refl, ap, ◌∙◌, inl, inr, IsTrue, arith}
 use Rattle.bar_outside.specs.Wire.{Arrival}
 use Rattle.bar_outside.specs.Plan.{Action, Outside, Ran, Touches, shown}
 use Rattle.bar_outside.proofs.Untouched.{content-untouched}
@@ -24,7 +24,7 @@ use Rattle.bar_party_commands.specs.Summaries.{peer_summary}
 use Rattle.bar_session_files.proofs.Accepted.{AreHeld, AreInRange, few-peers}
 use Rattle.bar_party_commands.proofs.Endings.{as-untouched, ended-at}
 use Rattle.bar_party_commands.proofs.PeerBound.{IsPeerBehind, all-peer, is-bound, is-of, played-at, recorded-at, split-peer}
-use Rattle.bar_party_commands.proofs.PeerRows.{Outcome, accepted-asked, accepted-reached, peer-kinds}
+use Rattle.bar_party_commands.proofs.PeerRows.{Outcome, accepted-asked, accepted-reached, accepted-zero, peer-kinds}
 use Rattle.bar_party_commands.proofs.Printed.{front-at_end}
 use Rattle.bar_party_commands.proofs.RunLaws.{Finds, WholeSent, found-at, others-at}
 use Rattle.bar_party_commands.proofs.RunSplits.{begun-first, ended-behind, front-behind, outside-at, printed-behind, ran-behind, received-behind}
@@ -150,10 +150,10 @@ module _ (held : AreHeld) (few : IsFew) (names : PeerNames) (given : List Arriva
   pub peer-stands : PeerPartKept → (status : ℕ) → Outcome names given old new status → PeerStands names old new
   peer-stands keeps status (inl stayed) = inl (as-untouched status old new stayed.0)
   peer-stands keeps status (inr b) =
-      let s : SessionData = b.session in
-      let k : Secrets = b.secrets in
-      let d = accepted-reached names given s k old new b.accepted reached in
-      let of = is-of held names old.files.content s k b.accepted in
+      let s : SessionData = b.0.session in
+      let k : Secrets = b.0.secrets in
+      let d = accepted-reached names given s k old new b.0.accepted reached in
+      let of = is-of held names old.files.content s k b.0.accepted in
       elim (split-peer names s k given d.begun) [
         | inl front ↦
             inr (inl (record { session = s; secrets = k; is_of = of; begun = begun-first (peer-kinds names s k given) d.ran front }))
@@ -164,7 +164,7 @@ module _ (held : AreHeld) (few : IsFew) (names : PeerNames) (given : List Arriva
               is_of = of;
               bound = is-bound names s k given d.ran told behind;
               given = given;
-              is_given = is-given s k b.accepted;
+              is_given = is-given s k b.0.accepted;
               taken = heard.taken;
               told_end = told-end names s k given old new told d.ran d.received behind;
               run = has-stopped names s k given old new told d.ran d.received behind keeps;
@@ -175,24 +175,21 @@ module _ (held : AreHeld) (few : IsFew) (names : PeerNames) (given : List Arriva
   -- at 0 all was done
   pub peer-done : AreInRange → RulesSend → RulesPlay → WholePeerKept → WholeSent → Finds → Outcome names given old new 0 →
       PeerDone names old new
-  peer-done ranged sends plays keeps all_sent finds (inl stayed) = absurd (elim stayed.1 [
-    | inl stop ↦ true≢false (sym stop)
-    | inr why ↦ elim why [ inl k ↦ let e = k.0 in omega arith | inr k ↦ let e = k.0 in omega arith ]
-  ])
-  peer-done ranged sends plays keeps all_sent finds (inr b) =
-      let s : SessionData = b.session in
-      let k : Secrets = b.secrets in
-      let c = b.went.carried refl in
+  peer-done ranged sends plays keeps all_sent finds o =
+      let b = accepted-zero names given old new o in
+      let s : SessionData = b.0.session in
+      let k : Secrets = b.0.secrets in
+      let c = b.1.carried refl in
       let ended : IsTrue (is_ended (rules_by s k) given) = ended-at (is_ended (rules_by s k) given) 0 (λ e. absurd (omega arith)) c.is in
-      let few_others = few-peers ranged names.session old.files.content s b.accepted.in_session in
+      let few_others = few-peers ranged names.session old.files.content s b.0.accepted.in_session in
       let kinds = peer-kinds names s k given in
       record {
         session = s;
         secrets = k;
-        is_of = is-of held names old.files.content s k b.accepted;
+        is_of = is-of held names old.files.content s k b.0.accepted;
         bound = is-bound names s k given c.ran told (all-peer names s k given);
         given = given;
-        is_given = is-given s k b.accepted;
+        is_given = is-given s k b.0.accepted;
         taken = heard.taken;
         told_end =
             ended-behind kinds c.ran (all-peer names s k given)

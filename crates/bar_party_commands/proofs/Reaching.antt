@@ -2,9 +2,12 @@
 use Rattle.std.proofs.Common.{◌≡◌, ℕ, List, [], ◌∷◌, ◌++◌, Result, Ok, Err, refl, sym, ap, ◌∙◌, subst, inl, inr}
 use Rattle.std.proofs.lemmas.Grind.{flat_map-append}
 use Rattle.bar_outside.specs.Wire.{Arrival}
-use Rattle.bar_outside.specs.Plan.{Action, Begun, Outside, Ran, Reached}
+use Rattle.bar_outside.specs.Disk.{Content}
+use Rattle.bar_outside.specs.Plan.{Action, Begun, Outside, Plan, Ran, Reached, read_then}
 use Rattle.bar_outside.specs.Plan.Action.{append, create, link, read, show}
 use Rattle.bar_outside.specs.Follows.{Follows, IsLater}
+use Rattle.bar_outside.specs.Stages.{Stages, ComesTo, plan_by}
+use Rattle.bar_outside.specs.Stages.Stages.{does, reads}
 use Rattle.bar_outside.specs.declared.fault.Fault.{Fault}
 use Rattle.bar_outside.proofs.ActionLists.{Begun-behind, Begun-first, Begun-longer, Begun-nothing, Begun-whole, Ran-append, no-part-read}
 use Rattle.bar_outside.proofs.Unlinked.{IsUnlinked}
@@ -81,7 +84,7 @@ reached-longer plan more given old new r = record {
 same-ran : (path : List ℕ) (done : List Action) (old new : Outside) → Ran (read path ∷ done) old new → Ran done old new
 same-ran path done old new ran = record { files = ran.files; out = ran.out; wire = ran.wire }
 
-pub behind-read : (path : List ℕ) (actions : List Action) (given : List Arrival) (old new : Outside) →
+behind-read : (path : List ℕ) (actions : List Action) (given : List Arrival) (old new : Outside) →
     HasReached (read path ∷ actions) given old new → HasReached actions given old new
 behind-read path actions given old new r =
     elim (Begun-first (read path) actions r.done r.begun) [
@@ -103,3 +106,12 @@ behind-read path actions given old new r =
             }
       ]
     ]
+
+-- so much was done of the end to which the stages come
+pub reached-end : (stages : Stages) (content : Content) (end : Plan) (given : List Arrival) (old new : Outside) →
+    ComesTo stages content end → HasReached (plan_by stages content).actions given old new → HasReached end.actions given old new
+reached-end (does last) content end given old new c r = subst (λ (p : Plan). HasReached p.actions given old new) c r
+reached-end (reads path others) content end given old new c r =
+    reached-end (others c.0) content end given old new c.2
+    (behind-read path (plan_by (others c.0) content).actions given old new
+    (subst (λ o. HasReached (read_then path (λ bytes. plan_by (others bytes)) content o).actions given old new) c.1 r))

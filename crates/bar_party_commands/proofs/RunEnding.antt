@@ -11,11 +11,12 @@ use Rattle.bar_outside.specs.declared.fault.Fault.TheVariants.{File, Link, NoMem
 use Rattle.bar_outside.specs.Ends.{EndsWith}
 use Rattle.bar_outside.specs.Follows.{IsReliable}
 use Rattle.bar_outside.specs.Faults.{code_after, code_of_fault, fault_of_file, line_after, line_of_fault}
-use Rattle.bar_outside.specs.Plan.{Action, CanRun, Outside, Plan, Ran, accepting, before, doing, is_stop, line_at, no_memory, outside, read_then, reading}
+use Rattle.bar_outside.specs.Plan.{Action, CanRun, Outside, Plan, Ran, before, doing, is_stop, line_at, no_memory, outside, read_then}
 use Rattle.bar_outside.specs.Plan.Action.{read}
+use Rattle.bar_outside.specs.Stages.{Stages, accepts, plan_by, refuses, stage}
 use Rattle.bar_outside.specs.Wire.{Arrival, Wire}
-use Rattle.bar_outside.proofs.Ending.{EndsWith-accepted, EndsWith-doing, EndsWith-memory, EndsWith-reading, EndsWith-refused}
-use Rattle.bar_outside.proofs.Ending.{EndsWith-unread, no_stop}
+use Rattle.bar_outside.proofs.Ending.{EndsWith-doing, EndsWith-unread, no_stop}
+use Rattle.bar_outside.proofs.StageEnds.{EndsWith-stage, EndsWith-stage_memory, EndsWith-stage_refused}
 use Rattle.bar_outside.proofs.Following.{later-files}
 use Rattle.bar_core.specs.Rules.{Rules}
 use Rattle.bar_node.proofs.Doing.{none-more}
@@ -59,13 +60,16 @@ still-reliable path old mid out wire result reads r = record {
 
 -- ---- a file that is read, and the rest goes by what it stands for
 
-module _ {A E : Type 0} (path : List ℕ) (meaning : List ℕ → Result A E) (others : List Arrival → A → Content → Plan)
-    (refused : E → Content → Plan) (old mid : Disk) (out : Stream) (wire : Wire) where
+module _ {A E : Type 0} (path : List ℕ) (meaning : List ℕ → Result A E) (status : ℕ) (line : E → List ℕ)
+    (others : List Arrival → A → Stages) (old mid : Disk) (out : Stream) (wire : Wire) where
+  abbrev by-meaning : List Arrival → Result A E → Content → Plan
+  by-meaning given r = plan_by (accepts r (others given) (λ fault. refuses status (line fault)))
+
   abbrev plan : List Arrival → Content → Plan
-  plan given = reading path (λ text. accepting (meaning text) (others given) refused)
+  plan given = plan_by (stage path meaning status line (others given))
 
   abbrev EndsSo : Outside → ℕ → List ℕ → Type 0
-  EndsSo new status line = RunEndsWith plan (outside old out wire) new status line
+  EndsSo new code said = RunEndsWith plan (outside old out wire) new code said
 
   abbrev was : Outside
   was = outside mid out wire
@@ -75,47 +79,42 @@ module _ {A E : Type 0} (path : List ℕ) (meaning : List ℕ → Result A E) (o
       EndsSo was (code_of_fault (fault_of_file cause)) (line_of_fault (fault_of_file cause))
   unread cause reads =
       unbegun plan old mid out wire _ _ reads.same (no-link-read cause)
-      (EndsWith-unread path (λ text. accepting (meaning text) (others []) refused) old mid was cause reads)
+      (EndsWith-unread path (λ bytes. by-meaning [] (meaning bytes)) old mid was cause reads)
 
   module _ (bytes : Vec ℕ Global) (reads : Reads path old mid (Ok bytes)) where
     -- memory was wanting
     pub unmeant : EndsSo was 70 no_memory
     unmeant =
         unbegun plan old mid out wire 70 no_memory reads.same (λ e. absurd (omega arith))
-        (EndsWith-reading path (λ text. accepting (meaning text) (others []) refused) old mid was was bytes 70 no_memory reads
-        (EndsWith-memory (accepting (meaning bytes.items) (others []) refused) was))
+        (EndsWith-stage_memory path meaning status line (others []) old mid was bytes reads)
 
     -- it is refused
-    pub refused-so : (fault : E) (status : ℕ) (line : List ℕ) → meaning bytes.items ≡ Err fault → is_stop status ≡ false →
-        EndsWith (refused fault) was was status line → EndsSo was status line
-    refused-so fault status line e go h =
-        unbegun plan old mid out wire status line reads.same (no_stop 6 refl status go)
-        (EndsWith-reading path (λ text. accepting (meaning text) (others []) refused) old mid was was bytes status line reads
-        (EndsWith-refused (meaning bytes.items) fault (others []) refused was was status line e h))
+    pub refused-so : (fault : E) → meaning bytes.items ≡ Err fault → is_stop status ≡ false → EndsSo was status (line fault)
+    refused-so fault e go =
+        unbegun plan old mid out wire status (line fault) reads.same (no_stop 6 refl status go)
+        (EndsWith-stage_refused path meaning status line (others []) old mid was bytes reads fault go e)
 
     -- what comes behind it where it is accepted
     plan-is : (meant : A) → meaning bytes.items ≡ Ok meant → IsTrue mid.told → (given : List Arrival) →
-        plan given old.content ≡ before (read path) (others given meant mid.content)
+        plan given old.content ≡ before (read path) (plan_by (others given meant) mid.content)
     plan-is meant e told given =
-        ap (read_then path (λ text. accepting (meaning text) (others given) refused) old.content) (reads.found told)
-        ∙ ap (λ r. before (read path) (accepting r (others given) refused old.content)) e
-        ∙ ap (λ c. before (read path) (others given meant c)) (sym reads.same)
+        ap (read_then path (λ bytes. by-meaning given (meaning bytes)) old.content) (reads.found told)
+        ∙ ap (λ r. before (read path) (by-meaning given r old.content)) e
+        ∙ ap (λ c. before (read path) (plan_by (others given meant) c)) (sym reads.same)
 
     read-first : Ran (read path ∷ []) (outside old out wire) was
     read-first = record { files = reads.same; out = sym (append-nil out.bytes); wire = refl }
 
     -- it is accepted
-    pub accepted-so : (meant : A) (new : Outside) (status : ℕ) (line : List ℕ) → meaning bytes.items ≡ Ok meant →
-        RunEndsWith (λ given. others given meant) was new status line → EndsSo new status line
-    accepted-so meant new status line e h = record {
+    pub accepted-so : (meant : A) (new : Outside) (code : ℕ) (said : List ℕ) → meaning bytes.items ≡ Ok meant →
+        RunEndsWith (λ given. plan_by (others given meant)) was new code said → EndsSo new code said
+    accepted-so meant new code said e h = record {
       given = h.given;
       heard = record { taken = h.heard.taken; told_end = h.heard.told_end; within = h.heard.within };
-      ends =
-          EndsWith-reading path (λ text. accepting (meaning text) (others h.given) refused) old mid was new bytes status line reads
-          (EndsWith-accepted (meaning bytes.items) meant (others h.given) refused was new status line e h.ends);
+      ends = EndsWith-stage path meaning status line (others h.given) old mid was bytes reads meant new code said e h.ends;
       reached = λ told.
           subst (λ (p : Plan). HasReached p.actions h.given (outside old out wire) new) (sym (plan-is meant e (h.ends.ends.later.told told) h.given))
-          (reached-behind (read path ∷ []) (others h.given meant mid.content).actions [] h.given (outside old out wire) was new
+          (reached-behind (read path ∷ []) (plan_by (others h.given meant) mid.content).actions [] h.given (outside old out wire) was new
           (later-files old mid was reads.call.told reads.call.reliable reads.same_here reads.call.cause.later) read-first refl
           (h.reached told));
       asked = λ told front next rest is.

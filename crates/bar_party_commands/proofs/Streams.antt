@@ -1,12 +1,9 @@
 -- Streams that fit a session, and those that don't.
-use Rattle.std.proofs.Common.{◌≡◌, ◌≤◌, ◌<◌, ℕ, List, Bool, true, false, Ok, Err, length, nat_le, if◌then◌else◌, refl, sym, ap, subst}
+use Rattle.std.proofs.Common.{◌≡◌, ◌≤◌, ◌<◌, ℕ, List, Bool, true, false, Ok, Err, length, nat_le, if◌then◌else◌, ap}
 use Rattle.std.proofs.Common.{arith}
 use Rattle.std.proofs.lemmas.Bool.Decides.{nat_tests}
-use Rattle.bar_outside.specs.Ends.{EndsWith}
-use Rattle.bar_outside.specs.Plan.{Outside, ending}
-use Rattle.bar_outside.proofs.Ending.{EndsWith-ending}
 use Rattle.bar_session.specs.SessionData.{SessionData}
-use Rattle.bar_party_commands.specs.Streams.{room_of, stream_in, stream_refused}
+use Rattle.bar_party_commands.specs.Streams.{room_of, stream_in}
 
 pub stream-fits : (s : SessionData) (bytes : List ℕ) → (room_of s < length bytes → ⊥) → stream_in s bytes ≡ Ok bytes
 stream-fits s bytes short =
@@ -20,10 +17,3 @@ stream-is_long s bytes long =
 
 pub no-fit : (s : SessionData) (bytes : List ℕ) → (length bytes ≤ room_of s → ⊥) → room_of s < length bytes
 no-fit s bytes h = grind (arith, h)
-
--- the line of one that doesn't fit
-pub said-long : (s : SessionData) (have room : ℕ) (at : Outside) → room ≡ room_of s →
-    EndsWith (ending 8 (stream_refused have (room_of s))) at at 8 (stream_refused have room)
-said-long s have room at e =
-    subst (λ x. EndsWith (ending 8 (stream_refused have (room_of s))) at at 8 (stream_refused have x)) (sym e)
-    (EndsWith-ending 8 (stream_refused have (room_of s)) at refl)

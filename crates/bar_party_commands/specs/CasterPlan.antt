@@ -1,7 +1,9 @@
 -- What `broadcaster` does.
 use Rattle.std.specs.Prelude.{◌≡◌, ℕ, List, [], ◌∷◌, ◌++◌, None, Some, Ok, true}
 use Rattle.bar_outside.specs.Disk.{Content, readable}
-use Rattle.bar_outside.specs.Plan.{Action, Plan, accepting, doing, ending, reading}
+use Rattle.bar_outside.specs.Plan.{Action, Plan}
+use Rattle.bar_outside.specs.Stages.{Stages, plan_by, stage}
+use Rattle.bar_outside.specs.Stages.Stages.{does}
 use Rattle.bar_outside.specs.Wire.{Arrival}
 use Rattle.bar_seeds.specs.declared.secrets.Secrets.{Secrets}
 use Rattle.bar_session.specs.SessionData.{SessionData}
@@ -9,9 +11,8 @@ use Rattle.bar_core.specs.Rules.{Rules}
 use Rattle.bar_rules.specs.Members.{member_by}
 use Rattle.bar_caster.specs.Core.{caster_rules}
 use Rattle.bar_node.specs.Runs.{node_plan}
-use Rattle.bar_session_files.specs.Accepting.{HasSession, fresh_key_of, session_of}
-use Rattle.bar_party_commands.specs.Streams.{room_of, stream_in, stream_refused}
-use Rattle.bar_session_files.specs.Refusals.{key_refused, session_refused}
+use Rattle.bar_session_files.specs.Accepting.{HasSession, fresh_key_of, fresh_key_stage, session_stage}
+use Rattle.bar_party_commands.specs.Streams.{no_room, stream_in}
 use Rattle.bar_party_commands.specs.Running.{binding, spending, status_of}
 use Rattle.bar_party_commands.specs.Summaries.{at_end, caster_summary}
 
@@ -37,25 +38,30 @@ caster_actions names s k stream given =
     spending names.key s k
     ++ (binding names.begin_ms s k ∷ (caster_run names s k stream given ++ at_end caster_summary (rules_by s k stream) given))
 
-abbrev pub caster_run_plan : CasterNames → SessionData → Secrets → List Arrival → List ℕ → Content → Plan
-caster_run_plan names s k given stream = doing (caster_actions names s k stream given) (status_of (rules_by s k stream) given) []
+-- ---- its stages
+
+abbrev pub caster_end : CasterNames → List Arrival → SessionData → Secrets → List ℕ → Plan
+caster_end names given s k stream = record {
+  actions = caster_actions names s k stream given;
+  status = status_of (rules_by s k stream) given;
+  line = [];
+}
 
 -- the stream is read, and accepted, if it fits, or refused
-abbrev pub caster_stream_plan : CasterNames → SessionData → List Arrival → Secrets → Content → Plan
-caster_stream_plan names s given k =
-    reading names.stream (λ bytes.
-    accepting (stream_in s bytes) (caster_run_plan names s k given) (λ have. ending 8 (stream_refused have (room_of s))))
+abbrev pub caster_stream_stages : CasterNames → List Arrival → SessionData → Secrets → Stages
+caster_stream_stages names given s k =
+    stage names.stream (stream_in s) 8 (no_room s) (λ stream. does (caster_end names given s k stream))
 
--- the key file is read, and accepted, if it is the broadcaster's and fresh, or refused
-abbrev pub caster_key_plan : CasterNames → List Arrival → SessionData → Content → Plan
-caster_key_plan names given s =
-    reading names.key (λ bytes.
-    accepting (fresh_key_of true s bytes) (caster_stream_plan names s given) (λ fault. ending 5 (key_refused fault)))
+-- the key file before it, which is accepted, if it is the broadcaster's and fresh, or refused
+abbrev pub caster_key_stages : CasterNames → List Arrival → SessionData → Stages
+caster_key_stages names given s = fresh_key_stage true names.key s (caster_stream_stages names given s)
 
--- the session is read, and accepted or refused
+-- and the session before both
+abbrev pub caster_stages : CasterNames → List Arrival → Stages
+caster_stages names given = session_stage names.session (caster_key_stages names given)
+
 abbrev pub caster_plan : CasterNames → List Arrival → Content → Plan
-caster_plan names given =
-    reading names.session (λ text. accepting (session_of text) (caster_key_plan names given) (λ fault. ending 4 (session_refused fault)))
+caster_plan names given = plan_by (caster_stages names given)
 
 -- The session and the key file, which is the broadcaster's and fresh, are there and accepted, and the stream is there and fits.
 pub record CasterAccepted (names : CasterNames) (content : Content) (s : SessionData) (k : Secrets) (stream : List ℕ) : Type 0 where

@@ -1,8 +1,9 @@
 -- What stands after `broadcaster`.
-use Rattle.std.specs.Prelude.{◌≡◌, ◌≢◌, ◌⊎◌, ◌<◌, ℕ, List, [], ◌++◌, Some, Ok, Err, IsTrue, length, true}
+use Rattle.std.specs.Prelude.{◌≡◌, ◌≢◌, ◌⊎◌, ◌<◌, ℕ, List, [], ◌++◌, Some, IsTrue, length, true}
 use Rattle.std.specs.List.{AllByRecursion}
 use Rattle.bar_outside.specs.Disk.{Content, readable}
 use Rattle.bar_outside.specs.Plan.{Outside, shown}
+use Rattle.bar_outside.specs.Stages.{IsAccepted, IsRefused}
 use Rattle.bar_outside.specs.Wire.{Arrival}
 use Rattle.bar_findings.specs.Findings.{IsFindingName}
 use Rattle.bar_seeds.specs.declared.secrets.Secrets.{Secrets}
@@ -15,7 +16,7 @@ use Rattle.bar_rules.specs.Members.{member_by}
 use Rattle.bar_rules.specs.Runs.{sends_from}
 use Rattle.bar_node.specs.Runs.{IsGiven, found_after, has_end, heard, is_ended, taken_of}
 use Rattle.bar_node.specs.Stops.{IsApart, StoppedSending}
-use Rattle.bar_session_files.specs.Accepting.{HasSession, fresh_key_of, session_of}
+use Rattle.bar_session_files.specs.Accepting.{HasBadSession, HasSession, fresh_key_of}
 use Rattle.bar_party_commands.specs.Streams.{room_of}
 use Rattle.bar_party_commands.specs.CasterPlan.{CasterAccepted, CasterNames, rules_by}
 use Rattle.bar_party_commands.specs.Running.{place_of, spending, spent_text}
@@ -94,29 +95,24 @@ IsCasterFile names path = (path ≡ names.key) ⊎ IsFindingName names.found pat
 
 -- the session's text is there, and refused
 abbrev pub SessionRefused : CasterNames → Content → Type 0
-SessionRefused names content =
-    (text : List ℕ) × (fault : SessionFault) × (readable content names.session ≡ Some text) × (session_of text ≡ Err fault)
+SessionRefused names content = (fault : SessionFault) × HasBadSession names.session content fault
 
 -- the session is accepted, and the key file is there and refused: spent, or not the broadcaster's
 abbrev pub KeyRefused : CasterNames → Content → Type 0
 KeyRefused names content =
     (s : SessionData)
-    × (bytes : List ℕ)
     × (fault : KeyFileFault)
     × HasSession names.session content s
-    × (readable content names.key ≡ Some bytes)
-    × (fresh_key_of true s bytes ≡ Err fault)
+    × IsRefused names.key (fresh_key_of true s) content fault
 
 -- both are accepted, and the stream is there and longer than the session has room for
 abbrev pub StreamRefused : CasterNames → Content → Type 0
 StreamRefused names content =
     (s : SessionData)
-    × (bytes : List ℕ)
     × (k : Secrets)
     × (stream : List ℕ)
     × HasSession names.session content s
-    × (readable content names.key ≡ Some bytes)
-    × (fresh_key_of true s bytes ≡ Ok k)
+    × IsAccepted names.key (fresh_key_of true s) content k
     × (readable content names.stream ≡ Some stream)
     × (room_of s < length stream)
 

@@ -1,8 +1,10 @@
 -- What `peer` does.
 use Rattle.std.specs.Prelude.{◌≡◌, ℕ, List, [], ◌∷◌, ◌++◌, Some, Ok, false}
 use Rattle.bar_outside.specs.Disk.{Content, readable}
-use Rattle.bar_outside.specs.Plan.{Action, Plan, accepting, doing, ending, reading}
+use Rattle.bar_outside.specs.Plan.{Action, Plan}
 use Rattle.bar_outside.specs.Plan.Action.{append, create}
+use Rattle.bar_outside.specs.Stages.{Stages, plan_by}
+use Rattle.bar_outside.specs.Stages.Stages.{does}
 use Rattle.bar_outside.specs.Wire.{Arrival}
 use Rattle.bar_seeds.specs.declared.secrets.Secrets.{Secrets}
 use Rattle.bar_session.specs.SessionData.{SessionData}
@@ -11,8 +13,7 @@ use Rattle.bar_core.specs.Rules.{Rules}
 use Rattle.bar_rules.specs.Members.{member_by}
 use Rattle.bar_peer.specs.Core.{peer_rules}
 use Rattle.bar_node.specs.Runs.{node_plan}
-use Rattle.bar_session_files.specs.Accepting.{HasSession, fresh_key_of, session_of}
-use Rattle.bar_session_files.specs.Refusals.{key_refused, session_refused}
+use Rattle.bar_session_files.specs.Accepting.{HasSession, fresh_key_of, fresh_key_stage, session_stage}
 use Rattle.bar_party_commands.specs.Running.{binding, spending, status_of}
 use Rattle.bar_party_commands.specs.Summaries.{at_end, peer_summary}
 
@@ -45,18 +46,21 @@ peer_actions names s k given =
     before_binding names s k
     ++ (binding names.begin_ms s k ∷ (peer_run names s k given ++ at_end peer_summary (rules_by s k) given))
 
-abbrev pub peer_run_plan : PeerNames → SessionData → List Arrival → Secrets → Content → Plan
-peer_run_plan names s given k = doing (peer_actions names s k given) (status_of (rules_by s k) given) []
+-- ---- its stages
+
+abbrev pub peer_end : PeerNames → List Arrival → SessionData → Secrets → Plan
+peer_end names given s k = record { actions = peer_actions names s k given; status = status_of (rules_by s k) given; line = [] }
 
 -- the key file is read, and accepted, if it is a peer's and fresh, or refused
-abbrev pub peer_key_plan : PeerNames → List Arrival → SessionData → Content → Plan
-peer_key_plan names given s =
-    reading names.key (λ bytes. accepting (fresh_key_of false s bytes) (peer_run_plan names s given) (λ fault. ending 5 (key_refused fault)))
+abbrev pub peer_key_stages : PeerNames → List Arrival → SessionData → Stages
+peer_key_stages names given s = fresh_key_stage false names.key s (λ k. does (peer_end names given s k))
 
--- the session is read, and accepted or refused
+-- and the session before it
+abbrev pub peer_stages : PeerNames → List Arrival → Stages
+peer_stages names given = session_stage names.session (peer_key_stages names given)
+
 abbrev pub peer_plan : PeerNames → List Arrival → Content → Plan
-peer_plan names given =
-    reading names.session (λ text. accepting (session_of text) (peer_key_plan names given) (λ fault. ending 4 (session_refused fault)))
+peer_plan names given = plan_by (peer_stages names given)
 
 -- The session's text is there and accepted, and so is the key file, which holds these secrets of a peer and is fresh
 pub record PeerAccepted (names : PeerNames) (content : Content) (s : SessionData) (k : Secrets) : Type 0 where

@@ -1,8 +1,9 @@
 -- What stands after `peer`.
-use Rattle.std.specs.Prelude.{◌≡◌, ◌≢◌, ◌⊎◌, ℕ, List, [], ◌++◌, Some, Err, IsTrue, false}
+use Rattle.std.specs.Prelude.{◌≡◌, ◌≢◌, ◌⊎◌, ℕ, List, [], ◌++◌, Some, IsTrue, false}
 use Rattle.std.specs.List.{AllByRecursion, concat, flat_map}
-use Rattle.bar_outside.specs.Disk.{Content, readable}
+use Rattle.bar_outside.specs.Disk.{Content}
 use Rattle.bar_outside.specs.Plan.{Outside, shown}
+use Rattle.bar_outside.specs.Stages.{IsRefused}
 use Rattle.bar_outside.specs.Wire.{Arrival}
 use Rattle.bar_findings.specs.Findings.{IsFindingName}
 use Rattle.bar_seeds.specs.declared.secrets.Secrets.{Secrets}
@@ -18,7 +19,7 @@ use Rattle.bar_rules.specs.Members.{member_by}
 use Rattle.bar_rules.specs.Peer.Run.{played_by, sends_of}
 use Rattle.bar_node.specs.Runs.{IsGiven, found_after, has_end, heard, is_ended, taken_of}
 use Rattle.bar_node.specs.Stops.{AreApart, Cut, IsApart, IsFront, end_of}
-use Rattle.bar_session_files.specs.Accepting.{HasSession, fresh_key_of, session_of}
+use Rattle.bar_session_files.specs.Accepting.{HasBadSession, HasSession, fresh_key_of}
 use Rattle.bar_party_commands.specs.PeerPlan.{PeerAccepted, PeerNames, before_binding, rules_by}
 use Rattle.bar_party_commands.specs.Running.{place_of, spent_text}
 use Rattle.bar_party_commands.specs.Stands.{AreFound, IsBegun, IsFrontPrinted, IsUntouched, packets}
@@ -116,18 +117,15 @@ IsPeerFile names path = (path ≡ names.key) ⊎ ((path ≡ names.played) ⊎ ((
 
 -- the session's text is there, and refused
 abbrev pub SessionRefused : PeerNames → Content → Type 0
-SessionRefused names content =
-    (text : List ℕ) × (fault : SessionFault) × (readable content names.session ≡ Some text) × (session_of text ≡ Err fault)
+SessionRefused names content = (fault : SessionFault) × HasBadSession names.session content fault
 
 -- the session is accepted, and the key file is there and refused: spent, or no key of a peer of the session
 abbrev pub KeyRefused : PeerNames → Content → Type 0
 KeyRefused names content =
     (s : SessionData)
-    × (bytes : List ℕ)
     × (fault : KeyFileFault)
     × HasSession names.session content s
-    × (readable content names.key ≡ Some bytes)
-    × (fresh_key_of false s bytes ≡ Err fault)
+    × IsRefused names.key (fresh_key_of false s) content fault
 
 -- Nothing was changed, or it was stopped before the link was bound; its status isn't 0.
 abbrev pub IsUnused : PeerNames → Outside → Outside → ℕ → Type 0

@@ -16,3 +16,7 @@ stream_in s bytes = if nat_le (length bytes) (room_of s) then Ok bytes else Err 
 abbrev pub stream_refused : ℕ → ℕ → List ℕ
 stream_refused have room =
     codes "bar: input refused: stream have " ++ (decimal have ++ (codes " room " ++ (decimal room ++ codes "\n")))
+
+-- how a session refuses one that it has no room for
+abbrev pub no_room : SessionData → ℕ → List ℕ
+no_room s have = stream_refused have (room_of s)

@@ -4,6 +4,7 @@ ghost use Rattle.bar_outside.specs.Disk.{Content};
 ghost use Rattle.bar_outside.specs.Plan.{Outside, outside, with_out};
 ghost use Rattle.bar_outside.specs.Follows.{Follows};
 ghost use Rattle.bar_outside.specs.MemTaken.{bound_in};
+ghost use Rattle.bar_outside.specs.Stages.{plan_by};
 ghost use Rattle.bar_wire.specs.Inputs.{Input};
 ghost use Rattle.bar_seeds.specs.declared.secrets.Secrets.{Secrets as Held};
 ghost use Rattle.bar_core.specs.Orders.{left_in};
@@ -14,7 +15,7 @@ ghost use Rattle.bar_caster.specs.Core.{caster_rules};
 ghost use Rattle.bar_caster.specs.Memory.{member_of, stream_of};
 ghost use Rattle.bar_caster.specs.StandsFor.{StandsFor};
 ghost use Rattle.bar_node.specs.Runs.{summary_of};
-ghost use Rattle.bar_party_commands.specs.CasterPlan.{caster_actions, caster_key_plan, caster_plan, caster_stream_plan};
+ghost use Rattle.bar_party_commands.specs.CasterPlan.{caster_actions, caster_key_stages, caster_plan, caster_stream_stages};
 ghost use Rattle.bar_party_commands.specs.Running.{RunEndsWith, RunFollows, place_of, spent_text};
 ghost use Rattle.bar_party_commands.specs.Summaries.{caster_summary, may_print};
 ghost use Rattle.bar_party_commands.specs.Views.{caster_view, code_of_run, said_by_run};
@@ -61,7 +62,7 @@ fn cast_in_session<F: Files, L: Link, K: Sink>(
     link: &mut L,
     out: &mut K,
 ) -> Result<Ended, Fault>
-    ensures ends { (was : Content) → RunEndsWith (λ given. caster_key_plan (caster_view names.now) given session)
+    ensures ends { (was : Content) → RunEndsWith (λ given. plan_by (caster_key_stages (caster_view names.now) given session))
         (outside (F.disk files.old was) (K.stream out.old) (L.wire link.old))
         (outside (F.disk files.new was) (K.stream out.new) (L.wire link.new)) (code_of_run result) (said_by_run result) }
     ensures unprinted { may_print (code_of_run result) ≡ false → K.stream out.new ≡ K.stream out.old }
@@ -85,7 +86,7 @@ fn cast_stream<F: Files, L: Link, K: Sink>(
     out: &mut K,
 ) -> Result<Ended, Fault>
     requires { IsPartyKeyOf session true key }
-    ensures ends { (was : Content) → RunEndsWith (λ given. caster_stream_plan (caster_view names.now) session given key.secrets)
+    ensures ends { (was : Content) → RunEndsWith (λ given. plan_by (caster_stream_stages (caster_view names.now) given session key.secrets))
         (outside (F.disk files.old was) (K.stream out.old) (L.wire link.old))
         (outside (F.disk files.new was) (K.stream out.new) (L.wire link.new)) (code_of_run result) (said_by_run result) }
     ensures unprinted { may_print (code_of_run result) ≡ false → K.stream out.new ≡ K.stream out.old }

@@ -13,7 +13,7 @@ ghost use Rattle.bar_party_commands.specs.Stands.{IsUntouched};
 
 use bar_caster::rules_give_the_run;
 use bar_node::{a_part_of_a_run_sent, a_run_finds, a_whole_run_sent};
-use bar_outside::plans_go_in_order;
+use bar_outside::stages_go_in_order;
 use bar_record::paced_inputs_are_few;
 use bar_roster::laws::{accepted_secrets_are_held, accepted_sessions_are_in_range};
 
@@ -26,7 +26,7 @@ pub fn a_broadcaster_is_done()
     a_run_finds();
     a_whole_run_sent();
     paced_inputs_are_few();
-    plans_go_in_order();
+    stages_go_in_order();
     rules_give_the_run();
 }
 
@@ -38,7 +38,7 @@ pub fn a_broadcaster_stands()
     accepted_secrets_are_held();
     a_part_of_a_run_sent();
     paced_inputs_are_few();
-    plans_go_in_order();
+    stages_go_in_order();
 }
 
 /// Whatever the status, the link wasn't used, and the status isn't 0; or the link is bound to the broadcaster, and the key is spent.
@@ -46,7 +46,7 @@ pub fn a_bound_broadcaster_has_spent_its_key()
     ensures { (names : CasterNames) → OfEachRun (caster_plan names) (λ old new status. IsBoundOrUnused names old new status) }
 {
     accepted_secrets_are_held();
-    plans_go_in_order();
+    stages_go_in_order();
 }
 
 /// Whatever the status, only the key file and the files of what was found are changed.
@@ -54,7 +54,7 @@ pub fn only_its_files_are_changed_by_a_broadcaster()
     ensures { (names : CasterNames) (path : List ℕ) → OfEachRun (caster_plan names) (λ old new status.
         (IsCasterFile names path → ⊥) → new.files.content path ≡ old.files.content path) }
 {
-    plans_go_in_order();
+    stages_go_in_order();
 }
 
 /// 4, 5 and 8 come exactly where the session, the key file or the stream is there and refused, but for a fault or want of memory; then
@@ -73,7 +73,7 @@ pub fn a_refused_broadcaster_changes_nothing()
     ensures no_stream { (names : CasterNames) → OfEachRun (caster_plan names) (λ old new status.
         StreamRefused names old.files.content → UnlessStopped 8 status) }
 {
-    plans_go_in_order();
+    stages_go_in_order();
 }
 
 /// Where the files are accepted and no count rose, the status is 0, but for want of memory. So it is where nothing fails by itself.

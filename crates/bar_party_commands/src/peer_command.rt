@@ -4,12 +4,13 @@ ghost use Rattle.bar_outside.specs.Disk.{Content};
 ghost use Rattle.bar_outside.specs.Plan.{Outside, outside, with_files, with_out};
 ghost use Rattle.bar_outside.specs.Plan.Action.{append, create};
 ghost use Rattle.bar_outside.specs.Follows.{Follows};
+ghost use Rattle.bar_outside.specs.Stages.{plan_by};
 ghost use Rattle.bar_wire.specs.Inputs.{Input};
 ghost use Rattle.bar_hss.specs.Files.{IsPartyKeyOf};
 ghost use Rattle.bar_peer.specs.Memory.{member_of};
 ghost use Rattle.bar_peer.specs.Core.{peer_rules};
 ghost use Rattle.bar_peer.specs.StandsFor.{StandsFor};
-ghost use Rattle.bar_party_commands.specs.PeerPlan.{peer_actions, peer_key_plan, peer_plan, rules_by};
+ghost use Rattle.bar_party_commands.specs.PeerPlan.{peer_actions, peer_key_stages, peer_plan, rules_by};
 ghost use Rattle.bar_party_commands.specs.Running.{RunEndsWith, RunFollows};
 ghost use Rattle.bar_party_commands.specs.Summaries.{may_print, peer_summary};
 ghost use Rattle.bar_party_commands.specs.Views.{code_of_run, peer_view, said_by_run};
@@ -59,7 +60,7 @@ fn peer_of_session<F: Files, L: Link, K: Sink>(
     link: &mut L,
     out: &mut K,
 ) -> Result<Ended, Fault>
-    ensures ends { (was : Content) → RunEndsWith (λ given. peer_key_plan (peer_view names.now) given session)
+    ensures ends { (was : Content) → RunEndsWith (λ given. plan_by (peer_key_stages (peer_view names.now) given session))
         (outside (F.disk files.old was) (K.stream out.old) (L.wire link.old))
         (outside (F.disk files.new was) (K.stream out.new) (L.wire link.new)) (code_of_run result) (said_by_run result) }
     ensures answers { code_of_run result ≢ 8 }

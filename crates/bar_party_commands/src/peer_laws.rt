@@ -12,7 +12,7 @@ ghost use Rattle.bar_party_commands.specs.Running.{AtRunEnd, OfEachRun, RunEnds}
 ghost use Rattle.bar_party_commands.specs.Stands.{IsUntouched};
 
 use bar_node::{a_part_of_a_peer_kept, a_run_finds, a_whole_peer_kept, a_whole_run_sent};
-use bar_outside::plans_go_in_order;
+use bar_outside::stages_go_in_order;
 use bar_peer::rules_give_the_run;
 use bar_record::paced_inputs_are_few;
 use bar_roster::laws::{accepted_secrets_are_held, accepted_sessions_are_in_range};
@@ -27,7 +27,7 @@ pub fn a_peer_is_done()
     a_whole_peer_kept();
     a_whole_run_sent();
     paced_inputs_are_few();
-    plans_go_in_order();
+    stages_go_in_order();
     rules_give_the_run();
 }
 
@@ -39,7 +39,7 @@ pub fn a_peer_stands()
     accepted_secrets_are_held();
     a_part_of_a_peer_kept();
     paced_inputs_are_few();
-    plans_go_in_order();
+    stages_go_in_order();
 }
 
 /// Whatever the status, the link wasn't used, and the status isn't 0; or the link is bound to the key's party, and the key is spent.
@@ -47,7 +47,7 @@ pub fn a_bound_peer_has_spent_its_key()
     ensures { (names : PeerNames) → OfEachRun (peer_plan names) (λ old new status. IsBoundOrUnused names old new status) }
 {
     accepted_secrets_are_held();
-    plans_go_in_order();
+    stages_go_in_order();
 }
 
 /// Whatever the status, only the key file, the played file, the recording and the files of what was found are changed.
@@ -55,7 +55,7 @@ pub fn only_its_files_are_changed_by_a_peer()
     ensures { (names : PeerNames) (path : List ℕ) → OfEachRun (peer_plan names) (λ old new status.
         (IsPeerFile names path → ⊥) → new.files.content path ≡ old.files.content path) }
 {
-    plans_go_in_order();
+    stages_go_in_order();
 }
 
 /// 4 and 5 come exactly where the session, or the key file, is there and refused, but for a fault or want of memory; then nothing was
@@ -70,7 +70,7 @@ pub fn a_refused_peer_changes_nothing()
     ensures no_key { (names : PeerNames) → OfEachRun (peer_plan names) (λ old new status.
         KeyRefused names old.files.content → UnlessStopped 5 status) }
 {
-    plans_go_in_order();
+    stages_go_in_order();
 }
 
 /// Where the files are accepted and no count rose, the status is 0, but for want of memory. So it is where nothing fails by itself.

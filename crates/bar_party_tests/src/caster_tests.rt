@@ -2,12 +2,12 @@
 
 pub mod casters;
 
-use bar_caster::{Caster, CasterFault};
+use bar_caster::Caster;
 use bar_hss::SessionScheme;
-use bar_samples::sessions::{ID, long_session, session, session_of_seven, third_session};
+use bar_samples::sessions::{ID, session, third_session};
 use bar_samples::signed::{scheme_of, signed};
 use bar_seal::LmsScheme;
-use casters::{Sent, caster_by, caster_of, count, counts, start, tell, ticks};
+use casters::{Sent, caster_of, counts, tell, ticks};
 use std::alloc::{AllocError, Global};
 use std::process::Abort;
 use std::test::Fail;
@@ -20,8 +20,6 @@ fn front(kind: u8) -> [u8; 12] {
 
 const MANIFEST: u8 = 1;
 
-const BLOCK: u8 = 2;
-
 const REQUEST: u8 = 3;
 
 const EVIDENCE: u8 = 11;
@@ -33,83 +31,74 @@ fn check_counts(rt: &impl Abort, sends: &[Sent], kind: u8, len: usize, expected:
     assert_eq!(rt; counts(sends, &front(kind), len), expected);
 }
 
-/// Checks how many datagrams each of the next ticks sends.
+/// Checks how many datagrams the next ticks send, so many of which are taken together.
 fn check_ticks(
     rt: &impl Abort,
     alloc: Global,
     caster: &mut Caster<SessionScheme>,
-    lens: &[usize],
+    parts: &[(u8, usize)],
 ) -> Result<(), AllocError> {
-    for len in lens {
-        assert_eq!(rt; ticks(rt, alloc, caster, 1)?.len(), *len);
+    for (count, len) in parts {
+        assert_eq!(rt; ticks(rt, alloc, caster, *count)?.len(), *len);
     }
+    assert!(rt; caster.over());
     Ok(())
 }
 
-/// Round 1 has a MANIFEST of two digests, and each of its two blocks goes to one peer twice. The other rounds have a MANIFEST of none.
+/// Checks the same of a broadcaster of two updates, up to its last tick.
 fn check_stream(
     rt: &impl Abort,
     alloc: Global,
-    caster: &mut Caster<SessionScheme>,
-) -> Result<(), AllocError> {
-    let sends = ticks(rt, alloc, caster, 8)?;
-    check_counts(rt, &sends, MANIFEST, 1_537, [2, 2]);
-    assert_eq!(rt; count(&sends, &front(BLOCK), 1_045), 4);
-    assert_eq!(rt; sends.len(), 8);
-    let sends = ticks(rt, alloc, caster, 112)?;
-    check_counts(rt, &sends, MANIFEST, 1_473, [18, 18]);
-    assert_eq!(rt; sends.len(), 36);
-    assert!(rt; caster.over());
-    Ok(())
+    session: &str,
+    parts: &[(u8, usize)],
+) -> Result<(), Fail> {
+    let mut caster = caster_of(rt, alloc, session, 1_023)?;
+    Ok(check_ticks(rt, alloc, &mut caster, parts)?)
 }
 
-#[test]
-fn a_stream_goes_out_in_its_rounds(rt: HostRuntime) -> Result<(), Fail> {
-    let alloc = rt.alloc();
-    let mut caster = caster_of(&rt, alloc, session(), 1_023)?;
-    Ok(check_stream(&rt, alloc, &mut caster)?)
-}
+/// The slots of two rounds, and all that follow. Round 1 has a MANIFEST, and each of its two blocks goes to one peer twice; the other rounds
+/// have a MANIFEST alone.
+const SLOTS: [(u8, usize); 10] = [
+    (1, 2),
+    (1, 2),
+    (2, 0),
+    (1, 2),
+    (1, 2),
+    (2, 0),
+    (1, 2),
+    (3, 0),
+    (1, 2),
+    (107, 32),
+];
 
 #[test]
 fn manifests_and_blocks_have_their_slots(rt: HostRuntime) -> Result<(), Fail> {
-    let alloc = rt.alloc();
-    let mut caster = caster_of(&rt, alloc, session(), 1_023)?;
-    Ok(check_ticks(&rt, alloc, &mut caster, &[2, 2, 0, 0, 2, 2, 0, 0])?)
+    check_stream(&rt, rt.alloc(), session(), &SLOTS)
 }
 
-/// Checks that the same datagrams go to the same peers.
-fn check_same(rt: &impl Abort, one: &[Sent], other: &[Sent]) {
-    assert_eq!(rt; one.len(), other.len());
-    for (first, second) in one.iter().zip(other) {
-        assert_eq!(rt; first.to, second.to);
-        assert_eq!(rt; first.bytes.as_slice(), second.bytes.as_slice());
-    }
-}
+/// The same in version 3, in which the MANIFEST of each round goes out once more in slot 2 of the round after it; that of round 20 does in tick
+/// 163, and then nothing.
+const SLOTS_OF_3: [(u8, usize); 15] = [
+    (1, 2),
+    (1, 2),
+    (2, 0),
+    (1, 2),
+    (1, 2),
+    (2, 0),
+    (1, 2),
+    (1, 0),
+    (1, 2),
+    (1, 0),
+    (1, 2),
+    (3, 0),
+    (146, 108),
+    (1, 2),
+    (37, 0),
+];
 
-/// Tick 11, which is slot 2 of round 2, sends what tick 1 sent.
-fn check_second_round(
-    rt: &impl Abort,
-    alloc: Global,
-    caster: &mut Caster<SessionScheme>,
-) -> Result<(), AllocError> {
-    let first = ticks(rt, alloc, caster, 1)?;
-    check_ticks(rt, alloc, caster, &[2, 0, 0, 2, 2, 0, 0, 2, 0])?;
-    let again = ticks(rt, alloc, caster, 1)?;
-    check_same(rt, &first, &again);
-    check_ticks(rt, alloc, caster, &[0, 2, 0, 0, 0])
-}
-
-/// In version 3 the MANIFEST of each round goes out once more in the round after it, that of round 20 in tick 163, and then nothing.
 #[test]
 fn a_manifest_is_said_again_in_the_round_after_it(rt: HostRuntime) -> Result<(), Fail> {
-    let alloc = rt.alloc();
-    let mut caster = caster_of(&rt, alloc, third_session(), 1_023)?;
-    check_second_round(&rt, alloc, &mut caster)?;
-    assert_eq!(rt; ticks(&rt, alloc, &mut caster, 146)?.len(), 108);
-    check_ticks(&rt, alloc, &mut caster, &[2])?;
-    assert_eq!(rt; ticks(&rt, alloc, &mut caster, 37)?.len(), 0);
-    assert!(rt; caster.over());
-    Ok(())
+    check_stream(&rt, rt.alloc(), third_session(), &SLOTS_OF_3)
 }
 
 /// A REQUEST of round 6 from peer 1 to peer 2, with a commitment of 32 equal bytes, which signs a seed of zeros.
@@ -184,56 +173,4 @@ fn evidence_of_round_6_is_announced_in_round_7(rt: HostRuntime) -> Result<(), Fa
     let evidence = evidence_of_two(alloc)?;
     let mut caster = caster_of(&rt, alloc, session(), 0)?;
     Ok(check_evidence(&rt, alloc, &mut caster, &evidence)?)
-}
-
-/// What a start answers to a stream of so many bytes, where it refuses it.
-fn refusal(alloc: Global, len: usize) -> Result<Option<CasterFault>, Fail> {
-    Ok(start(alloc, long_session(), len)?.err())
-}
-
-#[test]
-fn a_longer_stream_is_refused(rt: HostRuntime) -> Result<(), Fail> {
-    let alloc = rt.alloc();
-    let (have, room) = (1_635_201, 1_635_200);
-    assert_eq!(rt; refusal(alloc, 1_635_200)?, None);
-    assert_eq!(rt;
-        refusal(alloc, 1_635_201)?,
-        Some(CasterFault::TooLong { have, room })
-    );
-    Ok(())
-}
-
-/// The receivers of a block of round 1, in order, each with the first three bytes of the block and its last.
-fn receivers(alloc: Global, sends: &[Sent], index: u8) -> Result<Vec<(u16, [u8; 4])>, AllocError> {
-    let mut found = Vec::new(alloc);
-    for sent in sends {
-        if let [.., place, one, two, three] = sent.bytes.get(..24).unwrap_or(b"")
-            && *place == index
-            && sent.bytes.len() == 1_045
-        {
-            let last = sent.bytes.last().copied().unwrap_or(0);
-            found.push((sent.to, [*one, *two, *three, last]))?;
-        }
-    }
-    Ok(found)
-}
-
-/// The order of the peers by their ranks comes from Python's hashlib: 6, 2, 5 first for one block, and 3, 5, 4 for the other.
-#[test]
-fn blocks_go_to_the_least_ranks(rt: HostRuntime) -> Result<(), Fail> {
-    let alloc = rt.alloc();
-    let mut secret = [0; 32];
-    for i in 0..32u8 {
-        secret[usize::from(i)] = i;
-    }
-    let mut caster = caster_by(&rt, alloc, session_of_seven(), &secret, 1_023)?;
-    let sends = ticks(&rt, alloc, &mut caster, 2)?;
-    for (index, peers, ends) in [(0, [2, 5, 6], [3, 254, 7, 7]), (1, [3, 4, 5], [0, 1, 7, 0])] {
-        let expected = peers.map(|peer| (peer, ends));
-        assert_eq!(rt;
-            receivers(alloc, &sends, index)?.as_slice(),
-            expected.as_slice()
-        );
-    }
-    Ok(())
 }

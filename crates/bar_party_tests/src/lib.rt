@@ -6,10 +6,6 @@
 #[cfg(test)]
 mod caster_tests;
 #[cfg(test)]
-mod debt_tests;
-#[cfg(test)]
-mod hostile_tests;
-#[cfg(test)]
 mod ledger_tests;
 #[cfg(test)]
 mod peer_tests;

@@ -1,4 +1,4 @@
-//! Worlds: all parties of a session together, over moves.
+//! A world: all parties of a session together, over moves.
 ghost use Rattle.bar_wire.specs.Limits.{largest_content};
 ghost use Rattle.bar_world.specs.Kept.{IsReady};
 ghost use Rattle.bar_world.specs.Made.{AreNumbers, session_by};
@@ -48,44 +48,7 @@ const THREE: [Secrets; 3] = [
     },
 ];
 
-/// What the broadcaster and five peers hold.
-const SIX: [Secrets; 6] = [
-    Secrets {
-        id: ID,
-        party: 0,
-        secret: [1; 32],
-    },
-    Secrets {
-        id: ID,
-        party: 1,
-        secret: [2; 32],
-    },
-    Secrets {
-        id: ID,
-        party: 2,
-        secret: [3; 32],
-    },
-    Secrets {
-        id: ID,
-        party: 3,
-        secret: [4; 32],
-    },
-    Secrets {
-        id: ID,
-        party: 4,
-        secret: [5; 32],
-    },
-    Secrets {
-        id: ID,
-        party: 5,
-        secret: [6; 32],
-    },
-];
-
 const STREAM_LEN: usize = 4000;
-
-/// A stream of 70 updates, which a session of version 2 sends in one round.
-const LONG_STREAM_LEN: usize = 71_540;
 
 /// The world of a session of these numbers, whose parties hold these secrets and whose stream is one byte so many times.
 fn world_of(
@@ -123,47 +86,12 @@ fn two_peers(alloc: Global) -> Result<World, AllocError>
     world_of(alloc, shape, NUMBERS, &THREE, STREAM_LEN)
 }
 
-/// The world of a session of version 2 of two peers, with up to 128 updates a round.
-fn two_wide_peers(alloc: Global) -> Result<World, AllocError>
-    ensures { IfOk result (λ world. IsReady world) }
-{
-    let shape = Shape {
-        version: 2,
-        id: ID,
-        peers: 2,
-        rounds: 10,
-        life: 4,
-        per_round: 128,
-        sig_len: 2508,
-    };
-    world_of(alloc, shape, NUMBERS, &THREE, LONG_STREAM_LEN)
-}
-
-/// The world of a session of five peers.
-fn five_peers(alloc: Global) -> Result<World, AllocError>
-    ensures { IfOk result (λ world. IsReady world) }
-{
-    let shape = Shape {
-        version: 1,
-        id: ID,
-        peers: 5,
-        rounds: 10,
-        life: 4,
-        per_round: 8,
-        sig_len: 2508,
-    };
-    world_of(alloc, shape, NUMBERS, &SIX, STREAM_LEN)
-}
-
-/// The broadcaster and each of so many peers ticks.
-fn tick_all(alloc: Global, world: &mut World, peers: u16) -> Result<(), AllocError>
+/// The broadcaster and both peers tick.
+fn tick_all(alloc: Global, world: &mut World) -> Result<(), AllocError>
     requires { IsReady world.old }
     ensures { OnOk result (IsReady world.new) }
 {
-    let mut moves = Vec::new(alloc);
-    for party in 0..=peers {
-        moves.push(Move::TickOf(party))?;
-    }
+    let moves = vec![in alloc; Move::TickOf(0), Move::TickOf(1), Move::TickOf(2)]?;
     run_world(world, &moves)
 }
 
@@ -194,21 +122,10 @@ fn play(alloc: Global, world: &mut World, ticks: u32) -> Result<u64, AllocError>
 {
     let mut sent = 0;
     for _ in 0..ticks {
-        tick_all(alloc, world, 2)?;
+        tick_all(alloc, world)?;
         sent = deliver_all(alloc, world, sent)?;
     }
     Ok(sent)
-}
-
-/// So many ticks of a broadcaster and five peers, with nothing delivered.
-fn tick_alone(alloc: Global, world: &mut World, ticks: u32) -> Result<(), AllocError>
-    requires { IsReady world.old }
-    ensures { OnOk result (IsReady world.new) }
-{
-    for _ in 0..ticks {
-        tick_all(alloc, world, 5)?;
-    }
-    Ok(())
 }
 
 /// Moves that change nothing, where the pool has so many datagrams: past the pool, of no party, and of bytes that aren't a datagram.
@@ -244,33 +161,6 @@ fn nobody_is_evicted_where_all_is_delivered(rt: HostRuntime) -> Result<(), Fail>
     assert!(rt; world.evicted().is_empty());
     for party in 1..=2 {
         assert_eq!(rt; played_len(&rt, &world, party), STREAM_LEN);
-    }
-    Ok(())
-}
-
-// A round of 70 updates. The broadcaster sends each to one peer, so both have more than half by their trades.
-#[test]
-fn more_than_64_updates_a_round_are_traded_in_version_2(rt: HostRuntime) -> Result<(), Fail> {
-    let alloc = rt.alloc();
-    let mut world = two_wide_peers(alloc)?;
-    play(alloc, &mut world, 120)?;
-    assert!(rt; world.evicted().is_empty());
-    for party in 1..=2 {
-        let len = played_len(&rt, &world, party);
-        assert!(rt; len > LONG_STREAM_LEN / 2);
-    }
-    Ok(())
-}
-
-#[test]
-fn nothing_is_played_where_nothing_is_delivered(rt: HostRuntime) -> Result<(), Fail> {
-    let alloc = rt.alloc();
-    let mut world = five_peers(alloc)?;
-    tick_alone(alloc, &mut world, 120)?;
-    assert!(rt; world.pool(0).is_some());
-    assert!(rt; world.evicted().is_empty());
-    for party in 0..=5 {
-        assert_eq!(rt; played_len(&rt, &world, party), 0);
     }
     Ok(())
 }

@@ -1,29 +1,39 @@
--- What an input does to what a peer remembers of datagrams that were checked and of the peers' seeds.
-use Rattle.std.specs.Prelude.{◌≡◌, ℕ, ◌⊎◌, ◌&&◌, ◌≤◌, Bool, true, false, not, List, [], Option, Some, None, is_some, nat_le, slice_get, option_and_then}
+-- What guards a peer, and what a datagram changes of it: what is remembered of datagrams that were checked, and what is kept of the peers' seeds.
+use Rattle.std.specs.Prelude.{◌≡◌, ℕ, ◌⊎◌, ◌+◌, ◌*◌, ◌&&◌, ◌≤◌, Bool, true, false, not, List, [], Option, Some, None, is_some, nat_le, slice_get, option_and_then}
 use Rattle.std.specs.Option.{option_map_or}
-use Rattle.bar_seeds.specs.Checkpoints.{kept_round}
+use Rattle.bar_seeds.specs.Checkpoints.{kept_round, MovesOn}
 use Rattle.bar_seeds.specs.declared.checkpoints.Checkpoints.{Checkpoints}
 use Rattle.bar_wire.specs.Bodies.{choice_in, choice_round}
 use Rattle.bar_wire.specs.Datagram.{Datagram, is_signed, round_of}
 use Rattle.bar_wire.specs.Inputs.{Input}
 use Rattle.bar_wire.specs.Inputs as event
+use Rattle.bar_session.specs.Points.{AreSeeds}
 use Rattle.bar_session.specs.SessionData.{SessionData}
 use Rattle.bar_session.specs.Time.{last_tick}
 use Rattle.bar_rules.specs.Member.{Member, key_of_party}
 use Rattle.bar_rules.specs.Values.{datagram_of}
+use Rattle.bar_rules.specs.Verifiers.{IsVerifierOf, NamesLeavesOf}
 use Rattle.bar_rules.specs.Peer.Admission.{is_admitted}
 use Rattle.bar_rules.specs.Peer.Knowledge.{Knowledge, known}
 use Rattle.bar_rules.specs.Peer.Log.{Log}
 use Rattle.bar_rules.specs.Peer.Rules.{IsObedient}
 use Rattle.bar_rules.specs.Peer.Run.{log_after}
 use Rattle.bar_seal.specs.Memo.{Pair, Memo, has_pair, with_pair}
+use Rattle.bar_seal.specs.declared.scheme.Verifier.{Ghosts}
+use Rattle.bar_peer.specs.declared.arrival.Arrival.{Arrival}
+use Rattle.bar_peer.specs.declared.credentials.Credentials.{Credentials}
+use Rattle.bar_peer.specs.declared.guard.Guard.{Guard}
 use Rattle.bar_peer.specs.declared.memory.Memory.{Memory}
+use Rattle.bar_peer.specs.Arrivals.{datagram_by}
 use Rattle.bar_peer.specs.Memory.{Represents, member_of}
 use Rattle.bar_peer.specs.StandsFor.{Inputs, StandsFor}
 
--- The memo is as it was, or as after one check of this pair.
-abbrev pub IsCheckedOnce : Pair → Memo → Memo → Type 0
-IsCheckedOnce p old new = (new ≡ old) ⊎ (new ≡ with_pair p old)
+-- The guard of a peer of a session: it accepts signatures and names leaves as the session's scheme does, and what it keeps of each peer is
+-- that peer's seed.
+pub record IsGuardOf {V : Type 0} {g : Ghosts V} (s : SessionData) (guard : Guard V g) : Type 0 where
+  pub verifies : IsVerifierOf s (g.is_accepted guard.checker.verifier)
+  pub names : NamesLeavesOf s (g.leaf_named guard.checker.verifier) (g.signature_len guard.checker.verifier)
+  pub seeds : AreSeeds s guard.points
 
 -- ---- the datagram that an input is, where it is one and is read
 
@@ -60,19 +70,72 @@ is_signed_in s input = option_map_or (λ d. is_signed d.message.body) (datagram_
 abbrev pub admits : Member → Knowledge → Input → Bool
 admits me k input = option_map_or (is_admitted me k) (datagram_in me.session input) false
 
--- ---- what is remembered of what is admitted
+-- ---- what a datagram shows a guard
 
--- a signed datagram is checked
-abbrev pub AdmitsChecked : Memory → Input → Memo → Memo → Type 0
-AdmitsChecked m input old new =
-    (log : Log) → IsObedient (member_of m.who) log → Represents log m → admits (member_of m.who) (known (member_of m.who) log) input ≡ true
-    → is_signed_in m.who.session input ≡ true → new ≡ with_pair (checked_in m.who.session input) old
+-- What is checked, under the key that the session has of the sender; the sender; the round of the seed that a REQUEST or a QUERY shows, else
+-- 0; and whether it bears a signature.
+pub record Shown : Type 0 where
+  pub pair : Pair
+  pub sender : ℕ
+  pub round : ℕ
+  pub is_signed : Bool
 
--- of the sender of a REQUEST or a QUERY the seed of its round or of a later one is kept
-abbrev pub AdmitsKept : Memory → Input → Checkpoints → Type 0
-AdmitsKept m input points =
-    (log : Log) → IsObedient (member_of m.who) log → Represents log m → admits (member_of m.who) (known (member_of m.who) log) input ≡ true
-    → choice_round_in m.who.session input ≤ kept_round points (sender_in m.who.session input)
+-- what bytes show that spell a datagram, or none
+abbrev pub shown : SessionData → List ℕ → Option Datagram → Shown
+shown s bytes o = record {
+  pair = (key_of_party s (option_map_or (λ d. d.message.from) o 0), bytes);
+  sender = option_map_or (λ d. d.message.from) o 0;
+  round = option_map_or (λ d. choice_round d.message.body) o 0;
+  is_signed = option_map_or (λ d. is_signed d.message.body) o false;
+}
+
+abbrev pub shown_by : Credentials → Arrival → Shown
+shown_by who a = shown who.session a.bytes.now (Some (datagram_by who a))
+
+abbrev pub shown_in : SessionData → Input → Shown
+shown_in s input = shown s (bytes_in input) (datagram_in s input)
+
+-- ---- what it changes
+
+-- The memo is as it was, or as after one check of this pair.
+abbrev pub IsCheckedOnce : Pair → Memo → Memo → Type 0
+IsCheckedOnce p old new = (new ≡ old) ⊎ (new ≡ with_pair p old)
+
+-- What is kept of seeds moves on for the sender alone, at most to the round of the seed that is shown, a step for each round of the way.
+pub record FollowsSeed (s : SessionData) (d : Shown) (old new : Checkpoints) (before after : ℕ) : Type 0 where
+  pub seeds : AreSeeds s new
+  pub moves : MovesOn d.sender old new
+  pub most : after ≤ before + d.round
+
+-- No signature is verified.
+pub record ChecksSeed {V : Type 0} {g : Ghosts V} (s : SessionData) (d : Shown) (old new : Guard V g) (before after : ℕ) : Type 0 where
+  pub checker : new.checker ≡ old.checker
+  pub follows : FollowsSeed s d old.points new.points before after
+
+-- It stays a guard with the same verifier. The memo is as it was, or as after one check; what is kept of seeds moves on for the sender alone.
+-- It takes at most the steps of one verification, none where the datagram is remembered, and so many times the way along the seeds.
+pub record Checks {V : Type 0} {g : Ghosts V} (s : SessionData) (d : Shown) (ways : ℕ) (old new : Guard V g) (before after : ℕ) : Type 0 where
+  pub guards : IsGuardOf s new
+  pub verifier : new.checker.verifier ≡ old.checker.verifier
+  pub memo : IsCheckedOnce d.pair old.checker.memo new.checker.memo
+  pub moves : MovesOn d.sender old.points new.points
+  pub most : after ≤ before + (g.most_steps old.checker.verifier + ways * d.round)
+  pub remembered : has_pair d.pair old.checker.memo.pairs ≡ true → after ≤ before + ways * d.round
+
+-- What is remembered of an admitted datagram: it was checked, if it is signed, and of the sender of a REQUEST or a QUERY the seed of its
+-- round or of a later one is kept.
+pub record Remembers {V : Type 0} {g : Ghosts V} (d : Shown) (old new : Guard V g) : Type 0 where
+  pub first : d.is_signed ≡ true → new.checker.memo ≡ with_pair d.pair old.checker.memo
+  pub reached : d.round ≤ kept_round new.points d.sender
+
+-- so it is where a peer admits the datagram that bytes spell
+abbrev pub RemembersAdmitted : {V : Type 0} {g : Ghosts V} → Memory → List ℕ → Option Datagram → Guard V g → Guard V g → Type 0
+RemembersAdmitted m bytes o old new =
+    (log : Log) → IsObedient (member_of m.who) log → Represents log m
+    → option_map_or (is_admitted (member_of m.who) (known (member_of m.who) log)) o false ≡ true
+    → Remembers (shown m.who.session bytes o) old new
+
+-- ---- at an input
 
 -- whether a peer with this memory that took these inputs admits the next one, which comes before its last tick
 abbrev pub admits_next : Memory → Inputs → Input → Bool

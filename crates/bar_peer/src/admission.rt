@@ -1,11 +1,11 @@
 //! Which datagrams a peer admits.
 ghost use Rattle.std.specs.Prelude.{◌≡◌, ◌+◌, ◌≤◌, ◌&&◌, ℕ, List, true, if◌then◌else◌};
-ghost use Rattle.bar_seeds.specs.Checkpoints.{kept_round, MovesOn};
+ghost use Rattle.bar_seeds.specs.Checkpoints.{kept_round};
 ghost use Rattle.bar_session.specs.Points.{AreSeeds};
 ghost use Rattle.bar_wire.specs.Bodies.{choice_round};
 ghost use Rattle.bar_seal.specs.Memo.{has_pair, with_pair};
 ghost use Rattle.bar_wire.specs.Datagram.{is_signed};
-ghost use Rattle.bar_peer.specs.Checking.{IsCheckedOnce};
+ghost use Rattle.bar_peer.specs.Checking.{Checks, FollowsSeed, IsGuardOf, Remembers, shown_by};
 ghost use Rattle.bar_wire.specs.Bodies.{is_peer_kind};
 ghost use Rattle.bar_wire.specs.Views.{datagram, plain, IsView};
 ghost use Rattle.bar_session.specs.Time.{round_after};
@@ -22,6 +22,7 @@ ghost use Rattle.bar_peer.specs.Repeats.{is_of_exchange};
 ghost use Rattle.bar_peer.specs.Trying.{may_admit, may_show};
 
 use crate::arrival::Arrival;
+use crate::guard::Guard;
 use crate::memory::Memory;
 use crate::weighed::Weighed;
 use bar_bytes::Steps;
@@ -53,7 +54,7 @@ impl Memory {
     }
 
     /// The row of a datagram's kind. It counts the steps along the seeds.
-    #[tactic(auto, using(bar_seeds::proofs::CheckpointLemmas::moves_none))]
+    #[tactic(auto, using(crate::proofs::Stepping::Guards::follows_none))]
     fn meets_row<L: StepLedger>(
         &self,
         arrival: &Arrival<'_>,
@@ -64,9 +65,7 @@ impl Memory {
         ensures row { (k : Knowledge) (bytes : List ℕ) → IsMemoryOf (member_of self.now.who) k self.now
             → AreSpelled (member_of self.now.who) k → IsView self.now.who.session.shape bytes arrival.now.view
             → result ≡ is_row_met (member_of self.now.who) k arrival.now.view.from arrival.now.view.to (plain arrival.now.view.body) }
-        ensures cost { steps.new ≤ steps.old + choice_round (plain arrival.now.view.body) }
-        ensures kept { AreSeeds self.now.who.session points.new }
-        ensures moves { MovesOn arrival.now.view.from points.old points.new }
+        ensures follows { FollowsSeed self.now.who.session (shown_by self.now.who arrival.now) points.old points.new steps.old steps.new }
         ensures reached { result ≡ true → choice_round (plain arrival.now.view.body) ≤ kept_round points.new arrival.now.view.from }
     {
         let round = self.round();
@@ -83,7 +82,7 @@ impl Memory {
     }
 
     /// The row of a datagram of an exchange.
-    #[tactic(auto, using(bar_seeds::proofs::CheckpointLemmas::moves_none))]
+    #[tactic(auto, using(crate::proofs::Stepping::Guards::follows_none))]
     fn meets_row_of_exchange<L: StepLedger>(
         &self,
         arrival: &Arrival<'_>,
@@ -95,22 +94,18 @@ impl Memory {
             → AreSpelled (member_of self.now.who) k → IsView self.now.who.session.shape bytes arrival.now.view
             → result ≡ (is_of_exchange (plain arrival.now.view.body)
             && is_row_met (member_of self.now.who) k arrival.now.view.from arrival.now.view.to (plain arrival.now.view.body)) }
-        ensures cost { steps.new ≤ steps.old + choice_round (plain arrival.now.view.body) }
-        ensures kept { AreSeeds self.now.who.session points.new }
-        ensures moves { MovesOn arrival.now.view.from points.old points.new }
+        ensures follows { FollowsSeed self.now.who.session (shown_by self.now.who arrival.now) points.old points.new steps.old steps.new }
         ensures reached { result ≡ true → choice_round (plain arrival.now.view.body) ≤ kept_round points.new arrival.now.view.from }
     {
         let Some(place) = arrival.place else {
             return false;
         };
         let session = &self.who.session;
-        let round = self.round();
         match place.x.kind {
             XKind::Balanced => bar_balanced::admit(
                 session,
                 &self.store,
                 &self.ledger,
-                round,
                 &arrival.view,
                 place,
                 points,
@@ -120,7 +115,6 @@ impl Memory {
                 session,
                 &self.store,
                 &self.ledger,
-                round,
                 &arrival.view,
                 place,
                 points,
@@ -159,7 +153,7 @@ impl Memory {
     }
 
     /// Whether a datagram is admitted, if its signature is accepted. It counts the steps along the seeds.
-    #[tactic(auto, using(bar_seeds::proofs::CheckpointLemmas::moves_none))]
+    #[tactic(auto, using(crate::proofs::Stepping::Guards::follows_none))]
     pub fn may_admit<L: StepLedger>(
         &self,
         arrival: &Arrival<'_>,
@@ -170,9 +164,7 @@ impl Memory {
         requires view { IsReadBy self.now.who arrival.now }
         ensures exact { (k : Knowledge) → IsMemoryOf (member_of self.now.who) k self.now → AreSpelled (member_of self.now.who) k
             → result ≡ may_admit (member_of self.now.who) k (datagram_by self.now.who arrival.now) }
-        ensures cost { steps.new ≤ steps.old + choice_round (plain arrival.now.view.body) }
-        ensures kept { AreSeeds self.now.who.session points.new }
-        ensures moves { MovesOn arrival.now.view.from points.old points.new }
+        ensures follows { FollowsSeed self.now.who.session (shown_by self.now.who arrival.now) points.old points.new steps.old steps.new }
         ensures reached { result ≡ true → choice_round (plain arrival.now.view.body) ≤ kept_round points.new arrival.now.view.from }
     {
         if !self.is_receiver(&arrival.view) {
@@ -218,43 +210,31 @@ impl Memory {
     /// depends on it. It counts each hash.
     pub fn weigh<V: Verifier, L: StepLedger>(
         &self,
-        checker: &mut Checker<V>,
-        points: &mut Checkpoints,
+        guard: &mut Guard<V>,
         arrival: &Arrival<'_>,
         steps: &mut Steps<L>,
     ) -> Weighed
         requires view { IsReadBy self.now.who arrival.now }
-        requires verifier { IsVerifierOf self.now.who.session (V.is_accepted checker.old.verifier) }
-        requires size { V.signature_len checker.old.verifier ≡ self.now.who.session.shape.sig_len }
-        requires points { AreSeeds self.now.who.session points.old }
+        requires guard { IsGuardOf self.now.who.session guard.old }
         ensures admitted { (k : Knowledge) → IsMemoryOf (member_of self.now.who) k self.now → IsSound (member_of self.now.who) k
             → result.is_admitted ≡ is_admitted (member_of self.now.who) k (datagram_by self.now.who arrival.now) }
         ensures tried { (k : Knowledge) → IsMemoryOf (member_of self.now.who) k self.now → IsSound (member_of self.now.who) k
             → result.is_tried ≡ is_tried (member_of self.now.who) k (datagram_by self.now.who arrival.now) }
         ensures kind { result.is_tried ≡ true → is_peer_kind (plain arrival.now.view.body) ≡ true }
-        ensures most { steps.new ≤ steps.old + (choice_round (plain arrival.now.view.body) + V.most_steps checker.old.verifier) }
-        ensures remembered { has_pair (checked_by self.now.who arrival.now) checker.old.memo.pairs ≡ true
-            → steps.new ≤ steps.old + choice_round (plain arrival.now.view.body) }
-        ensures kept { AreSeeds self.now.who.session points.new }
-        ensures moves { MovesOn arrival.now.view.from points.old points.new }
-        ensures reached { result.is_admitted ≡ true
-            → choice_round (plain arrival.now.view.body) ≤ kept_round points.new arrival.now.view.from }
-        ensures first { result.is_admitted ≡ true → is_signed (plain arrival.now.view.body) ≡ true
-            → checker.new.memo ≡ with_pair (checked_by self.now.who arrival.now) checker.old.memo }
-        ensures memo { IsCheckedOnce (checked_by self.now.who arrival.now) checker.old.memo checker.new.memo }
-        ensures verifier { checker.new.verifier ≡ checker.old.verifier }
+        ensures checks { Checks self.now.who.session (shown_by self.now.who arrival.now) 1 guard.old guard.new steps.old steps.new }
+        ensures remembers { result.is_admitted ≡ true → Remembers (shown_by self.now.who arrival.now) guard.old guard.new }
     {
         let none = Weighed {
             is_admitted: false,
             is_tried: false,
         };
-        let is_admitted = self.may_admit(arrival, points, steps);
+        let is_admitted = self.may_admit(arrival, &mut guard.points, steps);
         let is_tried = self.may_show(arrival);
         let is_asked = is_admitted || is_tried;
         if !is_asked {
             return none;
         }
-        if !self.is_valid(checker, arrival, steps) {
+        if !self.is_valid(&mut guard.checker, arrival, steps) {
             return none;
         }
         Weighed {

@@ -27,7 +27,6 @@ pub fn says_to(memory: &Memory, arrival: &Arrival<'_>, is_new: bool) -> Says
         XKind::Balanced => bar_balanced::replies(
             &memory.who.session,
             &memory.ledger,
-            round,
             &arrival.view,
             place,
             is_new,

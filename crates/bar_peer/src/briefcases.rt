@@ -25,7 +25,7 @@ use crate::arrival::Arrival;
 use crate::memory::Memory;
 use bar_case::laws::good_openings_have_their_digests;
 use bar_case::{Opening, unseal};
-use bar_exchange::{heard_from, is_within};
+use bar_exchange::is_within;
 use bar_store::Store;
 use bar_terms::{Item, Promise, can_promise, junk_count, promise, update_count};
 use bar_window::{BLOCK_SIZE, Exchange, MOST_ITEMS};
@@ -67,7 +67,7 @@ impl Memory {
         ensures windows { IfSome result (λ v. AreWindows self.now.who.session.shape v.body) }
         ensures form { IfSome result (λ v. HasForm self.now.who.session.shape (plain v.body)) }
     {
-        let bytes = heard_from(&self.ledger, place.x, kind, place.role)?;
+        let bytes = self.ledger.heard_from(place.x, kind, place.role)?;
         decode(bytes, &self.who.session.shape()).ok()
     }
 

@@ -1,229 +1,155 @@
 //! The evidence that a datagram completes.
-ghost use Rattle.std.specs.Prelude.{◌≡◌, ◌+◌, ◌≤◌, ◌∷◌, ℕ, List, [], Some, true, option_map};
-ghost use Rattle.std.specs.Option.{option_copied};
-ghost use Rattle.bar_terms.specs.Table.{digests_of};
-ghost use Rattle.bar_wire.specs.Bodies.{is_peer_kind};
-ghost use Rattle.bar_wire.specs.Datagram.{place_of};
+ghost use Rattle.std.specs.Prelude.{◌≡◌, ◌≤◌, Some, option_map};
 ghost use Rattle.bar_wire.specs.Evidence.{datagrams_of};
-ghost use Rattle.bar_wire.specs.Views.{datagram, plain, IsView};
-ghost use Rattle.bar_seeds.specs.Checkpoints.{MovesOn};
-ghost use Rattle.bar_session.specs.Points.{AreSeeds};
-ghost use Rattle.bar_wire.specs.Bodies.{choice_round};
-ghost use Rattle.bar_judge.specs.Parts.{IsRead};
-ghost use Rattle.bar_rules.specs.Values.{is_signed_by};
-ghost use Rattle.bar_rules.specs.Verifiers.{NamesLeavesOf};
-ghost use Rattle.bar_rules.specs.Peer.Agreement.{IsRecent};
-ghost use Rattle.bar_rules.specs.Peer.Evidence.{is_tried, new_evidence, pair_with, pairs_elsewhere, pairs_in, pairs_of};
+ghost use Rattle.bar_wire.specs.Sides.{place_in};
+ghost use Rattle.bar_rules.specs.Peer.Evidence.{new_evidence, pair_with, pairs_elsewhere, pairs_in, pairs_of};
 ghost use Rattle.bar_rules.specs.Peer.Knowledge.{Knowledge, table_of};
-ghost use Rattle.bar_laws.specs.Soundness.{IsSound};
-ghost use Rattle.bar_ledger.specs.Recalls.{Recalls};
-ghost use Rattle.bar_peer.specs.Arrivals.{IsReadBy, datagram_by};
-ghost use Rattle.bar_peer.specs.Memory.{member_of};
+ghost use Rattle.bar_peer.specs.Checking.{ChecksSeed, shown_by};
+ghost use Rattle.bar_peer.specs.Searching.{GoesBy, MaySearch, pair_behind, searched, searcher};
 
-use crate::arrival::Arrival;
-use crate::credentials::Credentials;
+use crate::guard::Guard;
+use crate::search::Search;
 use bar_bytes::Steps;
-use bar_exchange::{heard_from, naming_elsewhere};
+use bar_exchange::naming_elsewhere;
 use bar_judge::found;
 use bar_judge::laws::verdicts_are_what_is_found;
 use bar_laws::evidence::others_are_tried_by_leaves;
-use bar_ledger::{Ledger, opening_kind};
+use bar_ledger::opening_kind;
 use bar_seal::Verifier;
-use bar_seeds::Checkpoints;
-use bar_terms::Table;
-use bar_wire::{EvidenceView, Kind, Place, View, decode, is_peer_kind, the_datagram_is_spelled};
+use bar_wire::{EvidenceView, Kind, Place, decode, is_peer_kind, the_datagram_is_spelled};
 use std::sync::ledger::Ledger as StepLedger;
 
-/// The datagram of a kind that was heard from a side of an exchange, where it and one of the same side after it show a fault of their
-/// sender. It counts the steps along the seeds.
-fn pair_with<'a, V: Verifier, L: StepLedger>(
-    who: &Credentials,
-    verifier: &V,
-    table: &Table,
-    ledger: &'a Ledger,
-    kind: Kind,
-    place: Place,
-    view: &View<'_>,
-    points: &mut Checkpoints,
-    steps: &mut Steps<L>,
-) -> Option<&'a [u8]>
-    requires view { IsRead who.now.session.shape view.now }
-    requires signed { is_peer_kind (plain view.now.body) ≡ true }
-    requires names { NamesLeavesOf who.now.session (V.leaf_named verifier.now) (V.signature_len verifier.now) }
-    requires points { AreSeeds who.now.session points.old }
-    ensures exact { (k : Knowledge) (bytes : List ℕ) → Recalls (member_of who.now) k ledger.now → table_of k ≡ digests_of table.now.lists
-        → IsSound (member_of who.now) k → IsRecent (member_of who.now) k place.x.round → IsView who.now.session.shape bytes view.now
-        → is_signed_by who.now.session (datagram who.now.session.shape view.now) ≡ true
-        → place_of (datagram who.now.session.shape view.now).message ≡ Some (record { exchange = place.x; role = place.role })
-        → option_map (λ heard. heard ∷ bytes ∷ []) (option_copied result) ≡ pair_with who.now.session (table_of k)
-        (datagram who.now.session.shape view.now) (k.heard kind place.x place.role) }
-    ensures cost { steps.new ≤ steps.old }
-    ensures same { points.new ≡ points.old }
-{
-    verdicts_are_what_is_found();
-    the_datagram_is_spelled();
-    let heard = heard_from(ledger, place.x, kind, place.role)?;
-    let earlier = decode(heard, &who.session.shape()).ok()?;
-    if !is_peer_kind(&earlier.body) {
-        return None;
+impl<'a> Search<'a> {
+    /// The datagram of a kind that was heard at the place of this one, where the two show a fault of their sender.
+    fn pair_with<V: Verifier, L: StepLedger>(
+        &self,
+        kind: Kind,
+        place: Place,
+        guard: &mut Guard<V>,
+        steps: &mut Steps<L>,
+    ) -> Option<&'a [u8]>
+        requires place { self.now.arrival.now.place ≡ Some place }
+        requires search { MaySearch self.now guard.old }
+        ensures exact { (k : Knowledge) → GoesBy k self.now → pair_behind self.now result
+            ≡ pair_with self.now.who.now.session (table_of k) (searched self.now) (k.heard kind place.x place.role) }
+        ensures cost { steps.new ≤ steps.old }
+        ensures same { guard.new ≡ guard.old }
+    {
+        verdicts_are_what_is_found();
+        the_datagram_is_spelled();
+        let session = &self.who.session;
+        let heard = self.ledger.heard_from(place.x, kind, place.role)?;
+        let earlier = decode(heard, &session.shape()).ok()?;
+        if !is_peer_kind(&earlier.body) {
+            return None;
+        }
+        found(
+            session,
+            guard.checker.verifier(),
+            self.table,
+            &earlier,
+            Some(&self.arrival.view),
+            &mut guard.points,
+            steps,
+        )?;
+        Some(heard)
     }
-    found(
-        &who.session,
-        verifier,
-        table,
-        &earlier,
-        Some(view),
-        points,
-        steps,
-    )?;
-    Some(heard)
-}
 
-/// The first of a side's datagrams of an exchange with which this one shows a fault. It counts the steps along the seeds.
-fn earlier_of_pair<'a, V: Verifier, L: StepLedger>(
-    who: &Credentials,
-    verifier: &V,
-    table: &Table,
-    ledger: &'a Ledger,
-    place: Place,
-    view: &View<'_>,
-    points: &mut Checkpoints,
-    steps: &mut Steps<L>,
-) -> Option<&'a [u8]>
-    requires view { IsRead who.now.session.shape view.now }
-    requires signed { is_peer_kind (plain view.now.body) ≡ true }
-    requires names { NamesLeavesOf who.now.session (V.leaf_named verifier.now) (V.signature_len verifier.now) }
-    requires points { AreSeeds who.now.session points.old }
-    ensures exact { (k : Knowledge) (bytes : List ℕ) → Recalls (member_of who.now) k ledger.now → table_of k ≡ digests_of table.now.lists
-        → IsSound (member_of who.now) k → IsRecent (member_of who.now) k place.x.round → IsView who.now.session.shape bytes view.now
-        → is_signed_by who.now.session (datagram who.now.session.shape view.now) ≡ true
-        → place_of (datagram who.now.session.shape view.now).message ≡ Some (record { exchange = place.x; role = place.role })
-        → option_map (λ heard. heard ∷ bytes ∷ []) (option_copied result) ≡ pairs_in who.now.session k
-        (datagram who.now.session.shape view.now) place.x place.role }
-    ensures cost { steps.new ≤ steps.old }
-    ensures same { points.new ≡ points.old }
-{
-    let opening = opening_kind(place.x.kind, place.role);
-    if let Some(heard) = pair_with(
-        who, verifier, table, ledger, opening, place, view, points, steps,
-    ) {
-        return Some(heard);
+    /// The first datagram that was heard at the place of this one with which it shows a fault.
+    fn earlier_here<V: Verifier, L: StepLedger>(
+        &self,
+        place: Place,
+        guard: &mut Guard<V>,
+        steps: &mut Steps<L>,
+    ) -> Option<&'a [u8]>
+        requires place { self.now.arrival.now.place ≡ Some place }
+        requires search { MaySearch self.now guard.old }
+        ensures exact { (k : Knowledge) → GoesBy k self.now → pair_behind self.now result
+            ≡ pairs_in self.now.who.now.session k (searched self.now) place.x place.role }
+        ensures cost { steps.new ≤ steps.old }
+        ensures same { guard.new ≡ guard.old }
+    {
+        let opening = opening_kind(place.x.kind, place.role);
+        if let Some(heard) = self.pair_with(opening, place, guard, steps) {
+            return Some(heard);
+        }
+        if let Some(heard) = self.pair_with(Kind::Case, place, guard, steps) {
+            return Some(heard);
+        }
+        self.pair_with(Kind::Key, place, guard, steps)
     }
-    if let Some(heard) = pair_with(
-        who,
-        verifier,
-        table,
-        ledger,
-        Kind::Case,
-        place,
-        view,
-        points,
-        steps,
-    ) {
-        return Some(heard);
-    }
-    pair_with(
-        who,
-        verifier,
-        table,
-        ledger,
-        Kind::Key,
-        place,
-        view,
-        points,
-        steps,
-    )
-}
 
-/// The first datagram that was heard of another exchange with the sender and has a signature that names the leaf of this one's.
-fn earlier_elsewhere<'a, V: Verifier>(
-    who: &Credentials,
-    verifier: &V,
-    ledger: &'a Ledger,
-    place: Place,
-    view: &View<'_>,
-) -> Option<&'a [u8]>
-    requires view { IsRead who.now.session.shape view.now }
-    requires signed { is_peer_kind (plain view.now.body) ≡ true }
-    requires names { NamesLeavesOf who.now.session (V.leaf_named verifier.now) (V.signature_len verifier.now) }
-    ensures { (k : Knowledge) (bytes : List ℕ) → Recalls (member_of who.now) k ledger.now → IsSound (member_of who.now) k
-        → IsView who.now.session.shape bytes view.now → is_tried (member_of who.now) k (datagram who.now.session.shape view.now) ≡ true
-        → place_of (datagram who.now.session.shape view.now).message ≡ Some (record { exchange = place.x; role = place.role })
-        → option_map (λ heard. heard ∷ bytes ∷ []) (option_copied result) ≡ pairs_elsewhere (member_of who.now) k
-        (datagram who.now.session.shape view.now) (Some (record { exchange = place.x; role = place.role })) }
-{
-    others_are_tried_by_leaves();
-    let sig = view.sig?;
-    let leaf = verifier.leaf_in(sig);
-    naming_elsewhere(verifier, ledger, place.x, view.from, leaf)
-}
-
-/// The first datagram behind which this one shows a fault of their sender: of its own exchange, or of another one. It counts the steps
-/// along the seeds.
-fn earlier_of<'a, V: Verifier, L: StepLedger>(
-    who: &Credentials,
-    verifier: &V,
-    table: &Table,
-    ledger: &'a Ledger,
-    place: Place,
-    view: &View<'_>,
-    points: &mut Checkpoints,
-    steps: &mut Steps<L>,
-) -> Option<&'a [u8]>
-    requires view { IsRead who.now.session.shape view.now }
-    requires signed { is_peer_kind (plain view.now.body) ≡ true }
-    requires names { NamesLeavesOf who.now.session (V.leaf_named verifier.now) (V.signature_len verifier.now) }
-    requires points { AreSeeds who.now.session points.old }
-    ensures exact { (k : Knowledge) (bytes : List ℕ) → Recalls (member_of who.now) k ledger.now → table_of k ≡ digests_of table.now.lists
-        → IsSound (member_of who.now) k → IsView who.now.session.shape bytes view.now
-        → is_tried (member_of who.now) k (datagram who.now.session.shape view.now) ≡ true
-        → place_of (datagram who.now.session.shape view.now).message ≡ Some (record { exchange = place.x; role = place.role })
-        → option_map (λ heard. heard ∷ bytes ∷ []) (option_copied result) ≡ pairs_of (member_of who.now) k
-        (datagram who.now.session.shape view.now) (Some (record { exchange = place.x; role = place.role })) }
-    ensures cost { steps.new ≤ steps.old }
-    ensures same { points.new ≡ points.old }
-{
-    match earlier_of_pair(who, verifier, table, ledger, place, view, points, steps) {
-        Some(heard) => Some(heard),
-        None => earlier_elsewhere(who, verifier, ledger, place, view),
+    /// The first datagram that was heard of another exchange with the sender and has a signature that names the leaf of this one's.
+    fn earlier_elsewhere<V: Verifier>(&self, place: Place, guard: &Guard<V>) -> Option<&'a [u8]>
+        requires place { self.now.arrival.now.place ≡ Some place }
+        requires search { MaySearch self.now guard.now }
+        ensures { (k : Knowledge) → GoesBy k self.now → pair_behind self.now result
+            ≡ pairs_elsewhere (searcher self.now) k (searched self.now) (Some (place_in place)) }
+    {
+        others_are_tried_by_leaves();
+        let verifier = guard.checker.verifier();
+        let view = &self.arrival.view;
+        let sig = view.sig?;
+        let leaf = verifier.leaf_in(sig);
+        naming_elsewhere(verifier, self.ledger, place.x, view.from, leaf)
     }
-}
 
-/// The evidence that a datagram with an accepted signature completes: itself, or it behind the first that was heard of its sender with
-/// which it shows a fault, of its own exchange before the others. It counts the steps along the seeds.
-pub fn find_evidence<'a, V: Verifier, L: StepLedger>(
-    who: &Credentials,
-    verifier: &V,
-    table: &Table,
-    ledger: &'a Ledger,
-    arrival: &'a Arrival<'_>,
-    points: &mut Checkpoints,
-    steps: &mut Steps<L>,
-) -> Option<EvidenceView<'a>>
-    requires view { IsReadBy who.now arrival.now }
-    requires signed { is_peer_kind (plain arrival.now.view.body) ≡ true }
-    requires names { NamesLeavesOf who.now.session (V.leaf_named verifier.now) (V.signature_len verifier.now) }
-    requires points { AreSeeds who.now.session points.old }
-    ensures exact { (k : Knowledge) → Recalls (member_of who.now) k ledger.now → table_of k ≡ digests_of table.now.lists
-        → IsSound (member_of who.now) k → is_tried (member_of who.now) k (datagram_by who.now arrival.now) ≡ true
-        → option_map datagrams_of result ≡ new_evidence (member_of who.now) k (datagram_by who.now arrival.now) }
-    ensures cost { steps.new ≤ steps.old + choice_round (plain arrival.now.view.body) }
-    ensures kept { AreSeeds who.now.session points.new }
-    ensures moves { MovesOn arrival.now.view.from points.old points.new }
-{
-    verdicts_are_what_is_found();
-    the_datagram_is_spelled();
-    let view = &arrival.view;
-    if found(&who.session, verifier, table, view, None, points, steps).is_some() {
-        return Some(EvidenceView {
-            one: arrival.bytes,
-            two: None,
-        });
+    /// The first datagram behind which this one shows a fault of their sender: of its own exchange, or of another one.
+    fn earlier<V: Verifier, L: StepLedger>(
+        &self,
+        place: Place,
+        guard: &mut Guard<V>,
+        steps: &mut Steps<L>,
+    ) -> Option<&'a [u8]>
+        requires place { self.now.arrival.now.place ≡ Some place }
+        requires search { MaySearch self.now guard.old }
+        ensures exact { (k : Knowledge) → GoesBy k self.now → pair_behind self.now result
+            ≡ pairs_of (searcher self.now) k (searched self.now) (Some (place_in place)) }
+        ensures cost { steps.new ≤ steps.old }
+        ensures same { guard.new ≡ guard.old }
+    {
+        match self.earlier_here(place, guard, steps) {
+            Some(heard) => Some(heard),
+            None => self.earlier_elsewhere(place, guard),
+        }
     }
-    let place = arrival.place?;
-    let heard = earlier_of(who, verifier, table, ledger, place, view, points, steps)?;
-    Some(EvidenceView {
-        one: heard,
-        two: Some(arrival.bytes),
-    })
+
+    /// The evidence that a datagram with an accepted signature completes: itself, or it behind the first that was heard of its sender with
+    /// which it shows a fault, of its own exchange before the others. It counts the steps along the seeds.
+    pub fn find<V: Verifier, L: StepLedger>(
+        &self,
+        guard: &mut Guard<V>,
+        steps: &mut Steps<L>,
+    ) -> Option<EvidenceView<'a>>
+        requires search { MaySearch self.now guard.old }
+        ensures exact { (k : Knowledge) → GoesBy k self.now
+            → option_map datagrams_of result ≡ new_evidence (searcher self.now) k (searched self.now) }
+        ensures checks { ChecksSeed self.now.who.now.session (shown_by self.now.who.now self.now.arrival.now)
+            guard.old guard.new steps.old steps.new }
+    {
+        verdicts_are_what_is_found();
+        the_datagram_is_spelled();
+        let arrival = self.arrival;
+        let alone = found(
+            &self.who.session,
+            guard.checker.verifier(),
+            self.table,
+            &arrival.view,
+            None,
+            &mut guard.points,
+            steps,
+        );
+        if alone.is_some() {
+            return Some(EvidenceView {
+                one: arrival.bytes,
+                two: None,
+            });
+        }
+        let place = arrival.place?;
+        let heard = self.earlier(place, guard, steps)?;
+        Some(EvidenceView {
+            one: heard,
+            two: Some(arrival.bytes),
+        })
+    }
 }

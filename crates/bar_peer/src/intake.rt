@@ -1,13 +1,9 @@
 //! What a peer does at a datagram and at a tick.
-ghost use Rattle.std.specs.Prelude.{◌≡◌, ◌≤◌, ◌<◌, [], ◌+◌, ◌*◌, None, Some, true, false, is_some, length};
-ghost use Rattle.bar_seeds.specs.Checkpoints.{kept_round, MovesOn};
-ghost use Rattle.bar_session.specs.Points.{AreSeeds};
-ghost use Rattle.bar_wire.specs.Bodies.{choice_round};
-ghost use Rattle.bar_seal.specs.Memo.{has_pair, with_pair};
-ghost use Rattle.bar_peer.specs.Checking.{IsCheckedOnce, AdmitsChecked, AdmitsKept, checked_in, choice_round_in, sender_in};
+ghost use Rattle.std.specs.Prelude.{◌≡◌, ◌≤◌, ◌<◌, [], ◌+◌, None, Some, true, false, is_some, length};
+ghost use Rattle.bar_peer.specs.Checking.{Checks, ChecksSeed, IsGuardOf, RemembersAdmitted, shown_by, shown_in};
 ghost use Rattle.bar_wire.specs.Inputs as event;
 ghost use Rattle.bar_wire.specs.Bodies.{is_peer_kind};
-ghost use Rattle.bar_wire.specs.Datagram.{Datagram, is_signed};
+ghost use Rattle.bar_wire.specs.Datagram.{Datagram};
 ghost use Rattle.bar_wire.specs.Views.{plain};
 ghost use Rattle.bar_session.specs.Time.{last_tick};
 ghost use Rattle.bar_rules.specs.Member.{Member};
@@ -18,10 +14,10 @@ ghost use Rattle.bar_rules.specs.Peer.Log.{Log};
 ghost use Rattle.bar_rules.specs.Peer.Replies.{repeated};
 ghost use Rattle.bar_rules.specs.Peer.Rules.{IsObedient};
 ghost use Rattle.bar_rules.specs.Peer.Run.{answered_to, take_datagram, with_evidence};
-ghost use Rattle.bar_rules.specs.Verifiers.{IsVerifierOf, NamesLeavesOf};
+ghost use Rattle.bar_rules.specs.Values.{datagram_of};
 ghost use Rattle.bar_laws.specs.Ignoring.{is_unread, tells_nothing};
 ghost use Rattle.bar_peer.specs.Ignoring.{IgnoresInput, LeavesMemory};
-ghost use Rattle.bar_peer.specs.Arrivals.{IsReadBy, datagram_by, checked_by};
+ghost use Rattle.bar_peer.specs.Arrivals.{IsReadBy, datagram_by};
 ghost use Rattle.bar_peer.specs.Memory.{member_of, HasOtherEvidence, Represents, IsSameParty};
 ghost use Rattle.bar_peer.specs.Sending.{HasOutcome};
 ghost use Rattle.bar_peer.specs.Steps.{TakesTick, TakesDatagram};
@@ -29,18 +25,18 @@ ghost use Rattle.bar_core.specs.Orders.{HasSameRoom};
 
 use crate::answers::says_to;
 use crate::arrival::Arrival;
-use crate::evidence::find_evidence;
+use crate::guard::Guard;
 use crate::memory::Memory;
 use crate::order::Order;
 use crate::queue::reply;
+use crate::search::Search;
 use crate::ticks::act;
 use bar_bytes::Steps;
 use bar_core::{Orders, keep_evidence};
 use bar_laws::knowing::knowledge_is_enough;
 use bar_laws::memories::logs_are_sound;
 use bar_laws::rooms::evidence_fits_its_room;
-use bar_seal::{Checker, Verifier};
-use bar_seeds::Checkpoints;
+use bar_seal::Verifier;
 use bar_wire::{bytes_spell_one, decode, place_of};
 use std::sync::ledger::Ledger as StepLedger;
 
@@ -61,14 +57,12 @@ impl Memory {
     /// the seeds.
     fn keep_found<V: Verifier, L: StepLedger>(
         &mut self,
-        verifier: &V,
+        guard: &mut Guard<V>,
         arrival: &Arrival<'_>,
-        points: &mut Checkpoints,
         steps: &mut Steps<L>,
     ) -> bool
         requires view { IsReadBy self.old.who arrival.now }
-        requires names { NamesLeavesOf self.old.who.session (V.leaf_named verifier.now) (V.signature_len verifier.now) }
-        requires points { AreSeeds self.old.who.session points.old }
+        requires guard { IsGuardOf self.old.who.session guard.old }
         requires signed { is_peer_kind (plain arrival.now.view.body) ≡ true }
         ensures kept { (log : Log) → let me : Member = member_of self.old.who in let d : Datagram = datagram_by self.old.who arrival.now in
             IsObedient me (with_evidence me log d.message.from (new_evidence me (known me log) d)) → IsObedient me log → Represents log self.old
@@ -77,23 +71,18 @@ impl Memory {
             × Represents (with_evidence me log d.message.from (new_evidence me (known me log) d)) self.new }
         ensures none { result ≡ false → self.new ≡ self.old }
         ensures rest { HasOtherEvidence self.old self.new }
-        ensures cost { steps.new ≤ steps.old + choice_round (plain arrival.now.view.body) }
-        ensures seeds { AreSeeds self.old.who.session points.new }
-        ensures moves { MovesOn arrival.now.view.from points.old points.new }
+        ensures checks { ChecksSeed self.old.who.session (shown_by self.old.who arrival.now) guard.old guard.new steps.old steps.new }
     {
         knowledge_is_enough();
         logs_are_sound();
         evidence_fits_its_room();
-        let table = self.store.table();
-        match find_evidence(
-            &self.who,
-            verifier,
-            table,
-            &self.ledger,
+        let search = Search {
+            who: &self.who,
+            table: self.store.table(),
+            ledger: &self.ledger,
             arrival,
-            points,
-            steps,
-        ) {
+        };
+        match search.find(guard, steps) {
             Some(evidence) => {
                 keep_evidence(&mut self.evidence, arrival.view.from, &evidence);
                 true
@@ -138,15 +127,13 @@ fn answer(memory: &mut Memory, orders: &mut Orders<Order>, arrival: &Arrival<'_>
 fn answer_tried<V: Verifier, L: StepLedger>(
     memory: &mut Memory,
     orders: &mut Orders<Order>,
-    verifier: &V,
+    guard: &mut Guard<V>,
     arrival: &Arrival<'_>,
     is_admitted: bool,
-    points: &mut Checkpoints,
     steps: &mut Steps<L>,
 )
     requires view { IsReadBy memory.old.who arrival.now }
-    requires names { NamesLeavesOf memory.old.who.session (V.leaf_named verifier.now) (V.signature_len verifier.now) }
-    requires points { AreSeeds memory.old.who.session points.old }
+    requires guard { IsGuardOf memory.old.who.session guard.old }
     requires signed { is_peer_kind (plain arrival.now.view.body) ≡ true }
     ensures stands { (log : Log)
         → IsObedient (member_of memory.old.who)
@@ -164,13 +151,11 @@ fn answer_tried<V: Verifier, L: StepLedger>(
         → memory.new ≡ memory.old }
     ensures room { HasSameRoom orders.old orders.new }
     ensures party { IsSameParty memory.old memory.new }
-    ensures cost { steps.new ≤ steps.old + choice_round (plain arrival.now.view.body) }
-    ensures seeds { AreSeeds memory.old.who.session points.new }
-    ensures moves { MovesOn arrival.now.view.from points.old points.new }
+    ensures checks { ChecksSeed memory.old.who.session (shown_by memory.old.who arrival.now) guard.old guard.new steps.old steps.new }
 {
     knowledge_is_enough();
     logs_are_sound();
-    let is_found = memory.keep_found(verifier, arrival, points, steps);
+    let is_found = memory.keep_found(guard, arrival, steps);
     answer(memory, orders, arrival, is_admitted);
     if is_found {
         orders.push(Order::Report(arrival.view.from));
@@ -182,15 +167,12 @@ fn answer_tried<V: Verifier, L: StepLedger>(
 fn take_arrival<V: Verifier, L: StepLedger>(
     memory: &mut Memory,
     orders: &mut Orders<Order>,
-    checker: &mut Checker<V>,
-    points: &mut Checkpoints,
+    guard: &mut Guard<V>,
     arrival: &Arrival<'_>,
     steps: &mut Steps<L>,
 )
     requires view { IsReadBy memory.old.who arrival.now }
-    requires verifier { IsVerifierOf memory.old.who.session (V.is_accepted checker.old.verifier) }
-    requires names { NamesLeavesOf memory.old.who.session (V.leaf_named checker.old.verifier) (V.signature_len checker.old.verifier) }
-    requires points { AreSeeds memory.old.who.session points.old }
+    requires guard { IsGuardOf memory.old.who.session guard.old }
     ensures stands { (log : Log)
         → IsObedient (member_of memory.old.who)
         (take_datagram (member_of memory.old.who) log (Some (datagram_by memory.old.who arrival.now))).state
@@ -200,68 +182,39 @@ fn take_arrival<V: Verifier, L: StepLedger>(
     ensures idle { LeavesMemory (datagram_by memory.old.who arrival.now) memory.old memory.new }
     ensures room { HasSameRoom orders.old orders.new }
     ensures party { IsSameParty memory.old memory.new }
-    ensures most { steps.new ≤ steps.old + (V.most_steps checker.old.verifier + 2 * choice_round (plain arrival.now.view.body)) }
-    ensures remembered { has_pair (checked_by memory.old.who arrival.now) checker.old.memo.pairs ≡ true
-        → steps.new ≤ steps.old + 2 * choice_round (plain arrival.now.view.body) }
-    ensures seeds { AreSeeds memory.old.who.session points.new }
-    ensures moves { MovesOn arrival.now.view.from points.old points.new }
-    ensures reached { (log : Log) → IsObedient (member_of memory.old.who) log → Represents log memory.old
-        → admitted (member_of memory.old.who) (known (member_of memory.old.who) log) (datagram_by memory.old.who arrival.now) ≡ true
-        → choice_round (plain arrival.now.view.body) ≤ kept_round points.new arrival.now.view.from }
-    ensures first { (log : Log) → IsObedient (member_of memory.old.who) log → Represents log memory.old
-        → admitted (member_of memory.old.who) (known (member_of memory.old.who) log) (datagram_by memory.old.who arrival.now) ≡ true
-        → is_signed (plain arrival.now.view.body) ≡ true
-        → checker.new.memo ≡ with_pair (checked_by memory.old.who arrival.now) checker.old.memo }
-    ensures memo { IsCheckedOnce (checked_by memory.old.who arrival.now) checker.old.memo checker.new.memo }
-    ensures verifier { checker.new.verifier ≡ checker.old.verifier }
+    ensures checks { Checks memory.old.who.session (shown_by memory.old.who arrival.now) 2 guard.old guard.new steps.old steps.new }
+    ensures remembers { RemembersAdmitted memory.old arrival.now.bytes.now (Some (datagram_by memory.old.who arrival.now))
+        guard.old guard.new }
 {
     knowledge_is_enough();
     logs_are_sound();
-    let weighed = memory.weigh(checker, points, arrival, steps);
+    let weighed = memory.weigh(guard, arrival, steps);
     if weighed.is_tried {
-        answer_tried(
-            memory,
-            orders,
-            checker.verifier(),
-            arrival,
-            weighed.is_admitted,
-            points,
-            steps,
-        );
+        answer_tried(memory, orders, guard, arrival, weighed.is_admitted, steps);
     } else {
         answer(memory, orders, arrival, weighed.is_admitted);
     }
 }
 
 /// Takes a datagram. One that isn't read changes nothing. It counts each hash.
-#[tactic(auto, using(bar_seeds::proofs::CheckpointLemmas::moves_none))]
+#[tactic(auto, using(crate::proofs::Stepping::Guards::checks_none))]
 pub fn take_datagram<V: Verifier, L: StepLedger>(
     memory: &mut Memory,
     orders: &mut Orders<Order>,
-    checker: &mut Checker<V>,
-    points: &mut Checkpoints,
+    guard: &mut Guard<V>,
     bytes: &[u8],
     steps: &mut Steps<L>,
 )
-    requires verifier { IsVerifierOf memory.old.who.session (V.is_accepted checker.old.verifier) }
-    requires names { NamesLeavesOf memory.old.who.session (V.leaf_named checker.old.verifier) (V.signature_len checker.old.verifier) }
-    requires points { AreSeeds memory.old.who.session points.old }
+    requires guard { IsGuardOf memory.old.who.session guard.old }
     ensures stands { TakesDatagram bytes.now memory.old orders.old memory.new orders.new }
     ensures ignored { IgnoresInput (event.Datagram bytes.now) memory.old memory.new }
     ensures unread { is_unread memory.old.who.session (event.Datagram bytes.now) ≡ true
-        → (memory.new ≡ memory.old) × (orders.new ≡ orders.old) × (checker.new.memo ≡ checker.old.memo) × (points.new ≡ points.old) }
+        → (memory.new ≡ memory.old) × (orders.new ≡ orders.old) × (guard.new ≡ guard.old) }
     ensures room { HasSameRoom orders.old orders.new }
     ensures party { IsSameParty memory.old memory.new }
-    ensures most { steps.new ≤ steps.old
-        + (V.most_steps checker.old.verifier + 2 * choice_round_in memory.old.who.session (event.Datagram bytes.now)) }
-    ensures remembered { has_pair (checked_in memory.old.who.session (event.Datagram bytes.now)) checker.old.memo.pairs ≡ true
-        → steps.new ≤ steps.old + 2 * choice_round_in memory.old.who.session (event.Datagram bytes.now) }
-    ensures seeds { AreSeeds memory.old.who.session points.new }
-    ensures moves { MovesOn (sender_in memory.old.who.session (event.Datagram bytes.now)) points.old points.new }
-    ensures reached { AdmitsKept memory.old (event.Datagram bytes.now) points.new }
-    ensures first { AdmitsChecked memory.old (event.Datagram bytes.now) checker.old.memo checker.new.memo }
-    ensures memo { IsCheckedOnce (checked_in memory.old.who.session (event.Datagram bytes.now)) checker.old.memo checker.new.memo }
-    ensures verifier { checker.new.verifier ≡ checker.old.verifier }
+    ensures checks { Checks memory.old.who.session (shown_in memory.old.who.session (event.Datagram bytes.now)) 2
+        guard.old guard.new steps.old steps.new }
+    ensures remembers { RemembersAdmitted memory.old bytes.now (datagram_of memory.old.who.session bytes.now) guard.old guard.new }
 {
     knowledge_is_enough();
     logs_are_sound();
@@ -270,6 +223,6 @@ pub fn take_datagram<V: Verifier, L: StepLedger>(
     if let Ok(view) = decode(bytes, &shape) {
         let place = place_of(&view);
         let arrival = Arrival { bytes, view, place };
-        take_arrival(memory, orders, checker, points, &arrival, steps);
+        take_arrival(memory, orders, guard, &arrival, steps);
     }
 }

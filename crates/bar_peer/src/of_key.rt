@@ -30,8 +30,8 @@ impl Peer<SessionScheme> {
         ensures sends { IfOk result (λ p. left_in p.orders ≡ []) }
         ensures contents { IfOk result (λ p. contents_left p.memory.store p.playing ≡ []) }
         ensures member { IfOk result (λ p. member_of p.memory.who ≡ member_by session key.secrets) }
-        ensures memo { IfOk result (λ p. p.checker.memo ≡ record { places = 256; pairs = [] }) }
-        ensures points { IfOk result (λ p. (peer : ℕ) → kept_of p.points peer ≡ None) }
+        ensures memo { IfOk result (λ p. p.guard.checker.memo ≡ record { places = 256; pairs = [] }) }
+        ensures points { IfOk result (λ p. (peer : ℕ) → kept_of p.guard.points peer ≡ None) }
     {
         let mut scheme = key.scheme;
         scheme.remember(alloc, leaves_in_use(&session.shape()))?;

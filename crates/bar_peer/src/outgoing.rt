@@ -19,7 +19,7 @@ ghost use Rattle.bar_rules.specs.Giving.{GivesNext};
 use crate::memory::Memory;
 use crate::order::Order;
 use crate::peer::Peer;
-use bar_exchange::{Say, Sources, side};
+use bar_exchange::{Say, Sources};
 use bar_laws::leaves::leaf_discipline;
 use bar_laws::memories::logs_are_sound;
 use bar_laws::obedience::signed_by_rule;
@@ -80,7 +80,7 @@ impl Memory {
         if u32::from(seat) >= SEATS_A_ROUND {
             return None;
         }
-        Some(leaf_for(say.kind, x, side(&self.ledger, x), seat))
+        Some(leaf_for(say.kind, x, self.ledger.side(x), seat))
     }
 }
 
@@ -110,7 +110,7 @@ impl<S: Scheme> Peer<S> {
             return Some(len);
         }
         let leaf = self.memory.leaf(say)?;
-        let scheme = self.checker.verifier();
+        let scheme = self.guard.checker.verifier();
         if leaf >= scheme.leaves() {
             return None;
         }

@@ -14,7 +14,6 @@ ghost use Rattle.bar_peer.specs.Repeats.{IsInTime};
 
 use crate::arrival::Arrival;
 use crate::memory::Memory;
-use bar_exchange::heard_from;
 use bar_wire::{Body, bytes_spell_one, kind_of};
 
 impl Memory {
@@ -26,12 +25,8 @@ impl Memory {
             (place_of (datagram_by self.now.who arrival.now).message)) ≡ option_copied result }
     {
         let place = arrival.place?;
-        heard_from(
-            &self.ledger,
-            place.x,
-            kind_of(&arrival.view.body),
-            place.role,
-        )
+        self.ledger
+            .heard_from(place.x, kind_of(&arrival.view.body), place.role)
     }
 
     /// Whether a datagram of the same name was admitted, where the kind is signed.

@@ -12,7 +12,7 @@ ghost use Rattle.bar_peer.specs.Memory.{member_of, IsMemoryOf, Represents, IsSam
 ghost use Rattle.bar_peer.specs.Sending.{send_now, MaySayNow, IsCarriedOut};
 
 use crate::memory::Memory;
-use bar_exchange::{Say, has_said, knows_commit, knows_offer, say_case, say_key, side};
+use bar_exchange::{Say, say_case, say_key};
 use bar_laws::knowing::knowledge_is_enough;
 use bar_laws::memories::logs_are_sound;
 use bar_laws::rooms::exchanges_are_few;
@@ -37,7 +37,7 @@ impl Memory {
             → result ≡ is_some (k.revealed x) }
     {
         match x.kind {
-            XKind::Balanced => knows_commit(&self.ledger, x),
+            XKind::Balanced => self.ledger.knows_commit(x),
             XKind::Push => false,
         }
     }
@@ -50,7 +50,7 @@ impl Memory {
         match say.kind {
             Kind::KeyReq => true,
             Kind::Divulge => self.may_reveal(say.x),
-            kind => has_said(&self.ledger, say.x, kind, side(&self.ledger, say.x)),
+            kind => self.ledger.has_said(say.x, kind, self.ledger.side(say.x)),
         }
     }
 
@@ -73,7 +73,7 @@ impl Memory {
                 true
             }
             Kind::Reply => {
-                if !knows_offer(&self.ledger, say.x) {
+                if !self.ledger.knows_offer(say.x) {
                     return false;
                 }
                 bar_push::say_reply(&mut self.ledger, &self.store, say.x)

@@ -1,7 +1,6 @@
 //! What a peer does at an input.
 ghost use Rattle.std.specs.Prelude.{◌≡◌, ◌+◌, ◌*◌, ◌≤◌, ◌++◌, ◌∷◌, ◌↔◌, [], true, false, nat_le, IsTrue};
 ghost use Rattle.bar_seeds.specs.Checkpoints.{MovesOn};
-ghost use Rattle.bar_session.specs.Points.{AreSeeds};
 ghost use Rattle.bar_seal.specs.Memo.{has_pair};
 ghost use Rattle.bar_wire.specs.Inputs.{plain_input};
 ghost use Rattle.bar_session.specs.Time.{last_tick};
@@ -9,9 +8,8 @@ ghost use Rattle.bar_rules.specs.Peer.Knowledge.{known};
 ghost use Rattle.bar_rules.specs.Peer.Log.{Log};
 ghost use Rattle.bar_rules.specs.Peer.Run.{log_after, step};
 ghost use Rattle.bar_rules.specs.Peer.Ticks.{contents_at_tick};
-ghost use Rattle.bar_rules.specs.Verifiers.{IsVerifierOf, NamesLeavesOf};
-ghost use Rattle.bar_peer.specs.Checking.{IsCheckedOnce, AdmitsChecked, AdmitsKept, StandsFirst, IsSeedKept};
-ghost use Rattle.bar_peer.specs.Checking.{checked_in, choice_round_in, round_in, sender_in, shows_seed};
+ghost use Rattle.bar_peer.specs.Checking.{Checks, IsCheckedOnce, IsGuardOf, IsSeedKept, RemembersAdmitted, StandsFirst};
+ghost use Rattle.bar_peer.specs.Checking.{bytes_in, checked_in, datagram_in, round_in, sender_in, shown_in, shows_seed};
 ghost use Rattle.bar_laws.specs.Ignoring.{is_unread};
 ghost use Rattle.bar_peer.specs.Ignoring.{Ignores, IgnoresInput, StaysAsBefore};
 ghost use Rattle.bar_peer.specs.Memory.{member_of, Represents};
@@ -19,6 +17,7 @@ ghost use Rattle.bar_core.specs.Orders.{left_in, HasSameRoom};
 ghost use Rattle.bar_peer.specs.StandsFor.{Inputs, StandsFor, AreLeft, contents_left};
 ghost use Rattle.bar_peer.specs.Steps.{TakesInput, is_tick};
 
+use crate::guard::Guard;
 use crate::intake::{take_datagram, take_tick};
 use crate::memory::Memory;
 use crate::order::Order;
@@ -30,8 +29,7 @@ use bar_laws::ignoring::ignored_datagrams_change_nothing;
 use bar_laws::knowing::knowledge_is_enough;
 use bar_laws::obedience::signed_by_rule;
 use bar_roster::slot_after;
-use bar_seal::{Checker, Scheme, Verifier};
-use bar_seeds::Checkpoints;
+use bar_seal::{Scheme, Verifier};
 use bar_wire::Input;
 use std::sync::ledger::Ledger as StepLedger;
 
@@ -55,41 +53,31 @@ fn is_tick(input: &Input<'_>) -> bool
 }
 
 /// Takes an input that comes before the last tick is taken. It counts each hash.
-#[tactic(auto, using(bar_seeds::proofs::CheckpointLemmas::moves_none))]
+#[tactic(auto, using(crate::proofs::Stepping::Guards::checks_none))]
 fn take_input<V: Verifier, L: StepLedger>(
     memory: &mut Memory,
     orders: &mut Orders<Order>,
-    checker: &mut Checker<V>,
-    points: &mut Checkpoints,
+    guard: &mut Guard<V>,
     input: Input<'_>,
     steps: &mut Steps<L>,
 )
     requires before { nat_le (last_tick memory.old.who.session) memory.old.ticks ≡ false }
-    requires verifier { IsVerifierOf memory.old.who.session (V.is_accepted checker.old.verifier) }
-    requires names { NamesLeavesOf memory.old.who.session (V.leaf_named checker.old.verifier) (V.signature_len checker.old.verifier) }
-    requires points { AreSeeds memory.old.who.session points.old }
+    requires guard { IsGuardOf memory.old.who.session guard.old }
     ensures stands { TakesInput (plain_input input.entry) memory.old orders.old memory.new orders.new }
     ensures ignored { IgnoresInput (plain_input input.entry) memory.old memory.new }
     ensures unread { is_unread memory.old.who.session (plain_input input.entry) ≡ true
-        → (memory.new ≡ memory.old) × (orders.new ≡ orders.old) × (checker.new.memo ≡ checker.old.memo) × (points.new ≡ points.old) }
+        → (memory.new ≡ memory.old) × (orders.new ≡ orders.old) × (guard.new ≡ guard.old) }
     ensures room { HasSameRoom orders.old orders.new }
     ensures who { memory.new.who ≡ memory.old.who }
-    ensures most { steps.new ≤ steps.old
-        + (V.most_steps checker.old.verifier + 2 * choice_round_in memory.old.who.session (plain_input input.entry)) }
-    ensures remembered { has_pair (checked_in memory.old.who.session (plain_input input.entry)) checker.old.memo.pairs ≡ true
-        → steps.new ≤ steps.old + 2 * choice_round_in memory.old.who.session (plain_input input.entry) }
-    ensures seeds { AreSeeds memory.old.who.session points.new }
-    ensures moves { MovesOn (sender_in memory.old.who.session (plain_input input.entry)) points.old points.new }
-    ensures reached { AdmitsKept memory.old (plain_input input.entry) points.new }
-    ensures first { AdmitsChecked memory.old (plain_input input.entry) checker.old.memo checker.new.memo }
-    ensures memo { IsCheckedOnce (checked_in memory.old.who.session (plain_input input.entry)) checker.old.memo checker.new.memo }
-    ensures verifier { checker.new.verifier ≡ checker.old.verifier }
-    ensures tick { is_tick (plain_input input.entry) ≡ true
-        → (checker.new.memo ≡ checker.old.memo) × (points.new ≡ points.old) × (steps.new ≡ steps.old) }
+    ensures checks { Checks memory.old.who.session (shown_in memory.old.who.session (plain_input input.entry)) 2
+        guard.old guard.new steps.old steps.new }
+    ensures remembers { RemembersAdmitted memory.old (bytes_in (plain_input input.entry))
+        (datagram_in memory.old.who.session (plain_input input.entry)) guard.old guard.new }
+    ensures tick { is_tick (plain_input input.entry) ≡ true → (guard.new ≡ guard.old) × (steps.new ≡ steps.old) }
 {
     match input {
         Input::Tick => take_tick(memory, orders),
-        Input::Datagram(bytes) => take_datagram(memory, orders, checker, points, bytes, steps),
+        Input::Datagram(bytes) => take_datagram(memory, orders, guard, bytes, steps),
     }
 }
 
@@ -137,24 +125,23 @@ impl<S: Scheme> Peer<S> {
         // what isn't read changes nothing, and what is ignored at most what is remembered and kept of seeds
         ensures unread { is_unread self.old.memory.who.session (plain_input input.entry) ≡ true
             → StaysAsBefore self.old.memory self.new.memory self.new.orders self.new.playing
-            × (self.new.checker.memo ≡ self.old.checker.memo) × (self.new.points ≡ self.old.points) }
+            × (self.new.guard ≡ self.old.guard) }
         ensures ignored { Ignores self.old.memory (plain_input input.entry) self.new.memory self.new.orders self.new.playing }
         ensures who { self.new.memory.who ≡ self.old.memory.who }
-        ensures verifier { self.new.checker.verifier ≡ self.old.checker.verifier }
+        ensures verifier { self.new.guard.checker.verifier ≡ self.old.guard.checker.verifier }
         // how many hashes it takes at the most, and how many where the datagram is remembered
-        ensures most { steps.new ≤ steps.old + (S.Verifier.most_steps self.old.checker.verifier
+        ensures most { steps.new ≤ steps.old + (S.Verifier.most_steps self.old.guard.checker.verifier
             + 2 * round_in self.old.memory.who.session (plain_input input.entry) + 128) }
-        ensures remembered { has_pair (checked_in self.old.memory.who.session (plain_input input.entry)) self.old.checker.memo.pairs ≡ true
+        ensures remembered { has_pair (checked_in self.old.memory.who.session (plain_input input.entry)) self.old.guard.checker.memo.pairs ≡ true
             → shows_seed self.old.memory.who.session (plain_input input.entry) ≡ false → steps.new ≤ steps.old + 128 }
         // what is remembered of datagrams that were checked, and of the peers' seeds
         ensures memo { IsCheckedOnce (checked_in self.old.memory.who.session (plain_input input.entry))
-            self.old.checker.memo self.new.checker.memo }
-        ensures first { StandsFirst self.old.memory (plain_input input.entry) self.new.checker.memo }
-        ensures moves { MovesOn (sender_in self.old.memory.who.session (plain_input input.entry)) self.old.points self.new.points }
+            self.old.guard.checker.memo self.new.guard.checker.memo }
+        ensures first { StandsFirst self.old.memory (plain_input input.entry) self.new.guard.checker.memo }
+        ensures moves { MovesOn (sender_in self.old.memory.who.session (plain_input input.entry)) self.old.guard.points self.new.guard.points }
         // a tick checks nothing, keeps no seed, and counts no hash
-        ensures tick { is_tick (plain_input input.entry) ≡ true
-            → (self.new.checker.memo ≡ self.old.checker.memo) × (self.new.points ≡ self.old.points) × (steps.new ≡ steps.old) }
-        ensures reached { IsSeedKept self.old.memory (plain_input input.entry) self.new.points }
+        ensures tick { is_tick (plain_input input.entry) ≡ true → (self.new.guard ≡ self.old.guard) × (steps.new ≡ steps.old) }
+        ensures reached { IsSeedKept self.old.memory (plain_input input.entry) self.new.guard.points }
     {
         knowledge_is_enough();
         signed_by_rule();
@@ -167,8 +154,7 @@ impl<S: Scheme> Peer<S> {
         take_input(
             &mut self.memory,
             &mut self.orders,
-            &mut self.checker,
-            &mut self.points,
+            &mut self.guard,
             input,
             steps,
         );

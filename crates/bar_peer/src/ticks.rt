@@ -17,11 +17,11 @@ use crate::order::Order;
 use crate::partners::ask_partners;
 use crate::reports::report_all;
 use bar_core::Orders;
-use bar_exchange::{Say, Says};
+use bar_exchange::{Say, Says, again};
 use bar_laws::knowing::knowledge_is_enough;
 use bar_laws::memories::logs_are_sound;
 use bar_roster::{SLOTS_A_ROUND, round_after, slot_after};
-use bar_window::{Exchange, XKind};
+use bar_window::Exchange;
 
 impl Memory {
     /// Takes a tick: the next slot, and at its first one the next round, for which what can't be asked about any more is given up.
@@ -61,10 +61,7 @@ impl Memory {
         if self.evictions.is_named(self.partner_in(x)) {
             return Says::Nothing;
         }
-        match x.kind {
-            XKind::Balanced => bar_balanced::again(&self.ledger, self.round(), x),
-            XKind::Push => bar_push::again(&self.ledger, self.round(), x),
-        }
+        again(&self.ledger, x)
     }
 }
 

@@ -6,15 +6,11 @@
 #[cfg(test)]
 mod argument_tests;
 #[cfg(test)]
-mod audit_tests;
-#[cfg(test)]
 mod child_process_tests;
 #[cfg(test)]
 mod cli_tests;
 #[cfg(test)]
 mod failing_tests;
-#[cfg(test)]
-mod judge_tests;
 #[cfg(test)]
 mod keygen_tests;
 #[cfg(test)]
@@ -23,7 +19,5 @@ mod outcome;
 mod outside_tests;
 #[cfg(test)]
 mod party_command_tests;
-#[cfg(test)]
-mod proof_tests;
 #[cfg(test)]
 mod session_tests;

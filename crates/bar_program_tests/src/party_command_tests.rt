@@ -4,7 +4,7 @@ ghost use Rattle.bar_outside.specs.MemTaken.{are_small};
 
 use crate::outcome::{Left, check_end, check_file, outside_of, run};
 use bar_outside::{MemFiles, MemLink, MemTaken, Sent};
-use bar_samples::keys::{caster_key, peer_key, spent_caster_key, spent_peer_key};
+use bar_samples::keys::{caster_key, peer_key, spent_caster_key};
 use bar_samples::sessions::session;
 use std::alloc::{AllocError, Global};
 use std::process::Abort;
@@ -66,39 +66,11 @@ fn run_over(alloc: Global, line: &str, files: MemFiles, link: MemLink) -> Result
     run(alloc, line, outside)
 }
 
-/// A broadcaster with a stream of so many bytes over a link of so many ticks.
-fn run_caster(alloc: Global, len: usize, ticks: u32) -> Result<Left, Fail> {
-    let mut files = prepared(alloc, caster_key())?;
-    files.put("t", &vec![in alloc; 7; len]?)?;
-    Ok(run_over(alloc, CASTER, files, link_of(alloc, ticks, 0, &[])?)?)
-}
-
-/// Checks what the link is bound to: the party, the port, and the first tick and the length of a tick in milliseconds.
-fn check_bound(rt: &impl Abort, left: &Left, place: Option<(u16, u16, u64, u32)>) {
+/// Checks what the link is bound to: the party, the session's port, and the first tick and the length of a tick in milliseconds.
+fn check_bound(rt: &impl Abort, left: &Left, me: u16) {
     let bound = left.outside.link.place();
-    assert_eq!(rt; bound.map(|p| (p.me, p.port, p.begin_ms, p.tick_ms)), place);
-}
-
-/// A peer alone asks sixteen times in each round, and plays nothing. Then its key is spent.
-#[test]
-fn a_peer_alone_asks_in_vain(rt: HostRuntime) -> Result<(), Fail> {
-    let alloc = rt.alloc();
-    let link = link_of(alloc, 120, 0, &[])?;
-    let left = run_over(alloc, PEER, prepared(alloc, peer_key())?, link)?;
-    check_end(&rt, &left, 0, "ticks 120 sent 160 played 0\n", "");
-    let mut recording = HEAD.to_vec(alloc)?;
-    recording.extend_from_slice(&[1; 120])?;
-    recording.push(0)?;
-    check_file(&rt, &left, "r", &recording);
-    check_file(&rt, &left, "p", b"");
-    check_file(&rt, &left, "k", spent_peer_key().as_bytes());
-    check_bound(&rt, &left, Some((2, 20_000, 5_000, 20)));
-    let link = link_of(alloc, 120, 0, &[])?;
-    let before = left.outside;
-    let again = run_over(alloc, PEER, before.files, link)?;
-    check_end(&rt, &again, 5, "", "bar: key refused: Spent\n");
-    check_bound(&rt, &again, None);
-    Ok(())
+    let place = bound.map(|p| (p.me, p.port, p.begin_ms, p.tick_ms));
+    assert_eq!(rt; place, Some((me, 20_000, 5_000, 20)));
 }
 
 /// Checks that what was sent is the REQUEST of round 1, twice.
@@ -117,6 +89,7 @@ fn a_failed_call_of_the_link_stops_a_peer(rt: HostRuntime) -> Result<(), Fail> {
     let link = link_of(alloc, 120, 0, &[7])?;
     let left = run_over(alloc, PEER, prepared(alloc, peer_key())?, link)?;
     check_end(&rt, &left, 6, "", "bar: link failed\n");
+    check_bound(&rt, &left, 2);
     check_sent_twice(&rt, left.outside.link.sent());
     let recording = left.outside.files.get("r").unwrap_or(b"");
     assert_eq!(rt; recording.len(), 18);
@@ -150,27 +123,13 @@ fn a_tick_is_taken_among_many_datagrams(rt: HostRuntime) -> Result<(), Fail> {
 }
 
 #[test]
-fn a_stream_is_cast(rt: HostRuntime) -> Result<(), Fail> {
-    let left = run_caster(rt.alloc(), 1_023, 120)?;
-    check_end(&rt, &left, 0, "ticks 120 sent 44\n", "");
-    check_bound(&rt, &left, Some((0, 20_000, 5_000, 20)));
-    Ok(())
-}
-
-#[test]
 fn an_empty_stream_over_an_empty_link(rt: HostRuntime) -> Result<(), Fail> {
-    let left = run_caster(rt.alloc(), 0, 0)?;
+    let alloc = rt.alloc();
+    let mut files = prepared(alloc, caster_key())?;
+    files.put("t", b"")?;
+    let left = run_over(alloc, CASTER, files, link_of(alloc, 0, 0, &[])?)?;
     check_end(&rt, &left, 0, "ticks 0 sent 0\n", "");
+    check_bound(&rt, &left, 0);
     check_file(&rt, &left, "k", spent_caster_key().as_bytes());
-    Ok(())
-}
-
-#[test]
-fn a_stream_that_is_too_long_spends_no_key(rt: HostRuntime) -> Result<(), Fail> {
-    let left = run_caster(rt.alloc(), 81_761, 0)?;
-    let refused = "bar: input refused: stream have 81761 room 81760\n";
-    check_end(&rt, &left, 8, "", refused);
-    check_file(&rt, &left, "k", caster_key().as_bytes());
-    check_bound(&rt, &left, None);
     Ok(())
 }

@@ -5,34 +5,28 @@ use bar_samples::sessions::session;
 use std::alloc::{AllocError, Global};
 use std::test::Fail;
 
-// A session whose children end with these statuses, where these calls of the spawner and these writes to out fail.
-fn run_session(
-    alloc: Global,
-    session: &str,
-    statuses: &[i32],
-    fail_spawn: &[u64],
-    fail_out: &[u64],
-) -> Result<Left, AllocError> {
+/// A session whose children end with these statuses.
+fn run_session(alloc: Global, session: &str, statuses: &[i32]) -> Result<Left, AllocError> {
     let mut files = MemFiles::make(alloc, Vec::new(alloc));
     files.put("ses", session.as_bytes())?;
-    let mut outside = outside_of(alloc, files, fail_out, &[])?;
-    outside.spawn = MemSpawner::make(alloc, statuses.to_vec(alloc)?, fail_spawn.to_vec(alloc)?);
+    let mut outside = outside_of(alloc, files, &[], &[])?;
+    outside.spawn = MemSpawner::make(alloc, statuses.to_vec(alloc)?, Vec::new(alloc));
     let line = "session --session ses --keys k --stream st --begin 5 --results r --program bar";
     run(alloc, line, outside)
 }
 
 #[test]
 fn children_and_their_statuses(rt: HostRuntime) -> Result<(), Fail> {
-    let alloc = rt.alloc();
-    let left = run_session(alloc, session(), &[0, 0, 6], &[], &[])?;
+    let left = run_session(rt.alloc(), session(), &[0, 0, 6])?;
     let all = "party 1 status 0\nparty 2 status 0\nparty 0 status 6\n";
     check_end(&rt, &left, 9, all, "bar: child failed\n");
     assert_eq!(rt; left.outside.spawn.calls().len(), 6);
-    let left = run_session(alloc, session(), &[0, 4, 0], &[], &[1])?;
-    check_end(&rt, &left, 7, "party 1 ", "bar: output failed\n");
-    let left = run_session(alloc, session(), &[], &[2], &[])?;
-    check_end(&rt, &left, 9, "party 1 status 0\n", "bar: child failed\n");
-    let left = run_session(alloc, "", &[], &[], &[])?;
+    Ok(())
+}
+
+#[test]
+fn no_child_is_started_in_a_session_that_is_refused(rt: HostRuntime) -> Result<(), Fail> {
+    let left = run_session(rt.alloc(), "", &[])?;
     check_end(&rt, &left, 4, "", "bar: session refused: Missing version\n");
     assert!(rt; left.outside.spawn.calls().is_empty());
     Ok(())

@@ -7,7 +7,7 @@ ghost use Rattle.bar_wire.specs.Bodies.{choice_round, query_round};
 ghost use Rattle.bar_wire.specs.Views.{plain, IsView};
 ghost use Rattle.bar_rules.specs.Member.{Member};
 ghost use Rattle.bar_rules.specs.Peer.Admission.{is_row_met};
-ghost use Rattle.bar_rules.specs.Peer.Knowledge.{Knowledge, this_round};
+ghost use Rattle.bar_rules.specs.Peer.Knowledge.{Knowledge};
 ghost use Rattle.bar_store.specs.Holds.{Holds};
 ghost use Rattle.bar_ledger.specs.Recalls.{Recalls};
 ghost use Rattle.bar_exchange.specs.Placing.{StandsAt};
@@ -25,13 +25,12 @@ use bar_terms::PushAnswer;
 use bar_wire::{Body, Place, View};
 use std::sync::ledger::Ledger as StepLedger;
 
-/// Whether a datagram at a place of a push meets the row of its kind in this round. It counts the steps along the seeds of a QUERY.
+/// Whether a datagram at a place of a push meets the row of its kind. It counts the steps along the seeds of a QUERY.
 #[tactic(auto, using(bar_seeds::proofs::CheckpointLemmas::moves_none))]
 pub fn admit<L: StepLedger>(
     session: &Session,
     store: &Store,
     ledger: &Ledger,
-    round: u32,
     view: &View<'_>,
     place: Place,
     points: &mut Checkpoints,
@@ -41,7 +40,7 @@ pub fn admit<L: StepLedger>(
     requires place { StandsAt view.now (Some place) }
     requires kind { place.x.kind ≡ Push }
     ensures row { (me : Member) (k : Knowledge) (bytes : List ℕ) → me.session ≡ session.now → Holds me k store.now
-        → Recalls me k ledger.now → round ≡ this_round k → IsView session.now.shape bytes view.now
+        → Recalls me k ledger.now → IsView session.now.shape bytes view.now
         → result ≡ is_row_met me k view.now.from view.now.to (plain view.now.body) }
     ensures cost { steps.new ≤ steps.old + query_round (plain view.now.body) }
     ensures kept { AreSeeds session.now points.new }
@@ -56,29 +55,23 @@ pub fn admit<L: StepLedger>(
             aged,
             ..
         } => {
-            let offer = Offer {
-                round: x.round,
-                young,
-                aged,
-            };
-            admits_query(
-                session, store, ledger, round, view.from, seed, &offer, points, steps,
-            )
+            let offer = Offer { x, young, aged };
+            admits_query(session, store, ledger, seed, &offer, points, steps)
         }
         Body::Reply {
             want,
             give,
             junk,
             ..
-        } => admits_reply(store, ledger, round, x, PushAnswer { want, give, junk }),
+        } => admits_reply(store, ledger, x, PushAnswer { want, give, junk }),
         Body::Case {
             updates,
             junk,
             terms,
             ..
-        } => admits_case(ledger, round, x, role, &terms, Counts { updates, junk }),
-        Body::KeyReq { .. } => admits_key_request(ledger, round, x, role),
-        Body::Key { .. } => admits_key(ledger, round, x, role),
+        } => admits_case(ledger, x, role, &terms, Counts { updates, junk }),
+        Body::KeyReq { .. } => admits_key_request(ledger, x, role),
+        Body::Key { .. } => admits_key(ledger, x, role),
         _ => false,
     }
 }

@@ -14,30 +14,17 @@ ghost use Rattle.bar_rules.specs.Member.{Member, Session};
 ghost use Rattle.bar_rules.specs.Values.{terms_ok};
 ghost use Rattle.bar_rules.specs.Peer.Admission.{body_said, is_row_met, terms_with};
 ghost use Rattle.bar_rules.specs.Peer.Agreement.{IsRecent};
-ghost use Rattle.bar_rules.specs.Peer.Knowledge.{Knowledge, this_round, table_of};
+ghost use Rattle.bar_rules.specs.Peer.Knowledge.{Knowledge, table_of};
 ghost use Rattle.bar_store.specs.Holds.{Holds};
-ghost use Rattle.bar_ledger.specs.Lookups.{offer_of, said_in};
+ghost use Rattle.bar_ledger.specs.Lookups.{offer_of};
 ghost use Rattle.bar_ledger.specs.Recalls.{Recalls};
 
-use bar_exchange::{ANSWER_DEADLINE, is_window_in, is_within};
+use bar_exchange::{ANSWER_DEADLINE, is_window_in};
 use bar_ledger::Ledger;
 use bar_store::Store;
 use bar_terms::{PushAnswer, Table, terms_ok};
-use bar_window::{Exchange, Role, Terms, XKind};
-use bar_wire::Shape;
-
-/// Whether this peer said the QUERY of a push.
-fn has_offered(ledger: &Ledger, x: Exchange) -> bool
-    ensures { x.kind ≡ Push → result ≡ said_in ledger.now Query x Initiator }
-{
-    match ledger.find(x) {
-        Some(entry) => match (entry.role, entry.x.kind) {
-            (Role::Initiator, XKind::Push) => entry.first_said,
-            _ => false,
-        },
-        None => false,
-    }
-}
+use bar_window::{Exchange, Role, Terms};
+use bar_wire::{Kind, Shape};
 
 /// Whether an answer makes valid terms with an offer.
 fn fits(
@@ -81,7 +68,7 @@ fn makes_terms(store: &Store, ledger: &Ledger, x: Exchange, answer: PushAnswer) 
         (terms_with (option_and_then offer_in (body_said k Query x Initiator))
         (members answer.want) (members answer.give) answer.junk) false }
 {
-    if !has_offered(ledger, x) {
+    if !ledger.has_said(x, Kind::Query, Role::Initiator) {
         return false;
     }
     let Some(entry) = ledger.find(x) else {
@@ -98,17 +85,11 @@ fn makes_terms(store: &Store, ledger: &Ledger, x: Exchange, answer: PushAnswer) 
 }
 
 /// The row of a REPLY.
-pub(crate) fn admits_reply(
-    store: &Store,
-    ledger: &Ledger,
-    round: u32,
-    x: Exchange,
-    answer: PushAnswer,
-) -> bool
+pub(crate) fn admits_reply(store: &Store, ledger: &Ledger, x: Exchange, answer: PushAnswer) -> bool
     ensures { (me : Member) (k : Knowledge) (from to r : ℕ) → Holds me k store.now → Recalls me k ledger.now → 2 ≤ me.session.shape.life
-        → round ≡ this_round k → x ≡ exchange_by r Push Responder from to
+        → x ≡ exchange_by r Push Responder from to
         → IsWindowIn me.session.shape r answer.want → IsWindowIn me.session.shape r answer.give
         → result ≡ is_row_met me k from to (Reply r (members answer.want) (members answer.give) answer.junk) }
 {
-    is_within(round, x.round, ANSWER_DEADLINE) && makes_terms(store, ledger, x, answer)
+    ledger.is_within(x, ANSWER_DEADLINE) && makes_terms(store, ledger, x, answer)
 }

@@ -8,7 +8,7 @@ ghost use Rattle.bar_rules.specs.Peer.Knowledge.{Knowledge};
 ghost use Rattle.bar_rules.specs.Peer.Writing.{offer_of, reply_of};
 ghost use Rattle.bar_exchange.specs.Writing.{AreSourcesOf};
 
-use bar_exchange::{Sources, kept_terms, knows_answer, knows_offer};
+use bar_exchange::{Sources, kept_terms};
 use bar_terms::PushAnswer;
 use bar_window::{Exchange, Terms, Window};
 
@@ -19,7 +19,7 @@ pub(crate) fn offered(sources: &Sources<'_>, x: Exchange) -> Option<(Window, Win
     ensures young { IfSome result (λ q. IsWindowIn sources.now.session.now.shape x.round q.0) }
     ensures aged { IfSome result (λ q. IsWindowIn sources.now.session.now.shape x.round q.1) }
 {
-    if !knows_offer(sources.ledger, x) {
+    if !sources.ledger.knows_offer(x) {
         return None;
     }
     let Terms::Push { young, aged, .. } = kept_terms(sources, x)? else {
@@ -35,7 +35,7 @@ pub(crate) fn replied(sources: &Sources<'_>, x: Exchange) -> Option<PushAnswer>
     ensures want { IfSome result (λ a. IsWindowIn sources.now.session.now.shape x.round a.want) }
     ensures give { IfSome result (λ a. IsWindowIn sources.now.session.now.shape x.round a.give) }
 {
-    if !knows_answer(sources.ledger, x) {
+    if !sources.ledger.knows_answer(x) {
         return None;
     }
     let Terms::Push {

@@ -1,4 +1,4 @@
-//! Pushes: which of their datagrams a peer admits, what it answers, and what it says again.
+//! Pushes: which of their datagrams a peer admits and what it answers.
 #![tactic(auto)]
 
 mod admission;
@@ -10,7 +10,6 @@ mod known;
 mod offer;
 mod reply_table;
 mod saying;
-mod tick;
 mod writing;
 
 pub use admission::admit;
@@ -18,5 +17,4 @@ pub use choosing::answer_to_offer;
 pub use keeping::keep;
 pub use reply_table::replies;
 pub use saying::{say_query, say_reply};
-pub use tick::again;
 pub use writing::write;

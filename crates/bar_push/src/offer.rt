@@ -1,9 +1,9 @@
-use bar_window::Window;
+use bar_window::{Exchange, Window};
 
-/// What a QUERY offers and asks for: young and aged updates of the window of a round.
+/// What the QUERY of a push offers and asks for: young and aged updates of the window of its round.
 #[derive(Clone, Copy, Debug)]
 pub(crate) struct Offer {
-    pub(crate) round: u32,
+    pub(crate) x: Exchange,
     pub(crate) young: Window,
     pub(crate) aged: Window,
 }

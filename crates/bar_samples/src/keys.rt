@@ -6,12 +6,6 @@ pub fn peer_key() -> &'static str {
     secret = \"0909090909090909090909090909090909090909090909090909090909090909\"\nspent = false\n"
 }
 
-/// The same when it is spent.
-pub fn spent_peer_key() -> &'static str {
-    "version = 1\nid = \"0011223344556677\"\nparty = 2\nrounds = 10\nlms = 6\nots = 4\n\
-    secret = \"0909090909090909090909090909090909090909090909090909090909090909\"\nspent = true\n"
-}
-
 /// The key file of its broadcaster.
 pub fn caster_key() -> &'static str {
     "version = 1\nid = \"0011223344556677\"\nparty = 0\nrounds = 10\nlms = 6\nots = 4\n\
@@ -29,13 +23,6 @@ pub fn small_key() -> &'static str {
     "version = 1\nid = \"0011223344556677\"\nparty = 2\nrounds = 1\n\
     lms = 5\nots = 4\n\
     secret = \"0909090909090909090909090909090909090909090909090909090909090909\"\nspent = false\n"
-}
-
-/// The same when it is spent.
-pub fn small_spent_key() -> &'static str {
-    "version = 1\nid = \"0011223344556677\"\nparty = 2\nrounds = 1\n\
-    lms = 5\nots = 4\n\
-    secret = \"0909090909090909090909090909090909090909090909090909090909090909\"\nspent = true\n"
 }
 
 /// The key file of its broadcaster.

@@ -40,4 +40,4 @@ in-range_here ranged bytes s is = ranged bytes s is
 -- a session has few peers
 pub few-peers : AreInRange → (session : List ℕ) (content : Content) (s : SessionData) → HasSession session content s →
     s.shape.peers < 2 ^ 64
-few-peers ranged session content s h = let most = (in-range_here ranged h.text s h.is).shape.peers_high in omega arith
+few-peers ranged session content s h = let most = (in-range_here ranged h.bytes s h.is).shape.peers_high in omega arith

@@ -1,20 +1,21 @@
 -- What `audit` does.
-use Rattle.std.specs.Prelude.{◌≡◌, ◌⊎◌, ℕ, suc, ◌-◌, ◌&&◌, Bool, List, [], ◌∷◌, ◌++◌, Option, Some, None, Result, Ok, Err, codes, map, nat_le}
+use Rattle.std.specs.Prelude.{◌≡◌, ◌⊎◌, ℕ, suc, ◌-◌, ◌&&◌, Bool, List, [], ◌∷◌, ◌++◌, Option, Result, Ok, Err, codes, map, nat_le}
 use Rattle.std.specs.Bool.{then_some}
 use Rattle.std.specs.List.{AllByRecursion, range_with_len}
 use Rattle.std.specs.Option.{ok_or}
-use Rattle.bar_outside.specs.Disk.{Content, Failure, readable}
+use Rattle.bar_outside.specs.Disk.{Content, Failure}
 use Rattle.bar_outside.specs.declared.files.CallKind.TheVariants.{Read}
 use Rattle.bar_outside.specs.declared.fault.Fault.{Fault}
 use Rattle.bar_outside.specs.Ends.{EndsWith}
 use Rattle.bar_outside.specs.Faults.{code_of_fault, line_of_fault}
-use Rattle.bar_outside.specs.Plan.{Outside, Plan, reading, accepting, ending, doing}
+use Rattle.bar_outside.specs.Plan.{Outside, Plan}
 use Rattle.bar_outside.specs.Plan.Action.{show}
+use Rattle.bar_outside.specs.Stages.{Stages, IsAccepted, IsRefused, accepts, plan_by, refuses, stage}
+use Rattle.bar_outside.specs.Stages.Stages.{does}
 use Rattle.bar_window.specs.declared.exchange.Exchange.{Exchange}
 use Rattle.bar_wire.specs.Inputs.{Input}
 use Rattle.bar_record.specs.Recording as entries
 use Rattle.bar_record.specs.declared.fault.RecordFault.{RecordFault}
-use Rattle.bar_roster.specs.declared.fault.SessionFault.{SessionFault}
 use Rattle.bar_session.specs.SessionData.{SessionData}
 use Rattle.bar_session.specs.Time.{last_tick}
 use Rattle.bar_audit.specs.declared.audit.Audit.{Audit}
@@ -23,9 +24,9 @@ use Rattle.bar_audit.specs.Exchanges.{unbalanced}
 use Rattle.bar_audit.specs.Listed.{recorded}
 use Rattle.bar_audit.specs.Recordings.{Recording}
 use Rattle.bar_child_processes.specs.Words.{named}
-use Rattle.bar_session_files.specs.Accepting.{HasSession, session_of}
+use Rattle.bar_session_files.specs.Accepting.{HasSession, session_stage}
 use Rattle.bar_cli.specs.Audit.Text.{status_of_balance, text_for}
-use Rattle.bar_cli.specs.Refusals.{parties_refused, recording_refused, session_refused}
+use Rattle.bar_cli.specs.Refusals.{parties_refused, recording_refused}
 
 -- the session's text, the front of the recordings' names, and the first and the last party whose recordings are read
 pub record AuditFiles : Type 0 where
@@ -52,9 +53,9 @@ is_range names peers = nat_le 1 names.first && nat_le names.first names.last && 
 unfoldable pub all_parties : AuditFiles → List ℕ
 all_parties names = range_with_len names.first (suc (names.last - names.first))
 
--- the parties whose recordings are read, in order
-abbrev pub parties_of : AuditFiles → SessionData → Option (List ℕ)
-parties_of names s = then_some (is_range names s.shape.peers) (all_parties names)
+-- the parties whose recordings are read, in order, if they are in range
+abbrev pub parties_of : AuditFiles → SessionData → Result (List ℕ) (Unit {0})
+parties_of names s = ok_or (then_some (is_range names s.shape.peers) (all_parties names)) tt
 
 -- ---- what is told
 
@@ -66,38 +67,40 @@ balance_of s recordings = unbalanced s recordings (recorded s recordings)
 unfoldable pub audit_text : SessionData → List Recording → List ℕ
 audit_text s recordings = text_for s recordings (recorded s recordings)
 
--- ---- the plan
+-- ---- its stages
+
+abbrev pub telling_end : SessionData → List Recording → Plan
+telling_end s recordings = record {
+  actions = show (audit_text s recordings) ∷ [];
+  status = status_of_balance (balance_of s recordings);
+  line = [];
+}
 
 abbrev pub telling_plan : SessionData → List Recording → Content → Plan
-telling_plan s recordings = doing (show (audit_text s recordings) ∷ []) (status_of_balance (balance_of s recordings)) []
+telling_plan s recordings = plan_by (does (telling_end s recordings))
 
--- behind recordings that were accepted that of a party is accepted, or refused
-abbrev pub by_inputs : (List Recording → Content → Plan) → ℕ → List Recording → Result (List Input) RecordFault → Content → Plan
-by_inputs others party given r =
-    accepting r (λ inputs. others (given ++ (record { party = party; inputs = inputs }) ∷ []))
-    (λ fault. ending 8 (recording_refused fault))
+-- after recordings that were accepted that of each of these parties is read, and accepted or refused before the next
+abbrev pub recordings_stages : List ℕ → SessionData → List ℕ → List Recording → Stages
+recordings_stages results s [] given = does (telling_end s given)
+recordings_stages results s (party ∷ parties) given =
+    stage (recording_name results party) (inputs_listed s party) 8 recording_refused
+    (λ inputs. recordings_stages results s parties (given ++ (record { party = party; inputs = inputs }) ∷ []))
 
--- behind recordings that were accepted that of each of these parties is read, and accepted or refused before the next
-abbrev pub recordings_plan : List ℕ → SessionData → List ℕ → List Recording → Content → Plan
-recordings_plan results s [] given = telling_plan s given
-recordings_plan results s (party ∷ parties) given =
-    reading (recording_name results party)
-    (λ bytes. by_inputs (recordings_plan results s parties) party given (inputs_listed s party bytes))
+-- the parties are accepted, or refused, before any is read
+abbrev pub parties_stages : AuditFiles → SessionData → Stages
+parties_stages names s =
+    accepts (parties_of names s) (λ parties. recordings_stages names.results s parties []) (λ _. refuses 8 parties_refused)
 
--- the parties are accepted, or refused
-abbrev pub by_parties : AuditFiles → SessionData → Option (List ℕ) → Content → Plan
-by_parties names s parties =
-    accepting (ok_or parties (tt {0})) (λ ps. recordings_plan names.results s ps []) (λ _. ending 8 parties_refused)
-
-abbrev pub parties_plan : AuditFiles → SessionData → Content → Plan
-parties_plan names s = by_parties names s (parties_of names s)
-
--- the session is read, and accepted or refused
-abbrev pub by_session : AuditFiles → Result SessionData SessionFault → Content → Plan
-by_session names session = accepting session (parties_plan names) (λ fault. ending 4 (session_refused fault))
+-- and the session before
+abbrev pub audit_stages : AuditFiles → Stages
+audit_stages names = session_stage names.session (parties_stages names)
 
 abbrev pub audit_plan : AuditFiles → Content → Plan
-audit_plan names = reading names.session (λ text. by_session names (session_of text))
+audit_plan names = plan_by (audit_stages names)
+
+-- the plan of all recordings
+abbrev pub all_plan : AuditFiles → SessionData → Content → Plan
+all_plan names s = plan_by (recordings_stages names.results s (all_parties names) [])
 
 -- ---- how far the recordings were read
 
@@ -110,19 +113,17 @@ Leaves whole rest old now =
 abbrev pub ReadsRecordings : AuditFiles → SessionData → Result (Result Audit RecordFault) Fault → Outside → Outside → Type 0
 ReadsRecordings names s (Ok (Ok audit)) old new =
     (recordings : List Recording) × Audits s recordings audit
-    × Leaves (recordings_plan names.results s (all_parties names) []) (telling_plan s recordings) old new
+    × Leaves (all_plan names s) (telling_plan s recordings) old new
 ReadsRecordings names s (Ok (Err fault)) old new =
-    EndsWith (recordings_plan names.results s (all_parties names) []) old new 8 (recording_refused fault)
+    EndsWith (all_plan names s) old new 8 (recording_refused fault)
 ReadsRecordings names s (Err fault) old new =
-    EndsWith (recordings_plan names.results s (all_parties names) []) old new (code_of_fault fault) (line_of_fault fault)
+    EndsWith (all_plan names s) old new (code_of_fault fault) (line_of_fault fault)
 
 -- ---- what was accepted, and what was refused
 
 -- the recording of its party is there and accepted, and lists these inputs
-pub record HasRecording (results : List ℕ) (content : Content) (s : SessionData) (r : Recording) : Type 0 where
-  pub bytes : List ℕ
-  pub read : readable content (recording_name results r.party) ≡ Some bytes
-  pub is : inputs_listed s r.party bytes ≡ Ok r.inputs
+abbrev pub HasRecording : List ℕ → Content → SessionData → Recording → Type 0
+HasRecording results content s r = IsAccepted (recording_name results r.party) (inputs_listed s r.party) content r.inputs
 
 -- so are the recordings of these parties, in order
 pub record HasRecordings (results : List ℕ) (content : Content) (s : SessionData) (parties : List ℕ) (recordings : List Recording) : Type 0
@@ -133,7 +134,7 @@ pub record HasRecordings (results : List ℕ) (content : Content) (s : SessionDa
 -- the session is accepted, and these are peers of it
 pub record HasParties (names : AuditFiles) (content : Content) (s : SessionData) (parties : List ℕ) : Type 0 where
   pub in_session : HasSession names.session content s
-  pub are : parties_of names s ≡ Some parties
+  pub are : parties_of names s ≡ Ok parties
 
 -- and so are all recordings
 pub record AuditAccepted (names : AuditFiles) (content : Content) : Type 0 where
@@ -143,17 +144,11 @@ pub record AuditAccepted (names : AuditFiles) (content : Content) : Type 0 where
   pub by_parties : HasParties names content session parties
   pub has : HasRecordings names.results content session parties recordings
 
--- the session's text is there, and refused for this fault
-pub record HasBadSession (names : AuditFiles) (content : Content) (fault : SessionFault) : Type 0 where
-  pub text : List ℕ
-  pub read : readable content names.session ≡ Some text
-  pub is : session_of text ≡ Err fault
-
 -- the session is accepted, and the parties aren't peers of it, or the first is above the last
 pub record HasBadParties (names : AuditFiles) (content : Content) : Type 0 where
   pub session : SessionData
   pub in_session : HasSession names.session content session
-  pub is : parties_of names session ≡ None
+  pub is : parties_of names session ≡ Err tt
 
 -- the parties are accepted, and so are the recordings of those before this one
 pub record IsNextParty (names : AuditFiles) (content : Content) (s : SessionData) (party : ℕ) : Type 0 where
@@ -170,9 +165,7 @@ pub record HasBadRecording (names : AuditFiles) (content : Content) (fault : Rec
   pub session : SessionData
   pub party : ℕ
   pub next : IsNextParty names content session party
-  pub bytes : List ℕ
-  pub read : readable content (recording_name names.results party) ≡ Some bytes
-  pub is : inputs_listed session party bytes ≡ Err fault
+  pub in_recording : IsRefused (recording_name names.results party) (inputs_listed session party) content fault
 
 -- a call that `audit` makes: it reads its files alone
 abbrev pub IsAuditCall : AuditFiles → Failure → Type 0

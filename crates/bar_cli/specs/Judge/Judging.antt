@@ -1,5 +1,6 @@
 -- What a table file spells, and what is said of evidence and of a proof file.
 use Rattle.std.specs.Prelude.{◌≡◌, ◌<◌, ℕ, List, ◌++◌, codes, slice_index, Result, Ok, Err}
+use Rattle.std.specs.Option.{ok_or}
 use Rattle.bar_terms.specs.Table.{Table, Lists, digests_of}
 use Rattle.bar_session.specs.SessionData.{SessionData}
 use Rattle.bar_rules.specs.Judge.Verdict.{Verdict, Shown, NotShown}
@@ -8,7 +9,7 @@ use Rattle.bar_judge.specs.declared.table_fault.TableFault.{TableFault}
 use Rattle.bar_judge.specs.declared.table_fault.TableFault.TheVariants.{BadEntry, NoMemory}
 use Rattle.bar_judge.specs.TableFile.{table_of}
 use Rattle.bar_judge.specs.Texts.{verdict_text}
-use Rattle.bar_proof.specs.ProofFile.{proof_verdict}
+use Rattle.bar_proof.specs.ProofFile.{evidence_of, proof_verdict}
 use Rattle.bar_proof.specs.declared.proof_fault.ProofFault.{ProofFault}
 
 -- each of these is a byte, as what a file holds
@@ -31,6 +32,10 @@ lists_of s bytes = or_place (table_of s bytes)
 -- the bytes are a table file, and the table has its lists
 abbrev pub IsTableOf : SessionData → List ℕ → Table → Type 0
 IsTableOf s bytes table = (lists : Lists) × (lists_of s bytes ≡ Ok lists) × (table ≡ digests_of lists)
+
+-- the datagrams of an evidence file, if the bytes are one
+abbrev pub datagrams_in : List ℕ → Result (List (List ℕ)) (Unit {0})
+datagrams_in bytes = ok_or (evidence_of bytes) tt
 
 -- what the rules say of these datagrams under a table of these lists
 unfoldable pub verdict_of : SessionData → Lists → List (List ℕ) → Verdict

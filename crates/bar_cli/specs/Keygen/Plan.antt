@@ -1,5 +1,5 @@
 -- What `keygen` does.
-use Rattle.std.specs.Prelude.{◌≡◌, ◌≢◌, ◌⊎◌, ◌==◌, ℕ, false, List, [], ◌∷◌, ◌++◌, Option, Some, option_map, Ok, Err, Result, take, length, codes, if◌then◌else◌, IsTrue}
+use Rattle.std.specs.Prelude.{◌≡◌, ◌≢◌, ◌⊎◌, ◌==◌, ℕ, false, List, [], ◌∷◌, ◌++◌, Option, Some, option_map, Ok, Err, Result, take, length, codes, if◌then◌else◌}
 use Rattle.hex.specs.Hex.{encode_lower}
 use Rattle.bar_lms.specs.declared.params.Height.{Height}
 use Rattle.bar_lms.specs.declared.params.Params.{Params}
@@ -10,10 +10,12 @@ use Rattle.bar_roster.specs.declared.key_fields.KeyData.{KeyData}
 use Rattle.bar_roster.specs.declared.fault.SessionFault.{SessionFault}
 use Rattle.bar_roster.specs.KeyText.{any_key_data, key_text_of}
 use Rattle.bar_roster.specs.SessionText.{enough_leaves}
-use Rattle.bar_outside.specs.Disk.{Content, Failure, readable}
+use Rattle.bar_outside.specs.Disk.{Content, Failure}
 use Rattle.bar_outside.specs.declared.files.CallKind.TheVariants.{Read, Create, Append}
-use Rattle.bar_outside.specs.Plan.{Outside, Action, Plan, reading, accepting, ending, doing}
+use Rattle.bar_outside.specs.Plan.{Outside, Action, Plan}
 use Rattle.bar_outside.specs.Plan.Action.{create, append, show}
+use Rattle.bar_outside.specs.Stages.{Stages, IsAccepted, IsRefused, accepts, plan_by, refuses, stage}
+use Rattle.bar_outside.specs.Stages.Stages.{does}
 use Rattle.bar_cli.specs.Refusals.{session_refused, secret_refused}
 
 -- what is asked for: the key of a party in a session with this id, of so many rounds, with signatures of these types, and of two levels where
@@ -58,28 +60,48 @@ lines_of asked secret = key_line (public_of asked secret) ++ (if asked.party == 
 abbrev pub keygen_actions : Keygen → List ℕ → List Action
 keygen_actions asked secret = create asked.key ∷ append asked.key (key_text_of (key_made asked secret)) ∷ show (lines_of asked secret) ∷ []
 
-abbrev pub making_plan : Keygen → List ℕ → Content → Plan
-making_plan asked secret = doing (keygen_actions asked secret) 0 []
+-- ---- its stages
 
 -- whether there are enough leaves
 abbrev pub leaves_for : Keygen → Result (Unit {0}) SessionFault
 leaves_for asked = enough_leaves asked.rounds (leaves_by asked.top asked.params)
 
+-- the key of this secret is made
+abbrev pub making_end : Keygen → List ℕ → Plan
+making_end asked secret = record { actions = keygen_actions asked secret; status = 0; line = [] }
+
 -- the secret is read, and accepted or refused
-abbrev pub secret_plan : Keygen → Content → Plan
-secret_plan asked = reading asked.secret (λ bytes. accepting (secret_of bytes) (making_plan asked) (λ len. ending 8 (secret_refused len)))
+abbrev pub secret_stages : Keygen → Stages
+secret_stages asked = stage asked.secret secret_of 8 secret_refused (λ secret. does (making_end asked secret))
 
 -- too few leaves are refused before anything is read
+abbrev pub keygen_stages : Keygen → Stages
+keygen_stages asked = accepts (leaves_for asked) (λ _. secret_stages asked) (λ fault. refuses 4 (session_refused fault))
+
 abbrev pub keygen_plan : Keygen → Content → Plan
-keygen_plan asked =
-    accepting (leaves_for asked) (λ _. secret_plan asked) (λ fault. ending 4 (session_refused fault))
+keygen_plan asked = plan_by (keygen_stages asked)
+
+-- ---- what was accepted, and what was refused
+
+-- there are too few leaves, or enough
+abbrev pub HasFewLeaves : Keygen → Type 0
+HasFewLeaves asked = (fault : SessionFault) × (leaves_for asked ≡ Err fault)
+
+abbrev pub HasEnoughLeaves : Keygen → Type 0
+HasEnoughLeaves asked = leaves_for asked ≡ Ok tt
 
 -- there is a leaf for each message, and the secret is there and has 32 bytes
 pub record KeygenAccepted (asked : Keygen) (content : Content) : Type 0 where
   pub secret : List ℕ
-  pub leaves : leaves_for asked ≡ Ok tt
-  pub read : readable content asked.secret ≡ Some secret
-  pub long : length secret ≡ 32
+  pub leaves : HasEnoughLeaves asked
+  pub in_secret : IsAccepted asked.secret secret_of content secret
+
+-- there are enough leaves, and the secret is there with so many bytes, which aren't 32
+pub record SecretRefused (asked : Keygen) (content : Content) (len : ℕ) : Type 0 where
+  pub leaves : HasEnoughLeaves asked
+  pub in_secret : IsRefused asked.secret secret_of content len
+
+-- ---- what then stands
 
 -- both were accepted, the key file has exactly the text of the fresh key, and its lines were printed
 pub record KeyMade (asked : Keygen) (old new : Outside) : Type 0 where
@@ -87,20 +109,6 @@ pub record KeyMade (asked : Keygen) (old new : Outside) : Type 0 where
   pub written : new.files.content asked.key ≡ Some (key_text_of (key_made asked accepted.secret))
   pub printed : new.out.bytes ≡ old.out.bytes ++ lines_of asked accepted.secret
   pub others : (path : List ℕ) → path ≢ asked.key → new.files.content path ≡ old.files.content path
-
--- there are enough leaves
-abbrev pub HasEnoughLeaves : Keygen → Type 0
-HasEnoughLeaves asked = leaves_for asked ≡ Ok tt
-
--- so it is, and the secret is there with another length than 32 bytes
-pub record SecretRefused (asked : Keygen) (content : Content) (bytes : List ℕ) : Type 0 where
-  pub leaves : HasEnoughLeaves asked
-  pub read : readable content asked.secret ≡ Some bytes
-  pub other_length : length bytes ≢ 32
-
--- there are too few leaves
-abbrev pub HasFewLeaves : Keygen → Type 0
-HasFewLeaves asked = (fault : SessionFault) × (leaves_for asked ≡ Err fault)
 
 -- both were accepted, the key file has exactly the text of the fresh key, and a front of its lines was printed
 pub record KeyWritten (asked : Keygen) (old new : Outside) : Type 0 where

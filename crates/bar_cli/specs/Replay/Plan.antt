@@ -1,14 +1,15 @@
 -- What `replay` does.
-use Rattle.std.specs.Prelude.{◌≡◌, ◌≢◌, ◌⊎◌, ◌≤◌, ℕ, List, [], ◌∷◌, ◌++◌, Some, Ok, Err, IfSome, take, IsTrue}
+use Rattle.std.specs.Prelude.{◌≡◌, ◌≢◌, ◌⊎◌, ◌≤◌, ℕ, List, [], ◌∷◌, ◌++◌, Some, IfSome, take}
 use Rattle.std.specs.List.{AllByRecursion, concat}
-use Rattle.bar_outside.specs.Disk.{Content, Failure, readable}
+use Rattle.bar_outside.specs.Disk.{Content, Failure}
 use Rattle.bar_outside.specs.declared.files.CallKind.TheVariants.{Read}
-use Rattle.bar_outside.specs.Plan.{Outside, Action, Plan, reading, accepting, ending, doing}
+use Rattle.bar_outside.specs.Plan.{Outside, Action, Plan}
 use Rattle.bar_outside.specs.Plan.Action.{create}
 use Rattle.bar_outside.specs.Ends.{SameFiles, NothingPrinted}
+use Rattle.bar_outside.specs.Stages.{Stages, IsAccepted, IsRefused, plan_by, stage}
+use Rattle.bar_outside.specs.Stages.Stages.{does}
 use Rattle.bar_wire.specs.Inputs.{Input}
 use Rattle.bar_seeds.specs.declared.secrets.Secrets.{Secrets}
-use Rattle.bar_roster.specs.declared.fault.SessionFault.{SessionFault}
 use Rattle.bar_roster.specs.declared.key_fault.KeyFileFault.{KeyFileFault}
 use Rattle.bar_session.specs.SessionData.{SessionData}
 use Rattle.bar_record.specs.declared.fault.RecordFault.{RecordFault}
@@ -18,9 +19,9 @@ use Rattle.bar_rules.specs.Members.{member_by}
 use Rattle.bar_rules.specs.Peer.Run.{played_by, sends_of}
 use Rattle.bar_judge.specs.TableFile.{table_bytes}
 use Rattle.bar_findings.specs.Findings.{Finding, IsFindingName, IsWriteTo, IsWrittenUpTo, evidence_name, findings_actions, in_order, table_name}
-use Rattle.bar_cli.specs.Refusals.{session_refused, key_refused, recording_refused}
+use Rattle.bar_cli.specs.Refusals.{recording_refused}
 use Rattle.bar_cli.specs.Replay.Found.{evidence_of, found_by, manifest_of}
-use Rattle.bar_session_files.specs.Accepting.{secrets_of_key, session_of}
+use Rattle.bar_session_files.specs.Accepting.{HasSession, key_stage, secrets_of_key, session_stage}
 use Rattle.bar_cli.specs.Replay.Recordings.{recording_of}
 use Rattle.bar_cli.specs.Replay.Transcript.{transcript}
 use Rattle.bar_cli.specs.Replay.Turns.{Turn, turns_from, turns_actions, played_bytes, shown_bytes}
@@ -45,39 +46,37 @@ replay_actions names turns findings = playing_actions names.played turns ++ find
 abbrev pub turns_of : SessionData → Secrets → List Input → List Turn
 turns_of s secrets inputs = turns_from (member_by s secrets) 1 [] inputs
 
-abbrev pub run_plan : ReplayFiles → SessionData → Secrets → List Input → Content → Plan
-run_plan names session secrets inputs =
-    doing (replay_actions names (turns_of session secrets inputs) (found_by names.found (member_by session secrets) inputs)) 0 []
+-- ---- its stages
+
+abbrev pub run_end : ReplayFiles → SessionData → Secrets → List Input → Plan
+run_end names session secrets inputs = record {
+  actions = replay_actions names (turns_of session secrets inputs) (found_by names.found (member_by session secrets) inputs);
+  status = 0;
+  line = [];
+}
 
 -- the recording of the key's party is read, and accepted or refused
-abbrev pub recording_plan : ReplayFiles → SessionData → Secrets → Content → Plan
-recording_plan names session secrets =
-    reading names.recording (λ bytes.
-    accepting (recording_of session secrets.party bytes) (run_plan names session secrets) (λ fault. ending 8 (recording_refused fault)))
+abbrev pub recording_stages : ReplayFiles → SessionData → Secrets → Stages
+recording_stages names session secrets =
+    stage names.recording (recording_of session secrets.party) 8 recording_refused (λ inputs. does (run_end names session secrets inputs))
 
--- the key file is read, and accepted or refused
-abbrev pub key_plan : ReplayFiles → SessionData → Content → Plan
-key_plan names session =
-    reading names.key (λ bytes. accepting (secrets_of_key session bytes) (recording_plan names session)
-    (λ fault. ending 5 (key_refused fault)))
+-- the key file before it
+abbrev pub key_stages : ReplayFiles → SessionData → Stages
+key_stages names session = key_stage names.key session (recording_stages names session)
 
--- the session is read, and accepted or refused
+-- and the session before both
+abbrev pub replay_stages : ReplayFiles → Stages
+replay_stages names = session_stage names.session (key_stages names)
+
 abbrev pub replay_plan : ReplayFiles → Content → Plan
-replay_plan names =
-    reading names.session (λ text. accepting (session_of text) (key_plan names) (λ fault. ending 4 (session_refused fault)))
+replay_plan names = plan_by (replay_stages names)
 
--- the session's text is there and accepted
-pub record SessionAccepted (names : ReplayFiles) (content : Content) (session : SessionData) : Type 0 where
-  pub text : List ℕ
-  pub read : readable content names.session ≡ Some text
-  pub is : session_of text ≡ Ok session
+-- ---- what was accepted, and what was refused
 
--- so is the key file, which holds these secrets
+-- the session is accepted, and so is the key file, which holds these secrets
 pub record KeyAccepted (names : ReplayFiles) (content : Content) (session : SessionData) (secrets : Secrets) : Type 0 where
-  pub in_session : SessionAccepted names content session
-  pub bytes : List ℕ
-  pub read : readable content names.key ≡ Some bytes
-  pub is : secrets_of_key session bytes ≡ Ok secrets
+  pub in_session : HasSession names.session content session
+  pub in_key : IsAccepted names.key (secrets_of_key session) content secrets
 
 -- and so is the recording, which holds these inputs, paced
 pub record Accepted (names : ReplayFiles) (content : Content) : Type 0 where
@@ -85,28 +84,20 @@ pub record Accepted (names : ReplayFiles) (content : Content) : Type 0 where
   pub secrets : Secrets
   pub inputs : List Input
   pub by_key : KeyAccepted names content session secrets
-  pub bytes : List ℕ
-  pub read : readable content names.recording ≡ Some bytes
-  pub is : recording_of session secrets.party bytes ≡ Ok inputs
-
--- the session's text is there, and refused for this fault
-pub record SessionRefused (names : ReplayFiles) (content : Content) (text : List ℕ) (fault : SessionFault) : Type 0 where
-  pub read : readable content names.session ≡ Some text
-  pub is : session_of text ≡ Err fault
+  pub in_recording : IsAccepted names.recording (recording_of session secrets.party) content inputs
 
 -- the session is accepted, and the key file is there and refused for this fault
-pub record KeyRefused (names : ReplayFiles) (content : Content) (session : SessionData) (bytes : List ℕ)
-    (fault : KeyFileFault) : Type 0 where
-  pub in_session : SessionAccepted names content session
-  pub read : readable content names.key ≡ Some bytes
-  pub is : secrets_of_key session bytes ≡ Err fault
+pub record KeyRefused (names : ReplayFiles) (content : Content) (session : SessionData) (fault : KeyFileFault) : Type 0 where
+  pub in_session : HasSession names.session content session
+  pub in_key : IsRefused names.key (secrets_of_key session) content fault
 
 -- both are accepted, and the recording is there and refused for this fault
-pub record InputRefused (names : ReplayFiles) (content : Content) (session : SessionData) (secrets : Secrets) (bytes : List ℕ)
-    (fault : RecordFault) : Type 0 where
-  pub by_key : KeyAccepted names content session secrets
-  pub read : readable content names.recording ≡ Some bytes
-  pub is : recording_of session secrets.party bytes ≡ Err fault
+pub record InputRefused (names : ReplayFiles) (content : Content) (session : SessionData) (secrets : Secrets) (fault : RecordFault) : Type 0
+  where
+    pub by_key : KeyAccepted names content session secrets
+    pub in_recording : IsRefused names.recording (recording_of session secrets.party) content fault
+
+-- ---- what then stands
 
 -- the peer whose key it is
 abbrev pub peer_of : (names : ReplayFiles) (content : Content) → Accepted names content → Member

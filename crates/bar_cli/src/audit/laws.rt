@@ -9,13 +9,14 @@ ghost use Rattle.bar_window.specs.declared.exchange.Exchange.{Exchange};
 ghost use Rattle.bar_record.specs.declared.fault.RecordFault.{RecordFault};
 ghost use Rattle.bar_roster.specs.declared.fault.SessionFault.{SessionFault};
 ghost use Rattle.bar_session.specs.SessionData.{SessionData};
+ghost use Rattle.bar_session_files.specs.Accepting.{HasBadSession};
 ghost use Rattle.bar_cli.specs.Audit.Text.{status_of_balance};
-ghost use Rattle.bar_cli.specs.Audit.Plan.{AuditAccepted, AuditFiles, HasBadParties, HasBadRecording, HasBadSession, IsAuditCall, IsNextParty, audit_plan, recording_name};
+ghost use Rattle.bar_cli.specs.Audit.Plan.{AuditAccepted, AuditFiles, HasBadParties, HasBadRecording, IsAuditCall, IsNextParty, audit_plan, recording_name};
 ghost use Rattle.bar_cli.specs.Audit.Audited.{Audited, AuditedFront, AuditStays, balance_in};
 ghost use Rattle.bar_cli.specs.Refusals.{parties_refused, recording_refused, session_refused};
 
 use bar_audit::laws::{keys_are_paid, recorded_exchanges_are_one_list, runs_are_balanced};
-use bar_outside::plans_go_in_order;
+use bar_outside::stages_go_in_order;
 
 /// Where all files are accepted, the status is 0 exactly where all recorded exchanges are balanced, and 1 exactly where one isn't, but for
 /// a fault of the outside or want of memory; and these come only there. Then the lines were printed, and nothing on standard error.
@@ -29,8 +30,8 @@ pub fn an_audit_is_told()
         line_at (audit_plan names content) (status_of_balance (balance_in names content accepted)) ≡ [] }
 {
     keys_are_paid();
-    plans_go_in_order();
     recorded_exchanges_are_one_list();
+    stages_go_in_order();
 }
 
 /// Where all files are accepted and no count rose, the status is that of the balance, but for want of memory. So it is where nothing fails
@@ -43,7 +44,9 @@ pub fn an_audit_is_told_where_all_is_accepted()
     ensures reliable { (names : AuditFiles) (old new : Outside) (status : ℕ) → Ends (audit_plan names) old new status → IsReliable old → IsTrue new.files.told →
         (accepted : AuditAccepted names old.files.content) →
         (status ≡ status_of_balance (balance_in names old.files.content accepted)) ⊎ (status ≡ 70) }
-{}
+{
+    stages_go_in_order();
+}
 
 /// 3 comes only where the files' count rose, and where they tell, by a read of the session or of a recording; 7 only where the count of the
 /// output rose, and where the files tell, only after all were accepted. A file that isn't there or is too large stops it.
@@ -58,19 +61,19 @@ pub fn an_audit_fails_only()
         IsNextParty names old.files.content session party →
         readable old.files.content (recording_name names.results party) ≡ None → is_stop status ≡ true) }
 {
-    plans_go_in_order();
+    stages_go_in_order();
 }
 
 /// 4 comes exactly where the session is there and refused, but for a fault or want of memory; its line has the first fault.
 pub fn an_audit_refuses_a_bad_session()
     ensures only { (names : AuditFiles) → AtEnd 4 (audit_plan names) (λ old new.
-        (fault : SessionFault) × HasBadSession names old.files.content fault) }
+        (fault : SessionFault) × HasBadSession names.session old.files.content fault) }
     ensures then { (names : AuditFiles) (fault : SessionFault) → OfEachEnd (audit_plan names) (λ old new status.
-        HasBadSession names old.files.content fault → UnlessStopped 4 status) }
-    ensures line { (names : AuditFiles) (content : Content) (fault : SessionFault) → HasBadSession names content fault →
+        HasBadSession names.session old.files.content fault → UnlessStopped 4 status) }
+    ensures line { (names : AuditFiles) (content : Content) (fault : SessionFault) → HasBadSession names.session content fault →
         line_at (audit_plan names content) 4 ≡ session_refused fault }
 {
-    plans_go_in_order();
+    stages_go_in_order();
 }
 
 /// 8 comes exactly where the session is accepted and the parties aren't peers of it, or the first is above the last; or they are, and a
@@ -88,7 +91,7 @@ pub fn an_audit_refuses_bad_parties_and_recordings()
     ensures recording_line { (names : AuditFiles) (content : Content) (fault : RecordFault) → HasBadRecording names content fault →
         line_at (audit_plan names content) 8 ≡ recording_refused fault }
 {
-    plans_go_in_order();
+    stages_go_in_order();
 }
 
 /// Whatever the status, no file is changed, and no exchange of obedient parties is called unbalanced; after a refusal nothing was printed.
@@ -97,14 +100,14 @@ pub fn an_audit_stays()
     ensures session { (names : AuditFiles) → AtEnd 4 (audit_plan names) NothingPrinted }
     ensures input { (names : AuditFiles) → AtEnd 8 (audit_plan names) NothingPrinted }
 {
-    plans_go_in_order();
     recorded_exchanges_are_one_list();
     runs_are_balanced();
+    stages_go_in_order();
 }
 
 /// Whatever the status, nothing was printed, or all was accepted and a front of what is told was.
 pub fn a_front_of_an_audit_is_printed()
     ensures { (names : AuditFiles) → OfEachEnd (audit_plan names) (λ old new status. NothingPrinted old new ⊎ AuditedFront names old new) }
 {
-    plans_go_in_order();
+    stages_go_in_order();
 }

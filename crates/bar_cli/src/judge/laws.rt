@@ -9,11 +9,12 @@ ghost use Rattle.bar_terms.specs.Table.{Lists};
 ghost use Rattle.bar_roster.specs.declared.fault.SessionFault.{SessionFault};
 ghost use Rattle.bar_session.specs.SessionData.{SessionData};
 ghost use Rattle.bar_rules.specs.Judge.Verdict.{Fault, Why, Shown, NotShown};
+ghost use Rattle.bar_session_files.specs.Accepting.{HasBadSession, HasSession};
 ghost use Rattle.bar_cli.specs.Judge.Judging.{status_of_verdict};
 ghost use Rattle.bar_cli.specs.Refusals.{session_refused, table_refused, evidence_refused};
-ghost use Rattle.bar_cli.specs.Judge.Plan.{JudgeFiles, HasSession, HasTable, JudgeAccepted, HasBadSession, HasBadTable, HasBadEvidence, Judged, JudgedFront, IsJudgeCall, judge_plan, verdict_in};
+ghost use Rattle.bar_cli.specs.Judge.Plan.{JudgeFiles, HasTable, JudgeAccepted, HasBadTable, HasBadEvidence, Judged, JudgedFront, IsJudgeCall, judge_plan, verdict_in};
 
-use bar_outside::plans_go_in_order;
+use bar_outside::stages_go_in_order;
 
 /// Where all files are accepted, the status is 0 exactly where the rules show a fault, and 1 exactly where they show none, but for a fault
 /// of the outside or want of memory; and these come only there. Then the line of the verdict was printed, and nothing on standard error.
@@ -27,7 +28,7 @@ pub fn the_verdict_is_printed()
     ensures line { (names : JudgeFiles) (content : Content) (accepted : JudgeAccepted names content) →
         line_at (judge_plan names content) (status_of_verdict (verdict_in names content accepted)) ≡ [] }
 {
-    plans_go_in_order();
+    stages_go_in_order();
 }
 
 /// Where all files are accepted and no count rose, the status is that of the verdict, but for want of memory. So it is where nothing fails
@@ -52,23 +53,23 @@ pub fn a_judge_fails_only()
     ensures no_session { (names : JudgeFiles) → OfEachEnd (judge_plan names) (λ old new status.
         readable old.files.content names.session ≡ None → is_stop status ≡ true) }
     ensures no_table { (names : JudgeFiles) (session : SessionData) → OfEachEnd (judge_plan names) (λ old new status.
-        HasSession names old.files.content session → readable old.files.content names.table ≡ None → is_stop status ≡ true) }
+        HasSession names.session old.files.content session → readable old.files.content names.table ≡ None → is_stop status ≡ true) }
     ensures no_evidence { (names : JudgeFiles) (session : SessionData) (lists : Lists) → OfEachEnd (judge_plan names) (λ old new status.
         HasTable names old.files.content session lists → readable old.files.content names.evidence ≡ None → is_stop status ≡ true) }
 {
-    plans_go_in_order();
+    stages_go_in_order();
 }
 
 /// 4 comes exactly where the session is there and refused, but for a fault or want of memory; its line has the first fault.
 pub fn a_bad_session_is_refused()
     ensures only { (names : JudgeFiles) → AtEnd 4 (judge_plan names) (λ old new.
-        (fault : SessionFault) × HasBadSession names old.files.content fault) }
+        (fault : SessionFault) × HasBadSession names.session old.files.content fault) }
     ensures then { (names : JudgeFiles) (fault : SessionFault) → OfEachEnd (judge_plan names) (λ old new status.
-        HasBadSession names old.files.content fault → UnlessStopped 4 status) }
-    ensures line { (names : JudgeFiles) (content : Content) (fault : SessionFault) → HasBadSession names content fault →
+        HasBadSession names.session old.files.content fault → UnlessStopped 4 status) }
+    ensures line { (names : JudgeFiles) (content : Content) (fault : SessionFault) → HasBadSession names.session content fault →
         line_at (judge_plan names content) 4 ≡ session_refused fault }
 {
-    plans_go_in_order();
+    stages_go_in_order();
 }
 
 /// 8 comes exactly where the session is accepted and the table is there and refused, or both are accepted and the evidence is there and
@@ -85,7 +86,7 @@ pub fn a_bad_table_or_evidence_is_refused()
     ensures evidence_line { (names : JudgeFiles) (content : Content) → HasBadEvidence names content →
         line_at (judge_plan names content) 8 ≡ evidence_refused }
 {
-    plans_go_in_order();
+    stages_go_in_order();
 }
 
 /// Whatever the status, no file is changed; after a refusal nothing was printed.
@@ -94,12 +95,12 @@ pub fn a_judge_changes_nothing()
     ensures session { (names : JudgeFiles) → AtEnd 4 (judge_plan names) NothingPrinted }
     ensures input { (names : JudgeFiles) → AtEnd 8 (judge_plan names) NothingPrinted }
 {
-    plans_go_in_order();
+    stages_go_in_order();
 }
 
 /// Whatever the status, nothing was printed, or all was accepted and a front of the verdict's line was.
 pub fn a_front_of_the_verdict_is_printed()
     ensures { (names : JudgeFiles) → OfEachEnd (judge_plan names) (λ old new status. NothingPrinted old new ⊎ JudgedFront names old new) }
 {
-    plans_go_in_order();
+    stages_go_in_order();
 }

@@ -1,5 +1,5 @@
 //! What each exit status of `keygen` means, and what then stands.
-ghost use Rattle.std.specs.Prelude.{IsTrue, ◌≡◌, ◌≢◌, ◌⊎◌, ℕ, List, [], None, Err, IsSomeAnd, length, true};
+ghost use Rattle.std.specs.Prelude.{IsTrue, ◌≡◌, ◌≢◌, ◌⊎◌, ℕ, List, [], None, Err, IsSomeAnd, true};
 ghost use Rattle.bar_outside.specs.Causes.{Rose};
 ghost use Rattle.bar_outside.specs.Disk.{Content, readable};
 ghost use Rattle.bar_outside.specs.Follows.{IsReliable};
@@ -9,7 +9,7 @@ ghost use Rattle.bar_roster.specs.declared.fault.SessionFault.{SessionFault};
 ghost use Rattle.bar_cli.specs.Refusals.{session_refused, secret_refused};
 ghost use Rattle.bar_cli.specs.Keygen.Plan.{Keygen, KeygenAccepted, KeyMade, KeyWritten, KeyBegun, HasEnoughLeaves, HasFewLeaves, SecretRefused, IsKeygenCall, keygen_plan, leaves_for};
 
-use bar_outside::plans_go_in_order;
+use bar_outside::stages_go_in_order;
 
 /// 0 comes exactly where there are enough leaves and the secret is accepted, but for a fault or want of memory; then the key was made.
 pub fn key_made_exactly()
@@ -18,7 +18,7 @@ pub fn key_made_exactly()
         KeygenAccepted asked old.files.content → UnlessStopped 0 status) }
     ensures line { (asked : Keygen) (content : Content) → KeygenAccepted asked content → line_at (keygen_plan asked content) 0 ≡ [] }
 {
-    plans_go_in_order();
+    stages_go_in_order();
 }
 
 /// Where all is accepted and no count rose, the status is 0, but for want of memory. So it is where nothing fails by itself.
@@ -39,14 +39,14 @@ pub fn keygen_failed_only()
     ensures no_secret { (asked : Keygen) → OfEachEnd (keygen_plan asked) (λ old new status.
         HasEnoughLeaves asked → readable old.files.content asked.secret ≡ None → is_stop status ≡ true) }
 {
-    plans_go_in_order();
+    stages_go_in_order();
 }
 
 /// 7 comes only behind the key file: where the files tell, it has its whole text, and a front of the lines was printed.
 pub fn output_fails_behind_the_key()
     ensures { (asked : Keygen) → AtEnd 7 (keygen_plan asked) (KeyWritten asked) }
 {
-    plans_go_in_order();
+    stages_go_in_order();
 }
 
 /// 4 comes exactly where there are too few leaves, but for want of memory; its line has both numbers.
@@ -58,20 +58,20 @@ pub fn leaves_refused_exactly()
     ensures line { (asked : Keygen) (content : Content) (fault : SessionFault) →
         leaves_for asked ≡ Err fault → line_at (keygen_plan asked content) 4 ≡ session_refused fault }
 {
-    plans_go_in_order();
+    stages_go_in_order();
 }
 
 /// 8 comes exactly where there are enough leaves and the secret is there and hasn't 32 bytes, but for a fault or want of memory; its
 /// line has the length.
 pub fn secret_refused_exactly()
     ensures only { (asked : Keygen) → AtEnd 8 (keygen_plan asked) (λ old new.
-        (bytes : List ℕ) × SecretRefused asked old.files.content bytes) }
-    ensures then { (asked : Keygen) (bytes : List ℕ) → OfEachEnd (keygen_plan asked) (λ old new status.
-        SecretRefused asked old.files.content bytes → UnlessStopped 8 status) }
-    ensures line { (asked : Keygen) (content : Content) (bytes : List ℕ) → SecretRefused asked content bytes →
-        line_at (keygen_plan asked content) 8 ≡ secret_refused (length bytes) }
+        (len : ℕ) × SecretRefused asked old.files.content len) }
+    ensures then { (asked : Keygen) (len : ℕ) → OfEachEnd (keygen_plan asked) (λ old new status.
+        SecretRefused asked old.files.content len → UnlessStopped 8 status) }
+    ensures line { (asked : Keygen) (content : Content) (len : ℕ) → SecretRefused asked content len →
+        line_at (keygen_plan asked content) 8 ≡ secret_refused len }
 {
-    plans_go_in_order();
+    stages_go_in_order();
 }
 
 /// Whatever the status, only the key file is changed.
@@ -79,7 +79,7 @@ pub fn only_the_key_is_changed()
     ensures { (asked : Keygen) (path : List ℕ) → OfEachEnd (keygen_plan asked) (λ old new status.
         path ≢ asked.key → new.files.content path ≡ old.files.content path) }
 {
-    plans_go_in_order();
+    stages_go_in_order();
 }
 
 /// After a refusal every file is as it was, and nothing was printed.
@@ -89,7 +89,7 @@ pub fn refused_keys_change_nothing()
     ensures secret { (asked : Keygen) → AtEnd 8 (keygen_plan asked) SameFiles }
     ensures secret_printed { (asked : Keygen) → AtEnd 8 (keygen_plan asked) NothingPrinted }
 {
-    plans_go_in_order();
+    stages_go_in_order();
 }
 
 /// Whatever the status, all files are as they were and nothing was printed, or all was accepted, the key file has a front of its text,
@@ -98,5 +98,5 @@ pub fn a_front_of_the_key_is_made()
     ensures { (asked : Keygen) → OfEachEnd (keygen_plan asked) (λ old new status.
         (SameFiles old new × NothingPrinted old new) ⊎ KeyBegun asked old new) }
 {
-    plans_go_in_order();
+    stages_go_in_order();
 }

@@ -7,13 +7,12 @@ ghost use Rattle.bar_outside.specs.Plan.{Outside, is_stop, line_at};
 ghost use Rattle.bar_outside.specs.Ends.{Ends, OfEachEnd, AtEnd, UnlessStopped, SameFiles, NothingPrinted};
 ghost use Rattle.bar_roster.specs.declared.fault.SessionFault.{SessionFault};
 ghost use Rattle.bar_session.specs.SessionData.{SessionData};
-ghost use Rattle.bar_session_files.specs.Accepting.{HasSession};
+ghost use Rattle.bar_session_files.specs.Accepting.{HasBadSession, HasSession};
 ghost use Rattle.bar_cli.specs.Judge.Judging.{status_of_verdict};
 ghost use Rattle.bar_cli.specs.Refusals.{session_refused, table_refused, evidence_refused};
 ghost use Rattle.bar_cli.specs.Pack.{PackFiles, PackAccepted, HasBadTable, HasBadEvidence, Packed, NotPacked, NotPackedFront, ProofWritten, PackFront, IsPackCall, pack_plan, verdict_in};
-ghost use Rattle.bar_cli.specs.Verify.{HasBadSession};
 
-use bar_outside::plans_go_in_order;
+use bar_outside::stages_go_in_order;
 use bar_proof::laws::{tables_are_spelled, what_is_shown_is_packed};
 use bar_roster::laws::accepted_sessions_are_in_range;
 
@@ -29,7 +28,7 @@ pub fn a_proof_is_packed()
     ensures line { (names : PackFiles) (content : Content) (accepted : PackAccepted names content) →
         line_at (pack_plan names content) (status_of_verdict (verdict_in names content accepted)) ≡ [] }
 {
-    plans_go_in_order();
+    stages_go_in_order();
     tables_are_spelled();
     what_is_shown_is_packed();
     accepted_sessions_are_in_range();
@@ -60,7 +59,7 @@ pub fn packing_fails_only()
     ensures no_evidence { (names : PackFiles) (session : SessionData) → OfEachEnd (pack_plan names) (λ old new status.
         HasSession names.session old.files.content session → readable old.files.content names.evidence ≡ None → is_stop status ≡ true) }
 {
-    plans_go_in_order();
+    stages_go_in_order();
 }
 
 /// 7 comes only behind all that is refused: where the files tell, the proof file has all that is packed and a front of its line was printed, or
@@ -68,7 +67,7 @@ pub fn packing_fails_only()
 pub fn output_fails_behind_the_proof()
     ensures { (names : PackFiles) → AtEnd 7 (pack_plan names) (λ old new. ProofWritten names old new ⊎ NotPackedFront names old new) }
 {
-    plans_go_in_order();
+    stages_go_in_order();
 }
 
 /// 4 comes exactly where the session is there and refused, but for a fault or want of memory; its line has the first fault.
@@ -80,7 +79,7 @@ pub fn a_bad_session_is_not_packed()
     ensures line { (names : PackFiles) (content : Content) (fault : SessionFault) → HasBadSession names.session content fault →
         line_at (pack_plan names content) 4 ≡ session_refused fault }
 {
-    plans_go_in_order();
+    stages_go_in_order();
 }
 
 /// 8 comes exactly where the session is accepted, the table and the evidence are there, and the table is refused, or the table is accepted
@@ -97,7 +96,7 @@ pub fn a_bad_table_or_evidence_is_not_packed()
     ensures evidence_line { (names : PackFiles) (content : Content) → HasBadEvidence names content →
         line_at (pack_plan names content) 8 ≡ evidence_refused }
 {
-    plans_go_in_order();
+    stages_go_in_order();
 }
 
 /// Whatever the status, only the proof file is changed.
@@ -105,7 +104,7 @@ pub fn only_the_proof_is_changed()
     ensures { (names : PackFiles) (path : List ℕ) → OfEachEnd (pack_plan names) (λ old new status.
         path ≢ names.proof → new.files.content path ≡ old.files.content path) }
 {
-    plans_go_in_order();
+    stages_go_in_order();
 }
 
 /// After a refusal every file is as it was, and nothing was printed.
@@ -115,7 +114,7 @@ pub fn refused_packing_changes_nothing()
     ensures input { (names : PackFiles) → AtEnd 8 (pack_plan names) SameFiles }
     ensures input_printed { (names : PackFiles) → AtEnd 8 (pack_plan names) NothingPrinted }
 {
-    plans_go_in_order();
+    stages_go_in_order();
 }
 
 /// Whatever the status, all files are as they were and nothing was printed; or nothing is shown, all files are as they were, and a front of
@@ -124,5 +123,5 @@ pub fn refused_packing_changes_nothing()
 pub fn a_front_of_the_proof_is_made()
     ensures { (names : PackFiles) → OfEachEnd (pack_plan names) (λ old new status. PackFront names old new) }
 {
-    plans_go_in_order();
+    stages_go_in_order();
 }

@@ -11,14 +11,15 @@ ghost use Rattle.bar_roster.specs.declared.key_fault.KeyFileFault.{KeyFileFault}
 ghost use Rattle.bar_session.specs.SessionData.{SessionData};
 ghost use Rattle.bar_record.specs.declared.fault.RecordFault.{RecordFault};
 ghost use Rattle.bar_findings.specs.Findings.{IsFindingName};
+ghost use Rattle.bar_session_files.specs.Accepting.{HasBadSession, HasSession};
 ghost use Rattle.bar_cli.specs.Replay.Finished.{IsReplayed};
 ghost use Rattle.bar_cli.specs.Headline.{ReplayHeadline};
 ghost use Rattle.bar_cli.specs.Line.{usage};
 ghost use Rattle.bar_cli.specs.Refusals.{session_refused, key_refused, recording_refused};
-ghost use Rattle.bar_cli.specs.Replay.Plan.{ReplayFiles, SessionAccepted, SessionRefused, KeyAccepted, KeyRefused, InputRefused, Accepted, Replayed, PlayedFront, PlayedUpTo, FoundUpTo, ChangesNothing, IsMade, IsReplayCall, replay_plan};
+ghost use Rattle.bar_cli.specs.Replay.Plan.{ReplayFiles, KeyAccepted, KeyRefused, InputRefused, Accepted, Replayed, PlayedFront, PlayedUpTo, FoundUpTo, ChangesNothing, IsMade, IsReplayCall, replay_plan};
 
 use crate::headline::peers_keep_the_rules;
-use bar_outside::plans_go_in_order;
+use bar_outside::stages_go_in_order;
 use bar_record::{paced_inputs_stay_paced, recordings_read_back};
 use bar_roster::laws::{
     accepted_keys_are_read_back, accepted_secrets_are_held, accepted_sessions_are_in_range,
@@ -34,7 +35,7 @@ pub fn done_exactly()
 {
     accepted_secrets_are_held();
     accepted_sessions_are_in_range();
-    plans_go_in_order();
+    stages_go_in_order();
 }
 
 /// Where all files are accepted and no count rose, the status is 0, but for want of memory. So it is where nothing fails by itself.
@@ -54,51 +55,49 @@ pub fn file_failed_only()
     ensures no_session { (names : ReplayFiles) → OfEachEnd (replay_plan names) (λ old new status.
         readable old.files.content names.session ≡ None → is_stop status ≡ true) }
     ensures no_key { (names : ReplayFiles) (session : SessionData) → OfEachEnd (replay_plan names) (λ old new status.
-        SessionAccepted names old.files.content session → readable old.files.content names.key ≡ None → is_stop status ≡ true) }
+        HasSession names.session old.files.content session → readable old.files.content names.key ≡ None → is_stop status ≡ true) }
     ensures no_recording { (names : ReplayFiles) (session : SessionData) (k : Secrets) → OfEachEnd (replay_plan names) (λ old new status.
         KeyAccepted names old.files.content session k → readable old.files.content names.recording ≡ None → is_stop status ≡ true) }
 {
-    plans_go_in_order();
+    stages_go_in_order();
 }
 
 /// 4 comes exactly where the session is there and refused, but for a fault or want of memory; its line has the first fault.
 pub fn session_refused_exactly()
     ensures only { (names : ReplayFiles) → AtEnd 4 (replay_plan names) (λ old new.
-        (text : List ℕ) × (fault : SessionFault) × SessionRefused names old.files.content text fault) }
-    ensures then { (names : ReplayFiles) (text : List ℕ) (fault : SessionFault) → OfEachEnd (replay_plan names) (λ old new status.
-        SessionRefused names old.files.content text fault → UnlessStopped 4 status) }
-    ensures line { (names : ReplayFiles) (content : Content) (text : List ℕ) (fault : SessionFault) →
-        SessionRefused names content text fault → line_at (replay_plan names content) 4 ≡ session_refused fault }
+        (fault : SessionFault) × HasBadSession names.session old.files.content fault) }
+    ensures then { (names : ReplayFiles) (fault : SessionFault) → OfEachEnd (replay_plan names) (λ old new status.
+        HasBadSession names.session old.files.content fault → UnlessStopped 4 status) }
+    ensures line { (names : ReplayFiles) (content : Content) (fault : SessionFault) → HasBadSession names.session content fault →
+        line_at (replay_plan names content) 4 ≡ session_refused fault }
 {
-    plans_go_in_order();
+    stages_go_in_order();
 }
 
 /// 5 comes exactly where the session is accepted, and the key file is there and refused, but for a fault or want of memory; its line has
 /// the first fault.
 pub fn key_refused_exactly()
     ensures only { (names : ReplayFiles) → AtEnd 5 (replay_plan names) (λ old new.
-        (session : SessionData) × (bytes : List ℕ) × (fault : KeyFileFault) × KeyRefused names old.files.content session bytes fault) }
-    ensures then { (names : ReplayFiles) (session : SessionData) (bytes : List ℕ) (fault : KeyFileFault) →
-        OfEachEnd (replay_plan names) (λ old new status. KeyRefused names old.files.content session bytes fault → UnlessStopped 5 status) }
-    ensures line { (names : ReplayFiles) (content : Content) (session : SessionData) (bytes : List ℕ) (fault : KeyFileFault) →
-        KeyRefused names content session bytes fault → line_at (replay_plan names content) 5 ≡ key_refused fault }
+        (session : SessionData) × (fault : KeyFileFault) × KeyRefused names old.files.content session fault) }
+    ensures then { (names : ReplayFiles) (session : SessionData) (fault : KeyFileFault) → OfEachEnd (replay_plan names) (λ old new status.
+        KeyRefused names old.files.content session fault → UnlessStopped 5 status) }
+    ensures line { (names : ReplayFiles) (content : Content) (session : SessionData) (fault : KeyFileFault) →
+        KeyRefused names content session fault → line_at (replay_plan names content) 5 ≡ key_refused fault }
 {
-    plans_go_in_order();
+    stages_go_in_order();
 }
 
 /// 8 comes exactly where the session and the key are accepted, and the recording is there and refused, but for a fault or want of memory;
 /// its line has the first fault.
 pub fn input_refused_exactly()
     ensures only { (names : ReplayFiles) → AtEnd 8 (replay_plan names) (λ old new.
-        (session : SessionData) × (secrets : Secrets) × (bytes : List ℕ) × (fault : RecordFault)
-        × InputRefused names old.files.content session secrets bytes fault) }
-    ensures then { (names : ReplayFiles) (session : SessionData) (k : Secrets) (bytes : List ℕ) (fault : RecordFault) → OfEachEnd
-        (replay_plan names) (λ old new status. InputRefused names old.files.content session k bytes fault → UnlessStopped 8 status) }
-    ensures line { (names : ReplayFiles) (content : Content) (session : SessionData) (secrets : Secrets) (bytes : List ℕ)
-        (fault : RecordFault) → InputRefused names content session secrets bytes fault →
-        line_at (replay_plan names content) 8 ≡ recording_refused fault }
+        (session : SessionData) × (k : Secrets) × (fault : RecordFault) × InputRefused names old.files.content session k fault) }
+    ensures then { (names : ReplayFiles) (session : SessionData) (k : Secrets) (fault : RecordFault) →
+        OfEachEnd (replay_plan names) (λ old new status. InputRefused names old.files.content session k fault → UnlessStopped 8 status) }
+    ensures line { (names : ReplayFiles) (content : Content) (session : SessionData) (k : Secrets) (fault : RecordFault) →
+        InputRefused names content session k fault → line_at (replay_plan names content) 8 ≡ recording_refused fault }
 {
-    plans_go_in_order();
+    stages_go_in_order();
 }
 
 /// 7 comes only where the count of out rose. Where the files tell, all were accepted then, and it comes behind all that an input plays, and
@@ -108,7 +107,7 @@ pub fn output_failed_only()
     ensures in_order { (names : ReplayFiles) → AtEnd 7 (replay_plan names) (PlayedUpTo names 7) }
 {
     accepted_sessions_are_in_range();
-    plans_go_in_order();
+    stages_go_in_order();
 }
 
 /// Where the files tell, this is how far a replay came, whatever stopped it: nothing was changed and nothing printed; or the played file
@@ -120,7 +119,7 @@ pub fn a_replay_stops_in_order()
         ChangesNothing old new ⊎ (IsMade names old new ⊎ (PlayedUpTo names status old new ⊎ FoundUpTo names status old new))) }
 {
     accepted_sessions_are_in_range();
-    plans_go_in_order();
+    stages_go_in_order();
 }
 
 /// Whatever the status, only the played file is changed, and those of what was found.
@@ -128,7 +127,7 @@ pub fn only_its_files_are_changed()
     ensures { (names : ReplayFiles) (path : List ℕ) → OfEachEnd (replay_plan names) (λ old new status.
         path ≢ names.played → (IsFindingName names.found path → ⊥) → new.files.content path ≡ old.files.content path) }
 {
-    plans_go_in_order();
+    stages_go_in_order();
 }
 
 /// After a refusal, and where the words aren't a line, every file is as it was, and nothing is printed.
@@ -138,7 +137,7 @@ pub fn refusals_change_nothing()
     ensures key { (names : ReplayFiles) → AtEnd 5 (replay_plan names) ChangesNothing }
     ensures input { (names : ReplayFiles) → AtEnd 8 (replay_plan names) ChangesNothing }
 {
-    plans_go_in_order();
+    stages_go_in_order();
 }
 
 /// Whatever the status, all is as it was, or the played file has a front of what the rules play over the recording's inputs, and the
@@ -148,7 +147,7 @@ pub fn a_front_is_played()
         ChangesNothing old new ⊎ PlayedFront names old new) }
 {
     accepted_sessions_are_in_range();
-    plans_go_in_order();
+    stages_go_in_order();
 }
 
 /// Whatever its status, a replay printed nothing; or its files were accepted, what it printed is a front of the transcript up to one place
@@ -159,7 +158,7 @@ pub fn a_replay_keeps_the_rules()
     accepted_secrets_are_held();
     accepted_sessions_are_in_range();
     peers_keep_the_rules();
-    plans_go_in_order();
+    stages_go_in_order();
 }
 
 /// A replay of the recording that a peer left which is done ends with 0, but for a fault or want of memory. Then it shows exactly what the

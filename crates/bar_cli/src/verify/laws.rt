@@ -9,12 +9,12 @@ ghost use Rattle.bar_roster.specs.declared.fault.SessionFault.{SessionFault};
 ghost use Rattle.bar_session.specs.SessionData.{SessionData};
 ghost use Rattle.bar_rules.specs.Judge.Verdict.{Fault, Verdict, Why, Shown, NotShown};
 ghost use Rattle.bar_proof.specs.declared.proof_fault.ProofFault.{ProofFault};
-ghost use Rattle.bar_session_files.specs.Accepting.{HasSession};
+ghost use Rattle.bar_session_files.specs.Accepting.{HasBadSession, HasSession};
 ghost use Rattle.bar_cli.specs.Judge.Judging.{status_of_verdict};
 ghost use Rattle.bar_cli.specs.Refusals.{session_refused, proof_refused};
-ghost use Rattle.bar_cli.specs.Verify.{VerifyFiles, VerifyAccepted, HasBadSession, HasBadProof, Verified, VerifiedFront, IsVerifyCall, verify_plan};
+ghost use Rattle.bar_cli.specs.Verify.{VerifyFiles, VerifyAccepted, HasBadProof, Verified, VerifiedFront, IsVerifyCall, verify_plan};
 
-use bar_outside::plans_go_in_order;
+use bar_outside::stages_go_in_order;
 use bar_proof::laws::proofs_are_spelled;
 
 /// Where both files are accepted, the status is 0 exactly where the rules show a fault under the proof file's own table, and 1 exactly where
@@ -29,7 +29,7 @@ pub fn the_proof_is_judged()
     ensures line { (names : VerifyFiles) (verdict : Verdict) (content : Content) → VerifyAccepted names content verdict →
         line_at (verify_plan names content) (status_of_verdict verdict) ≡ [] }
 {
-    plans_go_in_order();
+    stages_go_in_order();
     proofs_are_spelled();
 }
 
@@ -56,7 +56,7 @@ pub fn verifying_fails_only()
     ensures no_proof { (names : VerifyFiles) (session : SessionData) → OfEachEnd (verify_plan names) (λ old new status.
         HasSession names.session old.files.content session → readable old.files.content names.proof ≡ None → is_stop status ≡ true) }
 {
-    plans_go_in_order();
+    stages_go_in_order();
 }
 
 /// 4 comes exactly where the session is there and refused, but for a fault or want of memory; its line has the first fault.
@@ -68,7 +68,7 @@ pub fn a_bad_session_is_not_verified()
     ensures line { (names : VerifyFiles) (content : Content) (fault : SessionFault) → HasBadSession names.session content fault →
         line_at (verify_plan names content) 4 ≡ session_refused fault }
 {
-    plans_go_in_order();
+    stages_go_in_order();
 }
 
 /// 8 comes exactly where the session is accepted and the proof file is there and refused, but for a fault or want of memory; its line has the
@@ -81,7 +81,7 @@ pub fn a_bad_proof_is_refused()
     ensures line { (names : VerifyFiles) (content : Content) (fault : ProofFault) → HasBadProof names content fault →
         line_at (verify_plan names content) 8 ≡ proof_refused fault }
 {
-    plans_go_in_order();
+    stages_go_in_order();
 }
 
 /// Whatever the status, no file is changed; after a refusal nothing was printed.
@@ -90,7 +90,7 @@ pub fn verifying_changes_nothing()
     ensures session { (names : VerifyFiles) → AtEnd 4 (verify_plan names) NothingPrinted }
     ensures proof { (names : VerifyFiles) → AtEnd 8 (verify_plan names) NothingPrinted }
 {
-    plans_go_in_order();
+    stages_go_in_order();
 }
 
 /// Whatever the status, nothing was printed, or all was accepted and a front of the verdict's line was.
@@ -98,5 +98,5 @@ pub fn a_front_of_the_proofs_verdict_is_printed()
     ensures { (names : VerifyFiles) → OfEachEnd (verify_plan names) (λ old new status.
         NothingPrinted old new ⊎ VerifiedFront names old new) }
 {
-    plans_go_in_order();
+    stages_go_in_order();
 }

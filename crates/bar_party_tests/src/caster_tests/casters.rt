@@ -1,9 +1,10 @@
 //! Broadcasters, and all that they give out.
-ghost use Rattle.std.specs.Prelude.{◌≡◌, ◌<◌, []};
+ghost use Rattle.std.specs.Prelude.{◌≡◌, ◌<◌, [], true, IfOk};
+ghost use Rattle.bar_hss.specs.Files.{IsPartyKeyOf};
 ghost use Rattle.bar_core.specs.Orders.{left_in};
 
 use bar_bytes::Steps;
-use bar_caster::{Caster, CasterFault};
+use bar_caster::Caster;
 use bar_hss::{PartyKey, SessionScheme};
 use bar_roster::{Session, key_text};
 use bar_samples::sessions::ID;
@@ -21,54 +22,49 @@ pub struct Sent {
     pub bytes: Vec<u8>,
 }
 
-/// The start of the broadcaster of a session by its secret, with a stream of so many bytes.
-fn start_by(
-    alloc: Global,
-    session: &str,
-    secret: &[u8; 32],
-    len: usize,
-) -> Result<Result<Caster<SessionScheme>, CasterFault>, Fail> {
-    let session = Session::read(alloc, session.as_bytes())?;
+/// The fresh key text of the broadcaster of a session, whose secret is 32 times 7.
+fn text_of(alloc: Global, session: &Session) -> Result<Vec<u8>, AllocError> {
     let rounds = session.shape().rounds;
     let params = session.params();
     let (lms, ots) = (params.lms(), params.ots());
-    let text = key_text(alloc, 0, &ID, rounds, lms, ots, secret, false)?;
-    let key = PartyKey::read(alloc, &text, &session, true, false)?;
-    let stream = vec![in alloc; 7; len]?;
-    Ok(Caster::of_key(alloc, session, key, stream))
+    key_text(alloc, 0, &ID, rounds, lms, ots, &[7; 32], false)
 }
 
-/// The same of one whose secret is 32 times 7.
-pub fn start(
-    alloc: Global,
-    session: &str,
-    len: usize,
-) -> Result<Result<Caster<SessionScheme>, CasterFault>, Fail> {
-    start_by(alloc, session, &[7; 32], len)
+/// The key of that text.
+fn key_of(alloc: Global, session: &Session) -> Result<PartyKey, Fail>
+    ensures { IfOk result (IsPartyKeyOf session.now true) }
+{
+    let text = text_of(alloc, session)?;
+    Ok(PartyKey::read(alloc, &text, session, true, false)?)
 }
 
-/// A broadcaster that was started by its secret.
-pub fn caster_by(
+/// A broadcaster with this key and a stream of so many bytes.
+fn start(
     rt: &impl Abort,
     alloc: Global,
-    session: &str,
-    secret: &[u8; 32],
+    session: Session,
+    key: PartyKey,
     len: usize,
-) -> Result<Caster<SessionScheme>, Fail> {
-    match start_by(alloc, session, secret, len)? {
+) -> Result<Caster<SessionScheme>, AllocError>
+    requires { IsPartyKeyOf session true key }
+{
+    let stream = vec![in alloc; 7; len]?;
+    match Caster::of_key(alloc, session, key, stream) {
         Ok(caster) => Ok(caster),
         Err(_) => panic!(rt; "it was not started"),
     }
 }
 
-/// One whose secret is 32 times 7.
+/// The broadcaster of a session, whose secret is 32 times 7, with a stream of so many bytes.
 pub fn caster_of(
     rt: &impl Abort,
     alloc: Global,
     session: &str,
     len: usize,
 ) -> Result<Caster<SessionScheme>, Fail> {
-    caster_by(rt, alloc, session, &[7; 32], len)
+    let session = Session::read(alloc, session.as_bytes())?;
+    let key = key_of(alloc, &session)?;
+    Ok(start(rt, alloc, session, key, len)?)
 }
 
 fn step_with<L: Ledger>(caster: &mut Caster<SessionScheme>, input: Input<'_>, blank: Blank)
@@ -136,15 +132,7 @@ pub fn tell(
     Ok(())
 }
 
-/// How many datagrams begin like this, and have so many bytes.
-pub fn count(sends: &[Sent], front: &[u8], len: usize) -> usize {
-    sends
-        .iter()
-        .filter(|sent| sent.bytes.len() == len && sent.bytes.starts_with(front))
-        .count()
-}
-
-/// How many of them go to a peer.
+/// How many datagrams go to a peer, begin like this, and have so many bytes.
 fn count_to(sends: &[Sent], front: &[u8], len: usize, to: u16) -> usize {
     sends
         .iter()

@@ -1,4 +1,4 @@
-//! Datagrams of the broadcaster, and fronts of the others.
+//! Datagrams of the broadcaster, and prefixes of the others.
 
 use super::peers::tell;
 use bar_hss::SessionScheme;
@@ -20,79 +20,47 @@ pub fn front(kind: Kind, from: u8, to: u8, round: u8) -> [u8; 20] {
 }
 
 /// The block of an update, with its round and its index as content.
-pub fn block(round: u8, index: u8) -> [u8; 1024] {
+fn block(round: u8, index: u8) -> [u8; 1024] {
     block_with(2, [b'0'.wrapping_add(round), b'a'.wrapping_add(index)])
 }
 
-/// So many blocks of a round.
-pub fn blocks_of(alloc: Global, round: u8, count: u8) -> Result<Vec<[u8; 1024]>, AllocError> {
-    let mut blocks = Vec::new(alloc);
-    for index in 0..count {
-        blocks.push(block(round, index))?;
-    }
-    Ok(blocks)
-}
-
-/// What a manifest has before its signature.
-pub fn manifest_message(
+/// The manifest of so many updates of a round.
+pub fn manifest(
     alloc: Global,
+    caster: &LmsScheme,
     round: u8,
-    blocks: &[[u8; 1024]],
+    count: u8,
 ) -> Result<Vec<u8>, AllocError> {
-    let count = u8::try_from(blocks.len()).unwrap_or(0);
     let mut message = [
         0xba, 0x47, 1, 1, 0x00, 0x11, 0x22, 0x33, 0x44, 0x55, 0x66, 0x77, 0, 0, 0xff, 0xff, 0, 0,
         0, round, count,
     ]
     .to_vec(alloc)?;
-    for block in blocks {
+    for index in 0..count {
+        let block = block(round, index);
         message.extend_from_slice(&Sha256::digest(block.as_slice()))?;
     }
-    Ok(message)
+    signed(
+        alloc,
+        caster,
+        2 * u32::from(round.saturating_sub(1)),
+        &message,
+    )
 }
 
-/// The manifest of a round.
-pub fn manifest(
-    alloc: Global,
-    caster: &LmsScheme,
-    round: u8,
-    blocks: &[[u8; 1024]],
-) -> Result<Vec<u8>, AllocError> {
-    let message = manifest_message(alloc, round, blocks)?;
-    let leaf = 2 * u32::from(round.saturating_sub(1));
-    signed(alloc, caster, leaf, &message)
-}
-
-/// A BLOCK of the broadcaster.
-pub fn block_message(
-    alloc: Global,
-    to: u8,
-    update: (u8, u8),
-    block: &[u8; 1024],
-) -> Result<Vec<u8>, AllocError> {
+/// The BLOCK of an update.
+fn block_message(alloc: Global, to: u8, update: (u8, u8)) -> Result<Vec<u8>, AllocError> {
+    let (round, index) = update;
     let mut bytes = [
         0xba, 0x47, 1, 2, 0x00, 0x11, 0x22, 0x33, 0x44, 0x55, 0x66, 0x77, 0, 0, 0, to, 0, 0, 0,
-        update.0, update.1,
+        round, index,
     ]
     .to_vec(alloc)?;
-    bytes.extend_from_slice(block)?;
+    bytes.extend_from_slice(&block(round, index))?;
     Ok(bytes)
 }
 
-/// Gives a peer a BLOCK of the broadcaster, which it answers by nothing.
-pub fn tell_block(
-    rt: &impl Abort,
-    alloc: Global,
-    peer: &mut Peer<SessionScheme>,
-    to: u8,
-    update: (u8, u8),
-    block: &[u8; 1024],
-) -> Result<(), AllocError> {
-    let bytes = block_message(alloc, to, update, block)?;
-    tell(rt, alloc, peer, &bytes)
-}
-
-/// Gives a peer the blocks of these updates.
+/// Gives a peer the blocks of these updates, which it answers by nothing.
 pub fn tell_blocks(
     rt: &impl Abort,
     alloc: Global,
@@ -100,9 +68,9 @@ pub fn tell_blocks(
     to: u8,
     updates: &[(u8, u8)],
 ) -> Result<(), AllocError> {
-    for (round, index) in updates {
-        let block = block(*round, *index);
-        tell_block(rt, alloc, peer, to, (*round, *index), &block)?;
+    for update in updates {
+        let bytes = block_message(alloc, to, *update)?;
+        tell(rt, alloc, peer, &bytes)?;
     }
     Ok(())
 }

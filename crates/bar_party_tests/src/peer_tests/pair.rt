@@ -1,5 +1,5 @@
 //! Two peers, what is said between them, and what both are told.
-use super::datagrams::{blocks_of, front, manifest};
+use super::datagrams::{front, manifest};
 use super::peers::{Sent, answers, peer_of, sent_at_tick, tell, ticks};
 use bar_hss::SessionScheme;
 use bar_ledger::Totals;
@@ -43,8 +43,7 @@ pub fn tell_round(
     round: u8,
     count: u8,
 ) -> Result<(), AllocError> {
-    let blocks = blocks_of(alloc, round, count)?;
-    let bytes = manifest(alloc, &pair.caster, round, &blocks)?;
+    let bytes = manifest(alloc, &pair.caster, round, count)?;
     tell(rt, alloc, &mut pair.one, &bytes)?;
     tell(rt, alloc, &mut pair.two, &bytes)
 }
@@ -53,7 +52,7 @@ pub fn tell_round(
 pub type Row = (u16, usize, &'static [(Kind, usize)]);
 
 /// Whether these are sent, to this party.
-pub fn are_sent(sends: &[Sent], to: u16, kinds: &[(Kind, usize)]) -> bool {
+fn are_sent(sends: &[Sent], to: u16, kinds: &[(Kind, usize)]) -> bool {
     let mut all = sends.len() == kinds.len();
     for (sent, (kind, len)) in sends.iter().zip(kinds) {
         all = all

@@ -1,11 +1,11 @@
 //! Peers, and all that they give out.
-ghost use Rattle.std.specs.Prelude.{◌≡◌, ◌<◌, [], IfOk};
+ghost use Rattle.std.specs.Prelude.{◌≡◌, ◌<◌, [], false, IfOk};
 ghost use Rattle.bar_hss.specs.Files.{IsPartyKeyOf};
 ghost use Rattle.bar_core.specs.Orders.{left_in};
 ghost use Rattle.bar_peer.specs.StandsFor.{contents_left};
 
 use bar_bytes::Steps;
-use bar_hss::{PartyKey, SessionScheme, hss_key_text};
+use bar_hss::{PartyKey, SessionScheme};
 use bar_peer::Peer;
 use bar_roster::{Session, key_text};
 use bar_samples::sessions::ID;
@@ -30,7 +30,7 @@ pub struct Given {
     pub sends: Vec<Sent>,
 }
 
-/// The fresh key text of a party of a session, of one level or of two, whose secret is 32 times one byte.
+/// The fresh key text of a peer of a session, whose secret is 32 times one byte.
 fn text_of(
     alloc: Global,
     session: &Session,
@@ -40,25 +40,15 @@ fn text_of(
     let rounds = session.shape().rounds;
     let params = session.params();
     let (lms, ots) = (params.lms(), params.ots());
-    let secret = [secret; 32];
-    match session.top() {
-        None => key_text(alloc, party, &ID, rounds, lms, ots, &secret, false),
-        Some(top) => hss_key_text(alloc, party, &ID, rounds, top, ots, &secret, false),
-    }
+    key_text(alloc, party, &ID, rounds, lms, ots, &[secret; 32], false)
 }
 
-/// The key of the broadcaster or of a peer of a session, whose secret is 32 times one byte.
-pub fn key_of(
-    alloc: Global,
-    session: &Session,
-    caster: bool,
-    party: u16,
-    secret: u8,
-) -> Result<PartyKey, Fail>
-    ensures { IfOk result (IsPartyKeyOf session.now caster) }
+/// The key of that text.
+fn key_of(alloc: Global, session: &Session, party: u16, secret: u8) -> Result<PartyKey, Fail>
+    ensures { IfOk result (IsPartyKeyOf session.now false) }
 {
     let text = text_of(alloc, session, party, secret)?;
-    Ok(PartyKey::read(alloc, &text, session, caster, false)?)
+    Ok(PartyKey::read(alloc, &text, session, false, false)?)
 }
 
 /// A peer of a session whose secret is 32 times one byte.
@@ -69,7 +59,7 @@ pub fn peer_of(
     secret: u8,
 ) -> Result<Peer<SessionScheme>, Fail> {
     let session = Session::read(alloc, session.as_bytes())?;
-    let key = key_of(alloc, &session, false, u16::from(party), secret)?;
+    let key = key_of(alloc, &session, u16::from(party), secret)?;
     Ok(Peer::of_key(alloc, session, key)?)
 }
 
@@ -171,19 +161,6 @@ pub fn tell(
     Ok(())
 }
 
-/// Gives a peer a datagram cut at each length below its own, which it answers by nothing.
-pub fn tell_fronts(
-    rt: &impl Abort,
-    alloc: Global,
-    peer: &mut Peer<SessionScheme>,
-    datagram: &[u8],
-) -> Result<(), AllocError> {
-    for len in 0..datagram.len() {
-        tell(rt, alloc, peer, datagram.get(..len).unwrap_or(b""))?;
-    }
-    Ok(())
-}
-
 /// Takes so many ticks, in which these contents are played.
 pub fn check_played(
     rt: &impl Abort,
@@ -195,19 +172,6 @@ pub fn check_played(
     let given = ticks(rt, alloc, peer, count)?;
     assert_eq!(rt; given.played.as_slice(), played);
     Ok(())
-}
-
-/// How many datagrams begin like this.
-fn count_like(sends: &[Sent], front: &[u8]) -> usize {
-    sends
-        .iter()
-        .filter(|sent| sent.bytes.starts_with(front))
-        .count()
-}
-
-/// Checks how many datagrams begin like this.
-pub fn check_count(rt: &impl Abort, sends: &[Sent], front: &[u8], count: usize) {
-    assert_eq!(rt; count_like(sends, front), count);
 }
 
 /// Takes a tick, and answers the first datagram it sends that begins like this.

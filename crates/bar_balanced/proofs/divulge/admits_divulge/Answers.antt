@@ -1,6 +1,5 @@
 use Rattle.std.proofs.Common.{◌≡◌, ◌≤◌, ◌+◌, ◌∙◌, ℕ, true, not, is_some, sym, ap, subst, arith}
-use Rattle.std.proofs.lemmas.Bool.{le-leb}
-use Rattle.std.proofs.lemmas.Bool.Decides.{nat_tests}
+use Rattle.std.proofs.lemmas.Bool.{le-leb, leb-true}
 use Rattle.bar_window.specs.declared.exchange.Exchange.{Exchange}
 use Rattle.bar_window.specs.declared.exchange.Role.TheVariants.{Initiator}
 use Rattle.bar_window.specs.Window.{members}
@@ -17,17 +16,17 @@ use Rattle.bar_balanced.proofs.divulge.admits_divulge.Goals as goal
 use Rattle.bar_bytes.proofs.Options.{some-mapped}
 
 pub returns-then-not-has_digests : goal.returns-then-not-has_digests
-returns-then-not-has_digests c me k from to r shape holds h spelled life now is windows =
+returns-then-not-has_digests c me k from to r holds h spelled life is windows =
     let x : Exchange = exchange_by r Balanced Initiator from to in
     fails_third (meets_commitment me k x c.args.nonce.now (members c.args.ha.now)) (not (has_heard_of k kinds.Divulge x Initiator)) _
     (is_in_time me.session k kinds.Divulge r)
     (sym (c.has_digests.ensures me k holds) ∙ search)
 
 pub returns : goal.returns
-returns c me k from to r shape holds h spelled life now is windows =
+returns c me k from to r holds h spelled life is windows =
     let round : c.args.x.round ≡ r = ap (λ (x : Exchange). x.round) is in
-    let by : c.args.round ≤ c.args.x.round + 2 = grind (arith, nat_tests) in
-    let recent : IsRecent me k c.args.x.round = omega arith in
+    let by : c.args.ledger.now.round ≤ c.args.x.round + 2 = leb-true _ _ (sym c.is_within.ensures ∙ c.if-not-is_within.false) in
+    let recent : IsRecent me k c.args.x.round = omega (arith, h.round) in
     let unheard : not (has_heard_of k kinds.Divulge c.args.x Initiator) ≡ true =
     ap not (sym (some-mapped (datagram_bytes me.session) (k.heard kinds.Divulge c.args.x Initiator)) ∙ ap (λ o. is_some o) (h.heard kinds.Divulge c.args.x Initiator recent) ∙ sym c.has_heard.ensures ∙ c.if-has_heard.false)
     in
@@ -37,5 +36,5 @@ returns c me k from to r shape holds h spelled life now is windows =
     first_of_four _ _ _ (is_in_time me.session k kinds.Divulge r) _
     ((λ i. not (has_heard_of k kinds.Divulge (sym is i) Initiator)) ∙ unheard)
     (sym (c.has_digests.ensures me k holds) ∙ search)
-    (le-leb _ _ (omega arith))
-    (c.meets_commitment.ensures me k shape h spelled recent here ∙ ap (λ (x : Exchange). meets_commitment me k x c.args.nonce.now (members c.args.ha.now)) is)
+    (le-leb _ _ (omega (arith, h.round)))
+    (c.meets_commitment.ensures me k h spelled recent here ∙ ap (λ (x : Exchange). meets_commitment me k x c.args.nonce.now (members c.args.ha.now)) is)

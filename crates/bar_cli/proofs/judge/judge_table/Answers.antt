@@ -2,11 +2,13 @@ use Rattle.std.proofs.Common.{refl, subst}
 use Rattle.std.proofs.lemmas.Result.{err_from_is_err_and}
 use Rattle.bar_outside.specs.Plan.{with_files, with_out}
 use Rattle.bar_outside.specs.Ends.{EndsWith}
-use Rattle.bar_outside.proofs.Ending.{EndsWith-reading, EndsWith-accepted, EndsWith-refused, EndsWith-ending, EndsWith-unread}
+use Rattle.bar_outside.proofs.Ending.{EndsWith-unread}
+use Rattle.bar_outside.proofs.StageEnds.{EndsWith-stage, EndsWith-stage_refused}
 use Rattle.bar_terms.specs.Table.{digests_of}
 use Rattle.bar_wire.specs.Evidence.{datagrams_of}
 use Rattle.bar_rules.specs.Judge.Verdict.{Verdict}
 use Rattle.bar_judge.specs.Verdicts.{plain_verdict}
+use Rattle.bar_cli.specs.Judge.Judging.{datagrams_in}
 use Rattle.bar_cli.specs.Judge.Plan.{saying_plan}
 use Rattle.bar_cli.specs.Refusals.{evidence_refused}
 use Rattle.bar_cli.specs.Status.{code_of_run, said_by_run}
@@ -21,22 +23,18 @@ returns-in_err-bytes-clause-ends g c = λ w was lists same.
 
 pub returns-in_default-clause-ends : goal.returns-in_default-clause-ends
 returns-in_default-clause-ends g c = λ w was lists same.
-    let refused = unfound c.read_evidence.result _ c.in_default.is (rw c.deref.ensures.value at c.read_evidence.ensures) in
-    EndsWith-reading _ _ (g.F.Files.disk c.args.files.now was) (g.F.Files.disk c.read_file.new.files was)
-    (with_out w (g.K.Sink.stream c.args.out.now))
-    _ c.in_ok-bytes.bytes _ _ (c.in_ok-bytes.ensures was)
-    (EndsWith-refused _ (tt {0}) _ _ _ _ _ _ refused (EndsWith-ending 8 evidence_refused _ refl))
+    EndsWith-stage_refused _ datagrams_in 8 (λ _. evidence_refused) _ _ _ (with_out w (g.K.Sink.stream c.args.out.now)) _
+    (c.in_ok-bytes.ensures was) tt refl
+    (unfound c.read_evidence.result _ c.in_default.is (rw c.deref.ensures.value at c.read_evidence.ensures))
 
 pub returns-clause-ends : goal.returns-clause-ends
 returns-clause-ends g c = λ w was lists same.
-    let accepted = found c.read_evidence.result c.in-Some.evidence _ c.in-Some.is (rw c.deref.ensures.value at c.read_evidence.ensures) in
+    let mid = with_files w (g.F.Files.disk c.read_file.new.files was) in
     let v = same-verdict c.args.session.now (digests_of c.args.table.now.lists) lists (datagrams_of c.in-Some.evidence)
     (plain_verdict c.judge_evidence.result) c.judge_evidence.ensures same in
-    EndsWith-reading _ _ (g.F.Files.disk c.args.files.now was) (g.F.Files.disk c.read_file.new.files was)
-    (with_out w (g.K.Sink.stream c.args.out.now))
-    _ c.in_ok-bytes.bytes _ _ (c.in_ok-bytes.ensures was) (EndsWith-accepted _ _ _ _ _ _ _ _ accepted
-    (subst (λ (v : Verdict). EndsWith (saying_plan v)
-    (with_out (with_files w (g.F.Files.disk c.read_file.new.files was)) (g.K.Sink.stream c.args.out.now))
-    (with_out (with_files w (g.F.Files.disk c.read_file.new.files was)) (g.K.Sink.stream c.say_verdict.new.out))
-    (code_of_run c.say_verdict.result)
-    (said_by_run c.say_verdict.result)) v (c.say_verdict.ensures.ends (with_files w (g.F.Files.disk c.read_file.new.files was)))))
+    EndsWith-stage _ datagrams_in 8 (λ _. evidence_refused) _ _ _ (with_out w (g.K.Sink.stream c.args.out.now)) _
+    (c.in_ok-bytes.ensures was) (datagrams_of c.in-Some.evidence) _ _ _
+    (found c.read_evidence.result c.in-Some.evidence _ c.in-Some.is (rw c.deref.ensures.value at c.read_evidence.ensures))
+    (subst (λ (v : Verdict). EndsWith (saying_plan v) (with_out mid (g.K.Sink.stream c.args.out.now))
+    (with_out mid (g.K.Sink.stream c.say_verdict.new.out)) (code_of_run c.say_verdict.result) (said_by_run c.say_verdict.result)) v
+    (c.say_verdict.ensures.ends mid))

@@ -1,9 +1,11 @@
 use Rattle.std.proofs.Common.{◌≡◌, ◌∙◌, [], Ok, Err, refl, ap, sym, length, arith, None}
 use Rattle.std.proofs.lemmas.Result.{err_from_is_err_and}
 use Rattle.bar_outside.specs.Plan.{with_out}
-use Rattle.bar_outside.proofs.Ending.{EndsWith-reading, EndsWith-accepted, EndsWith-refused, EndsWith-doing, EndsWith-ending, EndsWith-memory, EndsWith-unread}
+use Rattle.bar_outside.specs.Stages.Stages.{does}
+use Rattle.bar_outside.proofs.Ending.{EndsWith-doing, EndsWith-unread}
+use Rattle.bar_outside.proofs.StageEnds.{EndsWith-stage, EndsWith-stage_memory, EndsWith-stage_refused}
 use Rattle.bar_roster.specs.KeyText.{key_text_of}
-use Rattle.bar_cli.specs.Keygen.Plan.{key_made, keygen_actions, lines_of}
+use Rattle.bar_cli.specs.Keygen.Plan.{key_made, keygen_actions, lines_of, making_end, secret_of}
 use Rattle.bar_cli.specs.Refusals.{secret_refused}
 use Rattle.bar_cli.specs.Views.{keygen_view}
 use Rattle.bar_cli.proofs.MadeFiles.{can-make, made-of}
@@ -20,28 +22,26 @@ pub returns-in_err-make_file-clause-ends : goal.returns-in_err-make_file-clause-
 returns-in_err-make_file-clause-ends g c = λ w was.
     let p = err_from_is_err_and c.from_residual-in_err-make_file.result c.from_residual-in_err-make_file.ensures.1 in
     let accepted = rw c.deref.ensures.value at c.in-Some.ensures.some in
-    rw (p.1, p.2) (EndsWith-reading _ _ (g.F.Files.disk c.args.files.now was) (g.F.Files.disk c.read_file.new.files was)
-    (with_out w (g.K.Sink.stream c.args.out.now))
-    _ c.in_ok-bytes.bytes _ _ (c.in_ok-bytes.ensures was) (EndsWith-accepted _ _ _ _ _ _ _ _ accepted
+    rw (p.1, p.2) (EndsWith-stage _ secret_of 8 secret_refused (λ secret. does (making_end (keygen_view c.args.asked.now) secret)) _ _
+    (with_out w (g.K.Sink.stream c.args.out.now)) _ (c.in_ok-bytes.ensures was) _ _ _ _ accepted
     (EndsWith-doing (keygen_actions (keygen_view c.args.asked.now) c.in-Some.secret) 0 [] _ _
     (can-make c.args.asked.now.key.now (key_text_of (key_made (keygen_view c.args.asked.now) c.in-Some.secret))
     (lines_of (keygen_view c.args.asked.now) c.in-Some.secret) (g.F.Files.disk c.read_file.new.files was).created_here) refl
     (Err c.in_err-make_file.field-0.0)
     (made-of c.args.asked.now.key.now _ _ _ _ _ _ _ c.in_ok-made.ensures.text c.in_ok-made.ensures.lines
-    (c.in_err-make_file.ensures.follows w was)))))
+    (c.in_err-make_file.ensures.follows w was))))
 
 pub returns-clause-ends : goal.returns-clause-ends
 returns-clause-ends g c = λ w was.
     let accepted = rw c.deref.ensures.value at c.in-Some.ensures.some in
-    EndsWith-reading _ _ (g.F.Files.disk c.args.files.now was) (g.F.Files.disk c.read_file.new.files was)
-    (with_out w (g.K.Sink.stream c.args.out.now))
-    _ c.in_ok-bytes.bytes _ _ (c.in_ok-bytes.ensures was) (EndsWith-accepted _ _ _ _ _ _ _ _ accepted
+    EndsWith-stage _ secret_of 8 secret_refused (λ secret. does (making_end (keygen_view c.args.asked.now) secret)) _ _
+    (with_out w (g.K.Sink.stream c.args.out.now)) _ (c.in_ok-bytes.ensures was) _ _ _ _ accepted
     (EndsWith-doing (keygen_actions (keygen_view c.args.asked.now) c.in-Some.secret) 0 [] _ _
     (can-make c.args.asked.now.key.now (key_text_of (key_made (keygen_view c.args.asked.now) c.in-Some.secret))
     (lines_of (keygen_view c.args.asked.now) c.in-Some.secret) (g.F.Files.disk c.read_file.new.files was).created_here) refl
     (Ok tt)
     (made-of c.args.asked.now.key.now _ _ _ _ _ _ _ c.in_ok-made.ensures.text c.in_ok-made.ensures.lines
-    (c.in_ok-make_file.ensures.follows w was))))
+    (c.in_ok-make_file.ensures.follows w was)))
 
 pub returns-in_err-bytes-clause-enough : goal.returns-in_err-bytes-clause-enough
 returns-in_err-bytes-clause-enough g c =
@@ -63,15 +63,11 @@ returns-in_default-clause-ends g c = λ w was.
     let long : length c.deref.result.now ≡ c.len.result = grind (arith, c.deref.ensures.len, c.len.ensures) in
     let other = c.secret_of.ensures.none c.in_default.is ∙ ap Err long in
     let refused = rw c.deref.ensures.value at other in
-    EndsWith-reading _ _ (g.F.Files.disk c.args.files.now was) (g.F.Files.disk c.read_file.new.files was)
-    (with_out w (g.K.Sink.stream c.args.out.now))
-    _ c.in_ok-bytes.bytes _ _ (c.in_ok-bytes.ensures was)
-    (EndsWith-refused _ c.len.result _ _ _ _ _ _ refused (EndsWith-ending 8 (secret_refused c.len.result) _ refl))
+    EndsWith-stage_refused _ secret_of 8 secret_refused (λ secret. does (making_end (keygen_view c.args.asked.now) secret)) _ _
+    (with_out w (g.K.Sink.stream c.args.out.now)) _ (c.in_ok-bytes.ensures was) c.len.result refl refused
 
 pub returns-in_err-made-clause-ends : goal.returns-in_err-made-clause-ends
 returns-in_err-made-clause-ends g c = λ w was.
     let p = err_from_is_err_and c.from_residual-in_err-made.result c.from_residual-in_err-made.ensures.1 in
-    let accepted = rw c.deref.ensures.value at c.in-Some.ensures.some in
-    rw (p.1, p.2) (EndsWith-reading _ _ (g.F.Files.disk c.args.files.now was) (g.F.Files.disk c.read_file.new.files was)
-    (with_out w (g.K.Sink.stream c.args.out.now))
-    _ c.in_ok-bytes.bytes _ _ (c.in_ok-bytes.ensures was) (EndsWith-accepted _ _ _ _ _ _ _ _ accepted (EndsWith-memory _ _)))
+    rw (p.1, p.2) (EndsWith-stage_memory _ secret_of 8 secret_refused (λ secret. does (making_end (keygen_view c.args.asked.now) secret)) _ _
+    (with_out w (g.K.Sink.stream c.args.out.now)) _ (c.in_ok-bytes.ensures was))

@@ -1,7 +1,8 @@
 use Rattle.std.proofs.Common.{◌≡◌, Err, refl, rules}
 use Rattle.std.proofs.lemmas.Result.{err_from_is_err_and}
 use Rattle.bar_outside.specs.Plan.{with_out}
-use Rattle.bar_outside.proofs.Ending.{EndsWith-reading, EndsWith-accepted, EndsWith-refused, EndsWith-ending, EndsWith-memory, EndsWith-unread}
+use Rattle.bar_outside.proofs.Ending.{EndsWith-unread}
+use Rattle.bar_outside.proofs.StageEnds.{EndsWith-stage, EndsWith-stage_memory, EndsWith-stage_refused}
 use Rattle.bar_cli.specs.Refusals.{session_refused}
 use Rattle.bar_session_files.specs.Accepting.{session_of}
 use Rattle.bar_cli.proofs.Alternatives.{second-stands}
@@ -9,10 +10,8 @@ use Rattle.bar_cli.proofs.pack.pack.Goals as goal
 
 pub returns-in-Ok-clause-ends : goal.returns-in-Ok-clause-ends
 returns-in-Ok-clause-ends g c = λ w was.
-    let accepted = rw c.deref.ensures.value at c.in-Ok.ensures.ok in
-    EndsWith-reading _ _ (g.F.Files.disk c.args.files.now was) (g.F.Files.disk c.read_file.new.files was)
-    (with_out w (g.K.Sink.stream c.args.out.now))
-    _ c.in_ok-text.text _ _ (c.in_ok-text.ensures was) (EndsWith-accepted _ _ _ _ _ _ _ _ accepted (c.pack_session.ensures.ends w was))
+    EndsWith-stage _ session_of 4 session_refused _ _ _ (with_out w (g.K.Sink.stream c.args.out.now)) _ (c.in_ok-text.ensures was) _ _ _ _
+    (rw c.deref.ensures.value at c.in-Ok.ensures.ok) (c.pack_session.ensures.ends w was)
 
 pub returns-in_err-text-clause-ends : goal.returns-in_err-text-clause-ends
 returns-in_err-text-clause-ends g c = λ w was.
@@ -22,9 +21,7 @@ returns-in_err-text-clause-ends g c = λ w was.
 
 pub returns-in-Err-NoMemory-clause-ends : goal.returns-in-Err-NoMemory-clause-ends
 returns-in-Err-NoMemory-clause-ends g c = λ w was.
-    EndsWith-reading _ _ (g.F.Files.disk c.args.files.now was) (g.F.Files.disk c.read_file.new.files was)
-    (with_out w (g.K.Sink.stream c.args.out.now))
-    _ c.in_ok-text.text _ _ (c.in_ok-text.ensures was) (EndsWith-memory _ _)
+    EndsWith-stage_memory _ session_of 4 session_refused _ _ _ (with_out w (g.K.Sink.stream c.args.out.now)) _ (c.in_ok-text.ensures was)
 
 pub returns : goal.returns
 returns g c =
@@ -33,10 +30,8 @@ returns g c =
     in
     record {
       ends = λ w was.
-          EndsWith-reading _ _ (g.F.Files.disk c.args.files.now was) (g.F.Files.disk c.read_file.new.files was)
-          (with_out w (g.K.Sink.stream c.args.out.now))
-          _ c.in_ok-text.text _ _ (c.in_ok-text.ensures was)
-          (EndsWith-refused _ c.in-Err.fault _ _ _ _ _ _ told (EndsWith-ending 4 (session_refused c.in-Err.fault) _ refl));
+          EndsWith-stage_refused _ session_of 4 session_refused _ _ _ (with_out w (g.K.Sink.stream c.args.out.now)) _
+          (c.in_ok-text.ensures was) _ refl told;
       answers = refl;
       unprinted = λ quiet. refl;
     }

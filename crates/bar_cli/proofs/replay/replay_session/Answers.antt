@@ -7,7 +7,9 @@ use Rattle.bar_roster.specs.declared.key_fault.KeyFileFault.TheVariants.{NoMemor
 use Rattle.bar_cli.specs.Refusals.{key_refused}
 use Rattle.std.proofs.lemmas.Result.{err_from_is_err_and}
 use Rattle.bar_outside.specs.Plan.{with_out}
-use Rattle.bar_outside.proofs.Ending.{EndsWith-reading, EndsWith-accepted, EndsWith-refused, EndsWith-ending, EndsWith-memory, EndsWith-unread}
+use Rattle.bar_outside.proofs.Ending.{EndsWith-unread}
+use Rattle.bar_outside.proofs.StageEnds.{EndsWith-stage, EndsWith-stage_memory, EndsWith-stage_refused}
+use Rattle.bar_session_files.specs.Accepting.{secrets_of_key}
 use Rattle.bar_cli.proofs.replay.replay_session.Goals as goal
 
 -- a fault that the test tells from want of memory
@@ -17,10 +19,8 @@ is-other fault P test (inr p) = p
 
 pub returns-in-Ok-clause-ends : goal.returns-in-Ok-clause-ends
 returns-in-Ok-clause-ends g c = λ w was.
-    let accepted = rw c.deref.ensures.value at c.in-Ok.ensures.ok in
-    EndsWith-reading _ _ (g.F.Files.disk c.args.files.now was) (g.F.Files.disk c.read_file.new.files was)
-    (with_out w (g.K.Sink.stream c.args.out.now))
-    _ c.in_ok-bytes.bytes _ _ (c.in_ok-bytes.ensures was) (EndsWith-accepted _ _ _ _ _ _ _ _ accepted (c.replay_key.ensures.ends w was))
+    EndsWith-stage _ (secrets_of_key c.args.session) 5 key_refused _ _ _ (with_out w (g.K.Sink.stream c.args.out.now)) _
+    (c.in_ok-bytes.ensures was) _ _ _ _ (rw c.deref.ensures.value at c.in-Ok.ensures.ok) (c.replay_key.ensures.ends w was)
 
 pub returns-in_err-bytes-clause-ends : goal.returns-in_err-bytes-clause-ends
 returns-in_err-bytes-clause-ends g c = λ w was.
@@ -30,15 +30,11 @@ returns-in_err-bytes-clause-ends g c = λ w was.
 
 pub returns-then-eq-clause-ends : goal.returns-then-eq-clause-ends
 returns-then-eq-clause-ends g c = λ w was.
-    EndsWith-reading _ _ (g.F.Files.disk c.args.files.now was) (g.F.Files.disk c.read_file.new.files was)
-    (with_out w (g.K.Sink.stream c.args.out.now))
-    _ c.in_ok-bytes.bytes _ _ (c.in_ok-bytes.ensures was) (EndsWith-memory _ _)
+    EndsWith-stage_memory _ (secrets_of_key c.args.session) 5 key_refused _ _ _ (with_out w (g.K.Sink.stream c.args.out.now)) _
+    (c.in_ok-bytes.ensures was)
 
 pub returns-else-eq-clause-ends : goal.returns-else-eq-clause-ends
 returns-else-eq-clause-ends g c = λ w was.
     let refused = is-other _ _ (c.if-eq.ensures) (c.in-Err.ensures.err) in
-    let told = rw c.deref.ensures.value at refused in
-    EndsWith-reading _ _ (g.F.Files.disk c.args.files.now was) (g.F.Files.disk c.read_file.new.files was)
-    (with_out w (g.K.Sink.stream c.args.out.now))
-    _ c.in_ok-bytes.bytes _ _ (c.in_ok-bytes.ensures was)
-    (EndsWith-refused _ c.in-Err.fault _ _ _ _ _ _ told (EndsWith-ending 5 (key_refused c.in-Err.fault) _ refl))
+    EndsWith-stage_refused _ (secrets_of_key c.args.session) 5 key_refused _ _ _ (with_out w (g.K.Sink.stream c.args.out.now)) _
+    (c.in_ok-bytes.ensures was) _ refl (rw c.deref.ensures.value at refused)

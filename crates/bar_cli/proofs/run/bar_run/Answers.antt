@@ -1,12 +1,12 @@
-use Rattle.std.proofs.Common.{◌∙◌, Option, None, Some, IsTrue, ap, sym, subst, inl, inr, arith}
+use Rattle.std.proofs.Common.{◌∙◌, Option, None, Some, IsTrue, refl, ap, sym, subst, inl, inr, arith}
 use Rattle.bar_outside.specs.Disk.{Disk}
-use Rattle.bar_cli.specs.Judge.Plan.{judge_plan}
-use Rattle.bar_cli.specs.Keygen.Plan.{keygen_plan}
+use Rattle.bar_cli.specs.Judge.Plan.{judge_stages}
+use Rattle.bar_cli.specs.Keygen.Plan.{keygen_stages}
 use Rattle.bar_cli.specs.Line.{Line, peer, broadcaster, replay, keygen, audit, judge, simulate, has_plan, is_status_of, reads_nothing, pack, verify}
-use Rattle.bar_cli.specs.Pack.{pack_plan}
-use Rattle.bar_cli.specs.Replay.Plan.{replay_plan}
-use Rattle.bar_cli.specs.Verify.{verify_plan}
-use Rattle.bar_cli.proofs.JudgeRows.{judged_so, outcome, same_files}
+use Rattle.bar_cli.specs.Pack.{pack_stages}
+use Rattle.bar_cli.specs.Replay.Plan.{replay_stages}
+use Rattle.bar_cli.specs.Verify.{verify_stages}
+use Rattle.bar_cli.proofs.JudgeRows as judging
 use Rattle.bar_cli.proofs.KeygenRows as making
 use Rattle.bar_cli.proofs.PackFronts as packed
 use Rattle.bar_cli.proofs.PackRows as packing
@@ -72,15 +72,11 @@ returns-clause-done g c = λ was.
           let ends = ends-as _ (broadcaster names) _ _ _ _ _ is code (ran.ends (ap has_plan is)) in
           c.only_its_files_are_changed_by_a_broadcaster.ensures names path _ _ _ ends told other;
       key_made = λ asked is told zero.
-          let law = c.plans_go_in_order.ensures in
           let ends = (ends-as _ (keygen asked) _ _ _ _ _ is code (ran.ends (ap has_plan is))).ends in
-          making.made asked _ _ told
-          (making.outcome law.reads law.ends asked _ _ 0 told (law.went (keygen_plan asked) _ _ 0 (rw zero at ends) told));
+          making.made asked _ _ 0 told (c.stages_go_in_order.ensures.goes (keygen_stages asked) _ _ 0 (rw zero at ends) told) refl (λ why. why);
       only_reads = λ names is told.
-          let law = c.plans_go_in_order.ensures in
           let ends = (ends-as _ (judge names) _ _ _ _ _ is code (ran.ends (ap has_plan is))).ends in
-          same_files names _ _ c.report.result
-          (outcome law.reads law.ends law.shows names _ _ _ told (law.went (judge_plan names) _ _ _ ends told));
+          (judging.judge-order names _ _ c.report.result told (c.stages_go_in_order.ensures.goes (judge_stages names) _ _ _ ends told)).files;
     }
 
 -- ---- by the rules
@@ -109,15 +105,13 @@ returns-clause-ruled g c = λ was.
           let ends = ends-as _ (broadcaster names) _ _ _ _ _ is code (ran.ends (ap has_plan is)) in
           c.a_broadcaster_stands.ensures names _ _ _ ends told;
       headline = λ names is told zero.
-          let law = c.plans_go_in_order.ensures in
           let ends = (ends-as _ (replay names) _ _ _ _ _ is code (ran.ends (ap has_plan is))).ends in
           replaying.replayed names _ _ c.accepted_secrets_are_held.ensures c.accepted_sessions_are_in_range.ensures told
-          (replaying.outcome law.reads law.ends names _ _ 0 told (law.went (replay_plan names) _ _ 0 (rw zero at ends) told));
+          (replaying.outcome names _ _ 0 told (c.stages_go_in_order.ensures.goes (replay_stages names) _ _ 0 (rw zero at ends) told));
       sends = λ names is told zero.
-          let law = c.plans_go_in_order.ensures in
           let ends = (ends-as _ (replay names) _ _ _ _ _ is code (ran.ends (ap has_plan is))).ends in
           let done = replaying.replayed names _ _ c.accepted_secrets_are_held.ensures c.accepted_sessions_are_in_range.ensures told
-          (replaying.outcome law.reads law.ends names _ _ 0 told (law.went (replay_plan names) _ _ 0 (rw zero at ends) told))
+          (replaying.outcome names _ _ 0 told (c.stages_go_in_order.ensures.goes (replay_stages names) _ _ 0 (rw zero at ends) told))
           in
           (done.accepted, done.sent);
       replay_headline = λ names is told.
@@ -135,20 +129,19 @@ returns-clause-ruled g c = λ was.
           let ends = (ends-as _ (audit names) _ _ _ _ _ is code (ran.ends (ap has_plan is))).ends in
           c.an_audit_stays.ensures.stays names _ _ _ ends told;
       judged = λ names is told which.
-          let law = c.plans_go_in_order.ensures in
           let ends = (ends-as _ (judge names) _ _ _ _ _ is code (ran.ends (ap has_plan is))).ends in
-          judged_so names _ _ c.report.result which
-          (outcome law.reads law.ends law.shows names _ _ _ told (law.went (judge_plan names) _ _ _ ends told));
+          judging.judged names _ _ c.report.result told (c.stages_go_in_order.ensures.goes (judge_stages names) _ _ _ ends told) which;
       packed = λ names is told.
-          let law = c.plans_go_in_order.ensures in
           let ends = (ends-as _ (pack names) _ _ _ _ _ is code (ran.ends (ap has_plan is))).ends in
           packed.stands c.what_is_shown_is_packed.ensures c.tables_are_spelled.ensures c.accepted_sessions_are_in_range.ensures names _ _ c.report.result told
-          (packing.outcome law.reads law.ends law.shows names _ _ _ told (law.went (pack_plan names) _ _ _ ends told));
+          (packing.outcome names _ _ _ told (c.stages_go_in_order.ensures.goes (pack_stages names) _ _ _ ends told));
       verified = λ names is told.
-          let law = c.plans_go_in_order.ensures in
           let ends = (ends-as _ (verify names) _ _ _ _ _ is code (ran.ends (ap has_plan is))).ends in
-          verifying.stands c.proofs_are_spelled.ensures names _ _ c.report.result
-          (verifying.outcome law.reads law.ends law.shows names _ _ _ told (law.went (verify_plan names) _ _ _ ends told));
+          let goes = c.stages_go_in_order.ensures.goes (verify_stages names) _ _ _ ends told in
+          record {
+            said = verifying.verified names _ _ c.report.result told goes c.proofs_are_spelled.ensures;
+            files = (verifying.verify-order names _ _ c.report.result told goes).files;
+          };
       simulated = λ seed is.
           let ends = (ends-as _ (simulate seed) _ _ _ _ _ is code (ran.ends (ap has_plan is))).ends in
           has-shown seed _ _ _ (ap (λ (disk : Disk). disk.content) (ran.unread (ap reads_nothing is))) ends;

@@ -14,7 +14,7 @@ use Rattle.bar_cli.specs.Replay.Plan.{ReplayFiles}
 use Rattle.bar_cli.specs.Session.{SessionEnds}
 use Rattle.bar_cli.specs.Status.{code_of_run}
 use Rattle.bar_cli.specs.Views.{names_view, keygen_view, audit_view, judge_view, command_view, packing_view, verify_view}
-use Rattle.bar_cli.proofs.AuditEnds as auditing
+use Rattle.bar_cli.proofs.AuditRows as auditing
 use Rattle.bar_cli.specs.Pack.{PackFiles}
 use Rattle.bar_cli.specs.Verify.{VerifyFiles}
 use Rattle.bar_cli.proofs.JudgeRows as judging

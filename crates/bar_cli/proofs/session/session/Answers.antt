@@ -4,7 +4,8 @@ use Rattle.bar_outside.specs.Faults.{code_of_fault, fault_of_file}
 use Rattle.bar_outside.specs.Plan.{with_out}
 use Rattle.bar_outside.specs.declared.files.FileFault.{FileFault}
 use Rattle.bar_outside.specs.declared.files.FileFault.TheVariants as file
-use Rattle.bar_outside.proofs.Ending.{EndsWith-reading, EndsWith-accepted, EndsWith-refused, EndsWith-ending, EndsWith-memory, EndsWith-unread}
+use Rattle.bar_outside.proofs.Ending.{EndsWith-ending, EndsWith-unread}
+use Rattle.bar_outside.proofs.StageEnds.{EndsWith-stage, EndsWith-stage_memory, EndsWith-stage_refused}
 use Rattle.bar_child_processes.specs.Names.{SessionNames}
 use Rattle.bar_child_processes.specs.Views.{names_view}
 use Rattle.bar_session_files.specs.Accepting.{session_of}
@@ -26,11 +27,9 @@ returns-in-Ok-clause-ends g c = λ w was.
       files = λ told. (c.in_ok-text.ensures was).same;
       ended = inr (record {
         session = c.in-Ok.session;
-        read = EndsWith-reading _ _ (g.F.Files.disk c.args.files.now was) (g.F.Files.disk c.read_file.new.files was)
-            (with_out w (g.K.Sink.stream c.args.out.now))
-            _ c.in_ok-text.text _ _ (c.in_ok-text.ensures was)
-            (EndsWith-accepted _ _ _ _ _ _ _ _ accepted (EndsWith-ending 0 [] _ refl));
-        accepted = λ told. record { text = c.in_ok-text.text.items; read = (c.in_ok-text.ensures was).found told; is = accepted };
+        read = EndsWith-stage _ session_of 4 session_refused _ _ _ (with_out w (g.K.Sink.stream c.args.out.now)) _ (c.in_ok-text.ensures was)
+            _ _ _ _ accepted (EndsWith-ending 0 [] _ refl);
+        accepted = λ told. record { bytes = c.in_ok-text.text.items; read = (c.in_ok-text.ensures was).found told; is = accepted };
         ran = rw (code, ← c.shape-peers.ensures.value) c.run_children.ensures;
         late = rw code (outcome-late c.run_children.result);
         line_is = c.from.ensures.line ∙ ap line_of_end (sym code);
@@ -82,8 +81,8 @@ pub returns-in-Err-NoMemory-clause-ends : goal.returns-in-Err-NoMemory-clause-en
 returns-in-Err-NoMemory-clause-ends g c = λ w was. record {
   files = λ told. (c.in_ok-text.ensures was).same;
   ended = inl (record {
-    ends = EndsWith-reading _ _ (g.F.Files.disk c.args.files.now was) (g.F.Files.disk c.read_file.new.files was)
-        (with_out w (g.K.Sink.stream c.args.out.now)) _ c.in_ok-text.text _ _ (c.in_ok-text.ensures was) (EndsWith-memory _ _);
+    ends = EndsWith-stage_memory _ session_of 4 session_refused _ _ _ (with_out w (g.K.Sink.stream c.args.out.now)) _
+        (c.in_ok-text.ensures was);
     early = inr (inr refl);
     out = refl;
     children = refl;
@@ -101,10 +100,8 @@ returns g c =
       ends = λ w was. record {
         files = λ told. (c.in_ok-text.ensures was).same;
         ended = inl (record {
-          ends = EndsWith-reading _ _ (g.F.Files.disk c.args.files.now was) (g.F.Files.disk c.read_file.new.files was)
-              (with_out w (g.K.Sink.stream c.args.out.now))
-              _ c.in_ok-text.text _ _ (c.in_ok-text.ensures was)
-              (EndsWith-refused _ c.in-Err.fault _ _ _ _ _ _ refused (EndsWith-ending 4 (session_refused c.in-Err.fault) _ refl));
+          ends = EndsWith-stage_refused _ session_of 4 session_refused _ _ _ (with_out w (g.K.Sink.stream c.args.out.now)) _
+              (c.in_ok-text.ensures was) _ refl refused;
           early = inr (inl refl);
           out = refl;
           children = refl;

@@ -1,9 +1,11 @@
 use Rattle.std.proofs.Common.{◌≡◌, Err, refl, rules}
 use Rattle.std.proofs.lemmas.Result.{err_from_is_err_and}
 use Rattle.bar_outside.specs.Plan.{with_files, with_out}
-use Rattle.bar_outside.proofs.Ending.{EndsWith-reading, EndsWith-accepted, EndsWith-refused, EndsWith-ending, EndsWith-memory, EndsWith-unread}
+use Rattle.bar_outside.proofs.Ending.{EndsWith-unread}
+use Rattle.bar_outside.proofs.StageEnds.{EndsWith-stage, EndsWith-stage_memory, EndsWith-stage_refused}
 use Rattle.bar_judge.specs.Verdicts.{plain_verdict}
 use Rattle.bar_cli.specs.Judge.Judging.{verdict_of_proof}
+use Rattle.bar_cli.specs.Judge.Plan.{saying}
 use Rattle.bar_cli.specs.Refusals.{proof_refused}
 use Rattle.bar_cli.proofs.StatusLemmas.{proof-end}
 use Rattle.bar_cli.proofs.Alternatives.{second-stands}
@@ -11,11 +13,9 @@ use Rattle.bar_cli.proofs.verify.verify_session.Goals as goal
 
 pub returns-in-Ok-clause-ends : goal.returns-in-Ok-clause-ends
 returns-in-Ok-clause-ends g c = λ w was.
-    let accepted = rw c.deref.ensures.value at c.in-Ok.ensures.ok in
-    EndsWith-reading _ _ (g.F.Files.disk c.args.files.now was) (g.F.Files.disk c.read_file.new.files was)
-    (with_out w (g.K.Sink.stream c.args.out.now))
-    _ c.in_ok-bytes.bytes _ _ (c.in_ok-bytes.ensures was) (EndsWith-accepted _ _ _ _ _ _ _ _ accepted
-    (c.say_verdict.ensures.ends (with_files w (g.F.Files.disk c.read_file.new.files was))))
+    EndsWith-stage _ (verdict_of_proof c.args.session.now) 8 proof_refused saying _ _ (with_out w (g.K.Sink.stream c.args.out.now)) _
+    (c.in_ok-bytes.ensures was) _ _ _ _ (rw c.deref.ensures.value at c.in-Ok.ensures.ok)
+    (c.say_verdict.ensures.ends (with_files w (g.F.Files.disk c.read_file.new.files was)))
 
 pub returns-in-Ok-clause-answers : goal.returns-in-Ok-clause-answers
 returns-in-Ok-clause-answers g c = proof-end (plain_verdict c.in-Ok.verdict) c.say_verdict.result c.say_verdict.ensures.code
@@ -28,16 +28,13 @@ returns-in_err-bytes-clause-ends g c = λ w was.
 
 pub returns-in-Err-NoMemory-clause-ends : goal.returns-in-Err-NoMemory-clause-ends
 returns-in-Err-NoMemory-clause-ends g c = λ w was.
-    EndsWith-reading _ _ (g.F.Files.disk c.args.files.now was) (g.F.Files.disk c.read_file.new.files was)
-    (with_out w (g.K.Sink.stream c.args.out.now))
-    _ c.in_ok-bytes.bytes _ _ (c.in_ok-bytes.ensures was) (EndsWith-memory _ _)
+    EndsWith-stage_memory _ (verdict_of_proof c.args.session.now) 8 proof_refused saying _ _ (with_out w (g.K.Sink.stream c.args.out.now)) _
+    (c.in_ok-bytes.ensures was)
 
 pub returns-clause-ends : goal.returns-clause-ends
 returns-clause-ends g c = λ w was.
     let told : verdict_of_proof c.args.session.now c.in_ok-bytes.bytes.items ≡ Err c.in-Err.fault =
     rw c.deref.ensures.value at (second-stands c.in-Err.ensures.err (search rules))
     in
-    EndsWith-reading _ _ (g.F.Files.disk c.args.files.now was) (g.F.Files.disk c.read_file.new.files was)
-    (with_out w (g.K.Sink.stream c.args.out.now))
-    _ c.in_ok-bytes.bytes _ _ (c.in_ok-bytes.ensures was)
-    (EndsWith-refused _ c.in-Err.fault _ _ _ _ _ _ told (EndsWith-ending 8 (proof_refused c.in-Err.fault) _ refl))
+    EndsWith-stage_refused _ (verdict_of_proof c.args.session.now) 8 proof_refused saying _ _ (with_out w (g.K.Sink.stream c.args.out.now)) _
+    (c.in_ok-bytes.ensures was) _ refl told

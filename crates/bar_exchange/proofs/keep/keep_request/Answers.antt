@@ -50,7 +50,7 @@ returns-then-not-may_hear-clause-learns c me k d member h now room new at begun 
     (subst (AddsEntry c.args.ledger.now c.add.new.self) c.asked_entry.ensures
     (record { found = c.add.ensures.found; asked = c.add.ensures.asked; opens = c.add.ensures.opens; same = c.add.ensures.same })) in
     absurd (false≢true (sym c.if-not-may_hear.true
-    ∙ c.may_hear.ensures.complete (subst (λ (kind : Kind). MayHear c.add.new.self c.args.x kind c.args.bytes.now) (sym c.request_kind-kind.ensures) may)))
+    ∙ c.may_hear.ensures.complete (subst (λ (kind : Kind). MayHear c.add.new.self c.args.x kind c.args.bytes.now) (sym c.opening_kind-kind.ensures) may)))
 
 pub returns-clause-learns : goal.returns-clause-learns
 returns-clause-learns c me k d member h now room new at begun =
@@ -60,5 +60,5 @@ returns-clause-learns c me k d member h now room new at begun =
     (sym c.in-Some.is ∙ c.seat.ensures)
     (subst (AddsEntry c.args.ledger.now c.add.new.self) c.asked_entry.ensures
     (record { found = c.add.ensures.found; asked = c.add.ensures.asked; opens = c.add.ensures.opens; same = c.add.ensures.same }))
-    (subst (λ (kind : Kind). ChangesKept c.add.new.self c.hear.new.self c.args.x (with_bytes kind c.args.bytes.now)) c.request_kind-kind.ensures
+    (subst (λ (kind : Kind). ChangesKept c.add.new.self c.hear.new.self c.args.x (with_bytes kind c.args.bytes.now)) c.opening_kind-kind.ensures
     (record { found = c.hear.ensures.found; asked = c.hear.ensures.asked; opens = c.hear.ensures.opens; same = c.hear.ensures.same }))

@@ -1,99 +1,126 @@
-use Rattle.std.proofs.Common.{◌≡◌, ◌+◌, ◌≤◌, arith, ◌∙◌, replicate, slice_index, slice_index_or, []}
+use Rattle.std.proofs.Common.{◌≡◌, ◌==◌, ◌+◌, ◌≤◌, ◌++◌, List, ℕ, arith, ap, ◌∙◌, drop, length, length-append, nat_lt, replicate, slice_index, slice_index_or, []}
 use Rattle.std.proofs.lemmas.List.{get_or-replicate}
+use Rattle.std.specs.Int.{w32, to_be_bytes}
+use Rattle.sha2.specs.Sha256.{sha256}
 use Rattle.bar_lms.specs.Chains.{most_of}
 use Rattle.bar_lms.specs.Lanes.{Leg, leg_of, lane_steps}
-use Rattle.bar_lms.proofs.ChainLemmas.{place_length, place_head}
+use Rattle.bar_lms.proofs.ChainLemmas.{place_length}
 use Rattle.bar_lms.proofs.GroupLemmas.{most_above, most_same}
-use Rattle.bar_lms.proofs.LaneLemmas.{held_none, begun_by, begun_head, end_kept, held_more, second_whole}
+use Rattle.bar_lms.proofs.LaneLemmas.{held_none, begun_by, end_kept, held_more, second_whole}
+use Rattle.bar_lms.proofs.TailLemmas.{behind_goes, behind_if, behind_value, starts_so}
 use Rattle.bar_lms.proofs.groups.sixteen_chains.Goals as goal
 
 pub steps-init : goal.steps-init
 steps-init g c = record {
   held = λ j below.
-      held_none (leg_of c.args.ident.now c.args.q c.args.first.now j) (leg_of c.args.ident.now c.args.q c.args.second.now j) 0
-      (slice_index_or c.first_buffers-buffers.result j []) (c.first_buffers-buffers.ensures.bytes j below) (omega arith)
-      (c.first_buffers-buffers.ensures.held j below);
+      let a : Leg = leg_of c.args.ident.now c.args.q c.args.first.now j in
+      let b : Leg = leg_of c.args.ident.now c.args.q c.args.second.now j in
+      held_none a b 0 _ (c.tails_of-tails.ensures.bytes j below) (omega arith)
+      (starts_so c.args.ident.now c.args.q (slice_index c.args.first.now.numbers j) a.from a.value _ _ (c.tails_of-tails.ensures.held j below)
+      (c.new.ensures j below));
   ended = λ j below less. absurd (omega (arith, less));
   cost = omega arith;
 }
 
-pub sha_eight-requires : goal.sha_eight-requires
-sha_eight-requires g c = λ j below.
-    let a : Leg = leg_of c.args.ident.now c.args.q c.args.first.now j in
-    let b : Leg = leg_of c.args.ident.now c.args.q c.args.second.now j in
-    let none : slice_index (replicate 8 0) j ≡ 0 = get_or-replicate 8 j 0 0 below in
-    let firsts : slice_index c.lane_steps-firsts.result j ≡ a.count = omega (arith, c.lane_steps-firsts.ensures j below, none) in
-    let begun =
-    begun_by a b c.steps.n (slice_index_or c.steps.buffers j []) (slice_index_or c.first_buffers-seconds.result j [])
-    (slice_index_or c.begin_seconds.new.buffers j []) (c.first_buffers-seconds.ensures.bytes j below) (c.steps.invariant.held j below)
-    (c.first_buffers-seconds.ensures.held j below) (rw firsts at (c.begin_seconds.ensures j below))
-    in
-    let of_first = slice_index c.args.first.now.numbers j in
-    let of_second = slice_index c.args.second.now.numbers j in
-    rw c.head_of-head.ensures
-    (begun_head a b c.steps.n (slice_index_or c.begin_seconds.new.buffers j []) _
-    (place_length c.args.ident.now c.args.q of_first (omega arith)) (place_length c.args.ident.now c.args.q of_second (omega arith))
-    (place_head c.args.ident.now c.args.q of_first (omega arith)) (place_head c.args.ident.now c.args.q of_second (omega arith)) begun)
-
 pub steps-preserved : goal.steps-preserved
-steps-preserved g c = record {
-  held = λ j below.
-      let a : Leg = leg_of c.args.ident.now c.args.q c.args.first.now j in
-      let b : Leg = leg_of c.args.ident.now c.args.q c.args.second.now j in
-      let none : slice_index (replicate 8 0) j ≡ 0 = get_or-replicate 8 j 0 0 below in
-      let firsts : slice_index c.lane_steps-firsts.result j ≡ a.count = omega (arith, c.lane_steps-firsts.ensures j below, none) in
-      let begun =
-      begun_by a b c.steps.n (slice_index_or c.steps.buffers j []) (slice_index_or c.first_buffers-seconds.result j [])
-      (slice_index_or c.begin_seconds.new.buffers j []) (c.first_buffers-seconds.ensures.bytes j below) (c.steps.invariant.held j below)
-      (c.first_buffers-seconds.ensures.held j below) (rw firsts at (c.begin_seconds.ensures j below))
-      in
-      held_more a b c.steps.n (slice_index_or c.begin_seconds.new.buffers j []) (slice_index_or c.sha_eight.new.out j [])
-      (slice_index_or c.take_steps.new.buffers j []) (place_length c.args.ident.now c.args.q (slice_index c.args.first.now.numbers j) (omega arith))
-      (place_length c.args.ident.now c.args.q (slice_index c.args.second.now.numbers j) (omega arith)) (c.requires.first j below)
-      (c.requires.second j below) begun (c.sha_eight.ensures j below) (rw (c.lane_steps-counts.ensures j below) at (c.take_steps.ensures j below));
-  ended = λ j below less.
-      let a : Leg = leg_of c.args.ident.now c.args.q c.args.first.now j in
-      let b : Leg = leg_of c.args.ident.now c.args.q c.args.second.now j in
-      let none : slice_index (replicate 8 0) j ≡ 0 = get_or-replicate 8 j 0 0 below in
-      let firsts : slice_index c.lane_steps-firsts.result j ≡ a.count = omega (arith, c.lane_steps-firsts.ensures j below, none) in
-      end_kept a b c.steps.n (slice_index_or c.steps.buffers j []) (slice_index_or c.steps.ends j []) (slice_index_or c.keep_ends.new.ends j [])
-      (place_length c.args.ident.now c.args.q (slice_index c.args.first.now.numbers j) (omega arith)) (c.steps.invariant.held j below)
-      (c.steps.invariant.ended j below) (rw firsts at (c.keep_ends.ensures j below)) (omega (arith, less));
-  cost = omega arith;
-}
+steps-preserved g c =
+    let ident = c.args.ident.now in
+    let q = c.args.q in
+    let head = ident ++ to_be_bytes w32 q in
+    let long : length head ≡ 20 = length-append ident (to_be_bytes w32 q) ∙ omega arith in
+    record {
+      held = λ j below.
+          let a : Leg = leg_of ident q c.args.first.now j in
+          let b : Leg = leg_of ident q c.args.second.now j in
+          let none : slice_index (replicate 8 0) j ≡ 0 = get_or-replicate 8 j 0 0 below in
+          let firsts : slice_index c.lane_steps-firsts.result j ≡ a.count = omega (arith, c.lane_steps-firsts.ensures j below, none) in
+          let leaf : slice_index (replicate 8 q) j ≡ q = get_or-replicate 8 j q 0 below in
+          let tail = slice_index_or c.steps.tails j [] in
+          let second = slice_index_or c.tails_of-seconds.result j [] in
+          let taken = slice_index_or c.take-in-steps.new.self j [] in
+          let next = slice_index_or c.go_on.new.self j [] in
+          let hash = slice_index_or c.hash-hashes.result j [] in
+          let begins =
+          starts_so ident q (slice_index c.args.second.now.numbers j) b.from b.value second _ (c.tails_of-seconds.ensures.held j below)
+          (c.new-2.ensures j below)
+          in
+          let takes = ap (λ t. head ++ t) (rw firsts at (c.take-in-steps.ensures j below)) ∙ behind_if (a.count == c.steps.n) head second tail in
+          let begun =
+          begun_by a b c.steps.n (head ++ tail) (head ++ second) (head ++ taken) (c.tails_of-seconds.ensures.bytes j below)
+          (c.steps.invariant.held j below) begins takes
+          in
+          let hashed : hash ≡ sha256 (head ++ taken) = rw (c.heads_of-heads.ensures j below, leaf) at (c.hash-hashes.ensures j below) in
+          let goes =
+          ap (λ t. head ++ t) (c.go_on.ensures j below)
+          ∙ behind_goes (nat_lt c.steps.n (slice_index c.lane_steps-counts.result j)) head taken hash long
+          in
+          held_more a b c.steps.n (head ++ taken) hash (head ++ next) (place_length ident q (slice_index c.args.first.now.numbers j) (omega arith))
+          (place_length ident q (slice_index c.args.second.now.numbers j) (omega arith)) (c.requires.first j below)
+          (c.requires.second j below) begun hashed (rw (c.lane_steps-counts.ensures j below) at goes);
+      ended = λ j below less.
+          let a : Leg = leg_of ident q c.args.first.now j in
+          let b : Leg = leg_of ident q c.args.second.now j in
+          let none : slice_index (replicate 8 0) j ≡ 0 = get_or-replicate 8 j 0 0 below in
+          let firsts : slice_index c.lane_steps-firsts.result j ≡ a.count = omega (arith, c.lane_steps-firsts.ensures j below, none) in
+          let tail = slice_index_or c.steps.tails j [] in
+          let value = c.values.ensures j below ∙ behind_value head tail long in
+          end_kept a b c.steps.n (head ++ tail) (slice_index_or c.steps.kept j []) (slice_index_or c.take.new.self j [])
+          (place_length ident q (slice_index c.args.first.now.numbers j) (omega arith)) (c.steps.invariant.held j below)
+          (c.steps.invariant.ended j below) (rw (firsts, value) at (c.take.ensures j below)) (omega (arith, less));
+      cost = omega arith;
+    }
 
 pub returns-clause-first : goal.returns-clause-first
 returns-clause-first g c = λ j below.
-    let a : Leg = leg_of c.args.ident.now c.args.q c.args.first.now j in
-    let b : Leg = leg_of c.args.ident.now c.args.q c.args.second.now j in
+    let ident = c.args.ident.now in
+    let q = c.args.q in
+    let head = ident ++ to_be_bytes w32 q in
+    let long : length head ≡ 20 = length-append ident (to_be_bytes w32 q) ∙ omega arith in
+    let a : Leg = leg_of ident q c.args.first.now j in
+    let b : Leg = leg_of ident q c.args.second.now j in
     let none : slice_index (replicate 8 0) j ≡ 0 = get_or-replicate 8 j 0 0 below in
     let firsts : slice_index c.lane_steps-firsts.result j ≡ a.count = omega (arith, c.lane_steps-firsts.ensures j below, none) in
     let place : 0 + j ≡ j = omega arith in
     let above = rw place at (most_above (slice_index c.lane_steps-counts.result) 0 8 j below) in
     let whole : c.most-most.result ≡ c.steps.n = omega arith in
     let over : a.count ≤ c.steps.n = omega (arith, above, c.most-most.ensures, c.lane_steps-counts.ensures j below, whole) in
-    end_kept a b c.steps.n (slice_index_or c.steps.buffers j []) (slice_index_or c.steps.ends j []) (slice_index_or c.keep_ends-2.new.ends j [])
-    (place_length c.args.ident.now c.args.q (slice_index c.args.first.now.numbers j) (omega arith)) (c.steps.invariant.held j below)
-    (c.steps.invariant.ended j below) (rw (firsts, whole) at (c.keep_ends-2.ensures j below)) over
+    let tail = slice_index_or c.steps.tails j [] in
+    let value = c.values-2.ensures j below ∙ behind_value head tail long in
+    c.to_bytes.ensures j below
+    ∙ end_kept a b c.steps.n (head ++ tail) (slice_index_or c.steps.kept j []) (slice_index_or c.take-2.new.self j [])
+    (place_length ident q (slice_index c.args.first.now.numbers j) (omega arith)) (c.steps.invariant.held j below)
+    (c.steps.invariant.ended j below) (rw (firsts, value, whole) at (c.take-2.ensures j below)) over
 
 pub returns-clause-second : goal.returns-clause-second
 returns-clause-second g c = λ j below.
-    let a : Leg = leg_of c.args.ident.now c.args.q c.args.first.now j in
-    let b : Leg = leg_of c.args.ident.now c.args.q c.args.second.now j in
+    let ident = c.args.ident.now in
+    let q = c.args.q in
+    let head = ident ++ to_be_bytes w32 q in
+    let long : length head ≡ 20 = length-append ident (to_be_bytes w32 q) ∙ omega arith in
+    let a : Leg = leg_of ident q c.args.first.now j in
+    let b : Leg = leg_of ident q c.args.second.now j in
     let none : slice_index (replicate 8 0) j ≡ 0 = get_or-replicate 8 j 0 0 below in
     let firsts : slice_index c.lane_steps-firsts.result j ≡ a.count = omega (arith, c.lane_steps-firsts.ensures j below, none) in
     let place : 0 + j ≡ j = omega arith in
     let above = rw place at (most_above (slice_index c.lane_steps-counts.result) 0 8 j below) in
     let whole : c.most-most.result ≡ c.steps.n = omega arith in
     let over : a.count + b.count ≤ c.steps.n = omega (arith, above, c.most-most.ensures, c.lane_steps-counts.ensures j below, whole) in
-    let begun =
-    begun_by a b c.steps.n (slice_index_or c.steps.buffers j []) (slice_index_or c.first_buffers-seconds.result j [])
-    (slice_index_or c.begin_seconds-2.new.buffers j []) (c.first_buffers-seconds.ensures.bytes j below) (c.steps.invariant.held j below)
-    (c.first_buffers-seconds.ensures.held j below) (rw (firsts, whole) at (c.begin_seconds-2.ensures j below))
+    let tail = slice_index_or c.steps.tails j [] in
+    let second = slice_index_or c.tails_of-seconds.result j [] in
+    let taken = slice_index_or c.take-3.new.self j [] in
+    let begins =
+    starts_so ident q (slice_index c.args.second.now.numbers j) b.from b.value second _ (c.tails_of-seconds.ensures.held j below)
+    (c.new-2.ensures j below)
     in
-    c.values_in.ensures j below
-    ∙ second_whole a b c.steps.n (slice_index_or c.begin_seconds-2.new.buffers j [])
-    (place_length c.args.ident.now c.args.q (slice_index c.args.second.now.numbers j) (omega arith)) over begun
+    let takes = ap (λ t. head ++ t) (rw (firsts, whole) at (c.take-3.ensures j below)) ∙ behind_if (a.count == c.steps.n) head second tail in
+    let begun =
+    begun_by a b c.steps.n (head ++ tail) (head ++ second) (head ++ taken) (c.tails_of-seconds.ensures.bytes j below)
+    (c.steps.invariant.held j below) begins takes
+    in
+    c.to_bytes-2.ensures j below
+    ∙ (c.values-3.ensures j below
+    ∙ (behind_value head taken long
+    ∙ second_whole a b c.steps.n (head ++ taken) (place_length ident q (slice_index c.args.second.now.numbers j) (omega arith)) over begun))
 
 pub returns-clause-cost : goal.returns-clause-cost
 returns-clause-cost g c =

@@ -42,7 +42,8 @@ returns-clause-follows g c = λ was session secrets member spent place.
     let same = c.in_ok-summary.ensures.rules in
     let inputs = taken_of (caster_rules (member_of memory) (stream_of memory)) ran.given in
     caster-behind-run (caster_view c.args.names.now) session secrets (stream_of memory) c.args.text.now (bound_in c.args.place.now)
-    (member_of memory) spent place member _ _ _ _ _ (λ w. c.in_ok-write_anew.ensures w was) _ _ c.in_ok-bind_place.ensures _ _ _ _ ran _ _ _ same
+    (member_of memory) spent place member _ _ _ _ _ (λ w.
+    c.in_ok-write_anew.ensures w was) _ _ c.in_ok-bind_place.ensures _ _ _ _ ran _ _ _ same
     (c.show_summary.ensures inputs ran.stands (ran.summary ∙ ap (λ (r : Rules). summary_of r inputs) (sym same)))
 
 pub returns-clause-unprinted : goal.returns-clause-unprinted

@@ -88,7 +88,8 @@ returns-clause-follows g c = λ was.
     (c.deref.ensures.value ∙ c.in_ok-text.ensures)
     (c.head-head.ensures ∙ ap (λ (x : Shape). head_bytes x.id k.party) c.shape.ensures.value)
     (placed s k c.args.names.now.begin_ms _ _ c.port.ensures c.tick_ms.ensures) c.in_ok-peer.ensures.member _ _ _
-    _ _ (λ w. c.in_ok-write_anew.ensures w was) _ _ (λ w. c.in_ok-begin_files.ensures w was) _ _ c.in_ok-bind_place.ensures _ _ _ _ ran _ _ _ same
+    _ _ (λ w.
+    c.in_ok-write_anew.ensures w was) _ _ (λ w. c.in_ok-begin_files.ensures w was) _ _ c.in_ok-bind_place.ensures _ _ _ _ ran _ _ _ same
     (c.show_summary.ensures inputs ran.stands (ran.summary ∙ ap (λ (r : Rules). summary_of r inputs) (sym same)))
 
 pub returns-clause-unprinted : goal.returns-clause-unprinted

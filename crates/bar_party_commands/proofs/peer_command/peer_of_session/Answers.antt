@@ -1,6 +1,5 @@
 use Rattle.std.proofs.Common.{◌≡◌, ◌∙◌, Err, Ok, ap, arith, false, refl, rules, sym}
 use Rattle.std.proofs.lemmas.Result.{err_from_is_err_and}
-use Rattle.bar_outside.proofs.Ending.{EndsWith-ending}
 use Rattle.bar_roster.specs.declared.key_fault.KeyFileFault.TheVariants.{NoMemory}
 use Rattle.bar_session_files.specs.Accepting.{fresh_key_of}
 use Rattle.bar_party_commands.specs.PeerPlan.{peer_actions, rules_by}
@@ -15,13 +14,14 @@ pub returns-in_err-bytes-clause-ends : goal.returns-in_err-bytes-clause-ends
 returns-in_err-bytes-clause-ends g c = λ was.
     let p = err_from_is_err_and c.from_residual.result c.from_residual.ensures.1 in
     let r = c.in_err-bytes.ensures was in
-    rw (p.1, p.2, r.2) (unread _ (fresh_key_of false c.args.session) _ _ _ _ _ _ r.0 r.1)
+    rw (p.1, p.2, r.2) (unread _ (fresh_key_of false c.args.session) 5 key_refused _ _ _ _ _ r.0 r.1)
 
 pub returns-in_err-peer_of_key-in-Ok-clause-ends : goal.returns-in_err-peer_of_key-in-Ok-clause-ends
 returns-in_err-peer_of_key-in-Ok-clause-ends g c = λ was.
     let p = err_from_is_err_and c.from_residual-in_err-peer_of_key-in-Ok.result c.from_residual-in_err-peer_of_key-in-Ok.ensures.1 in
     rw (p.1, p.2)
-    (accepted-so _ (fresh_key_of false c.args.session) _ _ _ _ _ _ c.in_ok-bytes.bytes (c.in_ok-bytes.ensures was) c.in-Ok.key.secrets _ _ _
+    (accepted-so _ (fresh_key_of false c.args.session) 5 key_refused _ _ _ _ _
+    c.in_ok-bytes.bytes (c.in_ok-bytes.ensures was) c.in-Ok.key.secrets _ _ _
     (rw c.deref.ensures.value at c.in-Ok.ensures.ok)
     (following (peer_actions (peer_view c.args.names.now) c.args.session c.in-Ok.key.secrets)
     (rules_by c.args.session c.in-Ok.key.secrets) _ _ (Err c.in_err-peer_of_key-in-Ok.field-0.0)
@@ -37,7 +37,8 @@ returns-in_err-peer_of_key-in-Ok-clause-unprinted g c =
 
 pub returns-in-Ok-clause-ends : goal.returns-in-Ok-clause-ends
 returns-in-Ok-clause-ends g c = λ was.
-    accepted-so _ (fresh_key_of false c.args.session) _ _ _ _ _ _ c.in_ok-bytes.bytes (c.in_ok-bytes.ensures was) c.in-Ok.key.secrets _ _ _
+    accepted-so _ (fresh_key_of false c.args.session) 5 key_refused _ _ _ _ _
+    c.in_ok-bytes.bytes (c.in_ok-bytes.ensures was) c.in-Ok.key.secrets _ _ _
     (rw c.deref.ensures.value at c.in-Ok.ensures.ok)
     (following (peer_actions (peer_view c.args.names.now) c.args.session c.in-Ok.key.secrets)
     (rules_by c.args.session c.in-Ok.key.secrets) _ _ (Ok tt)
@@ -45,7 +46,7 @@ returns-in-Ok-clause-ends g c = λ was.
 
 pub returns-in-Err-NoMemory-clause-ends : goal.returns-in-Err-NoMemory-clause-ends
 returns-in-Err-NoMemory-clause-ends g c = λ was.
-    unmeant _ (fresh_key_of false c.args.session) _ _ _ _ _ _ c.in_ok-bytes.bytes (c.in_ok-bytes.ensures was)
+    unmeant _ (fresh_key_of false c.args.session) 5 key_refused _ _ _ _ _ c.in_ok-bytes.bytes (c.in_ok-bytes.ensures was)
 
 pub returns : goal.returns
 returns g c =
@@ -54,8 +55,8 @@ returns g c =
     in
     record {
       ends = λ was.
-          refused-so _ (fresh_key_of false c.args.session) _ _ _ _ _ _ c.in_ok-bytes.bytes (c.in_ok-bytes.ensures was) c.in-Err.fault 5
-          (key_refused c.in-Err.fault) told refl (EndsWith-ending 5 (key_refused c.in-Err.fault) _ refl);
+          refused-so _ (fresh_key_of false c.args.session) 5 key_refused _ _ _ _ _
+          c.in_ok-bytes.bytes (c.in_ok-bytes.ensures was) c.in-Err.fault told refl;
       answers = λ e. absurd (omega arith);
       unprinted = λ quiet. refl;
     }

@@ -8,7 +8,7 @@ use Rattle.bar_rules.specs.Member.{Member}
 use Rattle.bar_rules.specs.Peer.Agreement.{IsRecent}
 use Rattle.bar_exchange.specs.Placing.{message_in}
 use Rattle.bar_peer.specs.Memory.{member_of}
-use Rattle.bar_peer.proofs.Replied.{no_orders}
+use Rattle.bar_peer.proofs.Replying.NoExchange.{no_orders}
 use Rattle.bar_peer.proofs.answers.says_to.Goals as goal
 
 pub returns-in_default-clause-orders : goal.returns-in_default-clause-orders
@@ -23,7 +23,7 @@ returns-in-Balanced-clause-orders c k h recent =
     let at : place_of (message_in c.args.arrival.now.view) ≡ Some (place_in c.in-Some.place) =
     sym c.args.arrival.now.placed ∙ ap (option_map place_in) c.in-Some.is
     in
-    c.replies.ensures.orders me k refl h.ledger (c.round-round.ensures ∙ ap round_after (sym h.time))
+    c.replies.ensures.orders me k refl h.ledger
     (λ new. subst (λ (o : Option Place). IfSome (option_map (λ p. p.exchange) o) (λ x. IsRecent me k x.round)) at (recent new))
 
 pub returns-in-Push-clause-orders : goal.returns-in-Push-clause-orders

@@ -5,7 +5,7 @@ use Rattle.bar_terms.specs.declared.items.Item.{Item}
 use Rattle.bar_terms.specs.declared.items.Item.TheVariants.{Update}
 use Rattle.bar_store.specs.Held.{block_in}
 use Rattle.bar_peer.specs.Opening.{block_in_item, block_in_items}
-use Rattle.bar_peer.proofs.Opened.{items_more, or_or}
+use Rattle.bar_peer.proofs.Hearing.Items.{items_more, or_or}
 use Rattle.bar_peer.proofs.briefcases.hold_all.Goals as goal
 
 pub loop-place-preserved : goal.loop-place-preserved

@@ -14,9 +14,9 @@ use Rattle.bar_laws.specs.Soundness.{IsSound}
 use Rattle.bar_balanced.specs.Balanced.{AreSpelled}
 use Rattle.bar_peer.specs.Memory.{member_of}
 use Rattle.bar_peer.specs.Sending.{HasOutcome}
-use Rattle.bar_peer.proofs.Answered.{nothing-changed, answered-before, answered-new, answered-again, new-replied, repeat-answered, not-repeated, apart, received}
+use Rattle.bar_peer.proofs.Replying.Answering.{nothing-changed, answered-before, answered-new, answered-again, new-replied, repeat-answered, not-repeated, apart, received}
 use Rattle.bar_laws.proofs.Fitting.{perform_all-before}
-use Rattle.bar_peer.proofs.Sent.{none_stand}
+use Rattle.bar_peer.proofs.Orders.Sendings.{none_stand}
 use Rattle.bar_peer.proofs.intake.answer.Goals as goal
 
 pub returns-then-is_admitted-clause-stands : goal.returns-then-is_admitted-clause-stands

@@ -13,8 +13,8 @@ use Rattle.bar_rules.specs.Peer.Replies.{repeated}
 use Rattle.bar_rules.specs.Peer.Rules.{IsObedient}
 use Rattle.bar_peer.specs.declared.memory.Memory.{Memory}
 use Rattle.bar_peer.specs.Memory.{Represents}
-use Rattle.bar_peer.proofs.Ignored.{TellsNothing, nothing-told}
-use Rattle.bar_peer.proofs.Taken.{AreObedient, Answers, admitted-still, obeyed, tried-stands, untried-stands}
+use Rattle.bar_peer.proofs.Stepping.Ignored.{TellsNothing, nothing-told}
+use Rattle.bar_peer.proofs.Stepping.Datagrams.{AreObedient, Answers, admitted-still, obeyed, tried-stands, untried-stands}
 use Rattle.bar_peer.proofs.intake.answer_tried.Goals as goal
 
 pub returns-then-is_found-clause-stands : goal.returns-then-is_found-clause-stands

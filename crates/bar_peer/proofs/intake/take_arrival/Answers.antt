@@ -9,8 +9,9 @@ use Rattle.bar_rules.specs.Peer.Run.{answered_to, report_new, with_evidence}
 use Rattle.bar_laws.specs.Soundness.{IsSound}
 use Rattle.bar_peer.specs.Memory.{member_of}
 use Rattle.bar_peer.specs.Sending.{HasOutcome}
-use Rattle.bar_peer.proofs.Ignored.{TellsNothing, nothing-told}
-use Rattle.bar_peer.proofs.Taken.{AreObedient, obeyed, none-new}
+use Rattle.bar_peer.proofs.Stepping.Ignored.{TellsNothing, nothing-told}
+use Rattle.bar_peer.proofs.Stepping.Guards.{checks_again, checks_more, remembers_still}
+use Rattle.bar_peer.proofs.Stepping.Datagrams.{AreObedient, obeyed, none-new}
 use Rattle.bar_peer.proofs.intake.take_arrival.Goals as goal
 
 pub returns-then-weighed-clause-stands : goal.returns-then-weighed-clause-stands
@@ -62,3 +63,22 @@ returns-else-weighed-clause-idle g c log obeys tells idle =
     let sound : IsSound me k = c.logs_are_sound.ensures me log obeys in
     let none : TellsNothing me k d = nothing-told me k d idle in
     c.answer.ensures.idle log obeys tells (c.weigh-weighed.ensures.admitted k tells sound ∙ none.refused) none.unlike
+
+pub returns-then-weighed-clause-checks : goal.returns-then-weighed-clause-checks
+returns-then-weighed-clause-checks g c = checks_again c.weigh-weighed.ensures.checks c.answer_tried.ensures.checks
+
+pub returns-else-weighed-clause-checks : goal.returns-else-weighed-clause-checks
+returns-else-weighed-clause-checks g c = checks_more c.weigh-weighed.ensures.checks
+
+pub returns-then-weighed-clause-remembers : goal.returns-then-weighed-clause-remembers
+returns-then-weighed-clause-remembers g c log obeys tells admits =
+    let me : Member = member_of c.args.memory.now.who in
+    let sound : IsSound me (known me log) = c.logs_are_sound.ensures me log obeys in
+    remembers_still (c.weigh-weighed.ensures.remembers (c.weigh-weighed.ensures.admitted (known me log) tells sound ∙ admits))
+    c.answer_tried.ensures.checks
+
+pub returns-else-weighed-clause-remembers : goal.returns-else-weighed-clause-remembers
+returns-else-weighed-clause-remembers g c log obeys tells admits =
+    let me : Member = member_of c.args.memory.now.who in
+    let sound : IsSound me (known me log) = c.logs_are_sound.ensures me log obeys in
+    c.weigh-weighed.ensures.remembers (c.weigh-weighed.ensures.admitted (known me log) tells sound ∙ admits)

@@ -14,35 +14,48 @@ use Rattle.bar_peer.specs.Memory.{member_of}
 use Rattle.bar_peer.specs.Sending.{HasOutcome}
 use Rattle.bar_rules.specs.Peer.Knowledge.{known}
 use Rattle.bar_laws.specs.Ignoring.{tells_nothing}
+use Rattle.bar_peer.specs.Checking.{Checks, RemembersAdmitted, shown}
+use Rattle.bar_peer.proofs.intake.take_datagram.Given.{Over}
 use Rattle.bar_peer.proofs.intake.take_datagram.Goals as goal
+use Rattle.bar_peer.proofs.intake.take_datagram.Goals.{In-Ok}
+
+-- what is read is what the bytes spell
+read : (g : Over) (c : In-Ok g)
+    → Some (datagram c.args.memory.now.who.session.shape c.in-Ok.view) ≡ datagram_of c.args.memory.now.who.session c.args.bytes.now
+read g c = c.in-Ok.ensures.told ∙ ap (λ (shape : Shape). places.datagram_of shape c.args.bytes.now) c.shape-shape.ensures.value
 
 pub returns-in-Ok-clause-stands : goal.returns-in-Ok-clause-stands
 returns-in-Ok-clause-stands g c log obeys tells empty room =
     let me : Member = member_of c.args.memory.now.who in
-    let d : Datagram = datagram c.args.memory.now.who.session.shape c.in-Ok.view in
-    let read : Some d ≡ datagram_of me.session c.args.bytes.now =
-    c.in-Ok.ensures.told ∙ ap (λ (shape : Shape). places.datagram_of shape c.args.bytes.now) c.shape-shape.ensures.value
-    in
-    subst (λ (o : Option Datagram). HasOutcome (take_datagram me log o) c.take_arrival.new.memory c.take_arrival.new.orders) read
-    (c.take_arrival.ensures.stands log (subst (λ (o : Option Datagram). IsObedient me (take_datagram me log o).state) (sym read) obeys) tells empty room)
+    let is = read g (goal.at.returns-in-Ok-clause-stands g c).In-Ok in
+    subst (λ (o : Option Datagram). HasOutcome (take_datagram me log o) c.take_arrival.new.memory c.take_arrival.new.orders) is
+    (c.take_arrival.ensures.stands log (subst (λ (o : Option Datagram). IsObedient me (take_datagram me log o).state) (sym is) obeys) tells empty room)
 
 pub returns-in-Ok-clause-ignored : goal.returns-in-Ok-clause-ignored
 returns-in-Ok-clause-ignored g c log obeys tells ignored =
     let me : Member = member_of c.args.memory.now.who in
-    let d : Datagram = datagram c.args.memory.now.who.session.shape c.in-Ok.view in
-    let read : Some d ≡ datagram_of me.session c.args.bytes.now =
-    c.in-Ok.ensures.told ∙ ap (λ (shape : Shape). places.datagram_of shape c.args.bytes.now) c.shape-shape.ensures.value
-    in
-    c.take_arrival.ensures.idle log obeys tells (ap (λ (o : Option Datagram). option_map_or (tells_nothing me (known me log)) o true) read ∙ ignored)
+    let is = read g (goal.at.returns-in-Ok-clause-ignored g c).In-Ok in
+    c.take_arrival.ensures.idle log obeys tells (ap (λ (o : Option Datagram). option_map_or (tells_nothing me (known me log)) o true) is ∙ ignored)
 
 pub returns-in-Ok-clause-unread : goal.returns-in-Ok-clause-unread
 returns-in-Ok-clause-unread g c unread =
-    let me : Member = member_of c.args.memory.now.who in
-    let d : Datagram = datagram c.args.memory.now.who.session.shape c.in-Ok.view in
-    let read : Some d ≡ datagram_of me.session c.args.bytes.now =
-    c.in-Ok.ensures.told ∙ ap (λ (shape : Shape). places.datagram_of shape c.args.bytes.now) c.shape-shape.ensures.value
-    in
-    absurd (false≢true (ap (λ (o : Option Datagram). is_none o) read ∙ unread))
+    let is = read g (goal.at.returns-in-Ok-clause-unread g c).In-Ok in
+    absurd (false≢true (ap (λ (o : Option Datagram). is_none o) is ∙ unread))
+
+pub returns-in-Ok-clause-checks : goal.returns-in-Ok-clause-checks
+returns-in-Ok-clause-checks g c =
+    subst
+    (λ (o : Option Datagram).
+    Checks c.args.memory.now.who.session (shown c.args.memory.now.who.session c.args.bytes.now o) 2 c.args.guard.now c.take_arrival.new.guard
+    c.args.steps.now c.take_arrival.new.steps)
+    (read g (goal.at.returns-in-Ok-clause-checks g c).In-Ok)
+    c.take_arrival.ensures.checks
+
+pub returns-in-Ok-clause-remembers : goal.returns-in-Ok-clause-remembers
+returns-in-Ok-clause-remembers g c =
+    subst (λ (o : Option Datagram). RemembersAdmitted c.args.memory.now c.args.bytes.now o c.args.guard.now c.take_arrival.new.guard)
+    (read g (goal.at.returns-in-Ok-clause-remembers g c).In-Ok)
+    c.take_arrival.ensures.remembers
 
 pub invariant_of-arrival : goal.invariant_of-arrival
 invariant_of-arrival g c = record { placed = c.place_of-place.ensures c.shape-shape.result }

@@ -4,7 +4,7 @@ use Rattle.bar_rules.specs.Peer.Run.{log_after, step}
 use Rattle.bar_rules.specs.Runs.{contents_from, sends_from}
 use Rattle.bar_rules.specs.Values.{datagram_bytes}
 use Rattle.bar_peer.specs.Core.{peer_rules}
-use Rattle.bar_peer.proofs.Stepped.{log-more}
+use Rattle.bar_peer.proofs.Stepping.Inputs.{log-more}
 use Rattle.bar_peer.proofs.laws.rules_give_the_run.Goals as goal
 
 pub returns-clause-sends : goal.returns-clause-sends

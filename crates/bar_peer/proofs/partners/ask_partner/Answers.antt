@@ -15,8 +15,8 @@ use Rattle.bar_peer.specs.declared.order.Order.TheVariants as queued
 use Rattle.bar_peer.specs.Memory.{member_of}
 use Rattle.bar_peer.specs.Sending.{IsTimely, IsCarriedOut, HasOutcome}
 use Rattle.bar_peer.specs.Ticking.{is_unasked}
-use Rattle.bar_peer.proofs.Asked.{partner_is, none_asked, one_asked, asks_timely, carried_stands}
-use Rattle.bar_peer.proofs.Growing.{grows}
+use Rattle.bar_peer.proofs.Ticking.Partner.{partner_is, none_asked, one_asked, asks_timely, carried_stands}
+use Rattle.bar_peer.proofs.Orders.Growth.{grows}
 use Rattle.bar_peer.proofs.partners.ask_partner.Goals as goal
 
 pub returns-then-is_unasked-clause-stands : goal.returns-then-is_unasked-clause-stands

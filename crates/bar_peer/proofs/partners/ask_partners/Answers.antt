@@ -9,7 +9,7 @@ use Rattle.bar_rules.specs.Peer.Knowledge.{Knowledge, known, this_round}
 use Rattle.bar_peer.specs.declared.credentials.Credentials.{Credentials}
 use Rattle.bar_peer.specs.Memory.{member_of}
 use Rattle.bar_peer.specs.Ticking.{AsksPartner}
-use Rattle.bar_peer.proofs.Requests.{both_asked, balanced_asked}
+use Rattle.bar_peer.proofs.Ticking.Requests.{both_asked, balanced_asked}
 use Rattle.bar_peer.proofs.partners.ask_partners.Goals as goal
 
 pub returns-then-size-gt0-clause-stands : goal.returns-then-size-gt0-clause-stands

@@ -1,4 +1,4 @@
-use Rattle.bar_peer.proofs.Standing.{two_stand}
+use Rattle.bar_peer.proofs.Orders.Outcomes.{two_stand}
 use Rattle.bar_peer.proofs.queue.reply.Goals as goal
 
 pub returns-in-Two-clause-stands : goal.returns-in-Two-clause-stands

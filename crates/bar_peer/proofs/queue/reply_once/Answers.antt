@@ -3,7 +3,7 @@ use Rattle.bar_rules.specs.Peer.Run.{perform}
 use Rattle.bar_exchange.specs.Says.{order_by}
 use Rattle.bar_peer.specs.Memory.{member_of}
 use Rattle.bar_peer.specs.Sending.{IsCarriedOut}
-use Rattle.bar_peer.proofs.Standing.{stands_sent, stands_unsent}
+use Rattle.bar_peer.proofs.Orders.Outcomes.{stands_sent, stands_unsent}
 use Rattle.bar_peer.proofs.queue.reply_once.Goals as goal
 
 pub returns-then-say-clause-stands : goal.returns-then-say-clause-stands

@@ -3,7 +3,7 @@ use Rattle.bar_rules.specs.Peer.Knowledge.{Knowledge, known}
 use Rattle.bar_rules.specs.Peer.Run.{Out, perform_all}
 use Rattle.bar_peer.specs.Memory.{member_of}
 use Rattle.bar_peer.specs.Sending.{HasOutcome}
-use Rattle.bar_peer.proofs.Reported.{reports_to}
+use Rattle.bar_peer.proofs.Ticking.Reports.{reports_to}
 use Rattle.bar_peer.proofs.reports.report_all.Given as goal
 
 -- the reports against the peers so far stand

@@ -6,8 +6,8 @@ use Rattle.bar_rules.specs.Peer.Run.{Out}
 use Rattle.bar_peer.specs.declared.order.Order.TheVariants as queued
 use Rattle.bar_peer.specs.Memory.{member_of}
 use Rattle.bar_peer.specs.Sending.{send_now, HasOutcome}
-use Rattle.bar_peer.proofs.Recent.{recent_by_time}
-use Rattle.bar_peer.proofs.Sent.{sent_again, stands_with, pushed, not_pushed}
+use Rattle.bar_peer.proofs.Orders.Recency.{recent_by_time}
+use Rattle.bar_peer.proofs.Orders.Sendings.{sent_again, stands_with, pushed, not_pushed}
 use Rattle.bar_peer.proofs.ticks.repeat.Goals as goal
 
 pub returns-then-may_repeat-clause-stands : goal.returns-then-may_repeat-clause-stands

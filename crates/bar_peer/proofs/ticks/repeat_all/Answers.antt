@@ -16,10 +16,10 @@ use Rattle.bar_rules.specs.Runs.{begun}
 use Rattle.bar_peer.specs.Memory.{member_of}
 use Rattle.bar_peer.specs.Sending.{HasOutcome}
 use Rattle.bar_peer.specs.Ticking.{orders_of_open}
-use Rattle.bar_peer.proofs.Opens.{one_done, open_is_recent}
+use Rattle.bar_peer.proofs.Ticking.OpenExchanges.{one_done, open_is_recent}
 use Rattle.bar_laws.proofs.Repeating.{all-append}
-use Rattle.bar_peer.proofs.Sent.{none_stand}
-use Rattle.bar_peer.proofs.Unlogged.{opens_state}
+use Rattle.bar_peer.proofs.Orders.Sendings.{none_stand}
+use Rattle.bar_peer.proofs.Orders.Unlogged.{opens_state}
 use Rattle.bar_peer.proofs.ticks.repeat_all.Goals as goal
 
 pub loop-init : goal.loop-init

@@ -10,8 +10,8 @@ use Rattle.bar_exchange.specs.declared.say.Say.{Say}
 use Rattle.bar_peer.specs.Memory.{member_of}
 use Rattle.bar_peer.specs.Sending.{IsTimely, HasOutcome}
 use Rattle.bar_peer.specs.Ticking.{orders_of_open}
-use Rattle.bar_peer.proofs.Sent.{state_again}
-use Rattle.bar_peer.proofs.Timely.{again_is_timely}
+use Rattle.bar_peer.proofs.Orders.Sendings.{state_again}
+use Rattle.bar_peer.proofs.Ticking.Timely.{again_is_timely}
 use Rattle.bar_peer.proofs.ticks.repeat_once.Goals as goal
 
 pub returns-in-Nothing-clause-stands : goal.returns-in-Nothing-clause-stands

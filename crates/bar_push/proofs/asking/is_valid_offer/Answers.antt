@@ -8,5 +8,5 @@ pub returns : goal.returns
 returns c me k h allowed windows =
     c.offer_ok.ensures
     ∙ (λ i. offer_ok (allowed i) ((c.life-life.ensures.life ∙ h.life) i)
-    (λ round. sym (h.table round ∙ (λ j. digests_of (sym c.table.ensures j).lists round)) i) c.args.offer.now.round
+    (λ round. sym (h.table round ∙ (λ j. digests_of (sym c.table.ensures j).lists round)) i) c.args.offer.now.x.round
     (members c.args.offer.now.young) (members c.args.offer.now.aged))

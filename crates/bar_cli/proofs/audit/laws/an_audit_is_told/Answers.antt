@@ -1,25 +1,19 @@
-use Rattle.bar_cli.specs.Audit.Plan.{audit_plan}
 use Rattle.bar_cli.specs.Audit.Audited.{balance_in}
-use Rattle.bar_cli.proofs.AuditEnds.{comes, end-told, unsaid}
-use Rattle.bar_cli.proofs.AuditRows.{balanced, outcome, unbalanced}
+use Rattle.bar_cli.specs.Audit.Plan.{audit_stages}
+use Rattle.bar_cli.proofs.AuditRows.{audit_end, balanced, told-comes, told-on, unbalanced}
 use Rattle.bar_cli.proofs.audit.laws.an_audit_is_told.Goals as goal
 
-pub returns-clause-balanced : goal.returns-clause-balanced
-returns-clause-balanced c = λ names old new ends told.
-    let law = c.plans_go_in_order.ensures in
-    balanced names old new c.recorded_exchanges_are_one_list.ensures.listed c.keys_are_paid.ensures
-    (outcome law.reads law.ends law.shows names old new 0 told (law.went (audit_plan names) old new 0 ends told))
-
-pub returns-clause-unbalanced : goal.returns-clause-unbalanced
-returns-clause-unbalanced c = λ names old new ends told.
-    let law = c.plans_go_in_order.ensures in
-    unbalanced names old new c.recorded_exchanges_are_one_list.ensures.listed c.keys_are_paid.ensures
-    (outcome law.reads law.ends law.shows names old new 1 told (law.went (audit_plan names) old new 1 ends told))
-
-pub returns-clause-then : goal.returns-clause-then
-returns-clause-then c = λ names old new status ends told accepted.
-    comes (audit_plan names) old new status _ _ ends told (end-told names old.files.content accepted)
-
-pub returns-clause-line : goal.returns-clause-line
-returns-clause-line c = λ names content accepted.
-    unsaid (audit_plan names content) (balance_in names content accepted) (end-told names content accepted)
+pub returns : goal.returns
+returns c =
+    let law = c.stages_go_in_order.ensures in
+    let listed = c.recorded_exchanges_are_one_list.ensures.listed in
+    let paid = c.keys_are_paid.ensures in
+    record {
+      balanced = λ names old new ends told. balanced listed paid names old new told (law.goes (audit_stages names) old new 0 ends told);
+      unbalanced = λ names old new ends told. unbalanced listed paid names old new told (law.goes (audit_stages names) old new 1 ends told);
+      then = λ names old new status ends told a.
+          (law.goes (audit_stages names) old new status ends told).stopped (audit_end names old.files.content a)
+          (told-comes names old.files.content a);
+      line = λ names content a.
+          law.line (audit_stages names) content (audit_end names content a) (told-comes names content a) (told-on (balance_in names content a));
+    }

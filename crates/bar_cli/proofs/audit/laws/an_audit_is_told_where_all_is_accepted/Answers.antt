@@ -1,13 +1,17 @@
+use Rattle.std.proofs.Common.{◌≡◌, ◌⊎◌, subst}
+use Rattle.bar_outside.proofs.Stages.{status-comes}
 use Rattle.bar_outside.proofs.Unlinked.{done-unlinked}
-use Rattle.bar_cli.specs.Audit.Plan.{audit_plan}
-use Rattle.bar_cli.proofs.AuditEnds.{end-told, so-or_memory, unlinked-plan}
+use Rattle.bar_cli.specs.Audit.Plan.{audit_plan, audit_stages}
+use Rattle.bar_cli.proofs.AuditRows.{audit_end, told-comes, unlinked-plan}
 use Rattle.bar_cli.proofs.audit.laws.an_audit_is_told_where_all_is_accepted.Goals as goal
 
-pub returns-clause-without_faults : goal.returns-clause-without_faults
-returns-clause-without_faults c = λ names old new status ends told accepted no_file no_output.
-    so-or_memory (end-told names old.files.content accepted).is
-    (done-unlinked (audit_plan names) old new status ends told (unlinked-plan names old.files.content) no_file no_output)
-
-pub returns-clause-reliable : goal.returns-clause-reliable
-returns-clause-reliable c = λ names old new status ends reliable told accepted.
-    so-or_memory (end-told names old.files.content accepted).is (ends.complete reliable told)
+pub returns : goal.returns
+returns c = record {
+  without_faults = λ names old new status ends told a no_file no_output.
+      subst (λ final. (status ≡ final) ⊎ (status ≡ 70))
+      (status-comes (audit_stages names) old.files.content (audit_end names old.files.content a) (told-comes names old.files.content a))
+      (done-unlinked (audit_plan names) old new status ends told (unlinked-plan names old.files.content) no_file no_output);
+  reliable = λ names old new status ends reliable told a.
+      (c.stages_go_in_order.ensures.goes (audit_stages names) old new status ends told).reliable (audit_end names old.files.content a)
+      (told-comes names old.files.content a) reliable;
+}

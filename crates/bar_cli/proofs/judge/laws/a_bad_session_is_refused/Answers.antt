@@ -1,8 +1,8 @@
-use Rattle.bar_cli.specs.Judge.Plan.{judge_plan}
-use Rattle.bar_cli.proofs.JudgeRows.{bad_session, outcome}
+use Rattle.std.proofs.Common.{refl}
+use Rattle.bar_cli.specs.Judge.Plan.{judge_stages}
+use Rattle.bar_cli.proofs.JudgeRows.{judge-order}
 use Rattle.bar_cli.proofs.judge.laws.a_bad_session_is_refused.Goals as goal
 
 pub returns-clause-only : goal.returns-clause-only
 returns-clause-only c = λ names old new ends told.
-    let law = c.plans_go_in_order.ensures in
-    bad_session names old new (outcome law.reads law.ends law.shows names old new 4 told (law.went (judge_plan names) old new 4 ends told))
+    ((judge-order names old new 4 told (c.stages_go_in_order.ensures.goes (judge_stages names) old new 4 ends told)).refused refl refl refl).1

@@ -1,22 +1,15 @@
-use Rattle.std.proofs.Common.{inl, inr, refl}
-use Rattle.bar_cli.specs.Judge.Plan.{judge_plan}
-use Rattle.bar_cli.proofs.JudgeRows.{outcome, refused_so, same_files}
+use Rattle.std.proofs.Common.{refl}
+use Rattle.bar_cli.specs.Judge.Plan.{judge_stages}
+use Rattle.bar_cli.proofs.JudgeRows.{judge-order}
 use Rattle.bar_cli.proofs.judge.laws.a_judge_changes_nothing.Goals as goal
 
-pub returns-clause-files : goal.returns-clause-files
-returns-clause-files c = λ names old new status ends told.
-    let law = c.plans_go_in_order.ensures in
-    same_files names old new status
-    (outcome law.reads law.ends law.shows names old new status told (law.went (judge_plan names) old new status ends told))
-
-pub returns-clause-session : goal.returns-clause-session
-returns-clause-session c = λ names old new ends told.
-    let law = c.plans_go_in_order.ensures in
-    let o = outcome law.reads law.ends law.shows names old new 4 told (law.went (judge_plan names) old new 4 ends told) in
-    (refused_so names old new 4 refl (inl refl) o).0.out
-
-pub returns-clause-input : goal.returns-clause-input
-returns-clause-input c = λ names old new ends told.
-    let law = c.plans_go_in_order.ensures in
-    let o = outcome law.reads law.ends law.shows names old new 8 told (law.went (judge_plan names) old new 8 ends told) in
-    (refused_so names old new 8 refl (inr refl) o).0.out
+pub returns : goal.returns
+returns c =
+    let goes = c.stages_go_in_order.ensures.goes in
+    record {
+      files = λ names old new status ends told. (judge-order names old new status told (goes (judge_stages names) old new status ends told)).files;
+      session = λ names old new ends told.
+          ((judge-order names old new 4 told (goes (judge_stages names) old new 4 ends told)).refused refl refl refl).0.out;
+      input = λ names old new ends told.
+          ((judge-order names old new 8 told (goes (judge_stages names) old new 8 ends told)).refused refl refl refl).0.out;
+    }

@@ -1,8 +1,8 @@
-use Rattle.bar_cli.specs.Keygen.Plan.{keygen_plan}
-use Rattle.bar_cli.proofs.KeygenRows.{made, outcome}
+use Rattle.std.proofs.Common.{refl}
+use Rattle.bar_cli.specs.Keygen.Plan.{keygen_stages}
+use Rattle.bar_cli.proofs.KeygenRows.{made}
 use Rattle.bar_cli.proofs.keygen.laws.key_made_exactly.Goals as goal
 
 pub returns-clause-only : goal.returns-clause-only
 returns-clause-only c = λ asked old new ends told.
-    let law = c.plans_go_in_order.ensures in
-    made asked old new told (outcome law.reads law.ends asked old new 0 told (law.went (keygen_plan asked) old new 0 ends told))
+    made asked old new 0 told (c.stages_go_in_order.ensures.goes (keygen_stages asked) old new 0 ends told) refl (λ why. why)

@@ -1,8 +1,8 @@
-use Rattle.bar_cli.specs.Keygen.Plan.{keygen_plan}
-use Rattle.bar_cli.proofs.KeygenRows.{outcome, refused-leaves}
+use Rattle.std.proofs.Common.{refl}
+use Rattle.bar_cli.specs.Keygen.Plan.{keygen_stages}
+use Rattle.bar_cli.proofs.KeygenRows.{refused}
 use Rattle.bar_cli.proofs.keygen.laws.leaves_refused_exactly.Goals as goal
 
 pub returns-clause-only : goal.returns-clause-only
 returns-clause-only c = λ asked old new ends told.
-    let law = c.plans_go_in_order.ensures in
-    refused-leaves asked old new (outcome law.reads law.ends asked old new 4 told (law.went (keygen_plan asked) old new 4 ends told))
+    (refused asked old new 4 told (c.stages_go_in_order.ensures.goes (keygen_stages asked) old new 4 ends told) refl refl).1

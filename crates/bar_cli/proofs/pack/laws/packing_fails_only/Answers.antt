@@ -1,7 +1,10 @@
 use Rattle.std.proofs.Common.{refl}
-use Rattle.bar_cli.proofs.PackRows.{named-some}
+use Rattle.bar_outside.proofs.StageRows.{named-within}
+use Rattle.bar_cli.specs.Pack.{IsPackCall, pack_stages}
+use Rattle.bar_cli.proofs.PackRows.{within}
 use Rattle.bar_cli.proofs.pack.laws.packing_fails_only.Goals as goal
 
 pub returns-clause-named : goal.returns-clause-named
 returns-clause-named c = λ names old new ends told.
-    named-some c.plans_go_in_order.ensures.names names old.files.content new.files.failed (ends.file_named refl told)
+    named-within (IsPackCall names) (pack_stages names) new.files.failed (within names)
+    ((c.stages_go_in_order.ensures.goes (pack_stages names) old new 3 ends told).named refl)

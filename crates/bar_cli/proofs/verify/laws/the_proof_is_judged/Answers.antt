@@ -1,13 +1,17 @@
-use Rattle.bar_cli.specs.Verify.{verify_plan}
-use Rattle.bar_cli.proofs.VerifyRows.{not_shown, outcome, shown}
+use Rattle.std.proofs.Common.{inl, inr, refl}
+use Rattle.bar_cli.specs.Verify.{Verified, verify_stages}
+use Rattle.bar_cli.proofs.JudgeRows.{not_shown-so, shown-so}
+use Rattle.bar_cli.proofs.VerifyRows.{verified}
 use Rattle.bar_cli.proofs.verify.laws.the_proof_is_judged.Goals as goal
 
 pub returns-clause-shown : goal.returns-clause-shown
 returns-clause-shown c = λ names old new ends told.
-    let law = c.plans_go_in_order.ensures in
-    shown c.proofs_are_spelled.ensures names old new (outcome law.reads law.ends law.shows names old new 0 told (law.went (verify_plan names) old new 0 ends told))
+    shown-so (λ v. Verified names v old new)
+    (verified names old new 0 told (c.stages_go_in_order.ensures.goes (verify_stages names) old new 0 ends told) c.proofs_are_spelled.ensures
+    (inl refl))
 
 pub returns-clause-not_shown : goal.returns-clause-not_shown
 returns-clause-not_shown c = λ names old new ends told.
-    let law = c.plans_go_in_order.ensures in
-    not_shown c.proofs_are_spelled.ensures names old new (outcome law.reads law.ends law.shows names old new 1 told (law.went (verify_plan names) old new 1 ends told))
+    not_shown-so (λ v. Verified names v old new)
+    (verified names old new 1 told (c.stages_go_in_order.ensures.goes (verify_stages names) old new 1 ends told) c.proofs_are_spelled.ensures
+    (inr refl))

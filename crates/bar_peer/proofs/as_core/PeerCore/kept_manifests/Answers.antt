@@ -6,7 +6,7 @@ use Rattle.bar_rules.specs.Peer.Log.{manifest}
 use Rattle.bar_rules.specs.Peer.Run.{log_after}
 use Rattle.bar_rules.specs.Values.{datagram_bytes}
 use Rattle.bar_peer.specs.Memory.{member_of}
-use Rattle.bar_peer.proofs.Short.{manifest-short}
+use Rattle.bar_peer.proofs.Giving.Lengths.{manifest-short}
 use Rattle.bar_peer.proofs.as_core.PeerCore.kept_manifests.Goals as goal
 
 abbrev IsShort : List ℕ → Type 0

@@ -7,7 +7,7 @@ use Rattle.bar_rules.specs.Peer.Knowledge.{known}
 use Rattle.bar_rules.specs.Peer.Orders.{ask_body}
 use Rattle.bar_exchange.specs.Keeping.{IsSaidNow}
 use Rattle.bar_peer.specs.Memory.{member_of}
-use Rattle.bar_peer.proofs.Requested.{asked_again, gives_request, may_ask_again}
+use Rattle.bar_peer.proofs.Ticking.Asking.{asked_again, gives_request, may_ask_again}
 use Rattle.bar_peer.proofs.memory.Memory.ask.Goals as goal
 
 pub returns-then-may_repeat-clause-carried_out : goal.returns-then-may_repeat-clause-carried_out

@@ -12,9 +12,9 @@ use Rattle.bar_peer.specs.declared.credentials.Credentials.{Credentials}
 use Rattle.bar_peer.specs.Hearing.{RecallsHeard}
 use Rattle.bar_peer.specs.Memory.{member_of}
 use Rattle.bar_peer.specs.Repeats.{is_of_exchange}
-use Rattle.bar_peer.proofs.Hears.{heard_tells, admitted_now, leaves_room, same_blocks, exchange_holds, exchange_memory}
-use Rattle.bar_peer.proofs.Keys.{admitted_row}
-use Rattle.bar_peer.proofs.Rows.{of_others}
+use Rattle.bar_peer.proofs.Hearing.Held.{heard_tells, admitted_now, leaves_room, same_blocks, exchange_holds, exchange_memory}
+use Rattle.bar_peer.proofs.Hearing.Keys.{admitted_row}
+use Rattle.bar_peer.proofs.Admitting.Rows.{of_others}
 use Rattle.bar_peer.proofs.memory.Memory.hear.Goals as goal
 
 pub returns-in-Manifest-clause-learns : goal.returns-in-Manifest-clause-learns

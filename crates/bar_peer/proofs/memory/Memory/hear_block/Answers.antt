@@ -8,8 +8,8 @@ use Rattle.bar_rules.specs.Peer.Admission.{is_row_met}
 use Rattle.bar_rules.specs.Peer.Knowledge.{this_round, learned}
 use Rattle.bar_store.specs.Holds.{Holds}
 use Rattle.bar_peer.specs.Memory.{member_of}
-use Rattle.bar_peer.proofs.Keys.{admitted_row}
-use Rattle.bar_peer.proofs.Learned.{by_body, same_recalled, block_near}
+use Rattle.bar_peer.proofs.Hearing.Keys.{admitted_row}
+use Rattle.bar_peer.proofs.Hearing.FromBroadcaster.{by_body, same_recalled, block_near}
 use Rattle.bar_peer.proofs.memory.Memory.hear_block.Goals as goal
 
 pub returns-then-round-now-clause-learns : goal.returns-then-round-now-clause-learns

@@ -5,7 +5,7 @@ use Rattle.bar_wire.specs.Places.{pairs}
 use Rattle.bar_wire.specs.Views.{datagram, plain}
 use Rattle.bar_rules.specs.Member.{Member}
 use Rattle.bar_peer.specs.Memory.{member_of}
-use Rattle.bar_peer.proofs.Learned.{by_body, same_recalled, same_held, marked, round_marked}
+use Rattle.bar_peer.proofs.Hearing.FromBroadcaster.{by_body, same_recalled, same_held, marked, round_marked}
 use Rattle.bar_peer.proofs.memory.Memory.hear_evict.Goals as goal
 
 pub returns-clause-learns : goal.returns-clause-learns

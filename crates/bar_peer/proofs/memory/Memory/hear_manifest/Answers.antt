@@ -12,7 +12,7 @@ use Rattle.bar_store.specs.Holds.{Holds}
 use Rattle.bar_bytes.specs.Rooms.{kept_in}
 use Rattle.bar_peer.specs.Memory.{member_of}
 use Rattle.bar_wire.proofs.Steps.{length_chunks}
-use Rattle.bar_peer.proofs.Learned.{by_body, same_recalled, manifest_new, kept_more, whole_count}
+use Rattle.bar_peer.proofs.Hearing.FromBroadcaster.{by_body, same_recalled, manifest_new, kept_more, whole_count}
 use Rattle.bar_peer.proofs.memory.Memory.hear_manifest.Goals as goal
 
 pub add_manifest-requires-clause-few : goal.add_manifest-requires-clause-few

@@ -5,7 +5,7 @@ use Rattle.bar_wire.specs.Views.{datagram, plain}
 use Rattle.bar_rules.specs.Member.{Member}
 use Rattle.bar_wire.specs.Sides.{place_in}
 use Rattle.bar_peer.specs.Memory.{member_of}
-use Rattle.bar_peer.proofs.Heard.{unplaced, unseated}
+use Rattle.bar_peer.proofs.Hearing.Exchanges.{unplaced, unseated}
 use Rattle.bar_peer.proofs.memory.Memory.hear_of_exchange.Goals as goal
 
 pub returns-in_default-clause-learns : goal.returns-in_default-clause-learns

@@ -5,7 +5,7 @@ use Rattle.bar_wire.specs.Views.{datagram}
 use Rattle.bar_wire.specs.Sides.{place_in}
 use Rattle.bar_ledger.specs.Lookups.{heard_in}
 use Rattle.bar_peer.specs.Memory.{member_of}
-use Rattle.bar_peer.proofs.Again.{like_in, like_none}
+use Rattle.bar_peer.proofs.Admitting.Namesakes.{like_in, like_none}
 use Rattle.bar_peer.proofs.memory.Memory.heard_like.Goals as goal
 
 pub returns-in_err-place : goal.returns-in_err-place

@@ -5,8 +5,8 @@ use Rattle.bar_rules.specs.Member.{Member}
 use Rattle.bar_rules.specs.Peer.Admission.{is_row_met}
 use Rattle.bar_peer.specs.Memory.{member_of}
 use Rattle.bar_peer.specs.Repeats.{IsInTime}
-use Rattle.bar_peer.proofs.Rows.{in_time}
-use Rattle.bar_peer.proofs.Admitted.{refused_elsewhere, refused_evicted, refused_by_row, admitted_if_new}
+use Rattle.bar_peer.proofs.Admitting.Rows.{in_time}
+use Rattle.bar_peer.proofs.Admitting.Tests.{refused_elsewhere, refused_evicted, refused_by_row, admitted_if_new}
 use Rattle.bar_peer.proofs.memory.Memory.may_admit.Goals as goal
 
 pub returns-then-not-is_receiver-clause-exact : goal.returns-then-not-is_receiver-clause-exact

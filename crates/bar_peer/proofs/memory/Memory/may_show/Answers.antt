@@ -11,7 +11,7 @@ use Rattle.bar_rules.specs.Member.{Member}
 use Rattle.bar_bytes.specs.Rooms.{kept_in}
 use Rattle.bar_bytes.proofs.Options.{some-copied, some-mapped}
 use Rattle.bar_peer.specs.Memory.{member_of}
-use Rattle.bar_peer.proofs.Admitted.{shown_if_recent, peer_placed, peer_round}
+use Rattle.bar_peer.proofs.Admitting.Tests.{shown_if_recent, peer_placed, peer_round}
 use Rattle.bar_peer.proofs.memory.Memory.may_show.Goals as goal
 
 pub returns-in-Some-clause-exact : goal.returns-in-Some-clause-exact

@@ -2,7 +2,7 @@ use Rattle.std.proofs.Common.{◌∙◌, ap, arith}
 use Rattle.bar_wire.specs.Views.{plain}
 use Rattle.bar_wire.specs.Bodies.{request_round, query_round}
 use Rattle.bar_peer.specs.Memory.{member_of}
-use Rattle.bar_peer.proofs.Rows.{of_others}
+use Rattle.bar_peer.proofs.Admitting.Rows.{of_others}
 use Rattle.bar_peer.proofs.memory.Memory.meets_row.Goals as goal
 
 pub returns-in_default-clause-row : goal.returns-in_default-clause-row

@@ -11,7 +11,7 @@ use Rattle.bar_wire.specs.Sides.{place_in}
 use Rattle.bar_store.specs.Held.{block_in}
 use Rattle.bar_peer.specs.Memory.{member_of}
 use Rattle.bar_peer.specs.Opening.{block_in_items}
-use Rattle.bar_peer.proofs.Keys.{IsTheirPlace, their_place, heard_given, unheard_given, table_near, key_learned, nothing_learned, no_place}
+use Rattle.bar_peer.proofs.Hearing.Keys.{IsTheirPlace, their_place, heard_given, unheard_given, table_near, key_learned, nothing_learned, no_place}
 use Rattle.bar_peer.proofs.memory.Memory.open.Goals as goal
 
 pub returns-in_default-place-clause-learns : goal.returns-in_default-place-clause-learns

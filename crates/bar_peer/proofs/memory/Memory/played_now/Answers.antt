@@ -4,7 +4,7 @@ use Rattle.bar_rules.specs.Peer.Knowledge.{known}
 use Rattle.bar_wire.specs.declared.shape.Shape.{Shape}
 use Rattle.bar_peer.specs.Memory.{member_of}
 use Rattle.bar_peer.specs.Playing.{contents_in}
-use Rattle.bar_peer.proofs.Stepped.{plays-now}
+use Rattle.bar_peer.proofs.Stepping.Inputs.{plays-now}
 use Rattle.bar_peer.proofs.memory.Memory.played_now.Goals as goal
 
 pub returns : goal.returns

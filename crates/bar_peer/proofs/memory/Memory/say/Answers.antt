@@ -2,10 +2,10 @@ use Rattle.std.proofs.Common.{◌∙◌, true, false, sym, refl}
 use Rattle.bar_wire.specs.declared.kind.Kind.TheVariants as kinds
 use Rattle.bar_rules.specs.Peer.Knowledge.{Knowledge, known}
 use Rattle.bar_peer.specs.Memory.{member_of}
-use Rattle.bar_peer.proofs.Firsts.{at_kind, gives_response, gives_case, gives_key}
-use Rattle.bar_peer.proofs.Recent.{recent_by_time}
-use Rattle.bar_peer.proofs.Replies.{offer_known, gives_none, gives_reply}
-use Rattle.bar_peer.proofs.Repeating.{repeated, nothing_said}
+use Rattle.bar_peer.proofs.Replying.ByKind.{at_kind, gives_response, gives_case, gives_key}
+use Rattle.bar_peer.proofs.Orders.Recency.{recent_by_time}
+use Rattle.bar_peer.proofs.Replying.PushReply.{offer_known, gives_none, gives_reply}
+use Rattle.bar_peer.proofs.Orders.Repeats.{repeated, nothing_said}
 use Rattle.bar_peer.proofs.memory.Memory.say.Goals as goal
 
 pub returns-then-may_repeat-clause-carried_out : goal.returns-then-may_repeat-clause-carried_out

@@ -5,7 +5,7 @@ use Rattle.bar_rules.specs.Peer.Exchanges.{role_of}
 use Rattle.bar_rules.specs.Peer.Knowledge.{has_said_of}
 use Rattle.bar_wire.specs.declared.kind.Kind.TheVariants.{Case}
 use Rattle.bar_peer.specs.Memory.{member_of}
-use Rattle.bar_peer.proofs.Totals.{found, no_case_said, said_soundly, none_told, kept_told}
+use Rattle.bar_peer.proofs.Giving.Totals.{found, no_case_said, said_soundly, none_told, kept_told}
 use Rattle.bar_peer.proofs.memory.Memory.totals.Goals.{then-not-entry-via-then-not-entry, then-not-entry-via-else-not-entry+then-not-are_sound}
 use Rattle.bar_peer.proofs.memory.Memory.totals.Goals as goal
 

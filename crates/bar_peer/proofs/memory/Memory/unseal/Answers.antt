@@ -11,7 +11,7 @@ use Rattle.bar_wire.specs.Views.{plain}
 use Rattle.bar_wire.specs.declared.shape.Shape.{Shape}
 use Rattle.bar_rules.specs.Values.{opening_of}
 use Rattle.bar_peer.specs.Opening.{AreGiven}
-use Rattle.bar_peer.proofs.Given.{good_given, bad_given}
+use Rattle.bar_peer.proofs.Hearing.Blocks.{good_given, bad_given}
 use Rattle.bar_peer.proofs.memory.Memory.unseal.Goals as goal
 
 pub returns-in-Good-clause-given : goal.returns-in-Good-clause-given

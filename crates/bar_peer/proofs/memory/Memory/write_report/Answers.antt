@@ -6,7 +6,7 @@ use Rattle.bar_wire.specs.Datagram.{Evidence, Message}
 use Rattle.bar_wire.specs.Evidence.{evidence_bytes, IsEvidence}
 use Rattle.bar_wire.specs.Grammar.{message_bytes}
 use Rattle.bar_wire.specs.Places.{entries}
-use Rattle.bar_peer.proofs.Evidenced.{evidence_of, entries_of, whole_entries, report_len}
+use Rattle.bar_peer.proofs.Giving.Bodies.{evidence_of, entries_of, whole_entries, report_len}
 use Rattle.bar_peer.proofs.memory.Memory.write_report.Goals as goal
 
 pub encode-requires-clause-body : goal.encode-requires-clause-body

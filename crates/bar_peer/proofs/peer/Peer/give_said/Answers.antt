@@ -1,6 +1,6 @@
 use Rattle.bar_rules.specs.Giving.{IsGiven}
 use Rattle.bar_peer.specs.Memory.{member_of}
-use Rattle.bar_peer.proofs.Next.{written_is, never_unwritten}
+use Rattle.bar_peer.proofs.Giving.Next.{written_is, never_unwritten}
 use Rattle.bar_peer.proofs.peer.Peer.give_said.Goals as goal
 
 pub returns-in_err-len : goal.returns-in_err-len

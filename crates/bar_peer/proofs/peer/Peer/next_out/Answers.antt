@@ -5,7 +5,7 @@ use Rattle.bar_peer.specs.Memory.{member_of}
 use Rattle.bar_core.specs.Orders.{left_in}
 use Rattle.bar_peer.specs.StandsFor.{AreLeft}
 use Rattle.bar_rules.specs.Giving.{GivesNext}
-use Rattle.bar_peer.proofs.Next.{none_left, next_of, never_none}
+use Rattle.bar_peer.proofs.Giving.Next.{none_left, next_of, never_none}
 use Rattle.bar_peer.proofs.peer.Peer.next_out.Goals as goal
 
 pub returns-in_err-order-clause-gives : goal.returns-in_err-order-clause-gives

@@ -1,7 +1,7 @@
 use Rattle.std.proofs.Common.{◌∙◌, ap, refl}
 use Rattle.bar_peer.specs.Playing.{content_in}
 use Rattle.bar_peer.specs.StandsFor.{contents_left}
-use Rattle.bar_peer.proofs.Contents.{plays_none, plays_one}
+use Rattle.bar_peer.proofs.Giving.Contents.{plays_none, plays_one}
 use Rattle.bar_peer.proofs.peer.Peer.next_played.Goals as goal
 
 pub returns-in_err-index : goal.returns-in_err-index
@@ -11,7 +11,7 @@ returns-in_err-index g c =
     c.from_residual.ensures
     c.in_err-index.ensures.next.0
     c.in_err-index.ensures.next.1
-    in ((refl, λ _. tt, (refl, refl, refl, refl, plays)), tt)
+    in ((refl, λ _. tt, (refl, refl, refl, plays)), tt)
 
 pub returns : goal.returns
 returns g c =
@@ -24,4 +24,4 @@ returns g c =
     c.content.ensures
     (ap (λ round. content_in s round c.in_ok-index.index) c.next.ensures.round ∙ first.1)
     first.2
-    in ((refl, λ _. tt, (refl, refl, refl, refl, plays)), tt)
+    in ((refl, λ _. tt, (refl, refl, refl, plays)), tt)

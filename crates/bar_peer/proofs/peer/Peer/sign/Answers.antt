@@ -9,7 +9,7 @@ use Rattle.bar_rules.specs.Peer.Signing.{leaf_for}
 use Rattle.bar_peer.specs.Giving.{IsSignedFor}
 use Rattle.bar_peer.specs.Memory.{member_of}
 use Rattle.bar_session.proofs.Levels.{session_short}
-use Rattle.bar_peer.proofs.Behind.{behind}
+use Rattle.bar_peer.proofs.Giving.Signatures.{behind}
 use Rattle.bar_peer.proofs.peer.Peer.sign.Goals as goal
 
 pub returns : goal.returns

@@ -1,11 +1,14 @@
 -- The scheme that a peer is started with accepts as the session's does.
-use Rattle.std.proofs.Common.{◌∙◌, sym, ap}
-use Rattle.bar_lms.specs.Schemes.{accepted_by}
+use Rattle.std.proofs.Common.{sym, subst}
 use Rattle.bar_peer.specs.declared.credentials.Credentials.{Credentials}
+use Rattle.bar_peer.specs.Checking.{IsGuardOf}
+use Rattle.bar_peer.proofs.Stepping.Guards.{made_guards}
 use Rattle.bar_peer.proofs.peer.Peer.start.Goals as goal
 
-pub invariant_of-result-clause-verifies : goal.invariant_of-result-clause-verifies
-invariant_of-result-clause-verifies g c key message sig =
-    ap (λ v. g.S.Verifier.is_accepted v key message sig) c.in_ok-checker.ensures.verifier
-    ∙ c.requires.verifies key message sig
-    ∙ ap (λ (w : Credentials). accepted_by w.session.top w.session.params key message sig) (sym c.in_ok-memory.ensures.who)
+pub invariant_of-result-clause-guards : goal.invariant_of-result-clause-guards
+invariant_of-result-clause-guards g c =
+    subst (λ (w : Credentials). IsGuardOf w.session (record { checker = c.in_ok-checker.checker; points = c.in_ok-points.points }))
+    (sym c.in_ok-memory.ensures.who)
+    (made_guards c.args.session c.in_ok-checker.checker c.args.scheme c.in_ok-points.points c.in_ok-checker.ensures.verifier c.requires.verifies
+    c.requires.names
+    c.in_ok-points.ensures.seeds)

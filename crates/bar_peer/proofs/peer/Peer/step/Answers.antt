@@ -7,7 +7,7 @@ use Rattle.bar_rules.specs.Runs.{begun}
 use Rattle.bar_session.specs.SessionData.{SessionData}
 use Rattle.bar_peer.specs.Steps.{is_tick}
 use Rattle.bar_laws.specs.Ignoring.{is_unread}
-use Rattle.bar_peer.proofs.Ignored.{none_mapped}
+use Rattle.bar_peer.proofs.Stepping.Ignored.{none_mapped}
 use Rattle.bar_wire.specs.Inputs.{plain_input}
 use Rattle.bar_rules.specs.Member.{Member}
 use Rattle.bar_rules.specs.Peer.Log.{Log}
@@ -16,7 +16,7 @@ use Rattle.bar_peer.specs.Memory.{member_of, Represents}
 use Rattle.bar_core.specs.Orders.{left_in}
 use Rattle.bar_core.proofs.Left.{all-left, nothing-left}
 use Rattle.bar_peer.specs.StandsFor.{contents_left}
-use Rattle.bar_peer.proofs.Stepped.{log-more, over-stands, none-left, obeys-now, then-stands, then-sends, PlaysNow, tick-step, datagram-step}
+use Rattle.bar_peer.proofs.Stepping.Inputs.{log-more, over-stands, none-left, obeys-now, then-stands, then-sends, PlaysNow, tick-step, datagram-step}
 use Rattle.bar_peer.proofs.peer.Peer.step.Goals as goal
 use Rattle.bar_peer.proofs.peer.Peer.step.Goals.{then-is_tick, else-is_tick}
 
@@ -78,7 +78,7 @@ returns-clause-contents g c inputs stood =
 
 pub returns-then-is_over-clause-unread : goal.returns-then-is_over-clause-unread
 returns-then-is_over-clause-unread g c unread =
-    (record { memory = refl; sends = c.requires.sends; contents = c.requires.contents }, refl, refl)
+    (record { memory = refl; sends = c.requires.sends; contents = c.requires.contents }, refl)
 
 pub returns-then-is_over-clause-ignored : goal.returns-then-is_over-clause-ignored
 returns-then-is_over-clause-ignored g c inputs stood ignored =
@@ -101,7 +101,6 @@ returns-clause-unread g c unread =
         ];
       },
       same.2,
-      same.3,
     )
 
 pub returns-clause-ignored : goal.returns-clause-ignored

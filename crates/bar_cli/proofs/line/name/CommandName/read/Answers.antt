@@ -1,4 +1,4 @@
-use Rattle.std.proofs.Common.{sym, ◌∙◌}
+use Rattle.std.proofs.Common.{sym}
 use Rattle.bar_cli.proofs.WordLemmas.{no-command}
 use Rattle.bar_cli.proofs.line.name.CommandName.read.Goals as goal
 

@@ -1,0 +1,70 @@
+//! What a ledger knows of the terms of an exchange.
+ghost use Rattle.std.specs.Prelude.{◌≡◌, is_some, false};
+ghost use Rattle.std.specs.Option.{option_map_or};
+ghost use Rattle.bar_ledger.specs.Lookups.{complete_by, is_known_in, knows_answer, knows_commit, knows_offer};
+ghost use Rattle.bar_ledger.specs.Memory.{find_in};
+
+use crate::ledger::Ledger;
+use bar_window::{Exchange, Role};
+use bar_wire::Kind;
+
+impl Ledger {
+    /// Whether the first signed message of the other side was heard.
+    fn has_heard_first(&self, x: Exchange) -> bool
+        ensures { result ≡ option_map_or (λ kept. is_some kept.first) (find_in self.now x) false }
+    {
+        match self.slot(x) {
+            Some(slot) => slot.first.kept().is_some(),
+            None => false,
+        }
+    }
+
+    /// Whether it is known what the initiator of a balanced exchange commits to.
+    pub fn knows_commit(&self, x: Exchange) -> bool
+        ensures { result ≡ is_known_in knows_commit self.now x }
+    {
+        match self.find(x) {
+            Some(entry) => match entry.role {
+                Role::Initiator => entry.first_said,
+                Role::Responder => self.heard(x, Kind::Divulge).is_some(),
+            },
+            None => false,
+        }
+    }
+
+    /// Whether it is known what the responder answers.
+    pub fn knows_answer(&self, x: Exchange) -> bool
+        ensures { result ≡ is_known_in knows_answer self.now x }
+    {
+        match self.find(x) {
+            Some(entry) => match entry.role {
+                Role::Initiator => self.has_heard_first(x),
+                Role::Responder => entry.first_said,
+            },
+            None => false,
+        }
+    }
+
+    /// Whether it is known what the initiator of a push offers.
+    pub fn knows_offer(&self, x: Exchange) -> bool
+        ensures { result ≡ is_known_in knows_offer self.now x }
+    {
+        match self.find(x) {
+            Some(entry) => match entry.role {
+                Role::Initiator => entry.first_said,
+                Role::Responder => self.has_heard_first(x),
+            },
+            None => false,
+        }
+    }
+
+    /// Whether both sides' parts of the terms are known.
+    pub fn is_complete(&self, x: Exchange) -> bool
+        ensures { result ≡ is_known_in complete_by self.now x }
+    {
+        match self.find(x) {
+            Some(entry) => entry.complete,
+            None => false,
+        }
+    }
+}

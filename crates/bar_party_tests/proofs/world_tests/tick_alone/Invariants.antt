@@ -1,5 +1,0 @@
-use Rattle.bar_world.specs.Kept.{IsReady}
-use Rattle.bar_party_tests.proofs.world_tests.tick_alone.Given as goal
-
-abbrev pub invariant-loop : goal.invariant-loop
-invariant-loop l = IsReady l.world

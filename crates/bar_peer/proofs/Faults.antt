@@ -1,0 +1,4 @@
+-- The evidence that a datagram completes.
+pub mod Trials
+pub mod OtherExchanges
+pub mod Search

@@ -1,0 +1,7 @@
+-- What a datagram is answered with.
+pub mod NoExchange
+pub mod Stale
+pub mod PushReply
+pub mod ByKind
+pub mod Sayable
+pub mod Answering

@@ -1,0 +1,42 @@
+-- What a search for evidence goes by, and what it gives.
+use Rattle.std.specs.Prelude.{◌≡◌, ℕ, true, List, [], ◌∷◌, Option, option_map, option_copied}
+use Rattle.std.specs.Borrow.{Bor}
+use Rattle.bar_terms.specs.Table.{digests_of}
+use Rattle.bar_wire.specs.Bodies.{is_peer_kind}
+use Rattle.bar_wire.specs.Datagram.{Datagram}
+use Rattle.bar_wire.specs.Views.{plain}
+use Rattle.bar_ledger.specs.Recalls.{Recalls}
+use Rattle.bar_rules.specs.Member.{Member}
+use Rattle.bar_rules.specs.Peer.Evidence.{is_tried}
+use Rattle.bar_rules.specs.Peer.Knowledge.{Knowledge, table_of}
+use Rattle.bar_laws.specs.Soundness.{IsSound}
+use Rattle.bar_seal.specs.declared.scheme.Verifier.{Ghosts}
+use Rattle.bar_peer.specs.declared.guard.Guard.{Guard}
+use Rattle.bar_peer.specs.declared.search.Search.{Search}
+use Rattle.bar_peer.specs.Arrivals.{IsReadBy, datagram_by}
+use Rattle.bar_peer.specs.Checking.{IsGuardOf}
+use Rattle.bar_peer.specs.Memory.{member_of}
+
+-- who searches, and at which datagram
+abbrev pub searcher : Search → Member
+searcher s = member_of s.who.now
+
+abbrev pub searched : Search → Datagram
+searched s = datagram_by s.who.now s.arrival.now
+
+-- The datagram is read and of a kind that peers sign, and it is searched under the guard of its session.
+pub record MaySearch {V : Type 0} {g : Ghosts V} (s : Search) (guard : Guard V g) : Type 0 where
+  pub read : IsReadBy s.who.now s.arrival.now
+  pub signed : is_peer_kind (plain s.arrival.now.view.body) ≡ true
+  pub guards : IsGuardOf s.who.now.session guard
+
+-- It goes by what is known, by which evidence is looked for at the datagram.
+pub record GoesBy (k : Knowledge) (s : Search) : Type 0 where
+  pub recalls : Recalls (searcher s) k s.ledger.now
+  pub table : table_of k ≡ digests_of s.table.now.lists
+  pub sound : IsSound (searcher s) k
+  pub tried : is_tried (searcher s) k (searched s) ≡ true
+
+-- the evidence of the datagram behind an earlier one, where there is one
+abbrev pub pair_behind : Search → Option (Bor (List ℕ)) → Option (List (List ℕ))
+pair_behind s earlier = option_map (λ heard. heard ∷ s.arrival.now.bytes.now ∷ []) (option_copied earlier)
