@@ -3,6 +3,8 @@
 (() => {
 const run = JSON.parse(document.getElementById("run").textContent), session = run.session;
 const SLOTS = 8, STRIP = 58, FIELDS = 8;
+// up to how many updates of a round have a line each
+const MOST_LINES = 16;
 // a sign is as wide as the numbers of partners need, and three of them stand in a line
 const TOKEN = session.peers > 99 ? 20 : 16, SEATS = session.peers > 99 ? [0.5, 22, 43] : [2, 21, 39];
 const element = id => document.getElementById(id);
@@ -372,6 +374,27 @@ function show(which) {
 
 const listed = (class_, lines) => `<ul class="${class_}">${lines.map(line => `<li>${escaped(line)}</li>`).join("")}</ul>`;
 
+// numbers that rise, in words: three or more in a row as a range
+function toldNumbers(numbers) {
+  const rows = [];
+  for (const number of numbers) {
+    if (rows.length && rows.at(-1).at(-1) === number - 1) rows.at(-1).push(number);
+    else rows.push([number]);
+  }
+  return rows.flatMap(row => row.length > 2 ? [`${row[0]} to ${row.at(-1)}`] : row).join(", ");
+}
+
+// what became of the updates that are played in a round, in words: where they are many, those with one fate together
+function toldMarks(peer, number) {
+  const lines = marksOf(peer, number).map(([, told]) => told), fates = new Map();
+  if (lines.length <= MOST_LINES) return lines;
+  for (const line of lines) {
+    const [, index, fate] = /^update (\d+) (.*)$/.exec(line);
+    fates.set(fate, [...fates.get(fate) || [], Number(index)]);
+  }
+  return [...fates].map(([fate, numbers]) => `update${numbers.length > 1 ? "s" : ""} ${toldNumbers(numbers)} ${fate}`);
+}
+
 // tells of the round of a button in words, below its signs
 function tell(chosen) {
   const section = chosen.closest("section"), number = Number(chosen.dataset.round), last = Number(chosen.dataset.last || number);
@@ -382,7 +405,7 @@ function tell(chosen) {
   }
   words.hidden = false;
   words.innerHTML = `<p>${escaped(toldCell(peer, number, last))}</p>` + listed("", sides.map(toldSide)) +
-    listed("short", roundOf(peer, number) ? marksOf(peer, number).map(([, told]) => told) : []);
+    listed("short", roundOf(peer, number) ? toldMarks(peer, number) : []);
 }
 
 // the button in the line above or below another that is next to it

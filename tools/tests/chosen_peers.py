@@ -9,11 +9,11 @@ import tempfile
 import unittest
 
 import support  # by which the modules of the tools are found
-import barmaking
-import barprogram
-from barformats import BLOCK, EVICT, EVIDENCE, MAGIC, MANIFEST, recording_of, sends_of
-from barprogram import PROGRAM, Status, words_of
-from barsession import Folder, make_key
+from gossip.formats.files import BLOCK, EVICT, EVIDENCE, MAGIC, MANIFEST, recording_of, sends_of
+from gossip.programs import bar
+from gossip.programs.bar import PROGRAM, Status, words_of
+from gossip.sessions import making
+from gossip.sessions.session_folder import Folder, make_key
 from made_signatures import Signer
 
 # the secrets of the broadcaster and of two peers
@@ -85,8 +85,8 @@ class Chosen:
         self.folder.path.mkdir()
         numbers = {name: value for name, value in (NUMBERS | changes | {"peers": len(secrets) - 1}).items() if value is not None}
         keys = [make_key(self.folder, PROGRAM, party, support.ID, numbers, secret) for party, secret in enumerate(self.secrets)]
-        self.folder.session.write_text(barmaking.text_of(support.ID, numbers, keys), "utf-8")
-        self.session = barmaking.Session.read(self.folder.session)
+        self.folder.session.write_text(making.text_of(support.ID, numbers, keys), "utf-8")
+        self.session = making.Session.read(self.folder.session)
 
     @functools.lru_cache(maxsize=None)
     def signer(self, party):
@@ -135,7 +135,7 @@ class Chosen:
         recording.write_bytes(self.recording(party, entries))
         files = {"session": self.folder.session, "key": self.folder.key(party), "recording": recording}
         with (room / "transcript").open("w+") as transcript:
-            ran = barprogram.run_words(PROGRAM, words_of("replay", **files, played=played, found=room / "found"), stdout=transcript)
+            ran = bar.run_words(PROGRAM, words_of("replay", **files, played=played, found=room / "found"), stdout=transcript)
             if ran.status != Status.DONE:
                 raise AssertionError(ran.told)
             transcript.seek(0)

@@ -11,7 +11,7 @@ The first word names the file, a JSON object. Of these it has what a test asks f
   packed           what is written to a proof file, in hex, and the line of that
   printed          what every other command prints
   live             a replay prints and plays what `peer` does: at each tick it plays a letter and sends a datagram to the next peer
-It also stands for the program of tools/party, whose first words are a link and a lie. A party over a pipe that lies sends to itself.
+It also stands for the program bar_party, whose first words are a link and a lie. A party over a pipe that lies sends to itself.
 """
 import json
 import pathlib

@@ -1,9 +1,10 @@
 """The data of runs that are made up, of any numbers of peers and rounds, in which as much is traded as may be."""
 import dataclasses
+import itertools
 import random
 
-from bardata import ExchangeRow, PeerRow, ReleaseRow, RoundRow, Run, SideRow, TrafficRow, UpdateRow
-from barexchanges import first_tick
+from gossip.reports.exchanges import first_tick
+from gossip.reports.run_data import ExchangeName, ExchangeRow, PeerRow, ReleaseRow, RoundRow, Run, SideRow, TrafficRow, UpdateRow
 from made_sessions import SESSION
 
 WAYS = ("block", "balanced", "push")
@@ -21,9 +22,25 @@ def sides_of(draw, peers, number):
             partner = draw.choice([it for it in range(1, peers + 1) if it != peer])
             tick = first_tick(number)
             updates = [[max(1, number - 1), at] for at in range(draw.randint(1, 4))]
-            size, common = len(updates), (number, kind, peer, partner, True)
+            name = ExchangeName(number, kind, peer, partner)
             for own in (peer, partner):
-                yield SideRow(own, *common, size, size, size, updates, 0, updates, 0, tick, 1, tick + 2, tick + 2, None)
+                yield SideRow(
+                    own,
+                    **name._asdict(),
+                    answered=True,
+                    promised=len(updates),
+                    received=len(updates),
+                    opened=len(updates),
+                    gives=updates,
+                    gives_junk=0,
+                    gets=updates,
+                    gets_junk=0,
+                    since=tick,
+                    key_asked=1,
+                    key_given=tick + 2,
+                    key_got=tick + 2,
+                    wrong_key=None,
+                )
 
 
 def updates_of(draw, peer, releases, peers, ends):
@@ -33,16 +50,19 @@ def updates_of(draw, peer, releases, peers, ends):
         sender = 0 if way == "block" else peer % peers + 1
         if draw.random() < 0.95:
             tick = first_tick(release.round) + draw.randint(1, 40)
-            yield UpdateRow(peer, release.round, release.index, tick, sender, way, True, True, 1022)
+            name = {"round": release.round, "index": release.index}
+            yield UpdateRow(peer, **name, tick=tick, sender=sender, way=way, in_time=True, played=True, bytes=1022)
 
 
 def busy_run(peers, rounds, per_round=8, seed=1):
     """A run of so many peers over so many rounds."""
     draw, numbers = random.Random(seed), numbers_of(peers, rounds, per_round)
-    releases = [ReleaseRow(number, index, 1022, 3) for number in range(1, rounds + 1) for index in range(per_round)]
+    names = itertools.product(range(1, rounds + 1), range(per_round))
+    releases = [ReleaseRow(number, index, bytes=1022, straight=3) for number, index in names]
     sides = [side for number in range(1, rounds + 1) for side in sides_of(draw, peers, number)]
     sides.sort(key=lambda side: side.peer)
-    exchanges = [ExchangeRow(*side.exchange, True, "balanced", 0) for side in sides if side.asks]
+    named = [side.exchange._asdict() for side in sides if side.asks]
+    exchanges = [ExchangeRow(**name, complete=True, audit="balanced", evidence=0) for name in named]
     updates, rows, totals = [], [], []
     for peer in range(1, peers + 1):
         came = [*updates_of(draw, peer, releases, peers, numbers["ends"])]
@@ -50,14 +70,41 @@ def busy_run(peers, rounds, per_round=8, seed=1):
         played = {number: sum(row.round == number for row in came) for number in range(1, rounds + 1)}
         for number in range(1, numbers["ends"] + 1):
             due = number - numbers["life"]
-            counts = per_round if 1 <= due <= rounds else 0, played.get(due, 0), per_round
-            rows.append(RoundRow(peer, number, *counts, 2, 2, 4, draw.randint(0, 3), False))
+            row = RoundRow(
+                peer,
+                number,
+                due=per_round if 1 <= due <= rounds else 0,
+                played=played.get(due, 0),
+                came=per_round,
+                started=2,
+                answered=2,
+                traded=4,
+                lost=draw.randint(0, 3),
+                accuses=False,
+            )
+            rows.append(row)
         ways = [sum(row.way == way for row in came) for way in WAYS]
         total = PeerRow(peer, 0, ticks=numbers["ticks"], whole=True, bytes_played=1022 * len(came), played=len(came))
         total.played_by_block, total.played_by_balanced, total.played_by_push = ways
         total.started = total.answered = 2 * rounds
         totals.append(total)
-    traffic = [TrafficRow(peer, "CASE", 100, 200_000, 5, 100, 5, 95, 190_000, 0) for peer in range(1, peers + 1)]
+    sent = {"sent": 100, "bytes_sent": 200_000, "sent_again": 5, "known": 100, "lost": 5}
+    traffic = [TrafficRow(peer, "CASE", **sent, taken=95, bytes_taken=190_000) for peer in range(1, peers + 1)]
     audit = {"line": "", "refused": None, "recordings": peers, "exchanges": len(exchanges), "unbalanced": 0, "named": None, "cause": None}
-    stream, replays = 1022 * len(releases), {"replayed": peers, "agree": peers}
-    return Run(numbers, stream, True, replays, audit, totals, rows, releases, updates, exchanges, sides, [], [], [], traffic)
+    return Run(
+        session=numbers,
+        stream=1022 * len(releases),
+        casts=True,
+        replays={"replayed": peers, "agree": peers},
+        audit=audit,
+        peers=totals,
+        rounds=rows,
+        releases=releases,
+        updates=updates,
+        exchanges=exchanges,
+        sides=sides,
+        evictions=[],
+        evidence=[],
+        losses=[],
+        traffic=traffic,
+    )

@@ -1,12 +1,13 @@
 """Sessions made by hand for the tests: datagrams with signatures of zeros, and what peers record and send."""
 import dataclasses
 import hashlib
+import io
 import struct
 
-from barbriefcases import exclusive_or, junk_of, keystream
-from bardatagrams import Exchange, Update
-from barformats import BLOCK, CASE, EVICT, KEY, KEYREQ, MANIFEST, QUERY, REPLY, REQUEST, RESPONSE, SLOTS, Session, entries_of
-from barreplays import log_of
+from gossip.formats.briefcases import exclusive_or, junk_of, keystream
+from gossip.formats.datagrams import Exchange, Update
+from gossip.formats.files import BLOCK, CASE, EVICT, KEY, KEYREQ, MANIFEST, QUERY, REPLY, REQUEST, RESPONSE, SLOTS, Session, entries_of
+from gossip.reports.replays import log_of
 
 NUMBERS = {"rounds": 6, "life": 3, "cap": 2, "fanout": 1, "port": 21000, "tick_ms": 20, "lms": 5, "ots": 4, "peers": 3}
 SESSION = Session(1, "00112233445566aa", per_round=4, **NUMBERS)
@@ -211,4 +212,4 @@ class Diary:
         recording = self.recording()[:cut]
         inputs = len(entries_of(recording)[0])
         printed = [line for line in self.lines if int(line.split()[0]) <= inputs]
-        return log_of(recording, printed, played, {"table": table(*self.manifests), **(evidence or {})})
+        return log_of(io.BytesIO(recording), printed, played, {"table": table(*self.manifests), **(evidence or {})})

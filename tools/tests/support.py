@@ -17,10 +17,10 @@ ROOT = TOOLS.parent
 sys.path.insert(0, str(TOOLS))
 
 # these are found by the path above
-import barmaking
-import barscript
-from barprogram import PROGRAM
-from barsession import LOOPBACK
+from gossip.programs.bar import PROGRAM
+from gossip.scripts import console
+from gossip.sessions import making
+from gossip.sessions.session_folder import LOOPBACK
 
 ID = "0011223344556677"
 NUMBERS = {"version": 1, "peers": 2, "rounds": 1, "life": 2, "cap": 4, "per_round": 2, "fanout": 1, "tick_ms": 20, "lms": 5, "ots": 3}
@@ -30,7 +30,7 @@ def need_program(tests):
     """Skips these tests, in words, where the program isn't built, and says so."""
     if not PROGRAM.exists():
         told = f"{tests} are skipped: there is no {PROGRAM}"
-        barscript.progress(told)
+        console.progress(told)
         raise unittest.SkipTest(told)
 
 
@@ -66,7 +66,7 @@ def lines_of(call):
 
 
 def heed_signals():
-    for number in barscript.SIGNALS:
+    for number in console.SIGNALS:
         signal.signal(number, signal.SIG_DFL)
 
 
@@ -117,11 +117,11 @@ class RoomCase(unittest.TestCase):
 
     def make_session(self, program, **numbers):
         """Makes a session with these numbers: its folder and its numbers."""
-        wanted = barmaking.Wanted(self.room / "session", self.stream, NUMBERS | numbers, "00ff")
-        return lines_of(lambda: barmaking.make(wanted, program))[0]
+        wanted = making.Wanted(self.room / "session", self.stream, NUMBERS | numbers, "00ff")
+        return lines_of(lambda: making.make(wanted, program))[0]
 
     def reasons_of(self, call):
         """The reasons for which a call is refused."""
-        with self.assertRaises(barscript.Refusal) as refused:
+        with self.assertRaises(console.Refusal) as refused:
             call()
         return refused.exception.args

@@ -6,10 +6,10 @@ from unittest import mock
 
 from support import RoomCase
 
-import barattacks
+from gossip.attacks import attacker
 import made_sessions as made
-from bardatagrams import Exchange, Reader, Update
-from barformats import EVICT, KEYREQ, RECORDING_HEAD, REQUEST, head_of, recording_of
+from gossip.formats.datagrams import Exchange, Reader, Update
+from gossip.formats.files import EVICT, KEYREQ, RECORDING_HEAD, REQUEST, Head, head_of, recording_of
 from made_sessions import SESSION, Trade
 
 TRADE = Trade.balanced(Exchange(2, False, 1, 2), [[Update(1, 0)], [Update(1, 1)]], [[Update(1, 1)], [Update(1, 0)]])
@@ -23,33 +23,33 @@ class Changes(unittest.TestCase):
         return [change(draw, SESSION, datagram, TRADE.answer()) for _ in range(times)]
 
     def test_what_is_cut_is_a_front(self):
-        self.assertTrue(all(REQUESTED.startswith(it) and len(it) < len(REQUESTED) for it in self.changed(barattacks.cut)))
+        self.assertTrue(all(REQUESTED.startswith(it) and len(it) < len(REQUESTED) for it in self.changed(attacker.cut)))
 
     def test_what_is_changed_is_another(self):
-        for change in (barattacks.flipped, barattacks.longer):
+        for change in (attacker.flipped, attacker.longer):
             self.assertNotIn(REQUESTED, self.changed(change))
-        both = self.changed(barattacks.readdressed)
+        both = self.changed(attacker.readdressed)
         self.assertTrue(all(it[20:] == REQUESTED[20:] and len(it) == len(REQUESTED) for it in both))
         self.assertGreater(len({it[3] for it in both}), 1)
         size = Reader(SESSION).signature
-        changed = barattacks.signed_by_another(None, SESSION, REQUESTED, bytes(range(256)) * 8)
+        changed = attacker.signed_by_another(None, SESSION, REQUESTED, bytes(range(256)) * 8)
         self.assertEqual((changed[:-size], changed[-size:]), (REQUESTED[:-size], (bytes(range(256)) * 8)[-size:]))
 
     def test_what_is_forged_is_spelled_well(self):
         reader = Reader(SESSION)
-        for datagram in self.changed(barattacks.evicting):
-            self.assertEqual(head_of(datagram, SESSION)[0], EVICT)
+        for datagram in self.changed(attacker.evicting):
+            self.assertEqual(head_of(datagram, SESSION).kind, EVICT)
             self.assertEqual(len(reader.read(datagram).parties), 1)
-        kinds = {reader.read(datagram).kind for datagram in self.changed(barattacks.asking)}
+        kinds = {reader.read(datagram).kind for datagram in self.changed(attacker.asking)}
         self.assertEqual(kinds, {KEYREQ})
-        for datagram in self.changed(barattacks.accusing):
+        for datagram in self.changed(attacker.accusing):
             count, parts = datagram[16], datagram[17:]
             sizes = []
             while parts:
                 sizes.append(int.from_bytes(parts[:2], "big"))
                 parts = parts[2 + sizes[-1] :]
             self.assertEqual((count, sizes), (len(sizes), [len(REQUESTED), len(TRADE.answer())][: len(sizes)]))
-        self.assertEqual(barattacks.renamed(None, SESSION, b"", FOREIGN[0]), REQUESTED)
+        self.assertEqual(attacker.renamed(None, SESSION, b"", FOREIGN[0]), REQUESTED)
 
 
 class Attacks(RoomCase):
@@ -58,7 +58,7 @@ class Attacks(RoomCase):
         self.recording = self.room / "recording"
         front = b"BARL\x01" + bytes.fromhex(SESSION.id) + b"\0\1"
         self.recording.write_bytes(recording_of(front, [None, REQUESTED, KEY_ASKED, b"short"]))
-        return barattacks.Attack(SESSION, 5000, [self.recording], FOREIGN, seed, count, seconds)
+        return attacker.Attack(SESSION, 5000, [self.recording], attacker.Plan(FOREIGN, seed, count, seconds))
 
     def sent_at(self, attack, *times):
         """What an attack sends in looks at these times."""
@@ -74,8 +74,8 @@ class Attacks(RoomCase):
         self.assertEqual(len(self.sent_at(attack, 5.6)), 30)
         self.assertEqual(len(self.sent_at(attack, 9, 9, 10)), 120)
         self.assertEqual(attack.sent.total(), 300)
-        self.assertEqual(set(attack.sent), set(barattacks.WAYS))
-        self.assertEqual(len(self.sent_at(self.attack(count=9999), 9)), barattacks.BURST)
+        self.assertEqual(set(attack.sent), set(attacker.WAYS))
+        self.assertEqual(len(self.sent_at(self.attack(count=9999), 9)), attacker.BURST)
 
     def test_nothing_is_sent_before_something_came(self):
         attack = self.attack()
@@ -105,33 +105,33 @@ class Ends(unittest.TestCase):
     def setUp(self):
         self.attack = mock.Mock(session=SESSION, made={REQUESTED[:-1]: "cut", KEY_ASKED: "forged"})
         self.attack.copies = collections.Counter({(1, REQUESTED): 1, (2, REQUESTED): 5})
-        self.came = {way: barattacks.Came() for way in barattacks.WAYS}
+        self.came = {way: attacker.Came() for way in attacker.WAYS}
 
     def test_what_peers_took_and_answered(self):
         recording = recording_of(bytes(15), [None, REQUESTED, REQUESTED, REQUESTED, KEY_ASKED, None, REQUESTED[:-1]])
-        barattacks.came_of(self.attack, 1, recording, {2, 3, 5, 6}, self.came)
+        attacker.came_of(self.attack, 1, recording, {2, 3, 5, 6}, self.came)
         told = {way: (it.taken, it.answered) for way, it in self.came.items() if it.taken}
         self.assertEqual(told, {"cut": (1, 0), "forged": (1, 1), "replayed": (1, 1)})
-        self.assertEqual([*barattacks.faults_of(self.came)], [])
+        self.assertEqual([*attacker.faults_of(self.came)], [])
         line = "forged: 3 sent, 1 taken by peers, 1 answered, 0 in what a party found"
-        self.assertEqual(barattacks.line_of("forged", 3, self.came["forged"]), line)
+        self.assertEqual(attacker.line_of("forged", 3, self.came["forged"]), line)
 
     def test_what_must_not_be_answered(self):
-        self.came["cut"].note((KEYREQ, 1, 2), True)
+        self.came["cut"].note(Head(KEYREQ, 1, 2), True)
         self.came["random"].note(None, True)
-        self.came["changed"].note((REQUEST, 1, 2), True)
-        self.came["changed"].note((KEYREQ, 1, 2), True)
-        self.came["replayed"].note((REQUEST, 1, 2), True)
+        self.came["changed"].note(Head(REQUEST, 1, 2), True)
+        self.came["changed"].note(Head(KEYREQ, 1, 2), True)
+        self.came["replayed"].note(Head(REQUEST, 1, 2), True)
         told = ["cut: 1 datagram answered", "changed: 1 datagram answered", "random: 1 datagram answered"]
-        self.assertEqual([*barattacks.faults_of(self.came)], told)
+        self.assertEqual([*attacker.faults_of(self.came)], told)
 
     def test_what_must_not_be_found(self):
         real = made.table(REQUESTED)
-        barattacks.found_of(self.attack, {"table": real, "2": made.evidence(REQUESTED)}, self.came)
-        self.assertEqual([*barattacks.faults_of(self.came)], [])
-        barattacks.found_of(self.attack, {"table": made.table(REQUESTED, REQUESTED[:-1]), "2": made.evidence(KEY_ASKED)}, self.came)
+        attacker.found_of(self.attack, {"table": real, "2": made.evidence(REQUESTED)}, self.came)
+        self.assertEqual([*attacker.faults_of(self.came)], [])
+        attacker.found_of(self.attack, {"table": made.table(REQUESTED, REQUESTED[:-1]), "2": made.evidence(KEY_ASKED)}, self.came)
         told = ["cut: 1 datagram in what a party found", "forged: 1 datagram in what a party found"]
-        self.assertEqual([*barattacks.faults_of(self.came)], told)
+        self.assertEqual([*attacker.faults_of(self.came)], told)
 
 
 if __name__ == "__main__":

@@ -3,15 +3,15 @@ import unittest
 
 from test_timeline import EXCHANGE, FIRST, FOURTH, LAST_TICK, ME, PARTNER, TRADE, Page, diary_of
 
-import baraudits
-from bardatagrams import Exchange
+from gossip.formats.datagrams import Exchange
+from gossip.reports import audits
 
 OTHER = Exchange(3, True, 2, 1)
 BALANCED = "exchange 2 0 1 2 cases 1 1 keys 1 1"
 
 
 def audited(*lines):
-    return baraudits.audit_of_text(2, "\n".join(lines))
+    return audits.audit_of_text(2, "\n".join(lines))
 
 
 class Lines(unittest.TestCase):
@@ -68,7 +68,7 @@ class Pages(unittest.TestCase):
             self.assertEqual("An auditor" in "".join(page.body.itertext()), audit is not None)
 
     def test_what_was_not_audited(self):
-        page = self.page(baraudits.Audit(refused=f"party {PARTNER} left no recording"))
+        page = self.page(audits.Audit(refused=f"party {PARTNER} left no recording"))
         self.assertIn("The recordings weren’t audited: party 2 left no recording.", "".join(page.body.itertext()))
 
 

@@ -13,8 +13,8 @@ sys.path.insert(0, str(pathlib.Path(__file__).resolve().parent.parent))
 
 from made_runs import busy_run
 
-import bartimeline
-from bardata import EvictionRow, Run
+from gossip.drawings import timeline
+from gossip.reports.run_data import EvictionRow, Run
 
 BROWSER = shutil.which("chromium") or shutil.which("chromium-browser")
 OPTIONS = ["--headless", "--no-sandbox", "--disable-gpu", "--disable-dev-shm-usage", "--no-first-run"]
@@ -101,7 +101,7 @@ class Keys(unittest.TestCase):
     @classmethod
     def setUpClass(cls):
         cls.run_ = busy_run(9, 10)
-        page = html.escape(bartimeline.page(cls.run_).replace("</body>", PRESSES))
+        page = html.escape(timeline.page(cls.run_).replace("</body>", PRESSES))
         frame = f'<iframe srcdoc="{page}" width="{PHONE}" height="800" style="border: 0"></iframe>'
         elements = browsed(f"<!doctype html><html><body>{frame}</body></html>", options=DARK)
         cls.body = next(it for it in elements.all if it["name"] == "body")
@@ -147,7 +147,7 @@ class Browser(unittest.TestCase):
         run.evictions = [EvictionRow(PEER, "F1", ROUND, 8)]
         run.rounds = [row for row in run.rounds if (row.peer, row.round) not in {(STOPPED, number) for number in range(12, 18)}]
         cls.run_ = Run.of_json(run.to_json())
-        cls.elements = browsed(bartimeline.page(cls.run_), f"#peer={PEER}&round={ROUND}&show=lost")
+        cls.elements = browsed(timeline.page(cls.run_), f"#peer={PEER}&round={ROUND}&show=lost")
 
     def rows(self, name):
         return [row for row in getattr(self.run_, name) if row.peer == PEER]
@@ -208,6 +208,24 @@ class Browser(unittest.TestCase):
         came = {f"update {row.index + 1} of round {row.round}: played" for row in self.rows("updates") if row.round == due}
         self.assertEqual({line.split(",")[0] for line in lines[len(sides) :] if "not played" not in line}, came)
 
+    def test_many_updates_are_told_together(self):
+        run = busy_run(9, 10, 64)
+        elements = browsed(timeline.page(run), f"#peer={PEER}&round={ROUND}")
+        (words,) = elements.of_class("short")
+        lines = [it["text"] for it in elements.all if it["name"] == "li" and words in it["in"]]
+        due = ROUND - run.session["life"]
+        fates = {line.partition(f" of round {due}: ")[2]: line.partition(" of round ")[0].split(" ", 1) for line in lines}
+        self.assertEqual(len(fates), len(lines))
+        told = []
+        for fate, (word, numbers) in fates.items():
+            spans = [[int(end) for end in it.split(" to ")] for it in numbers.split(", ")]
+            self.assertEqual(word, "update" if spans[0][0] == spans[-1][-1] else "updates")
+            told += [(number, fate) for first, *last in spans for number in range(first, [first, *last][-1] + 1)]
+        self.assertEqual(sorted(number for number, _ in told), [*range(1, 65)])
+        came = {row.index + 1: f"at tick {row.tick}" for row in run.updates if (row.peer, row.round) == (PEER, due)}
+        for number, fate in told:
+            self.assertTrue(fate.endswith(came.get(number, "not played")), (number, fate))
+
     def test_one_round_of_the_peer_can_be_reached_by_tab(self):
         buttons = [it for it in self.elements.all if it["name"] == "button" and "data-round" in it]
         self.assertEqual(len(buttons), self.run_.session["ends"])
@@ -222,7 +240,7 @@ class Folds(unittest.TestCase):
     def buttons(self, address, peers=9):
         run = busy_run(peers, 10)
         run.rounds = [row for row in run.rounds if (row.peer, row.round) not in {(STOPPED, number) for number in range(12, 18)}]
-        elements = browsed(bartimeline.page(run), address)
+        elements = browsed(timeline.page(run), address)
         return elements, [it for it in elements.all if it["name"] == "button" and "data-round" in it]
 
     def test_they_are_folded(self):
@@ -240,7 +258,7 @@ class Folds(unittest.TestCase):
         run = busy_run(9, 10)
         run.rounds = [row for row in run.rounds if (row.peer, row.round) not in {(STOPPED, number) for number in range(12, 18)}]
         click = '<script>document.querySelector("button.fold").click()</script></body>'
-        elements = browsed(bartimeline.page(run).replace("</body>", click), f"#peer={STOPPED}")
+        elements = browsed(timeline.page(run).replace("</body>", click), f"#peer={STOPPED}")
         buttons = [it for it in elements.all if it["name"] == "button" and "data-round" in it]
         self.assertEqual([it["data-round"] for it in buttons if it["aria-pressed"] == "true"], ["12"])
         self.assertEqual(len(buttons), 17)

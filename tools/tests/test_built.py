@@ -11,16 +11,14 @@ import unittest
 from support import NUMBERS, ROOT, RoomCase, bound, lines_of, need_program, run_script
 from test_data import Count
 
-import barbuilds
-import barformats
-import barmaking
-import barprogram
-import barrunning
-import barsimulation
-from bardata import Run
-from bardebts import debts_of
-from barnetwork import LIES, Network
-from barprogram import PROGRAM, Status
+from gossip.formats import files
+from gossip.networks.disturbances import LIES, Network
+from gossip.programs import bar, builds
+from gossip.programs.bar import PROGRAM, Status
+from gossip.reports.debts import debts_of
+from gossip.reports.run_data import Run
+from gossip.runs import runner, simulation
+from gossip.sessions import making
 
 EXAMPLE = ROOT / "examples/evidence"
 
@@ -42,7 +40,7 @@ def setUpModule():
 class Sessions(RoomCase):
     def run_session(self, folder, session, kill=None):
         """Runs a session: its exit status and its last line, and the lines before it."""
-        outcome, out, _ = lines_of(lambda: barrunning.run_session(folder, session, PROGRAM, kill))
+        outcome, out, _ = lines_of(lambda: runner.run_session(folder, session, PROGRAM, kill))
         return outcome.status, outcome.lines[-1], out
 
     def check_data(self, folder):
@@ -62,7 +60,7 @@ class Sessions(RoomCase):
         status, last, out = self.run_session(folder, session)
         self.assertEqual((status, last), (0, f"OK: all parties ended with status 0, all replays agree, page {folder.page}"))
         self.assertEqual(sorted(line[:16] for line in out[:3]), ["party 0 status 0", "party 1 status 0", "party 2 status 0"])
-        self.assertIn("spent, since the session was run: all keys", self.reasons_of(lambda: barrunning.accept(folder))[0])
+        self.assertIn("spent, since the session was run: all keys", self.reasons_of(lambda: runner.accept(folder))[0])
 
     def test_a_session_of_version_2(self):
         self.stream.write_bytes(bytes(70 * 1022))
@@ -96,14 +94,15 @@ class Measures(RoomCase):
     def test_what_datagrams_cost(self):
         self.stream.write_bytes(bytes(3 * 4 * 1022))
         folder, session = self.make_session(PROGRAM, rounds=4, per_round=4, lms=6)
-        outcome, _, _ = lines_of(lambda: barrunning.run_session(folder, session, PROGRAM))
+        outcome, _, _ = lines_of(lambda: runner.run_session(folder, session, PROGRAM))
         self.assertEqual(outcome.status, 0, outcome.lines)
         numbers = self.room / "numbers.csv"
         words = ["--count", 30, "--times", 1, "--before", PROGRAM, "--csv", numbers]
         status, out, err = run_script("measure-replay", folder.path, *words)
         self.assertEqual((status, out[-1]), (0, "OK: replays of up to 30 datagrams were measured"), err)
         kinds = [re.split("[,:]", line)[0] for line in out[:-1]]
-        self.assertEqual(kinds[:-1], ["a hash", *["memory without an input"] * 3, "repeated", "forged", "verified", "early"])
+        again = ["block again", "key again", "query again", "divulge again"]
+        self.assertEqual(kinds[:-1], ["a hash", *["memory without an input"] * 3, "repeated", "forged", "verified", "early", *again])
         self.assertRegex(kinds[-1], "^request of round [1-4]$")
         told = ", 30 datagrams, each: before -?[0-9.]+ ms, now -?[0-9.]+ ms, (ratio [0-9.]+|no ratio)"
         # on a machine that is busy no KEY may have come
@@ -134,20 +133,20 @@ class Ranges(unittest.TestCase):
         with tempfile.NamedTemporaryFile() as session:
             session.write(text)
             session.flush()
-            ran = barprogram.run(PROGRAM, "judge", session=session.name, table=EXAMPLE / "table", evidence=EXAMPLE / "bad-opening")
+            ran = bar.run(PROGRAM, "judge", session=session.name, table=EXAMPLE / "table", evidence=EXAMPLE / "bad-opening")
         return ran.status
 
     def is_session(self, text):
         try:
-            return bool(barformats.Session.of_text(text))
-        except barformats.Malformed:
+            return bool(files.Session.of_text(text))
+        except files.Malformed:
             return False
 
     def test_numbers(self):
         text = (EXAMPLE / "session.toml").read_bytes()
         document = tomllib.loads(text.decode())
         names = ["rounds", "life", "cap", "per_round", "fanout", "port", "tick_ms", "lms", "ots"]
-        bounds = {name: (barformats.NUMBERS[name].least, barformats.NUMBERS[name].most) for name in names}
+        bounds = {name: (files.NUMBERS[name].least, files.NUMBERS[name].most) for name in names}
         others = [3, 4, 56, 57, 64, 65]
         tries = [(name, value) for name, (least, most) in bounds.items() for value in {least - 1, least, most, most + 1, *others}]
         for version, (name, value) in itertools.product((1, 2, 3), tries):
@@ -158,8 +157,8 @@ class Ranges(unittest.TestCase):
 
     def test_numbers_with_two_levels(self):
         with tempfile.TemporaryDirectory() as room:
-            wanted = barmaking.Wanted(pathlib.Path(room) / "session", EXAMPLE / "table", NUMBERS | {"top": 5})
-            folder, _ = lines_of(lambda: barmaking.make(wanted, PROGRAM))[0]
+            wanted = making.Wanted(pathlib.Path(room) / "session", EXAMPLE / "table", NUMBERS | {"top": 5})
+            folder, _ = lines_of(lambda: making.make(wanted, PROGRAM))[0]
             text = folder.session.read_bytes()
         tries = [("top", value) for value in (0, 4, 5, 6, 8)] + [("lms", value) for value in (4, 5, 6)]
         tries += [("ots", value) for value in (2, 3, 4)] + [("rounds", value) for value in (0, 56, 57, 1820, 1821, 7200, 7201)]
@@ -195,26 +194,26 @@ class Ranges(unittest.TestCase):
 
 
 class Disturbed(RoomCase):
-    """Sessions that are simulated or disturbed. They are skipped where the program of tools/party isn't built."""
+    """Sessions that are simulated or disturbed. They are skipped if the program bar_party isn't built."""
 
     def setUp(self):
         super().setUp()
-        if not barbuilds.kept_at(barbuilds.PARTY).exists():
-            self.skipTest("the program of tools/party isn't built: tools/simulate-session builds it")
+        if not builds.PARTY.path.exists():
+            self.skipTest("the program bar_party isn't built: tools/simulate-session builds it")
 
     def made(self, name, **numbers):
         """A session of four peers, whose stream fills all rounds but the last."""
         more = {"peers": 4, "rounds": 4, "per_round": 8, "lms": 6, "ots": 2} | numbers
         self.stream.write_bytes(bytes(at * 7 % 251 for at in range((more["rounds"] - 1) * 8 * 1022)))
-        wanted = barmaking.Wanted(self.room / name, self.stream, NUMBERS | more, "00ff")
-        return lines_of(lambda: barmaking.make(wanted, PROGRAM))[0]
+        wanted = making.Wanted(self.room / name, self.stream, NUMBERS | more, "00ff")
+        return lines_of(lambda: making.make(wanted, PROGRAM))[0]
 
     def simulated(self, name, network, **numbers):
         """Simulates a session, which takes no port: its folder, its outcome and the lines that were printed."""
         folder, session = self.made(name, port=20_000, **numbers)
 
         def simulate():
-            return barrunning.outcome_of_run(folder, session, PROGRAM, barsimulation.simulate(folder, session, network))
+            return runner.outcome_of_run(folder, session, PROGRAM, simulation.simulate(folder, session, network))
 
         outcome, out, _ = lines_of(simulate)
         return folder, outcome, out
@@ -251,7 +250,7 @@ class Disturbed(RoomCase):
     def test_a_live_session_behind_a_relay_with_a_liar(self):
         folder, session = self.made("live", rounds=3)
         network = Network(5, 5, 10, "x", {4: "key"})
-        outcome, out, _ = lines_of(lambda: barrunning.run_session(folder, session, PROGRAM, network=network))
+        outcome, out, _ = lines_of(lambda: runner.run_session(folder, session, PROGRAM, network=network))
         self.assertEqual(outcome.status, 0, [*out, *outcome.lines])
         self.assertIn("all 3 replays agree", " ".join(out))
 

@@ -15,11 +15,10 @@ from made_sessions import LONG, SESSION, WIDE, WIDE_PLAIN, Diary, Trade
 from support import ROOT, RoomCase, run_script
 from test_data import small_run
 
-import barcaptures
-import bardissector
-from bardatagrams import Exchange, Update
-from barformats import EVIDENCE, Malformed, entries_of
-from bargrammar import GRAMMAR
+from gossip.formats import captures, dissector
+from gossip.formats.datagrams import Exchange, Update
+from gossip.formats.files import EVIDENCE, Malformed, entries_of
+from gossip.formats.grammar import GRAMMAR
 
 TSHARK = shutil.which("tshark")
 
@@ -37,7 +36,7 @@ def packets_in(capture):
 
 def captured(recordings, session=SESSION, begin=0):
     file = io.BytesIO()
-    return barcaptures.write_capture(file, session, recordings, begin), file.getvalue()
+    return captures.write_capture(file, session, recordings, begin), file.getvalue()
 
 
 class Packets(unittest.TestCase):
@@ -112,7 +111,7 @@ class Dissector(RoomCase):
     def read(self, session, recordings, *fields):
         """What tshark reads of these fields, of each packet."""
         (self.room / "f.pcap").write_bytes(captured(recordings, session)[1])
-        (self.room / "bar.lua").write_text(bardissector.dissector_of(session))
+        (self.room / "bar.lua").write_text(dissector.dissector_of(session))
         words = [TSHARK, "-r", self.room / "f.pcap", "-X", f"lua_script:{self.room}/bar.lua", "-T", "fields"]
         ran = subprocess.run([*words, *(word for field in fields for word in ("-e", field))], capture_output=True, text=True, timeout=60)
         self.assertNotIn("Lua", ran.stderr)
@@ -150,11 +149,11 @@ class Dissector(RoomCase):
 
 class Source(unittest.TestCase):
     def test_it_has_each_field_of_the_grammar(self):
-        text = bardissector.dissector_of(SESSION)
+        text = dissector.dissector_of(SESSION)
         for kind in GRAMMAR.values():
             self.assertIn(f'["name"] = "{kind.name}", ["signed"] = {str(kind.is_signed).lower()}', text)
             for field in kind.fields:
-                self.assertIn(f'"{bardissector.abbreviation(field.name)}"', text)
+                self.assertIn(f'"{dissector.abbreviation(field.name)}"', text)
 
 
 if __name__ == "__main__":

@@ -12,9 +12,9 @@ import unittest
 
 from support import bound, need_program
 
-from barformats import BLOCK, MANIFEST, REQUEST
-from barprogram import PROGRAM, Status, run_words
-from barsession import free_port, party_words
+from gossip.formats.files import BLOCK, MANIFEST, REQUEST
+from gossip.programs.bar import PROGRAM, Status, run_words
+from gossip.sessions.session_folder import free_port, party_words
 from chosen_peers import ChosenCase, block_of, number_of, table_of
 
 # the secret of a broadcaster, and those of seven peers

@@ -14,14 +14,13 @@ from made_runs import busy_run
 from made_sessions import PLAIN, SESSION, Diary, Trade, first_tick
 from test_timeline import Page
 
-import barcasting
-import barlosses
-import bartimeline
-from bardata import TABLES, Run
-from bardatagrams import Exchange, Update
-from barformats import KEY, KEYREQ, SLOTS, Malformed
-from bargathering import run_of
-from bargrammar import NAMES
+from gossip.drawings import timeline
+from gossip.formats.datagrams import Exchange, Update
+from gossip.formats.files import KEY, KEYREQ, SLOTS, Malformed
+from gossip.formats.grammar import NAMES
+from gossip.reports import casting, flows
+from gossip.reports.gathering import Known, run_of
+from gossip.reports.run_data import TABLES, Run
 
 FIRST, SECOND, THIRD, FOURTH = (Update(1, index) for index in range(4))
 TRADE = Trade.balanced(Exchange(2, False, 1, 2), [[FIRST, FOURTH], [SECOND, THIRD, FOURTH]], [[SECOND, THIRD], [FIRST]])
@@ -163,7 +162,7 @@ class Agreement(unittest.TestCase):
         self.assertEqual([(row.party, row.fault, row.round, row.told) for row in run.evictions], [(3, None, 4, 1)])
         logs = {diary.party: diary.log() for diary in diaries()}
         found = {0: {"table": b"", "3": made.evidence(TRADE.case(True))}}
-        run = run_of(SESSION, logs, found=found, verdicts={(0, 3): "party 3 fault F2"})
+        run = run_of(SESSION, logs, Known(found=found, verdicts={(0, 3): "party 3 fault F2"}))
         self.assertEqual([(row.party, row.fault, row.round, row.told) for row in run.evictions], [(3, "F2", 4, 1)])
         (row,) = run.evidence
         self.assertEqual((row.keeper, row.accused, row.fault, row.datagrams), (0, 3, "F2", ["CASE"]))
@@ -184,7 +183,7 @@ class Files(unittest.TestCase):
                 Run.of_json(text)
 
     def test_a_page_of_forty_peers_and_fifty_rounds_has_less_than_a_megabyte(self):
-        self.assertLess(len(bartimeline.page(busy_run(40, 50)).encode()), 1_000_000)
+        self.assertLess(len(timeline.page(busy_run(40, 50)).encode()), 1_000_000)
 
 
 class Losses(unittest.TestCase):
@@ -199,7 +198,7 @@ class Losses(unittest.TestCase):
             ([1, 2], [7], [1]),
             ([], [3], []),
         ):
-            self.assertEqual(barlosses.lost_of(sent, taken), lost)
+            self.assertEqual(flows.lost_of(sent, taken), lost)
 
     def test_losses_are_an_independent_count_of_transcripts_and_recordings(self):
         _, run = small_run()
@@ -238,14 +237,14 @@ class Casts(unittest.TestCase):
     def casts(self, logs, evicted=()):
         blocks = {Update(1, index): made.block_with(bytes(1022)) for index in range(4)} | {Update(2, 0): made.block_with(b"second round")}
         table = made.table(made.manifest(1, blocks), made.manifest(2, blocks), made.manifest(6, {}))
-        return barcasting.casts_of(SESSION, logs, self.SECRET, self.STREAM, table, set(evicted)), blocks
+        return casting.casts_of(SESSION, logs, casting.Broadcaster(self.SECRET, self.STREAM, table, set(evicted))), blocks
 
     def test_what_a_broadcaster_sends(self):
         casts, blocks = self.casts({})
         manifests = [(tick, receiver) for tick, receiver, it in casts.sent if it == made.manifest(2, blocks)]
         self.assertEqual(sorted(manifests), [(tick, peer) for tick in (9, 13) for peer in (1, 2, 3)])
         update = Update(2, 0)
-        (peer,) = barcasting.fan_out(SESSION, self.SECRET, update)
+        (peer,) = casting.fan_out(SESSION, self.SECRET, update)
         sent = [(tick, receiver) for tick, receiver, it in casts.sent if it == made.block(peer, update, blocks)]
         self.assertEqual(sent, [(10, peer), (14, peer)])
         self.assertEqual(len(casts.sent), 3 * 6 + 5 * 2)
@@ -253,7 +252,7 @@ class Casts(unittest.TestCase):
     def test_manifests_are_sent_again_in_version_3(self):
         session = dataclasses.replace(SESSION, version=3)
         manifests = [it[:2] + b"\x03" + it[3:] for it in (made.manifest(1, {}), made.manifest(2, {}))]
-        casts = barcasting.casts_of(session, {}, self.SECRET, b"", made.table(*manifests), set())
+        casts = casting.casts_of(session, {}, casting.Broadcaster(self.SECRET, b"", made.table(*manifests), set()))
         self.assertEqual(sorted({tick for tick, _, _ in casts.sent}), [1, 5, 9, 11, 13, 19])
         self.assertEqual(len(casts.sent), 3 * 6)
 
@@ -264,9 +263,9 @@ class Casts(unittest.TestCase):
         self.assertEqual(sum(it == made.evict(2, 3) for _, _, it in casts.sent), 2)
         self.assertFalse([tick for tick, receiver, _ in casts.sent if receiver == 3 and tick >= first_tick(2)])
         self.assertNotIn(made.evict(1, 2), [it for _, _, it in casts.sent])
-        flow = barlosses.Flow(0, 3, "MANIFEST", 1, [1], [1])
+        flow = flows.Flow(0, 3, "MANIFEST", 1, [1], [1])
         self.assertTrue(casts.is_unsure(flow))
-        self.assertFalse(casts.is_unsure(barlosses.Flow(0, 2, "MANIFEST", 1, [1], [1])))
+        self.assertFalse(casts.is_unsure(flows.Flow(0, 2, "MANIFEST", 1, [1], [1])))
 
 
 if __name__ == "__main__":

@@ -6,10 +6,10 @@ import unittest
 sys.path.insert(0, str(pathlib.Path(__file__).resolve().parent.parent))
 
 import made_sessions as made
-from barbriefcases import keystream, opened
-from bardatagrams import BalancedTerms, Exchange, Promise, PushTerms, Reader, Update, Window
-from barformats import KEY, KEYREQ, QUERY, REPLY, REQUEST, RESPONSE
-from bargrammar import signature_size
+from gossip.formats.briefcases import keystream, opened
+from gossip.formats.datagrams import BalancedTerms, Exchange, Promise, PushTerms, Reader, Update, Window
+from gossip.formats.files import KEY, KEYREQ, QUERY, REPLY, REQUEST, RESPONSE
+from gossip.formats.grammar import signature_size
 from made_sessions import LONG, PLAIN, SESSION, WIDE, WIDE_PLAIN, Trade
 
 BALANCED = Trade.balanced(Exchange(4, False, 2, 3), [[Update(2, 0), Update(3, 1)], [Update(4, 3)]], [[Update(4, 3)], [Update(2, 0)]])

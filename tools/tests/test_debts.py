@@ -3,10 +3,10 @@ import unittest
 from types import SimpleNamespace
 
 import support  # noqa: F401 (the path of the tools)
-from barexchanges import first_tick
+from gossip.reports.exchanges import first_tick
 
-import bardebts
-from bardebts import Debt, debt_of
+from gossip.reports import debts
+from gossip.reports.debts import Debt, debt_of
 
 SESSION = {"version": 3, "life": 4, "ticks": 200}
 
@@ -36,7 +36,7 @@ class Debts(unittest.TestCase):
 
     def test_debts_of_a_run(self):
         run = SimpleNamespace(session=SESSION, sides=[side(42), side(42, 43), side(42, 70)])
-        self.assertEqual(bardebts.debts_of(run), (2, 1))
+        self.assertEqual(debts.debts_of(run), (2, 1))
 
     def test_in_words(self):
         self.assertEqual(Debt(8, 8, True).told, "was owed the key in round 8")

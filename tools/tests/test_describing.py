@@ -13,9 +13,9 @@ import made_sessions as made
 from made_sessions import LONG, SESSION, WIDE, WIDE_PLAIN, Diary, Trade
 from support import ROOT, RoomCase, run_script
 
-import bardescribing
-from bardatagrams import Exchange, Update
-from barformats import DIVULGE, EVIDENCE, Malformed
+from gossip.formats import describing
+from gossip.formats.datagrams import Exchange, Update
+from gossip.formats.files import DIVULGE, EVIDENCE, Malformed
 
 FIRST, SECOND, THIRD = (Update(1, index) for index in range(3))
 BALANCED = Trade.balanced(Exchange(2, False, 1, 2), [[FIRST], [SECOND, THIRD]], [[SECOND], [FIRST]])
@@ -24,7 +24,7 @@ EXAMPLE = ROOT / "examples"
 
 
 def told(datagram, session=SESSION):
-    return bardescribing.Datagrams(session).line(datagram)
+    return describing.Datagrams(session).line(datagram)
 
 
 class Lines(unittest.TestCase):
@@ -78,24 +78,24 @@ class Lines(unittest.TestCase):
             (made.datagram(EVIDENCE, 1, 0, b"\1\0\0"), "BadField"),
             (made.datagram(DIVULGE, 1, 2, struct.pack(">I", 1) + bytes(32) + made.window(1, [Update(2, 0)])), "BadField"),
         ):
-            self.assertEqual(bardescribing.Datagrams(SESSION).fault(datagram), fault)
+            self.assertEqual(describing.Datagrams(SESSION).fault(datagram), fault)
 
     def test_data(self):
-        data = bardescribing.Datagrams(SESSION).data(BALANCED.case(False))
+        data = describing.Datagrams(SESSION).data(BALANCED.case(False))
         self.assertEqual([data[name] for name in ("kind", "from", "to", "bytes")], ["CASE", 2, 1, len(BALANCED.case(False))])
         fields = data["fields"]
         self.assertEqual([fields[name] for name in ("round", "updates")], [2, 1])
         self.assertEqual((fields["initiator's"], fields["responder's"]), ([FIRST], [SECOND, THIRD]))
         self.assertEqual((fields["nonce"], fields["sealed updates"]), (bytes(range(32)).hex(), [{"bytes": 1024}]))
-        self.assertEqual(bardescribing.Datagrams(SESSION).data(b"junk"), {"bytes": 4, "fault": "Short"})
+        self.assertEqual(describing.Datagrams(SESSION).data(b"junk"), {"bytes": 4, "fault": "Short"})
 
 
 class Files(unittest.TestCase):
-    DATAGRAMS = bardescribing.Datagrams(SESSION)
+    DATAGRAMS = describing.Datagrams(SESSION)
 
     def lines(self, data):
-        form = bardescribing.form_of(data)
-        told_ = bardescribing.FORMS[form](data, self.DATAGRAMS)
+        form = describing.form_of(data)
+        told_ = describing.FORMS[form](data, self.DATAGRAMS)
         return form, told_.what, [line for line, _ in told_.lines]
 
     def test_a_recording(self):
@@ -108,7 +108,7 @@ class Files(unittest.TestCase):
         self.assertEqual(self.lines(diary.recording()), ("recording", "a recording of party 2, whole", lines))
         what = "a recording of party 2, up to its last whole entry, since it has no end"
         self.assertEqual(self.lines(diary.recording()[:-3]), ("recording", what, lines[:-1]))
-        data = [it for _, it in bardescribing.recording_told(diary.recording(), self.DATAGRAMS).lines]
+        data = [it for _, it in describing.recording_told(diary.recording(), self.DATAGRAMS).lines]
         self.assertEqual(data[2], {"input": 3, "tick": 2, "round": 1, "slot": 1})
         self.assertEqual((data[4]["input"], data[4]["behind tick"], data[4]["datagram"]["kind"]), (5, 2, "CASE"))
 
@@ -119,7 +119,7 @@ class Files(unittest.TestCase):
         diary.until(5)
         diary.take(b"junk")
         diary.until(17)
-        told_ = bardescribing.recording_told(diary.recording(), self.DATAGRAMS)
+        told_ = describing.recording_told(diary.recording(), self.DATAGRAMS)
         junk = "<- 4 bytes that are no datagram of the session: Short"
         lines = ["ticks 1 to 2: round 1, and nothing was taken", "tick 3: round 1, slot 2", junk]
         lines += ["tick 4: round 1, slot 3", "tick 5: round 1, slot 4", junk, "ticks 6 to 17: rounds 1 to 3, and nothing was taken"]

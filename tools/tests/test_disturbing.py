@@ -6,19 +6,18 @@ from unittest import mock
 
 from support import RoomCase, fake_program, lines_of
 
-import bardisturbing
-import barliars
-import barrunning
-import barsession
-from baraudits import Audit, Entry
-from bardata import EvictionRow, EvidenceRow, Run
-from bardatagrams import Exchange
-from barnetwork import Network
-from barparties import Way
+from gossip.formats.datagrams import Exchange
+from gossip.networks.disturbances import Network
+from gossip.reports import lies
+from gossip.reports.audits import Audit, Entry
+from gossip.reports.run_data import EvictionRow, EvidenceRow, Run
+from gossip.runs import disturbed, runner
+from gossip.runs.parties import Way
+from gossip.sessions import session_folder
 
 
 def evidence(keeper, accused, fault="F1"):
-    return EvidenceRow(keeper, accused, fault, None, [], None, None, None, None)
+    return EvidenceRow(keeper, accused, fault, None, [])
 
 
 def side(peer, partner, given, got, promised=1):
@@ -33,57 +32,57 @@ class Liars(unittest.TestCase):
     def test_a_liar_that_was_evicted(self):
         run = run_with([EvictionRow(5, "F1", 3, 4)], [evidence(0, 5), evidence(2, 5), evidence(1, 5)])
         told = "was evicted for a bad opening, told to 4 peers from round 3 on: evidence of it is kept by peer 1 and peer 2"
-        self.assertEqual(barliars.line_of(run, 5, "key"), f"peer 5, which lied (key), {told}")
-        self.assertEqual([*barliars.faults_of(run, {5: "key"})], [])
+        self.assertEqual(lies.line_of(run, 5, "key"), f"peer 5, which lied (key), {told}")
+        self.assertEqual([*lies.faults_of(run, {5: "key"})], [])
 
     def test_an_eviction_that_nobody_was_told(self):
         run = run_with([EvictionRow(5, None, None, 0)])
-        self.assertIn("for a fault that can't be told, told to nobody: no peer keeps evidence of it", barliars.line_of(run, 5, "key"))
+        self.assertIn("for a fault that can't be told, told to nobody: no peer keeps evidence of it", lies.line_of(run, 5, "key"))
 
     def test_a_liar_that_showed_nothing(self):
-        self.assertEqual(barliars.line_of(run_with(), 5, "key"), "peer 5, which lied (key), wasn't evicted: no peer keeps evidence of it")
-        self.assertEqual([*barliars.faults_of(run_with(), {5: "key"})], [])
+        self.assertEqual(lies.line_of(run_with(), 5, "key"), "peer 5, which lied (key), wasn't evicted: no peer keeps evidence of it")
+        self.assertEqual([*lies.faults_of(run_with(), {5: "key"})], [])
 
     def test_evidence_that_came_to_nothing(self):
-        told = [*barliars.faults_of(run_with(kept=[evidence(2, 5)]), {5: "key"})]
+        told = [*lies.faults_of(run_with(kept=[evidence(2, 5)]), {5: "key"})]
         self.assertEqual(told, ["peer 5 lied and wasn't evicted, though peer 2 kept evidence"])
 
     def test_honest_peers_that_are_accused(self):
         run = run_with([EvictionRow(3, "F1", 3, 4), EvictionRow(5, "F1", 3, 4)], [evidence(2, 4)])
-        self.assertEqual([*barliars.faults_of(run, {5: "key"})], ["there is evidence against peer 3 and peer 4, who didn't lie"])
+        self.assertEqual([*lies.faults_of(run, {5: "key"})], ["there is evidence against peer 3 and peer 4, who didn't lie"])
 
     def test_what_was_unfair(self):
         sides = [side(1, 5, 9, None, 3), side(1, 2, 9, 9), side(2, 1, 9, None), side(3, 5, None, None), side(5, 1, 9, None)]
-        lines = [*barliars.lines_of_shorted(run_with(sides=sides), {5: "key"})]
+        lines = [*lies.lines_of_shorted(run_with(sides=sides), {5: "key"})]
         self.assertEqual(lines, [
             "unfair: of 3 keys that honest peers gave, 2 brought them none that opens well, 1 of these among themselves",
             "liars had 3 items for nothing: of peer 1 1 time",
         ])
-        self.assertEqual(len([*barliars.lines_of_shorted(run_with(sides=sides[1:3]), {5: "key"})]), 1)
+        self.assertEqual(len([*lies.lines_of_shorted(run_with(sides=sides[1:3]), {5: "key"})]), 1)
 
     def test_an_exchange_with_a_liar_may_be_unbalanced(self):
         with_liar, honest = Exchange(1, False, 1, 5), Exchange(2, False, 1, 2)
         entries = tuple(Entry(it, (1, 0), (1, 1)) for it in (with_liar, honest))
         audit = Audit(5, entries[:1], with_liar)
-        self.assertEqual(barliars.audit_failures(audit, {5: "leaf"}), [])
-        self.assertEqual(barliars.audit_failures(audit, {}), [audit.line])
+        self.assertEqual(lies.audit_failures(audit, {5: "leaf"}), [])
+        self.assertEqual(lies.audit_failures(audit, {}), [audit.line])
         both = Audit(5, entries, with_liar)
-        self.assertEqual(barliars.audit_failures(both, {5: "leaf"}), [both.line])
+        self.assertEqual(lies.audit_failures(both, {5: "leaf"}), [both.line])
 
 
 class Ways(unittest.TestCase):
     def test_liars_and_texts(self):
-        with mock.patch("bardisturbing.built", return_value="party"):
-            ways = bardisturbing.ways_of(Network(liars={2: "key"}), {0: "text 0", 2: "text 2"})
+        with mock.patch("gossip.runs.disturbed.built", return_value="party"):
+            ways = disturbed.ways_of(Network(liars={2: "key"}), {0: "text 0", 2: "text 2"})
         self.assertEqual(ways, {0: Way(session="text 0"), 2: Way(program=("party", "udp", "key"), session="text 2")})
-        folder = barsession.Folder("/f")
+        folder = session_folder.Folder("/f")
         words = ways[2].words(folder, "bar", 2, 7)
         self.assertEqual(words[:6], ["party", "udp", "key", "peer", "--session", "text 2"])
         self.assertEqual(ways[0].words(folder, "bar", 0, 7)[:4], ["bar", "broadcaster", "--session", "text 0"])
 
     def test_nothing_is_built_where_nobody_lies(self):
-        with mock.patch("bardisturbing.built", side_effect=AssertionError):
-            self.assertEqual(bardisturbing.ways_of(Network(loss=5), {}), {})
+        with mock.patch("gossip.runs.disturbed.built", side_effect=AssertionError):
+            self.assertEqual(disturbed.ways_of(Network(loss=5), {}), {})
 
 
 class Sessions(RoomCase):
@@ -91,8 +90,8 @@ class Sessions(RoomCase):
         """Runs a session of two peers over a network: its folder, its outcome and the lines that were printed."""
         program = fake_program(self.room, live=True, **ways)
         folder, session = self.make_session(program)
-        with mock.patch("bardisturbing.built", return_value=program):
-            outcome, out, _ = lines_of(lambda: barrunning.run_session(folder, session, program, network=network))
+        with mock.patch("gossip.runs.disturbed.built", return_value=program):
+            outcome, out, _ = lines_of(lambda: runner.run_session(folder, session, program, network=network))
         return folder, outcome, out
 
     def test_a_session_behind_a_relay(self):

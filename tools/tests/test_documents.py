@@ -10,10 +10,8 @@ import unittest.mock
 
 from support import TOOLS, lines_of
 
-import barblocks
-import barchecks
-import bardocuments
-import barscript
+from gossip.documents import block_runs, checks, reading
+from gossip.scripts import console
 
 README = """# bar
 
@@ -183,7 +181,7 @@ class Repository(unittest.TestCase):
 
     def check(self, changes=None, **options):
         write_repository(self.root, changes or {})
-        check = barchecks.Check(self.root, **options)
+        check = checks.Check(self.root, **options)
         return check, [str(fault) for fault in check.faults()]
 
     def changed(self, name, old, new, **options):
@@ -373,15 +371,15 @@ class Blocks(Repository):
         self.assertEqual((faults, check.blocks), ([], 2))
 
     def test_a_block_that_takes_too_long(self):
-        block = bardocuments.Block(1, ["sh", "run"], ["sleep 1000 & echo $!", "sleep 1000"])
-        fault = barblocks.fault_of_run(block, self.root, seconds=1)
+        block = reading.Block(1, ["sh", "run"], ["sleep 1000 & echo $!", "sleep 1000"])
+        fault = block_runs.fault_of_run(block, self.root, seconds=1)
         self.assertRegex(fault, r"^the block took more than 1 s\n  \| \d+$")
         status = pathlib.Path("/proc", fault.split()[-1], "stat")
         self.assertTrue(not status.exists() or status.read_text().split()[2] == "Z", "a part of the block goes on")
 
     def test_rooms_are_removed(self):
-        block = bardocuments.Block(1, ["sh", "run"], ['test -d "$room"', 'echo "$(mktemp)"'])
-        status, printed = barblocks.run(block.lines, self.root, 10)
+        block = reading.Block(1, ["sh", "run"], ['test -d "$room"', 'echo "$(mktemp)"'])
+        status, printed = block_runs.run(block.lines, self.root, 10)
         self.assertEqual(status, 0)
         self.assertFalse(pathlib.Path(printed.strip()).parent.exists())
 
@@ -394,7 +392,7 @@ class Blocks(Repository):
             (["a", "b"], "a\n", "the block doesn't print `b` there"),
             ([], "a\n", "the block prints more than is shown"),
         ]:
-            self.assertEqual(barblocks.fault_of_lines(shown, printed), fault)
+            self.assertEqual(block_runs.fault_of_lines(shown, printed), fault)
 
 
 class Pages(Repository):
@@ -402,7 +400,7 @@ class Pages(Repository):
         self.assert_found(self.check({"README.md": README + "\n" * 120})[1], "more than 130")
 
     def test_a_long_line_of_a_crate(self):
-        self.assert_found(self.changed("README.md", ": `double`;", f": {'so ' * 40}`double`;"), "README.md:5: ", "more than 140")
+        self.assert_found(self.changed("README.md", ": `double`;", f": {'so' * 60} `double`;"), "README.md:5: ", "more than 140")
 
     def test_a_crate_without_a_document(self):
         faults = self.check({"crates/bar/README.md": None})[1]
@@ -411,6 +409,38 @@ class Pages(Repository):
     def test_a_crate_without_a_line(self):
         faults = self.changed("README.md", "- [bar](crates/bar/README.md): main\n", "")
         self.assert_found(faults, "0 lines have a link to crates/bar/README.md")
+
+    def test_pages_of_their_own_have_the_crates_and_the_scripts(self):
+        crates = README[README.index("- [bar_small]") : README.index("```sh run")]
+        readme = f"{README.replace(crates, '')}\nSee docs/ARCHITECTURE.md and docs/RUNNING.md."
+        architecture = f"# Architecture\n\n{crates.replace('(crates/', '(../crates/')}"
+        changes = {"README.md": readme, "docs/ARCHITECTURE.md": architecture, "docs/RUNNING.md": "# Running\n\n`tools/part` is a part.\n"}
+        changes["tools/part"] = "#!/bin/sh\n"
+        self.assertEqual(self.check(changes)[1], [])
+        changes["docs/ARCHITECTURE.md"] = architecture.replace("../crates/bar/README.md", "bar.md")
+        self.assertTrue(any("0 lines have a link to crates/bar/README.md" in fault for fault in self.check(changes)[1]))
+
+    def test_a_sentence_a_cell_and_an_item_that_are_too_long(self):
+        sentence = f"It goes {'on and ' * 17}on."
+        told = "a sentence has 37 words, more than 35: It goes on and on and .."
+        self.assert_found(self.added("README.md", sentence), "README.md:32: ", told)
+        self.assertEqual(self.added("README.md", sentence.replace("on and on", "on. On", 1)), [])
+        self.assertEqual(self.check({"README.md": f"{README}\n{sentence}\n"}, long={"It goes": "it has to"})[1], [])
+        cell = "It goes on. " * 14
+        table = f"| what | it is |\n|---|---|\n| this | {cell}|"
+        self.assert_found(self.added("README.md", table), "README.md:34: ", "a cell has 42 words, more than 40")
+        self.assert_found(self.added("README.md", f"1. {cell * 2}"), "an item has 84 words, more than 80")
+
+    def test_names_in_a_row_are_one_word(self):
+        names = ", ".join(["`double`"] * 50)
+        self.assertEqual(self.added("README.md", f"It has {names} and [a link](docs/FORMATS.md)."), [])
+
+    def test_a_long_passage_that_isnt_there_is_excused_for_nothing(self):
+        self.assert_found(self.check(long={"It went on": "it had to"})[1], "no document has `It went on` any more")
+
+    def test_a_link_to_a_line_of_a_source(self):
+        self.assertEqual(self.added("README.md", "See [it](crates/bar_small/src/pairs.rt#L5)."), [])
+        self.assert_found(self.added("README.md", "See [it](crates/bar_small/src/pairs.rt#L99)."), "the link goes to line 99")
 
     def test_a_script_that_isnt_named(self):
         self.assert_found(self.check({"tools/part": "#!/bin/sh\n"})[1], "it doesn't name tools/part")
@@ -438,7 +468,7 @@ class Pages(Repository):
 
 class Passages(unittest.TestCase):
     def test_items_rows_and_paragraphs(self):
-        document = bardocuments.Document("x.md", "", "# Title\nOne\ntwo\n\n- a\n  b\n- c\n| d |\n| e |\n```sh\nf\n```\ng\n")
+        document = reading.Document("x.md", "", "# Title\nOne\ntwo\n\n- a\n  b\n- c\n| d |\n| e |\n```sh\nf\n```\ng\n")
         document.cut()
         self.assertEqual([(each.line, each.text) for each in document.passages], [
             (1, "# Title"), (2, "One\ntwo"), (5, "- a\n  b"), (7, "- c"), (8, "| d |"), (9, "| e |"), (13, "g"),
@@ -446,7 +476,7 @@ class Passages(unittest.TestCase):
         self.assertEqual([(each.line, each.words, each.lines) for each in document.blocks], [(10, ["sh"], ["f"])])
 
     def test_a_block_of_text_shows_what_the_one_before_prints(self):
-        document = bardocuments.Document("x.md", "", "```sh run\na\n```\n\n```text\nb\n```\n```sh\n```\nand\n```text\nc\n```\n")
+        document = reading.Document("x.md", "", "```sh run\na\n```\n\n```text\nb\n```\n```sh\n```\nand\n```text\nc\n```\n")
         document.cut()
         self.assertEqual([each.shown and each.shown.lines for each in document.blocks], [["b"], None, None, None])
 
@@ -461,7 +491,7 @@ class Passages(unittest.TestCase):
             ("`a` of `b` and `c` of `d`", [("b",), (), ("d",), ()]),
             ("`a`\nof `b`", [("b",), ()]),
         ]:
-            found = [mention.owners for mention in bardocuments.Passage(1, text).mentions()]
+            found = [mention.owners for mention in reading.Passage(1, text).mentions()]
             self.assertEqual(found, owners, text)
 
 
@@ -475,8 +505,8 @@ class Script(Repository):
         script = importlib.util.module_from_spec(importlib.util.spec_from_loader(loader.name, loader))
         loader.exec_module(script)
         program = self.root / "crates/bar/out/bar"
-        with unittest.mock.patch.multiple(script, ROOT=self.root, PROGRAM=program, EXCUSED={}, ALLOWED={}):
-            outcome, out, err = lines_of(lambda: barscript.outcome_of(script.main, argparse.Namespace(run=run)))
+        with unittest.mock.patch.multiple(script, ROOT=self.root, PROGRAM=program, EXCUSED={}, ALLOWED={}, LONG={}):
+            outcome, out, err = lines_of(lambda: console.outcome_of(script.main, argparse.Namespace(run=run)))
         return outcome.status, outcome.lines[-1], [*out, *err]
 
     def test_well(self):

@@ -13,15 +13,13 @@ from unittest import mock
 
 from support import RoomCase, fake_program, lines_of, run_script
 
-import barclocks
-import baredges
-import barhazards
-import barparties
-import barprogram
-from baredges import Done, Look
-from barhazards import Skipped
-from barprogram import Ran, run_words
-from barsession import free_port
+from gossip.programs import bar
+from gossip.programs.bar import Ran, run_words
+from gossip.runs import parties
+from gossip.sessions.session_folder import free_port
+from gossip.trouble import clocks, edges, hazards
+from gossip.trouble.edges import Done, Look
+from gossip.trouble.hazards import Skipped
 
 FULL = {"played": b"the whole", "found.table": b""}
 WHOLE = Done(Ran(0, b"", b""), FULL, b"fresh", b"spent = true")
@@ -103,7 +101,7 @@ class Hazards(RoomCase):
         place, kept = self.room / "place", self.room / "kept"
         for folder in (place, kept):
             folder.mkdir()
-        front = self.mounted(lambda: barhazards.on_small_disk(place, kept, "4k"))
+        front = self.mounted(lambda: hazards.on_small_disk(place, kept, "4k"))
         done = self.run_behind(front, f'head -c 9000 /dev/zero > "{place}/file"')
         self.assertNotEqual(done.status, 0)
         self.assertEqual((kept / "file").stat().st_size, 4096)
@@ -113,39 +111,39 @@ class Hazards(RoomCase):
         place, kept = self.room / "place", self.room / "kept"
         for folder in (place, kept):
             folder.mkdir()
-        front = self.mounted(lambda: barhazards.on_small_disk(place, kept, "4k", True))
+        front = self.mounted(lambda: hazards.on_small_disk(place, kept, "4k", True))
         self.assertEqual(self.run_behind(front, f': > "{place}/file" && ! echo word > "{place}/file"; exit 7').status, 7)
         self.assertEqual((kept / "file").read_bytes(), b"")
 
     def test_a_folder_that_takes_nothing(self):
-        front = self.mounted(lambda: barhazards.on_read_only(self.room))
+        front = self.mounted(lambda: hazards.on_read_only(self.room))
         self.assertNotEqual(self.run_behind(front, f'echo word > "{self.room}/file"').status, 0)
         self.assertFalse((self.room / "file").exists())
 
     def test_limits(self):
-        self.assertEqual(self.run_behind(barhazards.limited("nofile", 9), "exit $(ulimit -n)").status, 9)
+        self.assertEqual(self.run_behind(hazards.limited("nofile", 9), "exit $(ulimit -n)").status, 9)
         large = ["exec head -c 9000 /dev/zero > \"$0\"", str(self.room / "file")]
-        self.assertEqual(self.run_behind(barhazards.limited("fsize", 100), *large).status, 128 + signal.SIGXFSZ)
-        front = [*barhazards.limited("fsize", 100), *barhazards.without_signal("XFSZ")]
+        self.assertEqual(self.run_behind(hazards.limited("fsize", 100), *large).status, 128 + signal.SIGXFSZ)
+        front = [*hazards.limited("fsize", 100), *hazards.without_signal("XFSZ")]
         self.assertEqual(self.run_behind(front, *large).status, 1)
         self.assertEqual((self.room / "file").stat().st_size, 100)
 
     def test_bytes_that_are_changed(self):
         draw, data = random.Random(7), bytes(range(40))
-        all_changed = [baredges.changed(draw, data) for _ in range(100)]
+        all_changed = [edges.changed(draw, data) for _ in range(100)]
         self.assertNotIn(data, all_changed)
         lengths = [len(it) for it in all_changed]
         self.assertTrue(min(lengths) < len(data) < max(lengths) and len(data) in lengths)
 
     def test_tools_that_are_missing(self):
         with mock.patch("shutil.which", return_value=None), self.assertRaises(Skipped) as skipped:
-            barhazards.limited("nofile", 9)
+            hazards.limited("nofile", 9)
         self.assertEqual(str(skipped.exception), "there is no `prlimit`")
 
     def test_a_pipe_that_another_file_replaces(self):
         place = self.room / "recording"
         os.mkfifo(place)
-        writer = threading.Thread(target=baredges.read_slowly, args=(place, b"front", b" and rest"), daemon=True)
+        writer = threading.Thread(target=edges.read_slowly, args=(place, b"front", b" and rest"), daemon=True)
         writer.start()
         self.assertEqual(place.read_bytes(), b"front and rest")
         writer.join(timeout=10)
@@ -155,12 +153,12 @@ class Hazards(RoomCase):
 class Clocks(RoomCase):
     def test_a_clock_that_is_set(self):
         try:
-            clock = barclocks.Clock(self.room)
+            clock = clocks.Clock(self.room)
         except Skipped as reason:
             self.skipTest(str(reason))
         line = "import sys, time\nfor line in sys.stdin: print(int(time.time()), flush=True)"
         pipes = {"stdin": subprocess.PIPE, "stdout": subprocess.PIPE}
-        with barprogram.running([sys.executable, "-c", line], env=clock.environment, **pipes) as process:
+        with bar.running([sys.executable, "-c", line], env=clock.environment, **pipes) as process:
             for seconds in (0, 3600, -3600, 0):
                 clock.set(seconds)
                 process.stdin.write(b"now\n")
@@ -178,8 +176,8 @@ class Parties(RoomCase):
         program.write_text("#!/bin/sh\nsleep 0.5\necho done $PLACE\n")
         program.chmod(0o755)
         folder, session = self.make_session(fake_program(self.room))
-        ways = {1: barparties.Way(("env", "PLACE=here")), 2: barparties.Way(environment={"PATH": "/usr/bin:/bin", "PLACE": "there"})}
-        with barparties.started(folder, session, program, 0, ways) as live:
+        ways = {1: parties.Way(("env", "PLACE=here")), 2: parties.Way(environment={"PATH": "/usr/bin:/bin", "PLACE": "there"})}
+        with parties.started(folder, session, program, 0, ways) as live:
             live.sleep(1, 1, 2)
             live.send(signal.SIGKILL, 0)
             ends = live.ends()
@@ -191,7 +189,7 @@ class Parties(RoomCase):
         program.write_text("#!/bin/sh\nexec sleep 60\n")
         program.chmod(0o755)
         folder, session = self.make_session(fake_program(self.room))
-        with barparties.started(folder, session, program, 0) as live:
+        with parties.started(folder, session, program, 0) as live:
             processes = live.processes
         self.assertEqual({process.returncode for process in processes.values()}, {-signal.SIGKILL})
 
@@ -203,8 +201,8 @@ class Benches(RoomCase):
         cls.addClassCleanup(room.cleanup)
         program = fake_program(pathlib.Path(room.name), live=True, printed="", packed=["00", "packed 1 bytes"])
         ports = range(free_port(9), 65_536, 3)
-        with mock.patch.dict(baredges.NUMBERS, rounds=1, lms=5, tick_ms=10):
-            cls.bench = lines_of(lambda: baredges.Bench(pathlib.Path(room.name), program, ports))[0]
+        with mock.patch.dict(edges.NUMBERS, rounds=1, lms=5, tick_ms=10):
+            cls.bench = lines_of(lambda: edges.Bench(pathlib.Path(room.name), program, ports))[0]
 
     def test_parties_of_a_live_session(self):
         def disturb(live):
@@ -229,7 +227,7 @@ class Benches(RoomCase):
         whole = self.bench.whole["peer"]
         self.assertEqual((whole.ran.status, sorted(whole.files), whole.is_key_changed), (0, ["found.table", "played", "recording"], True))
         look.take("peer", self.bench.do(peer, played=self.room), whole, 3)
-        look.take("peer", self.bench.do(peer, front=lambda room: barhazards.limited("fsize", 3000)), whole, 3)
+        look.take("peer", self.bench.do(peer, front=lambda room: hazards.limited("fsize", 3000)), whole, 3)
         self.assertEqual((look.faults, look.told), ([], "peer 3"))
         self.assertEqual(peer.inputs, ["session", "key"])
 

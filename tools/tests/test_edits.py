@@ -8,7 +8,7 @@ from unittest import mock
 
 from support import ROOT, TOOLS, RoomCase, lines_of
 
-import barprogram
+from gossip.programs import bar
 
 EDITS = ROOT / "tools/edits"
 
@@ -52,7 +52,7 @@ class Tried(RoomCase):
     def outcome(self, answers, names=("bar_bytes",)):
         """The outcome of the script, where `rt ci` says this of the crates of a made-up folder."""
         script = loaded("try-edits")
-        with mock.patch.object(barprogram, "rt_ci", lambda room, names: self.proved(room, names, answers)):
+        with mock.patch.object(bar, "rt_ci", lambda room, names: self.proved(room, names, answers)):
             outcome, out, _ = lines_of(lambda: script.main(mock.Mock(crates=list(names))))
         return outcome.status, outcome.lines[-1], out
 

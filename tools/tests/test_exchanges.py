@@ -5,8 +5,8 @@ import unittest
 sys.path.insert(0, str(pathlib.Path(__file__).resolve().parent.parent))
 
 import made_sessions as made
-from bardatagrams import Exchange, Update
-from barexchanges import Account, Arrival
+from gossip.formats.datagrams import Exchange, Update
+from gossip.reports.exchanges import Account, Arrival
 from made_sessions import LONG, PLAIN, SESSION, WIDE, WIDE_PLAIN, Diary, Trade, first_tick
 
 ME, PARTNER = 1, 2

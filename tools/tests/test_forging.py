@@ -6,8 +6,8 @@ import support  # noqa: F401 (the path of the tools)
 import made_sessions as made
 from made_sessions import SESSION
 
-from barforging import Forger
-from barformats import CASE, KEY, KEYREQ
+from gossip.formats.files import CASE, KEY, KEYREQ
+from gossip.networks.forging import Forger
 
 BALANCED, INITIATOR, RESPONDER = 0, 0, 1
 

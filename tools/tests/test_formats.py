@@ -1,5 +1,6 @@
 """The parsers of the tools, on the examples and on what is made up or cut."""
 import dataclasses
+import io
 import itertools
 import re
 import tomllib
@@ -7,8 +8,8 @@ import unittest
 
 from support import ID, ROOT, datagram
 
-import barformats
-from barformats import KeyFile, Malformed, Session
+from gossip.formats import files
+from gossip.formats.files import KeyFile, Malformed, Session
 
 EXAMPLE = ROOT / "examples/first-path/one-block"
 SESSION = (EXAMPLE / "session.toml").read_bytes()
@@ -52,7 +53,7 @@ class Texts(unittest.TestCase):
 
     def test_each_number_out_of_its_range(self):
         names = ["rounds", "life", "cap", "per_round", "fanout", "port", "tick_ms", "lms", "ots"]
-        bounds = {name: (barformats.NUMBERS[name].least, barformats.NUMBERS[name].most) for name in names}
+        bounds = {name: (files.NUMBERS[name].least, files.NUMBERS[name].most) for name in names}
         for name, value in ((name, value) for name in names for value in (bounds[name][0] - 1, bounds[name][1] + 1, "true", "1.0", '"1"')):
             with self.subTest(name=name, value=value):
                 fault = self.fault_of(Session.of_text, self.changed(name, f"{name} = {value}\n"))
@@ -68,7 +69,7 @@ class Texts(unittest.TestCase):
 
     def test_bounds_of_ranges_are_taken(self):
         names = ["life", "cap", "port", "tick_ms"]
-        bounds = {name: (barformats.NUMBERS[name].least, barformats.NUMBERS[name].most) for name in names}
+        bounds = {name: (files.NUMBERS[name].least, files.NUMBERS[name].most) for name in names}
         for name, value in ((name, value) for name in names for value in bounds[name]):
             self.assertEqual(getattr(Session.of_text(self.changed(name, f"{name} = {value}\n")), name), value)
 
@@ -161,7 +162,7 @@ class Texts(unittest.TestCase):
 class Rooms(unittest.TestCase):
     def fault_of(self, length, *numbers):
         """What refuses a stream in a session of a version, so many rounds, so many updates a round and an LMS type."""
-        return next(barformats.faults_of_length(length, *numbers), None)
+        return next(files.Room(*numbers).faults(length), None)
 
     def test_stream_that_fills_its_room(self):
         self.assertIsNone(self.fault_of(10 * 8 * 1022, 1, 10, 8, 6))
@@ -201,39 +202,39 @@ class Rooms(unittest.TestCase):
 
 class Recordings(unittest.TestCase):
     def test_recording_of_the_example(self):
-        entries, whole = barformats.entries_of(RECORDING)
-        self.assertTrue(whole and barformats.is_whole(RECORDING))
+        entries, whole = files.entries_of(RECORDING)
+        self.assertTrue(whole and files.is_whole(io.BytesIO(RECORDING)))
         self.assertEqual((entries.count(None), len(entries)), (120, 122))
-        self.assertEqual(barformats.recording_of(RECORDING[:15], entries), RECORDING)
-        self.assertEqual(barformats.whole_recording(RECORDING), RECORDING)
+        self.assertEqual(files.recording_of(RECORDING[:15], entries), RECORDING)
+        self.assertEqual(files.whole_recording(RECORDING), RECORDING)
 
     def test_recording_cut_at_every_byte(self):
-        entries, _ = barformats.entries_of(RECORDING)
+        entries, _ = files.entries_of(RECORDING)
         for end in range(len(RECORDING)):
-            front, whole = barformats.entries_of(RECORDING[:end])
-            self.assertFalse(whole or barformats.is_whole(RECORDING[:end]))
+            front, whole = files.entries_of(RECORDING[:end])
+            self.assertFalse(whole or files.is_whole(io.BytesIO(RECORDING[:end])))
             self.assertEqual(front, entries[: len(front)])
             if end >= 15:
-                self.assertEqual(barformats.entries_of(barformats.whole_recording(RECORDING[:end])), (front, True))
+                self.assertEqual(files.entries_of(files.whole_recording(RECORDING[:end])), (front, True))
 
     def test_what_stands_behind_the_end(self):
-        self.assertFalse(barformats.entries_of(RECORDING + b"\x00")[1])
-        self.assertFalse(barformats.entries_of(RECORDING[:-1] + b"\x03")[1])
+        self.assertFalse(files.entries_of(RECORDING + b"\x00")[1])
+        self.assertFalse(files.entries_of(RECORDING[:-1] + b"\x03")[1])
 
     def test_an_empty_datagram(self):
-        self.assertEqual(barformats.entries_of(bytes(15) + b"\x02\x00\x00\x01\x00"), ([b"", None], True))
+        self.assertEqual(files.entries_of(bytes(15) + b"\x02\x00\x00\x01\x00"), ([b"", None], True))
 
 
 class Others(unittest.TestCase):
     def test_transcript(self):
-        self.assertEqual([*barformats.transcript_of("1 2 ba47\n12 0 00\n")], [(1, 2, b"\xba\x47"), (12, 0, b"\x00")])
+        self.assertEqual([*files.transcript_of("1 2 ba47\n12 0 00\n")], [(1, 2, b"\xba\x47"), (12, 0, b"\x00")])
         for printed in ("1 2\n", "1 2 3\n", "x 2 ba\n", "1 2 ba 3\n", "\n"):
             with self.subTest(printed=printed), self.assertRaises(Malformed):
-                [*barformats.transcript_of("1 2 ba\n" + printed)]
+                [*files.transcript_of("1 2 ba\n" + printed)]
 
     def test_table(self):
         table = (ROOT / "examples/evidence/table").read_bytes()
-        manifests = [*barformats.manifests_of(table)]
+        manifests = [*files.manifests_of(table)]
         self.assertEqual([int.from_bytes(manifest[16:20], "big") for _, manifest in manifests], [1, 2, 4, 6])
         self.assertEqual(b"".join(len(it).to_bytes(2, "big") + it for _, it in manifests), table)
         self.assertEqual([table[place + 2 : place + 5] for place, _ in manifests], [b"\xba\x47\x01"] * len(manifests))
@@ -242,28 +243,28 @@ class Others(unittest.TestCase):
         table = b"\x00\x01a\x00\x02bc"
         for end in (1, 2, 4, 5, 6):
             with self.assertRaises(Malformed):
-                [*barformats.manifests_of(table[:end])]
-        self.assertEqual([*barformats.manifests_of(table[:3])], [(0, b"a")])
+                [*files.manifests_of(table[:end])]
+        self.assertEqual([*files.manifests_of(table[:3])], [(0, b"a")])
 
     def test_names_of_findings(self):
         found = {"party.1.table": (1, "table"), "party.0.12": (0, "12"), "party.12.3": (12, "3")}
         others = ["party.1.played", "party.1.4.bak", "party.1", "party.x.4", "party.1.table2", "aparty.1.4", "party.1.4\n"]
-        self.assertEqual({name: barformats.finding_of(name) for name in [*found, *others]}, found | dict.fromkeys(others))
+        self.assertEqual({name: files.finding_of(name) for name in [*found, *others]}, found | dict.fromkeys(others))
 
     def test_heads_of_datagrams(self):
         session = Session(1, ID, 2, 2, 1, 1, 1, 20_000, 20, 5, 3, 2)
         whole = datagram(8, 1, 65_535)
-        self.assertEqual(barformats.head_of(whole, session), (8, 1, 65_535))
-        self.assertEqual({barformats.head_of(whole[:end], session) for end in range(16)}, {None})
+        self.assertEqual(files.head_of(whole, session), (8, 1, 65_535))
+        self.assertEqual({files.head_of(whole[:end], session) for end in range(16)}, {None})
         for at in range(12):
             changed = whole[:at] + bytes([whole[at] ^ 1]) + whole[at + 1 :]
-            self.assertEqual(barformats.head_of(changed, session), (9, 1, 65_535) if at == 3 else None)
+            self.assertEqual(files.head_of(changed, session), (9, 1, 65_535) if at == 3 else None)
 
     def test_datagrams_of_another_version(self):
         session = Session(1, ID, 2, 2, 1, 1, 1, 20_000, 20, 5, 3, 2)
         sessions = {1: session, 2: dataclasses.replace(session, version=2)}
         for (version, each), named in itertools.product(sessions.items(), range(4)):
-            head = barformats.head_of(b"\xba\x47" + bytes([named]) + datagram(8, 1, 2)[3:], each)
+            head = files.head_of(b"\xba\x47" + bytes([named]) + datagram(8, 1, 2)[3:], each)
             self.assertEqual(head, (8, 1, 2) if named == version else None)
 
 

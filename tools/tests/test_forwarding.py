@@ -9,9 +9,9 @@ import unittest
 
 from support import ID, RoomCase, has_ended, wait_for
 
-import barforwarding
-from barformats import Session
-from barhosts import Host
+from gossip.formats.files import Session
+from gossip.networks import forwarding
+from gossip.networks.host_text import Host
 
 SESSION = Session(1, ID, 10, 6, 1, 1, 1, 24_000, 50, 6, 3, 4)
 ONE = Host("one", "192.0.2.10", (0, 1), "192.0.2.10")
@@ -28,6 +28,7 @@ After=network-online.target
 [Service]
 ExecStart=/usr/bin/socat -b 65507 -u UDP4-RECV:24002,bind=127.0.0.1,rcvbuf=4194304 UDP4-SENDTO:192.0.2.11:24002
 DynamicUser=yes
+SuccessExitStatus=143
 Restart=always
 RestartSec=1
 """
@@ -58,7 +59,7 @@ table ip bar_{ID} {{
 
 
 def ways(host):
-    return {way.party: way for way in barforwarding.ways_of(SESSION, HOSTS, host)}
+    return {way.party: way for way in forwarding.ways_of(SESSION, HOSTS, host)}
 
 
 class Ways(unittest.TestCase):
@@ -79,33 +80,33 @@ class Ways(unittest.TestCase):
 
 class Texts(unittest.TestCase):
     def test_a_unit(self):
-        self.assertEqual(barforwarding.unit_of(SESSION, ways(ONE)[2]), UNIT)
-        inward = barforwarding.unit_of(SESSION, ways(TWO)[2])
+        self.assertEqual(forwarding.unit_of(SESSION, ways(ONE)[2]), UNIT)
+        inward = forwarding.unit_of(SESSION, ways(TWO)[2])
         self.assertIn(f"Description=Datagrams of session {ID} for party 2, which come to 10.0.0.5\n", inward)
         self.assertIn(" UDP4-RECV:24002,bind=10.0.0.5,rcvbuf=4194304 UDP4-SENDTO:127.0.0.1:24002\n", inward)
 
     def test_the_units_of_a_host(self):
-        files = barforwarding.files_of(SESSION, HOSTS, TWO, barforwarding.SOCAT)
+        files = forwarding.files_of(SESSION, HOSTS, TWO, forwarding.SOCAT)
         names = [f"bar-{ID}-{name}.service" for name in ("to-0", "to-1", "for-2", "for-4", "to-3")]
         self.assertEqual([*files], [*names, f"bar-{ID}.target"])
         wants = f"[Unit]\nDescription=What forwards datagrams of session {ID}\nWants={' '.join(names)}\n"
         self.assertEqual(files[f"bar-{ID}.target"], wants)
 
-    @unittest.skipUnless(shutil.which("systemd-analyze") and pathlib.Path(barforwarding.SOCAT_PATH).exists(), "there is no systemd or no socat")
+    @unittest.skipUnless(shutil.which("systemd-analyze") and shutil.which(forwarding.SOCAT_PATH), "there is no systemd or no socat")
     def test_systemd_takes_the_units(self):
         with tempfile.TemporaryDirectory() as room:
-            for name, text in barforwarding.files_of(SESSION, HOSTS, TWO, barforwarding.SOCAT).items():
+            for name, text in forwarding.files_of(SESSION, HOSTS, TWO, forwarding.SOCAT).items():
                 pathlib.Path(room, name).write_text(text)
             ran = subprocess.run(["systemd-analyze", "verify", *pathlib.Path(room).iterdir()], capture_output=True, text=True)
             self.assertEqual((ran.returncode, ran.stderr), (0, ""))
 
     def test_the_table_of_a_host(self):
         self.maxDiff = None
-        self.assertEqual(barforwarding.files_of(SESSION, HOSTS, TWO, barforwarding.NFTABLES), {f"bar-{ID}.nft": TABLE})
+        self.assertEqual(forwarding.files_of(SESSION, HOSTS, TWO, forwarding.NFTABLES), {f"bar-{ID}.nft": TABLE})
 
     def test_scripts_are_scripts(self):
-        for by in barforwarding.PROGRAMS:
-            text = barforwarding.script_of(SESSION, HOSTS, TWO, by)
+        for by in forwarding.PROGRAMS:
+            text = forwarding.script_of(SESSION, HOSTS, TWO, by)
             self.assertTrue(text.startswith(f"#!/bin/sh\n# Forwards datagrams of session {ID} on host two by {by}, until it is stopped.\n"))
             self.assertIn('echo "forwarding between party 2 and party 4 at 10.0.0.5 and 192.0.2.10 and 192.0.2.12"\n', text)
             self.assertEqual(subprocess.run(["sh", "-n"], input=text, text=True).returncode, 0)
@@ -117,11 +118,11 @@ class Scripts(RoomCase):
     def script(self, program):
         """The script of a host, which looks for its program and units here."""
         (self.room / "forward").mkdir()
-        files = barforwarding.files_of(SESSION, HOSTS, TWO, barforwarding.SOCAT)
+        files = forwarding.files_of(SESSION, HOSTS, TWO, forwarding.SOCAT)
         for name, text in files.items():
-            (self.room / "forward" / name).write_text(text.replace(barforwarding.SOCAT_PATH, str(program)))
+            (self.room / "forward" / name).write_text(text.replace(forwarding.SOCAT_PATH, str(program)))
         path = self.room / "forward.sh"
-        path.write_text(barforwarding.script_of(SESSION, HOSTS, TWO, barforwarding.SOCAT).replace(barforwarding.SOCAT_PATH, str(program)))
+        path.write_text(forwarding.script_of(SESSION, HOSTS, TWO, forwarding.SOCAT).replace(forwarding.SOCAT_PATH, str(program)))
         return path
 
     def test_all_units_are_started_and_ended(self):
@@ -134,7 +135,7 @@ class Scripts(RoomCase):
             started = {int(path.suffix[1:]): path.read_text() for path in self.room.glob("words.*")}
             process.send_signal(signal.SIGTERM)
             self.assertEqual(process.wait(), 0)
-        told = sorted(" ".join(barforwarding.socat_words(way)[1:]) for way in ways(TWO).values())
+        told = sorted(" ".join(forwarding.socat_words(way)[1:]) for way in ways(TWO).values())
         self.assertEqual(sorted(text.strip() for text in started.values()), told)
         self.assertTrue(all(map(has_ended, started)))
 
@@ -156,7 +157,7 @@ class Scripts(RoomCase):
     def test_no_nftables(self):
         (self.room / "forward").mkdir()
         path = self.room / "forward.sh"
-        path.write_text(barforwarding.script_of(SESSION, HOSTS, TWO, barforwarding.NFTABLES))
+        path.write_text(forwarding.script_of(SESSION, HOSTS, TWO, forwarding.NFTABLES))
         tools = self.room / "tools"
         tools.mkdir()
         for name in ("sh", "dirname"):

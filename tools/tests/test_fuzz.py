@@ -42,9 +42,9 @@ class Scripts(RoomCase):
         self.assertEqual([word.rpartition("/")[2] for word in words[2:6]], ["session.toml", "recording", "bad-opening", "e.00002"])
 
     def test_a_program_that_fails(self):
-        status, out, _ = self.run_with("echo 'a message is spelled otherwise' >&2; exit 134")
+        status, out, _ = self.run_with("echo 'a message is spelled otherwise' >&2; exit 1")
         self.assertEqual(status, 1)
-        self.assertRegex(out[-1], "^FAILED: the program of tools/fuzz ends with status 134: .*a message is spelled otherwise.*; --seed 1 repeats it$")
+        self.assertRegex(out[-1], "^FAILED: bar_fuzz ends with status 1: .*a message is spelled otherwise.*; --seed 1 repeats it$")
 
     def test_words_that_are_refused(self):
         status, _, err = run_script("fuzz-core", "--count", 0, "--seed", -2)

@@ -5,7 +5,7 @@ import unittest
 
 from support import need_program
 
-from barformats import BLOCK, CASE, DATAGRAM_HEAD, EVIDENCE, KEY, KEYREQ, MANIFEST, REQUEST, SIGNED
+from gossip.formats.files import CASE, DATAGRAM_HEAD, EVIDENCE, KEY, KEYREQ, MANIFEST, REQUEST, SIGNED
 from chosen_peers import ChosenCase, Peer, block_of, changed, deliver, evidence_of, number_of
 
 # the kinds that a session sends where nobody accuses

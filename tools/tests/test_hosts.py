@@ -3,9 +3,9 @@ import unittest
 
 from support import ID, RoomCase
 
-import barhosts
-from barformats import Session
-from barscript import Refusal
+from gossip.formats.files import Session
+from gossip.networks import host_text
+from gossip.scripts.console import Refusal
 
 SESSION = Session(1, ID, 10, 6, 1, 1, 1, 26_144, 50, 6, 3, 3)
 
@@ -21,17 +21,17 @@ ONE, TWO = table(), table('"two"', '"192.0.2.11"', "[3, 2]")
 class Texts(unittest.TestCase):
     def refused(self, text):
         with self.assertRaises(Refusal) as refusal:
-            barhosts.hosts_of_text(text, SESSION)
+            host_text.hosts_of_text(text, SESSION)
         return [*refusal.exception.args]
 
     def test_hosts(self):
-        hosts = barhosts.hosts_of_text(ONE + TWO, SESSION)
-        self.assertEqual(hosts[0], barhosts.Host("one", "192.0.2.10", (0, 1), "192.0.2.10"))
-        self.assertEqual(hosts[1], barhosts.Host("two", "192.0.2.11", (2, 3), "192.0.2.11"))
+        hosts = host_text.hosts_of_text(ONE + TWO, SESSION)
+        self.assertEqual(hosts[0], host_text.Host("one", "192.0.2.10", (0, 1), "192.0.2.10"))
+        self.assertEqual(hosts[1], host_text.Host("two", "192.0.2.11", (2, 3), "192.0.2.11"))
 
     def test_ranges_and_an_address_of_its_own(self):
         text = table(parties="[0]") + table('"two"', '"192.0.2.11"', '["1-3"]', 'listen = "10.0.0.5"')
-        host = barhosts.hosts_of_text(text, SESSION)[1]
+        host = host_text.hosts_of_text(text, SESSION)[1]
         self.assertEqual((host.parties, host.address, host.listen), ((1, 2, 3), "192.0.2.11", "10.0.0.5"))
 
     def test_texts_that_are_none(self):
@@ -97,15 +97,15 @@ class Texts(unittest.TestCase):
 class Files(RoomCase):
     def test_a_file_that_cannot_be_read(self):
         told = f"{self.room / 'none'} can't be read: No such file or directory"
-        self.assertEqual(self.reasons_of(lambda: barhosts.read_hosts(self.room / "none", SESSION)), (told,))
+        self.assertEqual(self.reasons_of(lambda: host_text.read_hosts(self.room / "none", SESSION)), (told,))
         path = self.room / "hosts.toml"
         path.write_bytes(b"\xff")
-        self.assertIn("hosts.toml can't be read: ", self.reasons_of(lambda: barhosts.read_hosts(path, SESSION))[0])
+        self.assertIn("hosts.toml can't be read: ", self.reasons_of(lambda: host_text.read_hosts(path, SESSION))[0])
 
     def test_a_file_that_can(self):
         path = self.room / "hosts.toml"
         path.write_text(ONE + TWO)
-        self.assertEqual([host.name for host in barhosts.read_hosts(path, SESSION)], ["one", "two"])
+        self.assertEqual([host.name for host in host_text.read_hosts(path, SESSION)], ["one", "two"])
 
 
 if __name__ == "__main__":

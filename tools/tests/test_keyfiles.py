@@ -3,9 +3,9 @@ import unittest
 
 from support import RoomCase, fake_program, lines_of, run_script
 
-import barkeyfiles
-from barkeyfiles import Left
-from barsession import free_port
+from gossip.sessions.session_folder import free_port
+from gossip.trouble import keyfiles
+from gossip.trouble.keyfiles import Left
 
 FRESH, SPENT = b"lms = 5\nspent = false\n", b"lms = 5\nspent = true\n"
 
@@ -27,19 +27,19 @@ class Benches(RoomCase):
     def setUp(self):
         super().setUp()
         self.program = fake_program(self.room, live=True)
-        self.bench = lines_of(lambda: barkeyfiles.Bench(self.room, self.program, free_port(3)))[0]
+        self.bench = lines_of(lambda: keyfiles.Bench(self.room, self.program, free_port(3)))[0]
 
     def test_a_program_that_writes_over_keys(self):
-        faults = [*barkeyfiles.over_faults(self.bench)]
+        faults = [*keyfiles.over_faults(self.bench)]
         self.assertTrue(any(fault.startswith("keygen over a key: status 0") for fault in faults), faults)
         self.assertIn("keygen writes over a key", faults)
 
     def test_a_program_that_makes_files_for_all(self):
-        faults = [*barkeyfiles.mode_faults(self.bench, 0o022)]
+        faults = [*keyfiles.mode_faults(self.bench, 0o022)]
         self.assertIn("under the mask 022 made has the mode 644", faults)
 
     def test_a_peer_that_is_killed_at_once(self):
-        self.assertEqual(barkeyfiles.killed_faults(self.bench, 0, False), (False, []))
+        self.assertEqual(keyfiles.killed_faults(self.bench, 0, False), (False, []))
 
 
 class Script(RoomCase):

@@ -5,8 +5,8 @@ import unittest
 import support  # noqa: F401
 from made_runs import busy_run
 
-import barlacking
-from barlacking import Lacking
+from gossip.reports import lacking
+from gossip.reports.lacking import Lacking
 
 
 def short_run(lacked, **peers):
@@ -26,25 +26,25 @@ def short_run(lacked, **peers):
 
 class Lines(unittest.TestCase):
     def test_nothing_is_lacking(self):
-        self.assertEqual([*barlacking.lines_of(short_run([]), {})], [])
+        self.assertEqual([*lacking.lines_of(short_run([]), {})], [])
 
     def test_each_cause(self):
         run = short_run([(1, 4, 0), (1, 4, 1), (2, 4, 0), (2, 1, 0), (3, 2, 1), (3, 3, 1)])
-        self.assertEqual(barlacking.lacking(run, {2: 7, 3: 0}), Lacking(3, 1, 2))
+        self.assertEqual(lacking.lacking(run, {2: 7, 3: 0}), Lacking(3, 1, 2))
         told = "peers lacked 3 updates of the last round, whose updates can't be traded "
         told += "(let the stream end a round earlier, or take --fanout 3), "
         told += "1 update where a receive buffer ran over and lost datagrams and 2 updates that didn't come in time"
-        self.assertEqual([*barlacking.lines_of(run, {2: 7, 3: 0})], [told])
+        self.assertEqual([*lacking.lines_of(run, {2: 7, 3: 0})], [told])
 
     def test_peers_that_are_not_counted(self):
         lacked = [(peer, 1, 0) for peer in (1, 2, 3)]
         run = short_run(lacked, peer1={"lies": True}, peer2={"whole": False}, peer3={"refused": "it left no recording"})
-        self.assertEqual(barlacking.lacking(run, {}), Lacking())
+        self.assertEqual(lacking.lacking(run, {}), Lacking())
 
     def test_updates_without_bytes(self):
         run = short_run([(1, 1, 0), (2, 1, 0), (3, 1, 0)])
         run.releases[0] = dataclasses.replace(run.releases[0], bytes=0)
-        self.assertEqual(barlacking.lacking(run, {}), Lacking())
+        self.assertEqual(lacking.lacking(run, {}), Lacking())
 
 
 if __name__ == "__main__":

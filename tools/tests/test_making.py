@@ -7,9 +7,9 @@ import unittest
 
 from support import NUMBERS, RoomCase, fake_program, lines_of, run_script
 
-import barformats
-import barmaking
-import barscript
+from gossip.formats import files
+from gossip.scripts import console
+from gossip.sessions import making
 
 
 class Refusals(RoomCase):
@@ -24,7 +24,7 @@ class Refusals(RoomCase):
 
     def faults(self, stream=None, folder=None, seed=None, **numbers):
         """What refuses a session."""
-        wanted = barmaking.Wanted(folder or self.room / "new", stream or self.stream, NUMBERS | numbers, seed)
+        wanted = making.Wanted(folder or self.room / "new", stream or self.stream, NUMBERS | numbers, seed)
         return [*wanted.faults()]
 
     def test_all_faults_are_told(self):
@@ -39,11 +39,11 @@ class Refusals(RoomCase):
         self.assertEqual(self.refused("--peers", 1), ["REFUSED: --peers is 1: it has to be a whole number of 2 to 200"])
 
     def test_each_number_out_of_its_range(self):
-        bounds = {name: barformats.NUMBERS[name] for name in (*barmaking.DEFAULTS, "port")}
+        bounds = {name: files.NUMBERS[name] for name in (*making.DEFAULTS, "port")}
         tries = ((name, value) for name, number in bounds.items() for value in (number.least - 1, number.most + 1, "many"))
         for name, value in tries:
             with self.subTest(name=name, value=value):
-                self.assertTrue(self.faults(**{name: value})[0].startswith(f"{barmaking.option_of(name)} is "))
+                self.assertTrue(self.faults(**{name: value})[0].startswith(f"{making.option_of(name)} is "))
 
     def test_fanout_above_the_number_of_peers(self):
         self.assertEqual(self.faults(fanout=3), ["--fanout is 3: it has to be a whole number of 1 to 2, the number of peers"])
@@ -111,7 +111,7 @@ class Makings(RoomCase):
         self.assertEqual((session.rounds, session.peers, session.port), (1, 2, 20_000))
         self.assertEqual(folder.stream.read_bytes(), self.stream.read_bytes())
         self.assertEqual(sorted(file.name for file in folder.path.iterdir()), ["key.0", "key.1", "key.2", "session.toml", "stream"])
-        keys = [barformats.KeyFile.of_text(folder.key(party).read_bytes()) for party in range(3)]
+        keys = [files.KeyFile.of_text(folder.key(party).read_bytes()) for party in range(3)]
         self.assertEqual([fault for party, key in enumerate(keys) for fault in key.faults(session, party)], [])
         self.assertEqual({stat.S_IMODE(file.stat().st_mode) for file in (folder.path, folder.key(1))}, {0o700, 0o600})
 
@@ -119,15 +119,15 @@ class Makings(RoomCase):
         folder, session = self.make_session(fake_program(self.room), version=2, per_round=128)
         self.assertEqual((session.version, session.per_round, session.room), (2, 128, 128 * 1022))
         self.assertEqual(folder.session.read_text().splitlines()[0], "version = 2")
-        self.assertEqual([barformats.KeyFile.of_text(folder.key(party).read_bytes()).party for party in range(3)], [0, 1, 2])
+        self.assertEqual([files.KeyFile.of_text(folder.key(party).read_bytes()).party for party in range(3)], [0, 1, 2])
 
     def test_a_session_of_two_levels(self):
         words = ["--peers", 2, "--rounds", 56, "--fanout", 1, "--top", 5, "--stream", self.stream, "--bar", fake_program(self.room)]
         status, _, err = run_script("make-session", self.room / "new", *words)
         self.assertEqual(status, 0, err)
-        session = barformats.Session.read(self.room / "new/session.toml")
+        session = files.Session.read(self.room / "new/session.toml")
         self.assertEqual((session.top, session.lms, session.ots, session.rounds), (5, 5, 3, 56))
-        keys = [barformats.KeyFile.of_text((self.room / f"new/key.{party}").read_bytes()) for party in range(3)]
+        keys = [files.KeyFile.of_text((self.room / f"new/key.{party}").read_bytes()) for party in range(3)]
         self.assertEqual([fault for party, key in enumerate(keys) for fault in key.faults(session, party)], [])
 
     def test_the_same_seed_makes_the_same_keys(self):
@@ -140,7 +140,7 @@ class Makings(RoomCase):
     def test_lines_of_the_script(self):
         words = ["--peers", 2, "--rounds", 1, "--fanout", 1, "--lms", 5, "--stream", self.stream, "--bar", fake_program(self.room)]
         status, out, err = run_script("make-session", self.room / "a/b", *words)
-        self.assertEqual((status, barformats.Session.read(self.room / "a/b/session.toml").version), (0, 3))
+        self.assertEqual((status, files.Session.read(self.room / "a/b/session.toml").version), (0, 3))
         fingerprint = hashlib.sha256((self.room / "a/b/session.toml").read_bytes()).hexdigest()
         expected = "expected: peers play some 50% of the stream, a single one 50% to 50%, if no party is late and nothing is lost"
         last = "1 update of the last round can't be traded: take more rounds, or --fanout 2"
@@ -149,14 +149,14 @@ class Makings(RoomCase):
         self.assertEqual((err[0], err[-1]), ("keys: 1 of 3", "keys: 3 of 3"))
         status, out, _ = run_script("make-session", self.room / "a/c", *words, "--version", 2, "--per-round", 128)
         self.assertRegex(out[-1], r"^OK: session .*, a stream of 600 bytes in a room of 130816$")
-        self.assertEqual((status, barformats.Session.read(self.room / "a/c/session.toml").version), (0, 2))
+        self.assertEqual((status, files.Session.read(self.room / "a/c/session.toml").version), (0, 2))
 
     def test_a_failing_program_leaves_nothing(self):
         program, mask = fake_program(self.room, status={"keygen": 70}, said="bar: it fails\n"), os.umask(0o022)
         os.umask(mask)
-        with self.assertRaises(barscript.Failure) as failure:
-            wanted = barmaking.Wanted(self.room / "a/b/session", self.stream, NUMBERS)
-            lines_of(lambda: barmaking.make(wanted, program))
+        with self.assertRaises(console.Failure) as failure:
+            wanted = making.Wanted(self.room / "a/b/session", self.stream, NUMBERS)
+            lines_of(lambda: making.make(wanted, program))
         told = "the key of party [0-2] couldn't be made: status 70: there is no memory left .bar: it fails."
         self.assertRegex(str(failure.exception), told)
         self.assertEqual(sorted(file.name for file in self.room.iterdir()), ["bar", "bar.json", "stream"])

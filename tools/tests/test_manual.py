@@ -7,7 +7,7 @@ import unittest
 from support import ROOT
 from test_documents import README, Repository
 
-import barmanual
+from gossip.documents import manual
 
 PAGE = r""".\" Counting.
 .TH BAR 1
@@ -32,7 +32,7 @@ it was done.
 
 class Lines(unittest.TestCase):
     def lines(self, *lines):
-        return barmanual.markdown_of("\n".join(lines)).splitlines()
+        return manual.markdown_of("\n".join(lines)).splitlines()
 
     def test_each_line_is_one(self):
         lines = self.lines(*PAGE.splitlines())

@@ -8,9 +8,9 @@ from unittest import mock
 
 from support import TOOLS, RoomCase, lines_of, run_script
 
-from barhazards import Skipped
-from barmemory import Refused, Refusing
-from barprogram import Ran
+from gossip.programs.bar import Ran
+from gossip.trouble.hazards import Skipped
+from gossip.trouble.memory import Refused, Refusing
 
 
 def script(name):
@@ -38,7 +38,7 @@ class Refusals(RoomCase):
             '#include <stdio.h>\n#include <stdlib.h>\nint main(void) {\n    void *a = malloc(9), *b = calloc(2, 9), *c = realloc(NULL, 9);\n'
             '    char line[] = "000\\n";\n    line[0] += !a; line[1] += !b; line[2] += !c;\n    fputs(line, stderr);\n    return !(a && b && c);\n}\n'
         )
-        self.assertEqual(trying.barprogram.run_words("cc", ["-O0", "-fno-builtin", "-o", str(program), str(source)]).status, 0)
+        self.assertEqual(trying.bar.run_words("cc", ["-O0", "-fno-builtin", "-o", str(program), str(source)]).status, 0)
         seen = {number: refusing.run([program], self.room / "counted", number) for number in range(5)}
         told = {number: (it.ran.status, it.ran.said, it.counted) for number, it in seen.items()}
         whole = (0, b"000\n", 3)

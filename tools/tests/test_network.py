@@ -5,8 +5,8 @@ import unittest
 
 import support  # noqa: F401, by which the modules of the tools are found
 
-import barnetwork
-from barformats import Session
+from gossip.formats.files import Session
+from gossip.networks import disturbances
 
 SESSION = Session(1, support.ID, 10, 6, 1, 1, 1, 26_144, 50, 6, 3, 5)
 
@@ -14,23 +14,23 @@ SESSION = Session(1, support.ID, 10, 6, 1, 1, 1, 26_144, 50, 6, 3, 5)
 def words(*given):
     """The words that a script takes."""
     parser = argparse.ArgumentParser()
-    barnetwork.take_network(parser)
+    disturbances.take_network(parser)
     return parser.parse_args(given)
 
 
 def faults(*given):
-    return [*barnetwork.faults_of_network(words(*given), SESSION)]
+    return [*disturbances.faults_of_network(words(*given), SESSION)]
 
 
 class Words(unittest.TestCase):
     def test_a_network_and_liars(self):
-        network = barnetwork.network_of(words("--loss", "5", "--delay", "20", "--seed", "s", "--liar", "5:key", "--liar", "2:leaf"))
-        self.assertEqual(network, barnetwork.Network(5, 0, 20, "s", {5: "key", 2: "leaf"}))
+        network = disturbances.network_of(words("--loss", "5", "--delay", "20", "--seed", "s", "--liar", "5:key", "--liar", "2:leaf"))
+        self.assertEqual(network, disturbances.Network(5, 0, 20, "s", {5: "key", 2: "leaf"}))
         self.assertFalse(network.is_plain)
         self.assertEqual(network.told, "the network loses 5%, delays by up to 20 ms, seed s")
 
     def test_no_words(self):
-        network = barnetwork.network_of(words())
+        network = disturbances.network_of(words())
         self.assertTrue(network.is_plain)
         self.assertEqual(len(network.seed), 8)
         self.assertIn("delivers each datagram once", network.told)
@@ -49,14 +49,14 @@ class Words(unittest.TestCase):
 
     def test_no_other_partner_among_two(self):
         two = Session(1, support.ID, 10, 6, 1, 1, 1, 26_144, 50, 6, 3, 2)
-        told = [*barnetwork.faults_of_network(words("--liar", "2:partner"), two)]
+        told = [*disturbances.faults_of_network(words("--liar", "2:partner"), two)]
         self.assertEqual(told, ["--liar 2:partner: among two peers there is no other partner"])
 
 
 class OfDatagrams(unittest.TestCase):
     def drawn(self, count, *others, **network):
         """What becomes of so many datagrams from 1 to 2, before each of which these pairs send one."""
-        fates = barnetwork.Fates(barnetwork.Network(**network))
+        fates = disturbances.Fates(disturbances.Network(**network))
         delays = []
         for _ in range(count):
             for pair in others:

@@ -6,8 +6,7 @@ import unittest
 
 from support import RoomCase
 
-import barnumbers
-import barscript
+from gossip.scripts import console, saving
 
 ROWS = [{"what": "key", "ms": 1.5}, {"what": "sign, verify", "ms": 2.0, "noise": None}]
 
@@ -15,13 +14,13 @@ ROWS = [{"what": "key", "ms": 1.5}, {"what": "sign, verify", "ms": 2.0, "noise":
 class Numbers(RoomCase):
     def words(self, *given):
         parser = argparse.ArgumentParser()
-        barnumbers.take_files(parser)
+        saving.take_files(parser)
         return parser.parse_args(list(map(str, given)))
 
     def test_rows_are_written_as_json_and_as_csv(self):
         words = self.words("--json", self.room / "n.json", "--csv", self.room / "n.csv")
-        barnumbers.refuse_files(words)
-        barnumbers.write_files(words, ROWS)
+        saving.refuse_files(words)
+        saving.write_files(words, ROWS)
         self.assertEqual(json.loads((self.room / "n.json").read_text()), ROWS)
         with open(self.room / "n.csv") as file:
             told = [*csv.DictReader(file)]
@@ -29,13 +28,13 @@ class Numbers(RoomCase):
 
     def test_nothing_is_written_where_no_file_is_named(self):
         before = [*self.room.iterdir()]
-        barnumbers.write_files(self.words(), ROWS)
+        saving.write_files(self.words(), ROWS)
         self.assertEqual([*self.room.iterdir()], before)
 
     def test_a_file_that_cannot_be_written_is_refused_before(self):
         for path in (self.room, self.room / "none" / "n.json"):
-            with self.assertRaises(barscript.Refusal):
-                barnumbers.refuse_files(self.words("--json", path))
+            with self.assertRaises(console.Refusal):
+                saving.refuse_files(self.words("--json", path))
 
 
 if __name__ == "__main__":

@@ -7,7 +7,7 @@ import unittest
 
 from support import need_program
 
-from barformats import CASE, DIVULGE, KEY, KEYREQ, QUERY, REPLY, REQUEST, RESPONSE
+from gossip.formats.files import CASE, DIVULGE, KEY, KEYREQ, QUERY, REPLY, REQUEST, RESPONSE
 from chosen_peers import ChosenCase, Peer, block_of, changed, deliver, evidence_of, number_of, of_round, table_of, window
 
 # the secrets of the broadcaster and of five peers; in one round peer 5 is chosen by the peers 1, 2 and 3, and peer 4 chooses peer 3

@@ -4,10 +4,10 @@ from unittest import mock
 
 from support import RoomCase, fake_program, lines_of
 
-import barprogram
-import barscript
-import barsession
-from barscript import Count
+from gossip.programs import bar
+from gossip.scripts import console
+from gossip.scripts.console import Count
+from gossip.sessions import session_folder
 
 
 class Counts(unittest.TestCase):
@@ -22,7 +22,7 @@ class Counts(unittest.TestCase):
                 now = 100.0 + seconds
                 count.tell(done) if done else count.wait()
 
-        with mock.patch("barscript.time.monotonic", lambda: now):
+        with mock.patch("gossip.scripts.console.time.monotonic", lambda: now):
             return lines_of(call)[2]
 
     def test_short_counts_have_no_estimate(self):
@@ -45,7 +45,7 @@ class Counts(unittest.TestCase):
 
     def test_only_late_counts(self):
         now = 0.0
-        with mock.patch("barscript.time.monotonic", lambda: now):
+        with mock.patch("gossip.scripts.console.time.monotonic", lambda: now):
             count = Count("gathered", 2)
             self.assertEqual(lines_of(lambda: count.tell_late(1))[2], [])
             now = 6.0
@@ -54,20 +54,20 @@ class Counts(unittest.TestCase):
 
 class Silences(RoomCase):
     def test_calls_that_take_long_are_told(self):
-        with mock.patch("barscript.SILENCE", 0.3), mock.patch("barscript.LONG", 0):
-            call = lambda seconds: barprogram.run_words("sleep", [seconds])
-            _, _, lines = lines_of(lambda: barprogram.spread(call, ["1"], "sleeps", seconds=9))
+        with mock.patch("gossip.scripts.console.SILENCE", 0.3), mock.patch("gossip.scripts.console.LONG", 0):
+            call = lambda seconds: bar.run_words("sleep", [seconds])
+            _, _, lines = lines_of(lambda: bar.spread(call, ["1"], "sleeps", seconds=9))
         self.assertEqual((lines[0], lines[-1]), ("sleeps: none of 1 after 0 seconds, some 9 seconds more", "sleeps: 1 of 1"))
 
     def test_how_long_keys_take(self):
         program, numbers = fake_program(self.room), {"lms": 7, "ots": 3}
-        measured = mock.patch("barsession.seconds_of_smallest", lambda *words: 0.25)
+        measured = mock.patch("gossip.sessions.session_folder.seconds_of_smallest", lambda *words: 0.25)
         with measured:
-            self.assertEqual(barsession.seconds_of_keys(program, range(3), "00" * 8, numbers), 256)
-            self.assertEqual(barsession.seconds_of_keys(program, range(3), "00" * 8, {"lms": 5, "top": 7, "ots": 3}), 256)
-            self.assertIsNone(barsession.seconds_of_keys(program, range(3), "00" * 8, {"lms": 6, "ots": 3}))
-        self.assertGreater(barsession.seconds_of_smallest(program, range(3), "00" * 8, 3), 0)
-        self.assertEqual(barscript.counted(1, "second"), "1 second")
+            self.assertEqual(session_folder.seconds_of_keys(program, range(3), "00" * 8, numbers), 256)
+            self.assertEqual(session_folder.seconds_of_keys(program, range(3), "00" * 8, {"lms": 5, "top": 7, "ots": 3}), 256)
+            self.assertIsNone(session_folder.seconds_of_keys(program, range(3), "00" * 8, {"lms": 6, "ots": 3}))
+        self.assertGreater(session_folder.seconds_of_smallest(program, range(3), "00" * 8, 3), 0)
+        self.assertEqual(console.counted(1, "second"), "1 second")
 
 
 if __name__ == "__main__":

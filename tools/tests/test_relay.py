@@ -7,12 +7,12 @@ from unittest import mock
 
 from support import ID, RoomCase, bound
 
-import barrelay
-from barformats import Session
-from barnetwork import Fates, Network
-from barrelay import Layout, Relay
-from barscript import Refusal
-from barsession import LOOPBACK, Folder, free_port
+from gossip.formats.files import Session
+from gossip.networks import relaying
+from gossip.networks.disturbances import Fates, Network
+from gossip.networks.relaying import Layout, Relay
+from gossip.scripts.console import Refusal
+from gossip.sessions.session_folder import LOOPBACK, Folder, free_port
 
 SESSION = Session(1, ID, 10, 6, 1, 1, 1, 26_144, 50, 6, 3, 2)
 
@@ -35,31 +35,31 @@ class Ports(unittest.TestCase):
                 self.assertEqual(layout.relayed[layout.base(sender) + receiver], (sender, receiver))
 
     def test_too_many_peers(self):
-        with mock.patch("barrelay.free_port", return_value=20_000), mock.patch("barrelay.take_files"):
-            self.assertEqual(barrelay.layout_for(dataclasses.replace(SESSION, peers=108)).parties, 109)
+        with mock.patch("gossip.networks.relaying.free_port", return_value=20_000), mock.patch("gossip.networks.relaying.take_files"):
+            self.assertEqual(relaying.layout_for(dataclasses.replace(SESSION, peers=108)).parties, 109)
             with self.assertRaisesRegex(Refusal, "109 peers have too many: take at most 108"):
-                barrelay.layout_for(dataclasses.replace(SESSION, peers=109))
+                relaying.layout_for(dataclasses.replace(SESSION, peers=109))
 
     def test_more_files_than_the_system_allows(self):
         with mock.patch.object(resource, "getrlimit", return_value=(64, 100)), mock.patch.object(resource, "setrlimit") as raised:
-            barrelay.take_files(100)
+            relaying.take_files(100)
             raised.assert_called_once_with(resource.RLIMIT_NOFILE, (100, 100))
             with self.assertRaisesRegex(Refusal, "101 files would be open, and the system allows 100"):
-                barrelay.take_files(101)
+                relaying.take_files(101)
 
 
 class Texts(RoomCase):
     def test_the_port_alone_is_another(self):
         text = "version = 1\nport = 24000\ntick_ms = 50\n[[peer]]\nkey = \"port = 24000\"\n"
-        self.assertEqual(barrelay.with_port(text, 7), text.replace("port = 24000\nt", "port = 7\nt"))
+        self.assertEqual(relaying.with_port(text, 7), text.replace("port = 24000\nt", "port = 7\nt"))
 
     def test_a_text_without_a_port(self):
         with self.assertRaisesRegex(Refusal, "no line of its own for its port"):
-            barrelay.with_port("version = 1", 7)
+            relaying.with_port("version = 1", 7)
 
     def test_a_text_for_each_party(self):
         (self.room / "session.toml").write_text("port = 24000\n")
-        paths = barrelay.write_texts(Folder(self.room), SESSION, Layout(20_000, 3), self.room)
+        paths = relaying.write_texts(Folder(self.room), SESSION, Layout(20_000, 3), self.room)
         self.assertEqual({party: path.read_text() for party, path in paths.items()},
             {0: "port = 20000\n", 1: "port = 20003\n", 2: "port = 20006\n"})
 
@@ -82,7 +82,7 @@ class HandingOn(unittest.TestCase):
         self.assertEqual(list(relay.due(100)), [])
         self.assertEqual(list(relay.due(100.015)), [(1, b"\1"), (1, b"\3")])
         self.assertEqual(list(relay.due(101)), [(1, b"\1"), (2, b"\0")])
-        self.assertEqual(relay.pause(101), barrelay.WAIT)
+        self.assertEqual(relay.pause(101), relaying.WAIT)
 
     def test_datagrams_between_parties(self):
         relay, ended = self.relay(repeat=100), threading.Event()

@@ -1,11 +1,12 @@
 """Logs of peers, and what replays, files and transcripts don't agree in."""
+import io
 import unittest
 
 from support import ID, RoomCase, datagram, fake_program, lines_of
 
-import barreplays
-from barformats import CASE, KEY, Malformed, Session, recording_of
-from barreplays import Log
+from gossip.formats.files import CASE, KEY, Malformed, Session, recording_of
+from gossip.reports import replays
+from gossip.reports.replays import Log
 
 SESSION = Session(1, ID, 2, 2, 1, 1, 1, 20_000, 20, 5, 3, 3)
 ONE, OTHER = datagram(CASE, 1, 2, b"one"), datagram(KEY, 1, 2, b"other")
@@ -17,7 +18,7 @@ def log(sent=(), taken=(), played=b"", whole=True, findings=None):
 
 class Unsent(unittest.TestCase):
     def unsent(self, logs):
-        return [*barreplays.unsent(SESSION, logs)]
+        return [*replays.unsent(SESSION, logs)]
 
     def test_a_repeated_datagram_was_sent(self):
         self.assertEqual(self.unsent({1: log(sent=[ONE]), 2: log(taken=[ONE, ONE, ONE])}), [])
@@ -34,14 +35,14 @@ class Unsent(unittest.TestCase):
 
     def test_counts_of_datagrams_between_peers(self):
         logs = {1: log(sent=[ONE, datagram(CASE, 1, 0)]), 2: log(taken=[ONE, ONE, datagram(CASE, 0, 2), b"junk"])}
-        self.assertEqual(barreplays.between_peers(SESSION, logs), (1, 2))
+        self.assertEqual(replays.between_peers(SESSION, logs), (1, 2))
 
 
 class Files(RoomCase):
     def differences(self, played, own):
         path = self.room / "party.1.played"
         path.write_bytes(played)
-        return [*barreplays.played_differences(path, own)]
+        return [*replays.played_differences(path, own)]
 
     def test_what_was_played(self):
         self.assertEqual(self.differences(b"abc", log(played=b"abc")), [])
@@ -53,40 +54,40 @@ class Files(RoomCase):
         self.assertEqual(self.differences(b"ab", log(played=b"abc", whole=False)), [])
 
     def test_what_was_played_is_missing(self):
-        self.assertEqual([*barreplays.played_differences(self.room / "none", log())], ["what it played is missing"])
+        self.assertEqual([*replays.played_differences(self.room / "none", log())], ["what it played is missing"])
 
     def test_what_was_found(self):
         own = log(findings={"table": b"t", "3": b"e"})
-        self.assertEqual([*barreplays.found_differences({"table": b"t", "3": b"e"}, own)], [])
-        self.assertEqual([*barreplays.found_differences({"table": b"u"}, own)], ["the replay finds other things: 3, table"])
-        self.assertEqual([*barreplays.found_differences({}, log(findings={"table": b"t"}, whole=False))], [])
+        self.assertEqual([*replays.found_differences({"table": b"t", "3": b"e"}, own)], [])
+        self.assertEqual([*replays.found_differences({"table": b"u"}, own)], ["the replay finds other things: 3, table"])
+        self.assertEqual([*replays.found_differences({}, log(findings={"table": b"t"}, whole=False))], [])
 
 
 class Logs(RoomCase):
     recording = recording_of(b"BARL\x01" + bytes.fromhex(ID) + b"\x00\x02", [None, ONE, None, None, OTHER])
 
     def test_ticks_of_what_was_taken_and_sent(self):
-        read = barreplays.log_of(self.recording, ["1 2 aa", f"5 0 {ONE.hex()}"], b"played", {"table": b""})
+        read = replays.log_of(io.BytesIO(self.recording), ["1 2 aa", f"5 0 {ONE.hex()}"], b"played", {"table": b""})
         self.assertEqual((read.whole, read.ticks, read.taken), (True, 3, [(1, ONE), (3, OTHER)]))
         self.assertEqual((read.sent, read.played, read.findings), ([(1, b"\xaa"), (3, ONE)], b"played", {"table": b""}))
 
     def test_equal_datagrams_are_kept_once(self):
         pool = {}
-        taken = barreplays.log_of(recording_of(bytes(15), [None, ONE, bytes(ONE), ONE]), [], b"", {}, pool).taken
-        sent = barreplays.log_of(recording_of(bytes(15), [None]), [f"1 2 {ONE.hex()}"], b"", {}, pool).sent
+        taken = replays.log_of(io.BytesIO(recording_of(bytes(15), [None, ONE, bytes(ONE), ONE])), [], b"", {}, pool).taken
+        sent = replays.log_of(io.BytesIO(recording_of(bytes(15), [None])), [f"1 2 {ONE.hex()}"], b"", {}, pool).sent
         self.assertEqual({id(it) for _, it in (*taken, *sent)}, {id(pool[ONE])})
 
     def test_a_number_of_no_input(self):
         for number in (0, 6):
             with self.assertRaises(Malformed):
-                barreplays.log_of(self.recording, [f"{number} 2 aa"], b"", {})
+                replays.log_of(io.BytesIO(self.recording), [f"{number} 2 aa"], b"", {})
 
     def test_a_replay(self):
         program = fake_program(self.room, sent={"2": [ONE.hex()]})
         folder, session = self.make_session(program)
         for end, whole in ((None, True), (-1, False), (-3, False)):
             folder.recording(2).write_bytes(self.recording[:end])
-            answer = barreplays.replay(folder, program, 2)
+            answer = replays.replay(folder, program, 2)
             self.assertEqual((answer.whole, answer.sent, answer.played), (whole, [(1, ONE)], b"played"))
         self.assertEqual((answer.taken, answer.findings), ([(1, ONE)], {"table": b""}))
 
@@ -94,7 +95,7 @@ class Logs(RoomCase):
         folder, _ = self.make_session(fake_program(self.room))
         folder.recording(2).write_bytes(self.recording)
         program = fake_program(self.room, status={"replay": 8}, said="bar: it fails\n")
-        answer, _, progress = lines_of(lambda: barreplays.replays_of(folder, program, [2]))
+        answer, _, progress = lines_of(lambda: replays.replays_of(folder, program, [2]))
         self.assertEqual(answer, ({}, {2: "its replay is refused: status 8: an input is refused (bar: it fails)"}))
         self.assertEqual(progress, ["replays: 1 of 1"])
 

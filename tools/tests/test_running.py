@@ -10,15 +10,13 @@ from unittest import mock
 
 from support import NUMBERS, RoomCase, bound, datagram, fake_program, lines_of, run_script
 
-import baraudits
-import barcauses
-import barmaking
-import barrunning
-import barscript
-import barsession
-from bardata import Run
-from barformats import KEYREQ, room_of
-from barprogram import Status
+from gossip.formats.files import KEYREQ, room_of
+from gossip.programs.bar import Status
+from gossip.reports import audits, failures
+from gossip.reports.run_data import Run
+from gossip.runs import runner
+from gossip.scripts import console
+from gossip.sessions import making, session_folder
 
 
 class SessionCase(RoomCase):
@@ -30,18 +28,18 @@ class SessionCase(RoomCase):
         cls.addClassCleanup(room.cleanup)
         cls.made = pathlib.Path(room.name)
         (cls.made / "stream").write_bytes(b"stream" * 100)
-        wanted = barmaking.Wanted(cls.made / "session", cls.made / "stream", NUMBERS)
-        lines_of(lambda: barmaking.make(wanted, fake_program(cls.made)))
+        wanted = making.Wanted(cls.made / "session", cls.made / "stream", NUMBERS)
+        lines_of(lambda: making.make(wanted, fake_program(cls.made)))
 
     def setUp(self):
         super().setUp()
         # what other programs take is no matter of these tests
-        counts = mock.patch("barwatching.COUNTS", self.room / "none")
+        counts = mock.patch("gossip.runs.watching.COUNTS", self.room / "none")
         counts.start()
         self.addCleanup(counts.stop)
         shutil.copytree(self.made / "session", self.room / "session")
-        self.folder = barsession.Folder(self.room / "session")
-        self.session = barrunning.session_of(self.folder)
+        self.folder = session_folder.Folder(self.room / "session")
+        self.session = runner.session_of(self.folder)
 
     def change_key(self, party, old, new):
         path = self.folder.key(party)
@@ -50,15 +48,15 @@ class SessionCase(RoomCase):
 
 class Refusals(SessionCase):
     def refused(self, kill=None, folder=None):
-        return self.reasons_of(lambda: barrunning.accept(folder or self.folder, kill))
+        return self.reasons_of(lambda: runner.accept(folder or self.folder, kill))
 
     def test_a_session_that_can_be_run(self):
-        self.assertEqual(barrunning.accept(self.folder, 2), self.session)
+        self.assertEqual(runner.accept(self.folder, 2), self.session)
 
     def test_a_folder_that_is_none(self):
-        (reason,) = self.refused(folder=barsession.Folder(self.room / "none"))
+        (reason,) = self.refused(folder=session_folder.Folder(self.room / "none"))
         self.assertIn("none/session.toml can't be read: No such file or directory; make a new session", reason)
-        (reason,) = self.refused(folder=barsession.Folder(self.stream))
+        (reason,) = self.refused(folder=session_folder.Folder(self.stream))
         self.assertIn("stream/session.toml can't be read: Not a directory; make a new session", reason)
 
     def test_a_text_that_is_none(self):
@@ -92,7 +90,7 @@ class Refusals(SessionCase):
         self.folder.stream.write_bytes(bytes(self.session.room + 1))
         self.assertIn("the stream has 2,045 bytes, and 1 round of 2 updates have room for 2,044: take 2 rounds", self.refused()[0])
         self.folder.stream.write_bytes(bytes(self.session.room))
-        self.assertEqual(barrunning.accept(self.folder), self.session)
+        self.assertEqual(runner.accept(self.folder), self.session)
 
     def test_results_of_another_run(self):
         self.folder.recording(1).write_bytes(b"of value")
@@ -117,7 +115,7 @@ class Refusals(SessionCase):
 
 class Causes(SessionCase):
     def cause(self, party, status):
-        return barcauses.cause_of(self.folder, self.session, party, status)
+        return failures.cause_of(self.folder, self.session, party, status)
 
     def test_a_file_that_is_in_the_way(self):
         self.folder.played(2).mkdir()
@@ -161,7 +159,7 @@ class Causes(SessionCase):
         self.assertEqual(self.cause(1, 139), "SIGSEGV ended it")
 
     def causes(self, statuses, status, kill=None):
-        return [*barcauses.causes_of(self.folder, self.session, statuses, status, kill)]
+        return [*failures.causes_of(self.folder, self.session, statuses, status, kill)]
 
     def test_all_is_well(self):
         self.folder.recording(1).touch()
@@ -191,7 +189,7 @@ class Outcomes(SessionCase):
     def run_session(self, kill=None, **ways):
         """Runs the session: the outcome, and the lines of standard output and standard error."""
         program = fake_program(self.room, **ways)
-        return lines_of(lambda: barrunning.run_session(self.folder, self.session, program, kill))
+        return lines_of(lambda: runner.run_session(self.folder, self.session, program, kill))
 
     def test_a_session_that_goes_well(self):
         sent = datagram(KEYREQ, 1, 2, b"\x00\x00\x00\x01\x00\x00", self.session.id).hex()
@@ -204,7 +202,7 @@ class Outcomes(SessionCase):
         self.assertTrue(self.folder.page.read_text().startswith("<!doctype html>"))
         self.assertEqual(err[-1], "replays: 2 of 2")
         self.assertRegex(err[0], "^the session begins in [0-9]+ s$")
-        self.assertIn("spent, since the session was run: all keys", self.reasons_of(lambda: barrunning.accept(self.folder))[0])
+        self.assertIn("spent, since the session was run: all keys", self.reasons_of(lambda: runner.accept(self.folder))[0])
 
     def test_a_run_is_written_as_data_and_drawn_again(self):
         self.run_session()
@@ -304,12 +302,12 @@ class Outcomes(SessionCase):
         self.folder.recording(1).write_bytes(front + b"\x02\x00\x05cut")
         self.folder.recording(2).write_bytes(front + b"\x00")
         program = fake_program(self.room, audited=["exchange 1 0 1 2 cases 1 1 keys 1 1", "balanced"])
-        audit = baraudits.audit_of(self.folder, self.session, program)
+        audit = audits.audit_of(self.folder, self.session, program)
         self.assertEqual((audit.line, audit.failures), ("the audit finds the one exchange balanced", []))
         self.assertEqual(self.folder.recording(1).read_bytes(), front + b"\x02\x00\x05cut")
 
     def test_what_was_lost_is_told_before_the_last_line(self):
-        with mock.patch("barrunning.Watch") as watch:
+        with mock.patch("gossip.runs.runner.Watch") as watch:
             watch.return_value.drops, watch.return_value.taken = {2: 31}, None
             watch.return_value.looks = lambda ended: ended.wait()
             outcome, out, _ = self.run_session()
@@ -326,16 +324,16 @@ class Ends(unittest.TestCase):
     """How a main ends, by its outcome or by what it raises."""
 
     def tearDown(self):
-        for number in barscript.SIGNALS:
+        for number in console.SIGNALS:
             signal.signal(number, self.before[number])
 
     def setUp(self):
-        self.before = {number: signal.getsignal(number) for number in barscript.SIGNALS}
+        self.before = {number: signal.getsignal(number) for number in console.SIGNALS}
 
     def end(self, main):
         """The exit status, and the lines of standard output and standard error."""
-        outcome = barscript.outcome_of(main, None)
-        return lines_of(lambda: barscript.tell(outcome))
+        outcome = console.outcome_of(main, None)
+        return lines_of(lambda: console.tell(outcome))
 
     def raises(self, error):
         def main(_):
@@ -344,19 +342,19 @@ class Ends(unittest.TestCase):
         return self.end(main)
 
     def test_outcomes(self):
-        self.assertEqual(self.end(lambda _: barscript.well("it is done")), (0, ["OK: it is done"], []))
-        self.assertEqual(self.end(lambda _: barscript.failed("one", "other")), (1, ["FAILED: one; other"], []))
+        self.assertEqual(self.end(lambda _: console.well("it is done")), (0, ["OK: it is done"], []))
+        self.assertEqual(self.end(lambda _: console.failed("one", "other")), (1, ["FAILED: one; other"], []))
 
     def test_refusals(self):
-        self.assertEqual(self.raises(barscript.Refusal("why: do this")), (2, [], ["REFUSED: why: do this"]))
+        self.assertEqual(self.raises(console.Refusal("why: do this")), (2, [], ["REFUSED: why: do this"]))
         lines = ["one", "other", "REFUSED: nothing was done, for the 2 reasons above"]
-        self.assertEqual(self.raises(barscript.Refusal("one", "other")), (2, [], lines))
-        self.assertEqual(self.raises(barscript.Refusal("why", status=101)), (101, [], ["REFUSED: why"]))
+        self.assertEqual(self.raises(console.Refusal("one", "other")), (2, [], lines))
+        self.assertEqual(self.raises(console.Refusal("why", status=101)), (101, [], ["REFUSED: why"]))
 
     def test_failures(self):
-        self.assertEqual(self.raises(barscript.Failure("why")), (1, ["FAILED: why"], []))
+        self.assertEqual(self.raises(console.Failure("why")), (1, ["FAILED: why"], []))
         self.assertEqual(self.raises(OSError(errno.ENOSPC, "No space", "file")), (1, ["FAILED: No space: file"], []))
-        self.assertEqual(self.raises(barscript.Stopped("SIGINT")), (1, ["FAILED: stopped by SIGINT"], []))
+        self.assertEqual(self.raises(console.Stopped("SIGINT")), (1, ["FAILED: stopped by SIGINT"], []))
         status, out, _ = self.raises(KeyError("what"))
         self.assertEqual(status, 1)
         self.assertRegex("\n".join(out), r"^FAILED: KeyError in test_running.py, line [0-9]+: 'what'$")
@@ -371,24 +369,24 @@ class Ends(unittest.TestCase):
         self.assertEqual(self.end(main), (1, ["FAILED: stopped by SIGTERM"], []))
 
     def test_words_in_a_row(self):
-        self.assertEqual([barscript.listed(words) for words in ([1], [1, 2], [1, 2, 3])], ["1", "1 and 2", "1, 2 and 3"])
-        self.assertEqual([barscript.counted(count, "peer") for count in (0, 1, 2000)], ["0 peers", "1 peer", "2,000 peers"])
+        self.assertEqual([console.listed(words) for words in ([1], [1, 2], [1, 2, 3])], ["1", "1 and 2", "1, 2 and 3"])
+        self.assertEqual([console.counted(count, "peer") for count in (0, 1, 2000)], ["0 peers", "1 peer", "2,000 peers"])
 
     def test_measurements_that_are_compared(self):
-        self.assertEqual(barscript.compared({"now": 0.5}, ".2f", "s"), "0.50 s")
-        self.assertEqual(barscript.compared({"before": 2000, "now": 500}, ",", "bytes"), "before 2,000 bytes, now 500 bytes, ratio 0.25")
-        self.assertEqual(barscript.compared({"before": -0.1, "now": 2}, ".1f", "ms"), "before -0.1 ms, now 2.0 ms, no ratio")
-        self.assertEqual(barscript.compared({"before": 0.1, "now": 2}, ".1f", "ms", 0.2), "before 0.1 ms, now 2.0 ms, no ratio")
+        self.assertEqual(console.compared({"now": 0.5}, ".2f", "s"), "0.50 s")
+        self.assertEqual(console.compared({"before": 2000, "now": 500}, ",", "bytes"), "before 2,000 bytes, now 500 bytes, ratio 0.25")
+        self.assertEqual(console.compared({"before": -0.1, "now": 2}, ".1f", "ms"), "before -0.1 ms, now 2.0 ms, no ratio")
+        self.assertEqual(console.compared({"before": 0.1, "now": 2}, ".1f", "ms", 0.2), "before 0.1 ms, now 2.0 ms, no ratio")
 
     def test_words_that_count(self):
         words = argparse.Namespace(times=0, count=1, flood=None)
-        self.assertEqual([*barscript.faults_of_counts(words, "count", "flood", "times")], ["--times is 0: take 1 or more"])
+        self.assertEqual([*console.faults_of_counts(words, "count", "flood", "times")], ["--times is 0: take 1 or more"])
 
     def test_files_that_are_required(self):
         here = pathlib.Path(__file__)
-        barscript.require([here], "look")
-        with self.assertRaises(barscript.Refusal) as refused:
-            barscript.require([here, here / "a", here / "b"], "look")
+        console.require([here], "look")
+        with self.assertRaises(console.Refusal) as refused:
+            console.require([here, here / "a", here / "b"], "look")
         self.assertEqual(str(refused.exception), f"{here}/a and {here}/b are missing: look")
 
 

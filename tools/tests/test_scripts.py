@@ -9,9 +9,9 @@ import unittest
 
 from support import ROOT, TOOLS, RoomCase, datagram, fake_program, has_ended, run_script, start_script, wait_for
 
-import barscript
-from bardatagrams import Reader
-from barformats import CASE, REQUEST, RESPONSE, Session, recording_of
+from gossip.formats.datagrams import Reader
+from gossip.formats.files import CASE, REQUEST, RESPONSE, Session, recording_of
+from gossip.scripts import console
 
 SCRIPTS = sorted(path.name for path in TOOLS.iterdir() if path.is_file() and not path.suffix)
 
@@ -29,15 +29,15 @@ class Helps(unittest.TestCase):
     def test_helps_fit_80_columns(self):
         wide = os.environ | {"COLUMNS": "200"}
         lines = ((script, line) for script in SCRIPTS for line in run_script(script, "--help", env=wide)[1])
-        self.assertEqual([(script, line) for script, line in lines if len(line) > barscript.COLUMNS], [])
+        self.assertEqual([(script, line) for script, line in lines if len(line) > console.COLUMNS], [])
 
     def test_paragraphs_and_indented_lines(self):
         text = "one\ntwo\n  name    what it\n          is\n  other   is\nthree\n\nfour"
         wanted = ["one two", "  name    what it is", "  other   is", "three", "", "four"]
-        self.assertEqual(barscript.paragraphs_of(text), wanted)
+        self.assertEqual(console.paragraphs_of(text), wanted)
         wanted = ["  name    what it", "          is, by", "          --an-option"]
-        self.assertEqual(barscript.wrapped("  name    what it is, by --an-option", 20), wanted)
-        self.assertEqual(barscript.wrapped("    tshark -X one:two  ", 12), ["    tshark", "    -X", "    one:two"])
+        self.assertEqual(console.wrapped("  name    what it is, by --an-option", 20), wanted)
+        self.assertEqual(console.wrapped("    tshark -X one:two  ", 12), ["    tshark", "    -X", "    one:two"])
 
     def test_words_that_are_none(self):
         for script in SCRIPTS:
@@ -257,6 +257,8 @@ class Checks(RoomCase):
         wanted = ["a hash: ", *(f"memory without an input, {told}: " for told in ("resident", "own", "data"))]
         wanted += ["repeated: this recording has none", "forged, 500 datagrams, each: "]
         wanted += ["verified, 500 datagrams, each: ", "early: this recording has none"]
+        wanted += ["block again, 500 datagrams, each: "]
+        wanted += [f"{kind} again: this recording has none" for kind in ("key", "query", "divulge")]
         self.assertEqual(told, wanted)
 
     def test_recordings_with_two_programs(self):
@@ -338,7 +340,7 @@ class Builds(RoomCase):
         status, out, err = run_script(tools / "demo", env=os.environ | {"PATH": path})
         self.assertEqual((status, out), (101, []))
         self.assertEqual((err[0][:20], err[1]), ("there is no program:", "proving crates"))
-        self.assertRegex(err[2], "^REFUSED: `rt ci` over a copy of .*/crates/bar .* ends with status 101")
+        self.assertRegex(err[2], "^REFUSED: `rt ci` over a copy of bar.* and what it stands on ends with status 101")
         status, _, _ = run_script(tools / "check-streams", env=os.environ | {"PATH": path})
         self.assertEqual(status, 2)
 

@@ -1,13 +1,13 @@
-"""Sessions that are simulated, by a program that stands for that of tools/party."""
+"""Sessions that are simulated, by a program that stands for bar_party."""
 import unittest
 from unittest import mock
 
 from support import RoomCase, fake_program, lines_of
 
-import barsimulation
-from barformats import entries_of
-from barnetwork import Network
-from barprogram import Status
+from gossip.formats.files import entries_of
+from gossip.networks.disturbances import Network
+from gossip.programs.bar import Status
+from gossip.runs import simulation
 
 
 class SimulationCase(RoomCase):
@@ -17,8 +17,8 @@ class SimulationCase(RoomCase):
         program = fake_program(self.room / name, **ways)
         self.stream = self.room / "stream"
         folder, session = self.make_in(name, program)
-        with mock.patch("barsimulation.built", return_value=program):
-            (ran, _, _) = lines_of(lambda: barsimulation.simulate(folder, session, network))
+        with mock.patch("gossip.runs.simulation.built", return_value=program):
+            (ran, _, _) = lines_of(lambda: simulation.simulate(folder, session, network))
         return folder, ran
 
     def make_in(self, name, program):
@@ -77,8 +77,8 @@ class Runs(SimulationCase):
     def test_a_party_that_ends_at_once(self):
         folder, session = self.make_session(fake_program(self.room))
         folder.key(2).write_text("")
-        with mock.patch("barsimulation.built", return_value=self.room / "bar"):
-            (ran, _, _) = lines_of(lambda: barsimulation.simulate(folder, session, Network(seed="x")))
+        with mock.patch("gossip.runs.simulation.built", return_value=self.room / "bar"):
+            (ran, _, _) = lines_of(lambda: simulation.simulate(folder, session, Network(seed="x")))
         self.assertEqual(ran.statuses, {0: 0, 1: 0, 2: 1})
         self.assertEqual(ran.status, Status.CHILD)
         self.assertFalse(folder.recording(2).exists())
@@ -87,7 +87,7 @@ class Runs(SimulationCase):
 class Entries(unittest.TestCase):
     def party(self, told):
         """A party that told these bytes."""
-        party = barsimulation.Party.__new__(barsimulation.Party)
+        party = simulation.Party.__new__(simulation.Party)
         party.told, party.printed, party.owes, party.sent = bytearray(), b"", 3, []
         for at in range(len(told)):
             party.told += told[at : at + 1]

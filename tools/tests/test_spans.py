@@ -11,14 +11,11 @@ from unittest import mock
 
 from support import NUMBERS, RoomCase, fake_program, lines_of, run_script
 
-import barforwarding
-import barhosts
-import barmaking
-import barrunning
-import barscript
-import barspaces
-import barspans
-from barsession import Folder
+from gossip.networks import forwarding, host_text, spans
+from gossip.runs import namespaces, runner
+from gossip.scripts import console
+from gossip.sessions import making
+from gossip.sessions.session_folder import Folder
 
 HOSTS = """[[host]]
 name = "one"
@@ -47,21 +44,23 @@ class SpanCase(RoomCase):
         cls.addClassCleanup(room.cleanup)
         cls.made = pathlib.Path(room.name)
         (cls.made / "stream").write_bytes(b"stream" * 100)
-        wanted = barmaking.Wanted(cls.made / "session", cls.made / "stream", NUMBERS)
-        lines_of(lambda: barmaking.make(wanted, fake_program(cls.made)))
+        wanted = making.Wanted(cls.made / "session", cls.made / "stream", NUMBERS)
+        lines_of(lambda: making.make(wanted, fake_program(cls.made)))
 
     def setUp(self):
         super().setUp()
         self.program = fake_program(self.room)
         shutil.copytree(self.made / "session", self.room / "session")
         self.folder = Folder(self.room / "session")
-        self.session = barrunning.session_of(self.folder)
+        self.session = runner.session_of(self.folder)
         self.text = self.room / "hosts.toml"
         self.text.write_text(HOSTS)
-        self.hosts = barhosts.read_hosts(self.text, self.session)
+        self.hosts = host_text.read_hosts(self.text, self.session)
 
-    def spread(self, by=barforwarding.SOCAT, begin=None):
-        return barspans.spread(self.folder, self.session, self.program, self.hosts, by, begin)
+    def spread(self, by=forwarding.SOCAT, begin=None):
+        span = spans.Span(self.folder, self.session, self.program, self.hosts, by, begin)
+        spans.spread(span)
+        return span.places
 
 
 class Folders(SpanCase):
@@ -84,12 +83,12 @@ class Folders(SpanCase):
         self.assertEqual(len([*(self.spread()["one"] / "forward").iterdir()]), 4)
 
     def test_by_nftables(self):
-        (table,) = (self.spread(barforwarding.NFTABLES)["two"] / "forward").iterdir()
-        self.assertEqual(table.read_text(), barforwarding.table_of(self.session, self.hosts, self.hosts[1]))
+        (table,) = (self.spread(forwarding.NFTABLES)["two"] / "forward").iterdir()
+        self.assertEqual(table.read_text(), forwarding.table_of(self.session, self.hosts, self.hosts[1]))
 
     def test_a_session_is_spread_once(self):
         self.spread()
-        (fault,) = barspans.faults_of_span(self.folder)
+        (fault,) = spans.faults_of_span(self.folder)
         self.assertIn("/hosts is there already: the session's keys were spread, so make a new session", fault)
 
     def test_keys_stay_where_folders_cannot_be_written(self):
@@ -101,7 +100,7 @@ class Folders(SpanCase):
         places = self.spread()
         for name, file in (("one", "party.0.table"), ("one", "party.1.recording"), ("two", "party.2.played"), ("two", "party.2.1")):
             (places[name] / file).write_text(file)
-        barspans.gather(self.folder, self.hosts)
+        spans.gather(self.folder, self.hosts)
         came = {path.name for path in self.folder.path.glob("*.*")} - {"session.toml"}
         self.assertEqual(came, {"key.0", "key.1", "key.2", "party.0.table", "party.1.recording", "party.2.played", "party.2.1"})
         self.assertFalse((self.folder.path / "hosts").exists())
@@ -109,26 +108,30 @@ class Folders(SpanCase):
     def test_nothing_is_written_over(self):
         places = self.spread()
         (self.folder.path / "key.0").write_text("of value")
-        self.assertIn("key.0 is there already: move it away", self.reasons_of(lambda: barspans.gather(self.folder, self.hosts))[0])
+        self.assertIn("key.0 is there already: move it away", self.reasons_of(lambda: spans.gather(self.folder, self.hosts))[0])
         self.assertEqual((self.folder.path / "key.0").read_text(), "of value")
         self.assertTrue((places["one"] / "key.0").exists())
 
     def test_a_trial_that_fails_leaves_the_folder_as_it_was(self):
         before = {path.name: path.read_bytes() for path in self.folder.path.iterdir()}
-        words = self.folder, self.session, self.program, self.hosts, barforwarding.SOCAT, barspaces.Wire()
-        moved, move = [], barspans.move
+        span = spans.Span(self.folder, self.session, self.program, self.hosts, forwarding.SOCAT)
+        moved, move = [], spans.move
 
         def move_one(file, to):
             moved.append(file)
             if len(moved) == 2:
-                raise barscript.Failure("no")
+                raise console.Failure("no")
             move(file, to)
 
-        ways = {"barspaces.run_hosts": barscript.Failure("no"), "barspans.write_host": barscript.Failure("no"), "barspans.move": move_one}
+        ways = {
+            "gossip.runs.namespaces.run_hosts": console.Failure("no"),
+            "gossip.networks.spans.write_host": console.Failure("no"),
+            "gossip.networks.spans.move": move_one,
+        }
         for name, effect in ways.items():
-            laid_out = mock.patch("barspaces.laid_out", return_value=contextlib.nullcontext())
-            with self.subTest(name=name), laid_out, mock.patch(name, side_effect=effect), self.assertRaises(barscript.Failure):
-                lines_of(lambda: barspaces.run_trial(*words))
+            laid_out = mock.patch("gossip.runs.namespaces.laid_out", return_value=contextlib.nullcontext())
+            with self.subTest(name=name), laid_out, mock.patch(name, side_effect=effect), self.assertRaises(console.Failure):
+                lines_of(lambda: namespaces.run_trial(span, namespaces.Wire()))
             self.assertEqual({path.name: path.read_bytes() for path in self.folder.path.iterdir()}, before)
 
 

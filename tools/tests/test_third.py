@@ -8,7 +8,7 @@ import unittest
 
 from support import need_program
 
-from barformats import CASE, CONTENT, DIVULGE, KEY, KEYREQ, QUERY, REPLY, REQUEST, RESPONSE
+from gossip.formats.files import CASE, CONTENT, DIVULGE, KEY, KEYREQ, QUERY, REPLY, REQUEST, RESPONSE
 from chosen_peers import ChosenCase, Peer, block_of, kinds_of, of_round
 
 # what the two peers hold before the balanced exchange of round 6, and before the push

@@ -6,12 +6,11 @@ import xml.etree.ElementTree
 
 sys.path.insert(0, str(pathlib.Path(__file__).resolve().parent.parent))
 
-import barpicture
-import bartimeline
+from gossip.drawings import session_picture, timeline
 import made_sessions as made
-from bardatagrams import Exchange, Update
-from barformats import EVIDENCE, SLOTS
-from bargathering import run_of
+from gossip.formats.datagrams import Exchange, Update
+from gossip.formats.files import EVIDENCE, SLOTS
+from gossip.reports.gathering import Known, run_of
 from made_runs import busy_run
 from made_sessions import LONG, PLAIN, SESSION, WIDE, WIDE_PLAIN, ZEROS, Diary, Trade, first_tick
 
@@ -27,11 +26,11 @@ class Page:
     """What the picture and the page show of a session with one peer or more."""
 
     def __init__(self, logs, session=SESSION, audit=None):
-        run = run_of(session, logs, audit)
-        self.drawn = xml.etree.ElementTree.fromstring(barpicture.picture(run).replace(' xmlns="http://www.w3.org/2000/svg"', ""))
+        run = run_of(session, logs, Known(audit))
+        self.drawn = xml.etree.ElementTree.fromstring(session_picture.picture(run).replace(' xmlns="http://www.w3.org/2000/svg"', ""))
         self.titles = [(it.get("class"), it.findtext("title")) for it in self.drawn.iter() if it.find("title") is not None]
         self.marks = [it for it in self.titles if it[1].startswith("update") and "took" not in it[1]]
-        page = bartimeline.page(run)
+        page = timeline.page(run)
         self.body = xml.etree.ElementTree.fromstring(page[page.index("<main>") : page.index("</main>")] + "</main>")
         self.tables = {it.get("aria-label"): rows_of(it) for it in self.body.iter("div") if it.get("role") == "region"}
         self.table = self.tables["totals of each peer"]
@@ -118,8 +117,8 @@ class Marks(unittest.TestCase):
         self.assertEqual(sorted({y for _, y, _, _ in places}), [y for _, y, _, _ in places[::32]])
         for (x, y, width, height), (next_x, next_y, *_) in zip(places, places[1:]):
             self.assertTrue(x + width < next_x if y == next_y else y + height < next_y and next_x == places[0][0])
-        self.assertLess(max(x + width for x, _, width, _ in places), places[0][0] + barpicture.STRIP)
-        self.assertLess(max(y + height for _, y, _, height in places), barpicture.HEAD + barpicture.CASTER + barpicture.LANE)
+        self.assertLess(max(x + width for x, _, width, _ in places), places[0][0] + session_picture.STRIP)
+        self.assertLess(max(y + height for _, y, _, height in places), session_picture.HEAD + session_picture.CASTER + session_picture.LANE)
 
 
 class Numbers(unittest.TestCase):
@@ -252,12 +251,12 @@ class Layout(unittest.TestCase):
         cls.run_ = busy_run(120, 2)
 
     def test_how_to_read_it_stands_first_and_is_folded(self):
-        page = bartimeline.page(self.run_)
+        page = timeline.page(self.run_)
         self.assertIn("<details><summary>How to read this page</summary>", page)
         self.assertLess(page.index("<details>"), page.index('class="figures"'))
 
     def test_the_table_of_peers_has_a_button_for_each_column_and_a_group_above(self):
-        page = bartimeline.page(self.run_)
+        page = timeline.page(self.run_)
         body = xml.etree.ElementTree.fromstring(page[page.index("<main>") : page.index("</main>")] + "</main>")
         (drawn,) = body.findall(".//table[@class='sorts']")
         groups, names = drawn.find("thead")
@@ -267,7 +266,7 @@ class Layout(unittest.TestCase):
         self.assertEqual(len(drawn.find("tbody")), 120)
 
     def drawn(self, run):
-        return xml.etree.ElementTree.fromstring(barpicture.picture(run).replace(' xmlns="http://www.w3.org/2000/svg"', ""))
+        return xml.etree.ElementTree.fromstring(session_picture.picture(run).replace(' xmlns="http://www.w3.org/2000/svg"', ""))
 
     def test_the_picture_has_a_ground_and_a_legend_within_it(self):
         drawn = self.drawn(busy_run(5, 4))
@@ -288,7 +287,7 @@ class Layout(unittest.TestCase):
         self.assertTrue({"sends evidence to the broadcaster", "unbalanced by the audit"} <= {*words})
 
     def test_signs_for_partners_above_99_stand_apart(self):
-        width = barpicture.SEATS[True].sign
+        width = session_picture.SEATS[True].sign
         signs = [it for it in self.drawn(self.run_).iter("rect") if it.get("class") == "sign" and float(it.get("width")) == width - 1]
         signs = sorted({float(it.get("x")) for it in signs})
         self.assertTrue(all(width <= following - place for place, following in zip(signs, signs[1:])), signs)

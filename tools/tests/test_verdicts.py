@@ -5,9 +5,9 @@ import unittest
 
 from support import need_program
 
-import barprogram
-from barformats import CASE, KEY, REQUEST, RESPONSE
-from barprogram import PROGRAM, Status
+from gossip.formats.files import CASE, KEY, REQUEST, RESPONSE
+from gossip.programs import bar
+from gossip.programs.bar import PROGRAM, Status
 from chosen_peers import ChosenCase, Peer, block_of, changed, evidence_of, table_of, window
 
 # the two histories of the exchange of round 6: each side has two updates, of which the other lacks one or more
@@ -60,7 +60,7 @@ class Verdicts(ChosenCase):
         for name, content in files.items():
             (room / name).write_bytes(content)
         paths = {name: room / name for name in files}
-        ran = barprogram.run(PROGRAM, command, session=self.session.folder.session, **paths, **numbers)
+        ran = bar.run(PROGRAM, command, session=self.session.folder.session, **paths, **numbers)
         return ran.status, ran.printed.decode(), ran.said.decode()
 
     def judge(self, table, evidence):

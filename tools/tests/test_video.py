@@ -5,21 +5,21 @@ from unittest import mock
 
 from support import TOOLS, RoomCase, lines_of, run_script, start_script
 
-import bartimeline
-import barvideo
-from barformats import room_of
-from barprogram import PROGRAM
-from barscript import Failure
-from barsession import Folder
+from gossip.drawings import decoded, timeline, videos
+from gossip.formats.files import Malformed, room_of
+from gossip.programs.bar import PROGRAM
+from gossip.runs import runner
+from gossip.scripts.console import Failure
+from gossip.sessions.session_folder import Folder
 from made_runs import busy_run
 
 # why files aren't tried, where a program is missing
-SKIPPED = next(barvideo.faults_of_ffmpeg(), None)
+SKIPPED = next(videos.faults_of_ffmpeg(), None)
 SIZE = 1022
 
 
 def seen(frames, second=2.0, still=b"\xff\xd8"):
-    return barvideo.Seen(frames, still, second)
+    return videos.Seen(frames, still, second)
 
 
 class Refusals(RoomCase):
@@ -37,8 +37,8 @@ class Refusals(RoomCase):
         self.assertIn("--rounds goes with no --video", "".join(self.refused("--video", "--rounds", 10)))
 
     def test_a_program_that_makes_nothing(self):
-        with mock.patch("barvideo.called", return_value=b""), self.assertRaises(Failure) as failed:
-            barvideo.make(self.room / "video")
+        with mock.patch("gossip.drawings.videos.called", return_value=b""), self.assertRaises(Failure) as failed:
+            videos.make(self.room / "video")
         self.assertIn("no video was made by `ffmpeg -f lavfi ", str(failed.exception))
 
 
@@ -46,27 +46,27 @@ class Moments(unittest.TestCase):
     times = [0.04 * at for at in range(100)]
 
     def test_the_middle_where_nobody_lacks_a_frame(self):
-        self.assertEqual(barvideo.moment_of(self.times, [self.times, self.times]), self.times[50])
+        self.assertEqual(videos.moment_of(self.times, [self.times, self.times]), self.times[50])
 
     def test_the_moment_at_which_most_lack_the_frame(self):
         one, other = ([it for at, it in enumerate(self.times) if at not in lacks] for lacks in ({10, 11, 12}, {12, 13, 60}))
-        self.assertEqual(barvideo.moment_of(self.times, [self.times, one, other]), self.times[12])
+        self.assertEqual(videos.moment_of(self.times, [self.times, one, other]), self.times[12])
 
     def test_a_still_is_the_last_frame_that_is_due(self):
-        with mock.patch("barvideo.still_of", side_effect=lambda path, time: b"%.2f" % time):
-            self.assertEqual(barvideo.seen("", [1.0, 1.04, 1.2], 1.12, 1.0), barvideo.Seen(3, b"1.04", 1.04 - 1.0))
-            self.assertEqual(barvideo.seen("", [1.2, 1.24], 1.12, 1.0), barvideo.Seen(2))
-            self.assertEqual(barvideo.seen("", [], 1.12, 1.0), barvideo.Seen(0))
+        with mock.patch("gossip.drawings.videos.still_of", side_effect=lambda path, time: b"%.2f" % time):
+            self.assertEqual(videos.seen("", [1.0, 1.04, 1.2], 1.12, 1.0), videos.Seen(3, b"1.04", 1.04 - 1.0))
+            self.assertEqual(videos.seen("", [1.2, 1.24], 1.12, 1.0), videos.Seen(2))
+            self.assertEqual(videos.seen("", [], 1.12, 1.0), videos.Seen(0))
 
 
 class OnThePage(RoomCase):
     def setUp(self):
         super().setUp()
         self.run_ = busy_run(3, 2)
-        self.video = barvideo.Video(seen(750), {1: seen(750), 2: seen(712, 1.5), 3: barvideo.Seen(0)})
+        self.video = videos.Video(seen(750), {1: seen(750), 2: seen(712, 1.5), 3: videos.Seen(0)})
 
     def test_stills_and_frames_stand_beside_the_bytes(self):
-        page = bartimeline.page(self.run_, self.video)
+        page = timeline.page(self.run_, self.video)
         self.assertEqual(page.count("<figure>"), 4)
         self.assertEqual(page.count('<img src="data:image/jpeg;base64,/9g="'), 3)
         self.assertIn('<div class="none">nothing to show</div><figcaption><b>peer 3</b> 0 of 750 frames decode', page)
@@ -77,22 +77,41 @@ class OnThePage(RoomCase):
         self.assertIn(f"<tr><td>2</td><td>{played}</td><td>{part}</td><td>712</td>", page)
 
     def test_a_run_of_no_video_has_none_of_it(self):
-        page = bartimeline.page(self.run_)
+        page = timeline.page(self.run_)
         self.assertNotIn("<figure>", page)
         self.assertNotIn("frames that decode", page)
 
     def test_the_page_is_written_anew(self):
         folder = Folder(self.room)
         folder.data.write_text(self.run_.to_json())
-        with mock.patch("barvideo.video_of", return_value=self.video):
-            _, lines, _ = lines_of(lambda: barvideo.add_to_page(folder))
+        with mock.patch("gossip.drawings.videos.video_of", return_value=self.video):
+            _, lines, _ = lines_of(lambda: videos.add_to_page(folder))
         told = ["750", "712", "0"]
         self.assertEqual(lines, [f"peer {peer}: {count} of 750 frames decode" for peer, count in enumerate(told, 1)])
-        self.assertEqual(folder.page.read_text("utf-8"), bartimeline.page(self.run_, self.video))
+        self.assertEqual(folder.page.read_text("utf-8"), timeline.page(self.run_, self.video))
+
+    def test_a_page_that_is_drawn_again_has_the_video(self):
+        folder = Folder(self.room)
+        self.assertEqual(runner.draw(folder, self.run_, None), ([], f"page {folder.page}"))
+        self.assertEqual(folder.page.read_text("utf-8"), timeline.page(self.run_))
+        folder.video.write_text(self.video.to_json())
+        self.assertEqual(decoded.video_in(folder), self.video)
+        self.assertEqual(runner.draw(folder, self.run_, None), ([], f"page {folder.page}"))
+        self.assertEqual(folder.page.read_text("utf-8"), timeline.page(self.run_, self.video))
+
+    def test_a_file_that_is_no_video(self):
+        folder = Folder(self.room)
+        for text in ("", "{}", '{"stream": [1, 2], "peers": []}', '{"stream": [1, "?", 2.0], "peers": []}', '{"stream": 1, "peers": 2}'):
+            with self.assertRaises(Malformed):
+                decoded.Video.of_json(text)
+        folder.video.write_text("[]")
+        (cause,), told = runner.draw(folder, self.run_, None)
+        self.assertTrue(cause.startswith(f"{folder.video} can't be read: it is no video.json: "), cause)
+        self.assertEqual(told, "timeline.html isn't drawn")
 
     def test_a_run_without_a_page(self):
         folder = Folder(self.room)
-        self.assertEqual(lines_of(lambda: barvideo.add_to_page(folder)), (None, [], []))
+        self.assertEqual(lines_of(lambda: videos.add_to_page(folder)), (None, [], []))
         self.assertFalse(folder.page.exists())
 
 
@@ -104,7 +123,7 @@ class Files(RoomCase):
         super().setUp()
         self.folder = Folder(self.room)
         self.stream.unlink()
-        barvideo.make(self.folder.stream, 2)
+        videos.make(self.folder.stream, 2)
         data = self.folder.stream.read_bytes()
         self.parts = [data[at : at + SIZE] for at in range(0, len(data), SIZE)]
 
@@ -117,23 +136,23 @@ class Files(RoomCase):
         self.play(1, {})
         self.play(2, range(middle, middle + 20))
         self.folder.played(3).write_bytes(b"")
-        video = barvideo.video_of(self.folder, [1, 2, 3, 4])
-        self.assertEqual(video.whole.frames, 2 * barvideo.RATE)
+        video = videos.video_of(self.folder, [1, 2, 3, 4])
+        self.assertEqual(video.whole.frames, 2 * videos.RATE)
         self.assertEqual([*video.peers], [1, 2, 3])
         whole, gaps, nothing = video.peers.values()
-        self.assertEqual((whole.frames, whole.second, nothing), (video.whole.frames, video.whole.second, barvideo.Seen(0)))
+        self.assertEqual((whole.frames, whole.second, nothing), (video.whole.frames, video.whole.second, videos.Seen(0)))
         self.assertTrue(0 < gaps.frames < whole.frames, gaps.frames)
         self.assertLess(gaps.second, whole.second)
         self.assertEqual({it.still[:2] for it in (video.whole, whole, gaps)}, {b"\xff\xd8"})
 
     def test_a_session_has_room_for_it(self):
-        rounds = barvideo.rounds_for(self.folder.stream)["rounds"]
-        self.assertGreaterEqual(room_of(rounds - barvideo.MORE, barvideo.NUMBERS["per_round"]), self.folder.stream.stat().st_size)
+        rounds = videos.rounds_for(self.folder.stream)["rounds"]
+        self.assertGreaterEqual(room_of(rounds - videos.MORE, videos.NUMBERS["per_round"]), self.folder.stream.stat().st_size)
 
     def test_a_stream_that_does_not_decode(self):
         self.folder.stream.write_bytes(b"no video" * 100)
         with self.assertRaises(Failure):
-            barvideo.video_of(self.folder, [])
+            videos.video_of(self.folder, [])
 
 
 @unittest.skipIf(SKIPPED, SKIPPED)

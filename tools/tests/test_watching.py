@@ -9,16 +9,15 @@ from unittest import mock
 
 from support import ID, RoomCase, bound, lines_of
 
-import barrunning
-import barwatching
+from gossip.runs import runner, watching
 import made_sessions
-from bardatagrams import Exchange
-from barformats import RECORDING_HEAD, Session, recording_of
-from barsession import LOOPBACK
+from gossip.formats.datagrams import Exchange
+from gossip.formats.files import RECORDING_HEAD, Session, recording_of
+from gossip.sessions.session_folder import LOOPBACK
 from made_sessions import Trade
 
 SESSION = Session(1, ID, 10, 6, 1, 1, 1, 26_144, 50, 6, 3, 2)
-PORTS = barwatching.ports_of(SESSION)
+PORTS = watching.ports_of(SESSION)
 
 # the text of /proc/net/udp: ports 26143 to 26147 of the loopback address, and 26145 of another
 SOCKETS = """  sl  local_address rem_address   st tx_queue rx_queue tr tm->when retrnsmt   uid  timeout inode ref pointer drops
@@ -33,7 +32,7 @@ SOCKETS = """  sl  local_address rem_address   st tx_queue rx_queue tr tm->when 
 class Clocks(unittest.TestCase):
     def lines(self, *times):
         """The lines of a session that begins at 100 s, at these times. A round has 0.4 s."""
-        clock = barwatching.Clock(SESSION, 100_000)
+        clock = watching.Clock(SESSION, 100_000)
         return [line for line in map(clock.line, times) if line]
 
     def test_the_wait_for_the_start(self):
@@ -44,12 +43,12 @@ class Clocks(unittest.TestCase):
         self.assertEqual(self.lines(99, 100, 100.1, 100.5, 101, 101.9), ["the session begins in 1 s", "round 1 of 17", "round 3 of 17"])
 
     def test_one_line_a_round(self):
-        slow = barwatching.Clock(Session(1, ID, 10, 6, 1, 1, 1, 26_144, 1000, 6, 3, 2), 0)
+        slow = watching.Clock(Session(1, ID, 10, 6, 1, 1, 1, 26_144, 1000, 6, 3, 2), 0)
         lines = [slow.line(second) for second in range(24)]
         self.assertEqual([line for line in lines if line], ["round 1 of 17", "round 2 of 17", "round 3 of 17"])
 
     def test_the_wait_before_long_rounds(self):
-        slow = barwatching.Clock(Session(1, ID, 10, 6, 1, 1, 1, 26_144, 60_000, 6, 3, 2), 100_000)
+        slow = watching.Clock(Session(1, ID, 10, 6, 1, 1, 1, 26_144, 60_000, 6, 3, 2), 100_000)
         lines = [slow.line(second) for second in range(75, 110, 5)]
         self.assertEqual(lines[::2], ["the session begins in 25 s", "the session begins in 15 s", "the session begins in 5 s", None])
         self.assertEqual(lines[1::2], [None, None, "round 1 of 17"])
@@ -60,16 +59,16 @@ class Clocks(unittest.TestCase):
 
 class Drops(unittest.TestCase):
     def test_drops_by_party(self):
-        self.assertEqual(barwatching.drops_of(SOCKETS, PORTS), {0: 0, 1: 31})
+        self.assertEqual(watching.drops_of(SOCKETS, PORTS), {0: 0, 1: 31})
 
     def test_no_sockets(self):
-        self.assertEqual(barwatching.drops_of(SOCKETS.splitlines()[0], PORTS), {})
-        self.assertEqual(barwatching.drops_of("", PORTS), {})
+        self.assertEqual(watching.drops_of(SOCKETS.splitlines()[0], PORTS), {})
+        self.assertEqual(watching.drops_of("", PORTS), {})
 
     def test_lines_of_what_was_lost(self):
         told = "its receive buffer ran over, {} lost; a longer tick (--tick-ms) helps"
         wanted = ["party 0: " + told.format("1 datagram was"), "party 2: " + told.format("31 datagrams were")]
-        self.assertEqual([*barrunning.lost_lines({2: 31, 1: 0, 0: 1})], wanted)
+        self.assertEqual([*runner.lost_lines({2: 31, 1: 0, 0: 1})], wanted)
 
 
 class Watches(RoomCase):
@@ -77,20 +76,20 @@ class Watches(RoomCase):
         """One look at which /proc/net/udp has this text."""
         path = self.room / "udp"
         path.write_text(text)
-        with mock.patch.object(barwatching, "SOCKETS", path):
+        with mock.patch.object(watching, "SOCKETS", path):
             return lines_of(lambda: watch.look(now))[2]
 
     def test_the_last_value_of_each_party_is_kept(self):
-        watch = barwatching.Watch(SESSION, 100_000)
+        watch = watching.Watch(SESSION, 100_000)
         self.assertEqual(self.look(watch, 100, SOCKETS), ["round 1 of 17"])
         self.look(watch, 100.1, SOCKETS.replace(" 31\n", " 32\n"))
         self.look(watch, 100.2, SOCKETS.splitlines()[0])
         self.assertEqual(watch.drops, {0: 0, 1: 32})
 
     def test_a_table_of_sockets_that_is_missing_or_strange(self):
-        watch = barwatching.Watch(SESSION, 100_000)
+        watch = watching.Watch(SESSION, 100_000)
         self.look(watch, 100, SOCKETS.replace(" 31\n", " x\n"))
-        with mock.patch.object(barwatching, "SOCKETS", self.room / "none"):
+        with mock.patch.object(watching, "SOCKETS", self.room / "none"):
             lines_of(lambda: watch.look(100))
         self.assertEqual(watch.drops, {})
 
@@ -98,9 +97,9 @@ class Watches(RoomCase):
         words = [sys.executable, "-c", "import time; time.sleep(60)", f"victim of {os.getpid()}"]
         with subprocess.Popen(words) as process:
             self.addCleanup(process.kill)
-            while barwatching.find_process(words) is None:
+            while watching.find_process(words) is None:
                 time.sleep(0.01)
-            watch = barwatching.Watch(SESSION, 100_000, words)
+            watch = watching.Watch(SESSION, 100_000, words)
             self.look(watch, 101.9, "")
             self.assertIsNone(process.poll())
             self.look(watch, 102, "")
@@ -108,7 +107,7 @@ class Watches(RoomCase):
 
     def test_a_victim_that_is_not_there(self):
         words = ["bar", f"nobody of {os.getpid()}"]
-        watch = barwatching.Watch(SESSION, 0, words)
+        watch = watching.Watch(SESSION, 0, words)
         self.look(watch, 2, "")
         self.assertEqual(watch.victim, words)
 
@@ -132,7 +131,7 @@ class Floods(RoomCase):
     def setUp(self):
         super().setUp()
         self.path, self.sender = self.room / "recording", Sender()
-        self.flood = barwatching.Flood(made_sessions.SESSION, 100_000, 1, self.path, 10)
+        self.flood = watching.Flood(made_sessions.SESSION, 100_000, 1, self.path, 10)
 
     def write(self, *entries, cut=None):
         """Writes inputs to the recording, or so many of their bytes."""
@@ -150,7 +149,7 @@ class Floods(RoomCase):
         return len(self.sender.sent) - before
 
     def test_a_recording_that_grows(self):
-        growing = barwatching.Growing(self.path)
+        growing = watching.Growing(self.path)
         self.assertEqual(growing.more(), [])
         rest = self.write(None, b"one", b"two", cut=8)
         self.assertEqual((growing.more(), growing.more()), ([None, b"one"], []))
@@ -208,7 +207,7 @@ class Floods(RoomCase):
     def test_a_flood_beside_a_session(self):
         with bound(0) as taken:
             self.flood.session = dataclasses.replace(made_sessions.SESSION, port=taken.getsockname()[1] - 1)
-            with barwatching.watched(self.flood):
+            with watching.watched(self.flood):
                 self.write(None, self.asked)
                 taken.settimeout(20)
                 self.assertEqual([taken.recv(65_536) for _ in range(10)], [self.asked] * 10)

@@ -8,32 +8,20 @@ ghost use Rattle.bar_cli.specs.Line.{line_of};
 ghost use Rattle.bar_cli.specs.Ran.{WasDone, ByTheRules, WasSaid};
 ghost use Rattle.bar.specs.Words.{NothingHappened};
 
-mod streams;
-
 use bar_cli::bar_run;
 use bar_outside::{Files, Link, Sink, Spawner};
+use bar_start::{hold_streams, words_of};
 use bar_system::{RealFiles, RealLink, RealSink, RealSpawner, Standard};
 use std::alloc::Global;
-use std::env::Env;
+use std::io;
 use std::io::ErrorKind;
 use std::process::ExitCode;
-use std::{env, io};
-use streams::hold_streams;
 
 /// The exit status where a file fails.
 const FILE_FAILED: u8 = 3;
 
 /// The exit status where memory is wanting.
 const NO_MEMORY: u8 = 70;
-
-// The words behind the program's name. A word that isn't UTF-8 is an error.
-fn words_of<R: Env + AllocGlobal>(rt: &R) -> io::Result<Vec<String>> {
-    let mut words = Vec::new(rt.alloc());
-    for word in env::args(rt)?.skip(1) {
-        words.push(word)?;
-    }
-    Ok(words)
-}
 
 // Does what the words say, and answers the exit status.
 fn run_words<F: Files, L: Link, K: Sink, S: Spawner>(

@@ -10,7 +10,7 @@ use crate::beginning::Beginning;
 use crate::digests::Digests;
 use crate::eight::{initial_hash, words_at};
 use crate::late::Late;
-use crate::rounds::{Words, fill_words, last_steps, small_sigma0, small_sigma1, step};
+use crate::rounds::{Words, fill_words, four_words, last_steps, small_sigma0, small_sigma1, step};
 use crate::state::State;
 use crate::tails::Tails;
 use crate::vectors::{add, or, shift_left, shift_right};
@@ -163,6 +163,16 @@ fn put_late(words: &mut Words, late: Late)
     words[19] = next_word(words, late.d, 3);
 }
 
+// Writes words 20 to 31 of schedules. They stand here one by one, since words 14 and 15 are constants, of which the compiler folds the sums.
+#[inline(always)]
+fn put_near(words: &mut Words)
+    ensures { (j : ℕ) (block : List ℕ) → j < 8 → IsScheduled block j words.old 20 → IsScheduled block j words.new 32 }
+{
+    four_words(words, 20);
+    four_words(words, 24);
+    four_words(words, 28);
+}
+
 // The states of rounds 5 to 7.
 #[inline(always)]
 fn three_steps(words: &Words, working: [u32x8; 8]) -> [u32x8; 8]
@@ -198,7 +208,8 @@ impl Heads {
         put_head(words, self.words);
         put_tails(words, tails);
         put_late(words, self.late);
-        fill_words(words, 20);
+        put_near(words);
+        fill_words(words, 8);
         let working = three_steps(words, self.working.words());
         let state = State::of(last_steps(words, working, 2, &initial_hash()));
         Digests { state }

@@ -2,7 +2,7 @@
 
 ghost use Rattle.std.specs.Prelude.{◌≡◌, ℕ, ◌+◌, ◌*◌, ◌<◌, ◌≤◌, slice_index, List};
 ghost use Rattle.sha2.specs.Sha256.{big_sigma0, big_sigma1, small_sigma0, small_sigma1, ch, maj, round};
-ghost use Rattle.sha2.specs.Sha256.{rounds, schedule, compress, word_at, next_word, add_state};
+ghost use Rattle.sha2.specs.Sha256.{rounds, schedule, compress, word_at, next_word, add32, add_state};
 ghost use Rattle.bar_lanes.specs.Lane.{lane, lane_at, hash_lane, IsScheduled};
 
 use crate::vectors::{add, and, not, rotate_right, shift_right, xor};
@@ -31,12 +31,15 @@ fn ch(a: u32x8, b: u32x8, c: u32x8) -> u32x8
     xor(and(a, b), and(not(a), c))
 }
 
-// The bits that most of the three have (FIPS 180-4, 4.1.2).
+// The bits that most of the three have (FIPS 180-4, 4.1.2). Where a and c both differ from b, it's theirs; the first two are compared again in
+// the next round, as its last two.
 #[inline(always)]
 fn maj(a: u32x8, b: u32x8, c: u32x8) -> u32x8
     ensures { (j : ℕ) → j < 8 → slice_index result j ≡ maj (slice_index a j) (slice_index b j) (slice_index c j) }
 {
-    xor(xor(and(a, b), and(a, c)), and(b, c))
+    let near = xor(a, b);
+    let far = xor(b, c);
+    xor(and(near, far), b)
 }
 
 // The function Σ0 (FIPS 180-4, 4.1.2). Here and below each rotation stands within the next, which takes fewer copies.
@@ -75,14 +78,24 @@ pub(crate) fn small_sigma1(x: u32x8) -> u32x8
     xor(rotate_right(both, 17), shift_right(x, 10))
 }
 
+// The first sum of a round (FIPS 180-4, 6.2.2), which begins with what takes no copies.
+#[inline(always)]
+fn first_sum(e: u32x8, f: u32x8, g: u32x8, h: u32x8, constant: u32, word: u32x8) -> u32x8
+    ensures { (j : ℕ) → j < 8 → slice_index result j ≡ add32 (add32 (add32 (add32 (slice_index h j) (big_sigma1 (slice_index e j)))
+        (ch (slice_index e j) (slice_index f j) (slice_index g j))) constant) (slice_index word j) }
+{
+    let start = add(h, add(word, u32x8::splat(constant)));
+    let more = add(start, big_sigma1(e));
+    add(more, ch(e, f, g))
+}
+
 // One round on the eight working variables, with its constant and its schedule word.
 #[inline(always)]
 fn round(working: [u32x8; 8], constant: u32, word: u32x8) -> [u32x8; 8]
     ensures { (j : ℕ) → j < 8 → hash_lane j result ≡ round (hash_lane j working) constant (slice_index word j) }
 {
     let [a, b, c, d, e, f, g, h] = working;
-    let sum = add(add(h, big_sigma1(e)), ch(e, f, g));
-    let first = add(add(sum, u32x8::splat(constant)), word);
+    let first = first_sum(e, f, g, h, constant, word);
     let second = add(big_sigma0(a), maj(a, b, c));
     [add(first, second), a, b, c, add(d, first), e, f, g]
 }
@@ -99,14 +112,27 @@ fn next_word(words: &Words, t: usize) -> u32x8
     add(far, words[t - 16])
 }
 
-// Writes the schedule's words from word `first` on, behind those that are there.
-pub(crate) fn fill_words(words: &mut Words, first: usize)
-    requires low { 16 ≤ first }
-    requires high { first ≤ 64 }
-    ensures { (j : ℕ) (block : List ℕ) → j < 8 → IsScheduled block j words.old first → IsScheduled block j words.new 64 }
+// Writes words t to t + 3 of the schedule, behind those that are there.
+#[inline(always)]
+pub(crate) fn four_words(words: &mut Words, t: usize)
+    requires low { 16 ≤ t }
+    requires high { t + 4 ≤ 64 }
+    ensures { (j : ℕ) (block : List ℕ) → j < 8 → IsScheduled block j words.old t → IsScheduled block j words.new (t + 4) }
 {
-    'words: for t in first..64 {
-        words[t] = next_word(words, t);
+    words[t] = next_word(words, t);
+    words[t + 1] = next_word(words, t + 1);
+    words[t + 2] = next_word(words, t + 2);
+    words[t + 3] = next_word(words, t + 3);
+}
+
+// Writes the schedule's words from word `4 * first` on, behind those that are there.
+pub(crate) fn fill_words(words: &mut Words, first: usize)
+    requires low { 4 ≤ first }
+    requires high { first ≤ 16 }
+    ensures { (j : ℕ) (block : List ℕ) → j < 8 → IsScheduled block j words.old (4 * first) → IsScheduled block j words.new 64 }
+{
+    'fours: for four in first..16 {
+        four_words(words, 4 * four);
     }
 }
 
@@ -175,6 +201,6 @@ pub(crate) fn compress(hash: &[u32x8; 8], words: &mut Words) -> [u32x8; 8]
     ensures { (j : ℕ) (block : List ℕ) → j < 8 → ((k : ℕ) → k < 16 → lane_at words.old k j ≡ word_at block (4 * k))
         → hash_lane j result ≡ compress (hash_lane j hash.now) block }
 {
-    fill_words(words, 16);
+    fill_words(words, 4);
     last_steps(words, *hash, 0, hash)
 }

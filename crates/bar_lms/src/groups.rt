@@ -8,7 +8,7 @@ ghost use Rattle.bar_lms.specs.Lanes.{leg_of, leg_end, lane_steps};
 use crate::bytes::put;
 use crate::legs::Eight;
 use bar_bytes::Steps;
-use bar_lanes::{Digests, Heads, Tails};
+use bar_lanes::{Digests, Heads, Tails, Words};
 use std::simd::u32x8;
 use std::sync::ledger::Ledger;
 
@@ -102,7 +102,8 @@ pub(crate) fn sixteen_chains<L: Ledger>(
     let most = most(&counts);
     let firsts = u32x8::from_array(lane_steps(&first.counts, &[0; 8]));
     let counts = u32x8::from_array(counts);
-    let mut kept = Digests::new(ends);
+    // Each lane takes the value behind its first chain in the course of the steps.
+    let mut kept = tails.values();
     let mut words = [u32x8::splat(0); 64];
     'steps: for n in 0..most {
         kept.take(&tails.values(), firsts, n);
@@ -117,13 +118,15 @@ pub(crate) fn sixteen_chains<L: Ledger>(
     tails.values().to_bytes()
 }
 
-/// The values of chain i of eight leaves with these heads, after so many steps from a number on.
+/// The values of chain i of eight leaves with these heads, after so many steps from a number on. The words of their schedules are written anew,
+/// so that a key needs room for them once.
 pub(crate) fn chain_of_leaves<L: Ledger>(
     heads: &Heads,
     i: u16,
     from: u8,
     count: u32,
     starts: &Digests,
+    words: &mut Words,
     steps: &mut Steps<L>,
 ) -> Digests
     requires { from + count ≤ 256 }
@@ -133,9 +136,8 @@ pub(crate) fn chain_of_leaves<L: Ledger>(
 {
     let mut tails = tails_of(&[i; 8], &[from; 8], starts);
     let counts = u32x8::splat(count);
-    let mut words = [u32x8::splat(0); 64];
     'steps: for n in 0..count {
-        let hashes = heads.hash(&tails, &mut words);
+        let hashes = heads.hash(&tails, words);
         steps.eight();
         tails.go_on(&hashes, counts, n);
     }

@@ -2,3 +2,4 @@
 pub mod Trials
 pub mod OtherExchanges
 pub mod Search
+pub mod Keys

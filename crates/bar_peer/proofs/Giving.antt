@@ -6,3 +6,4 @@ pub mod Bodies
 pub mod Signatures
 pub mod Lengths
 pub mod Totals
+pub mod Kept

@@ -3,6 +3,7 @@ use Rattle.std.specs.Prelude.{◌≡◌, true, []}
 use Rattle.bar_core.specs.Orders.{left_in}
 use Rattle.bar_wire.specs.Datagram.{Datagram}
 use Rattle.bar_wire.specs.Inputs.{Input}
+use Rattle.bar_laws.specs.Evidence.{CatchesBadKeys}
 use Rattle.bar_laws.specs.Ignoring.{is_ignored, tells_nothing}
 use Rattle.bar_rules.specs.Peer.Knowledge.{known}
 use Rattle.bar_rules.specs.Peer.Log.{Log}
@@ -17,14 +18,14 @@ use Rattle.bar_peer.specs.StandsFor.{Inputs, StandsFor, contents_left}
 -- a datagram that tells nothing new leaves the memory as it was
 abbrev pub LeavesMemory : Datagram → Memory → Memory → Type 0
 LeavesMemory d m n =
-    (log : Log) → IsObedient (member_of m.who) log → Represents log m → tells_nothing (member_of m.who) (known (member_of m.who) log) d ≡ true
-    → n ≡ m
+    (log : Log) → CatchesBadKeys (member_of m.who) log → IsObedient (member_of m.who) log → Represents log m
+    → tells_nothing (member_of m.who) (known (member_of m.who) log) d ≡ true → n ≡ m
 
 -- so does an input that is ignored
 abbrev pub IgnoresInput : Input → Memory → Memory → Type 0
 IgnoresInput input m n =
-    (log : Log) → IsObedient (member_of m.who) log → Represents log m → is_ignored (member_of m.who) (known (member_of m.who) log) input ≡ true
-    → n ≡ m
+    (log : Log) → CatchesBadKeys (member_of m.who) log → IsObedient (member_of m.who) log → Represents log m
+    → is_ignored (member_of m.who) (known (member_of m.who) log) input ≡ true → n ≡ m
 
 -- The memory is as it was, and nothing is left to be given out.
 pub record StaysAsBefore (old new : Memory) (o : Orders) (p : Playing) : Type 0 where

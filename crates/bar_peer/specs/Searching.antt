@@ -1,12 +1,17 @@
 -- What a search for evidence goes by, and what it gives.
-use Rattle.std.specs.Prelude.{◌≡◌, ℕ, true, List, [], ◌∷◌, Option, option_map, option_copied}
+use Rattle.std.specs.Prelude.{◌≡◌, ℕ, true, List, [], ◌∷◌, Option, Some, is_some, option_map, option_copied}
 use Rattle.std.specs.Borrow.{Bor}
 use Rattle.bar_terms.specs.Table.{digests_of}
 use Rattle.bar_wire.specs.Bodies.{is_peer_kind}
-use Rattle.bar_wire.specs.Datagram.{Datagram}
+use Rattle.bar_case.specs.Opened.{is_bad}
+use Rattle.bar_window.specs.declared.exchange.Exchange.{Exchange}
+use Rattle.bar_window.specs.declared.exchange.Role.{Role}
+use Rattle.bar_wire.specs.Datagram.{Datagram, Briefcase, Case, Key, KeyGiven}
+use Rattle.bar_wire.specs.declared.kind.Kind.TheVariants as kinds
 use Rattle.bar_wire.specs.Views.{plain}
 use Rattle.bar_ledger.specs.Recalls.{Recalls}
 use Rattle.bar_rules.specs.Member.{Member}
+use Rattle.bar_rules.specs.Values.{opening_of}
 use Rattle.bar_rules.specs.Peer.Evidence.{is_tried}
 use Rattle.bar_rules.specs.Peer.Knowledge.{Knowledge, table_of}
 use Rattle.bar_laws.specs.Soundness.{IsSound}
@@ -30,11 +35,19 @@ pub record MaySearch {V : Type 0} {g : Ghosts V} (s : Search) (guard : Guard V g
   pub signed : is_peer_kind (plain s.arrival.now.view.body) ≡ true
   pub guards : IsGuardOf s.who.now.session guard
 
+-- where a KEY that was heard of a side opens its CASE badly, evidence is kept against its sender
+abbrev pub KeysAreCaught : Member → Knowledge → Type 0
+KeysAreCaught me k =
+    (x : Exchange) (role : Role) (d e : Datagram) (g : KeyGiven) (c : Briefcase) → k.heard kinds.Key x role ≡ Some d
+    → d.message.body ≡ Key g → k.heard kinds.Case x role ≡ Some e → e.message.body ≡ Case c → is_bad (opening_of me.session (table_of k) x c g.key) ≡ true
+    → is_some (k.evidence d.message.from) ≡ true
+
 -- It goes by what is known, by which evidence is looked for at the datagram.
 pub record GoesBy (k : Knowledge) (s : Search) : Type 0 where
   pub recalls : Recalls (searcher s) k s.ledger.now
   pub table : table_of k ≡ digests_of s.table.now.lists
   pub sound : IsSound (searcher s) k
+  pub caught : KeysAreCaught (searcher s) k
   pub tried : is_tried (searcher s) k (searched s) ≡ true
 
 -- the evidence of the datagram behind an earlier one, where there is one

@@ -2,6 +2,7 @@
 use Rattle.std.specs.Prelude.{◌≡◌, ◌≤◌, Bool, true, false, ℕ, List, [], ◌∷◌}
 use Rattle.bar_wire.specs.Inputs.{Input}
 use Rattle.bar_wire.specs.Inputs as event
+use Rattle.bar_laws.specs.Evidence.{CatchesBadKeys}
 use Rattle.bar_rules.specs.Member.{Member}
 use Rattle.bar_rules.specs.Runs.{begun}
 use Rattle.bar_rules.specs.Values.{datagram_of}
@@ -30,14 +31,16 @@ TakesTick m o n p =
 abbrev pub TakesDatagram : List ℕ → Memory → Orders → Memory → Orders → Type 0
 TakesDatagram bytes m o n p =
     let me : Member = member_of m.who in
-    (log : Log) → IsObedient me (take_datagram me log (datagram_of me.session bytes)).state → Represents log m → o.list.items ≡ [] → 3 ≤ o.room
+    (log : Log) → CatchesBadKeys me log → IsObedient me (take_datagram me log (datagram_of me.session bytes)).state → Represents log m
+    → o.list.items ≡ [] → 3 ≤ o.room
     → HasOutcome (take_datagram me log (datagram_of me.session bytes)) n p
 
 -- an input before the last tick is taken
 abbrev pub TakesInput : Input → Memory → Orders → Memory → Orders → Type 0
 TakesInput input m o n p =
     let me : Member = member_of m.who in
-    (log : Log) → IsObedient me (take_input me log input).state → Represents log m → o.list.items ≡ [] → most_orders m.who.session ≤ o.room
+    (log : Log) → CatchesBadKeys me log → IsObedient me (take_input me log input).state → Represents log m → o.list.items ≡ []
+    → most_orders m.who.session ≤ o.room
     → HasOutcome (take_input me log input) n p
 
 abbrev pub is_tick : Input → Bool

@@ -4,7 +4,7 @@ ghost use Rattle.bar_seeds.specs.Checkpoints.{kept_round};
 ghost use Rattle.bar_session.specs.Points.{AreSeeds};
 ghost use Rattle.bar_wire.specs.Bodies.{choice_round};
 ghost use Rattle.bar_seal.specs.Memo.{has_pair, with_pair};
-ghost use Rattle.bar_wire.specs.Datagram.{is_signed};
+ghost use Rattle.bar_wire.specs.Datagram.{Block, is_signed};
 ghost use Rattle.bar_peer.specs.Checking.{Checks, FollowsSeed, IsGuardOf, Remembers, shown_by};
 ghost use Rattle.bar_wire.specs.Bodies.{is_peer_kind};
 ghost use Rattle.bar_wire.specs.Views.{datagram, plain, IsView};
@@ -31,7 +31,7 @@ use bar_laws::rooms::signed_datagrams_are_short;
 use bar_seal::{Checker, Verifier};
 use bar_seeds::Checkpoints;
 use bar_store::Added;
-use bar_window::{UpdateId, XKind};
+use bar_window::{BLOCK_SIZE, UpdateId, XKind};
 use bar_wire::{Body, EVERYONE, View, is_peer_kind};
 use std::sync::ledger::Ledger as StepLedger;
 
@@ -51,6 +51,17 @@ impl Memory {
         ensures { result ≡ is_alive self.now.who.session round (round_after self.now.ticks) }
     {
         u64::from(self.round()) < u64::from(round) + u64::from(self.who.session.shape().life)
+    }
+
+    /// The row of a BLOCK. One of an update that is held isn't hashed.
+    fn is_new_block(&self, id: UpdateId, block: &[u8; BLOCK_SIZE]) -> bool
+        ensures { (k : Knowledge) (from to : ℕ) → IsMemoryOf (member_of self.now.who) k self.now
+            → result ≡ is_row_met (member_of self.now.who) k from to (Block id block.now) }
+    {
+        if self.store.holds(id) {
+            return false;
+        }
+        self.store.cause(id, block, self.round()) == Added::New
     }
 
     /// The row of a datagram's kind. It counts the steps along the seeds.
@@ -76,7 +87,7 @@ impl Memory {
                 round: r,
                 index,
                 block,
-            } => self.store.cause(UpdateId { round: r, index }, block, round) == Added::New,
+            } => self.is_new_block(UpdateId { round: r, index }, block),
             _ => self.meets_row_of_exchange(arrival, points, steps),
         }
     }
@@ -152,7 +163,8 @@ impl Memory {
         checker.check(session.key(view.from), arrival.bytes, view, steps)
     }
 
-    /// Whether a datagram is admitted, if its signature is accepted. It counts the steps along the seeds.
+    /// Whether a datagram is admitted, if its signature is accepted. Where one of its name was admitted no more of it is looked at.
+    /// It counts the steps along the seeds.
     #[tactic(auto, using(crate::proofs::Stepping::Guards::follows_none))]
     pub fn may_admit<L: StepLedger>(
         &self,
@@ -173,10 +185,10 @@ impl Memory {
         if self.evictions.is_named(arrival.view.from) {
             return false;
         }
-        if !self.meets_row(arrival, points, steps) {
+        if self.is_heard_again(arrival) {
             return false;
         }
-        !self.is_heard_again(arrival)
+        self.meets_row(arrival, points, steps)
     }
 
     /// Whether evidence is looked for at a datagram, if its signature is accepted: it is of a kind that peers sign, to this peer, of a round

@@ -1,7 +1,8 @@
 //! The evidence that a datagram completes.
-ghost use Rattle.std.specs.Prelude.{◌≡◌, ◌≤◌, Some, option_map};
+ghost use Rattle.std.specs.Prelude.{◌≡◌, ◌≤◌, None, Some, option_map, true};
 ghost use Rattle.bar_wire.specs.Evidence.{datagrams_of};
 ghost use Rattle.bar_wire.specs.Sides.{place_in};
+ghost use Rattle.bar_wire.specs.declared.kind.Kind.TheVariants as kinds;
 ghost use Rattle.bar_rules.specs.Peer.Evidence.{new_evidence, pair_with, pairs_elsewhere, pairs_in, pairs_of};
 ghost use Rattle.bar_rules.specs.Peer.Knowledge.{Knowledge, table_of};
 ghost use Rattle.bar_peer.specs.Checking.{ChecksSeed, shown_by};
@@ -14,7 +15,7 @@ use bar_exchange::naming_elsewhere;
 use bar_judge::found;
 use bar_judge::laws::verdicts_are_what_is_found;
 use bar_laws::evidence::others_are_tried_by_leaves;
-use bar_ledger::opening_kind;
+use bar_ledger::{names, opening_kind};
 use bar_seal::Verifier;
 use bar_wire::{EvidenceView, Kind, Place, decode, is_peer_kind, the_datagram_is_spelled};
 use std::sync::ledger::Ledger as StepLedger;
@@ -55,6 +56,52 @@ impl<'a> Search<'a> {
         Some(heard)
     }
 
+    /// Whether this is the KEY that was heard at its place, byte for byte, and its signature names another leaf than that of the CASE that
+    /// was heard there. The CASE isn't opened again by it: evidence is kept where it showed some.
+    fn is_key_again<V: Verifier>(&self, place: Place, guard: &Guard<V>) -> bool
+        requires place { self.now.arrival.now.place ≡ Some place }
+        requires search { MaySearch self.now guard.now }
+        ensures { result ≡ true → (k : Knowledge) → GoesBy k self.now
+            → pair_with self.now.who.now.session (table_of k) (searched self.now) (k.heard kinds.Case place.x place.role) ≡ None }
+    {
+        verdicts_are_what_is_found();
+        the_datagram_is_spelled();
+        let Some(key) = self.ledger.heard_from(place.x, Kind::Key, place.role) else {
+            return false;
+        };
+        if key != self.arrival.bytes {
+            return false;
+        }
+        let Some(case) = self.ledger.heard_from(place.x, Kind::Case, place.role) else {
+            return false;
+        };
+        let Some(sig) = self.arrival.view.sig else {
+            return false;
+        };
+        let verifier = guard.checker.verifier();
+        !names(verifier, Some(case), verifier.leaf_in(sig))
+    }
+
+    /// The CASE that was heard at the place of this datagram, where the two show a fault of their sender.
+    fn case_here<V: Verifier, L: StepLedger>(
+        &self,
+        place: Place,
+        guard: &mut Guard<V>,
+        steps: &mut Steps<L>,
+    ) -> Option<&'a [u8]>
+        requires place { self.now.arrival.now.place ≡ Some place }
+        requires search { MaySearch self.now guard.old }
+        ensures exact { (k : Knowledge) → GoesBy k self.now → pair_behind self.now result
+            ≡ pair_with self.now.who.now.session (table_of k) (searched self.now) (k.heard kinds.Case place.x place.role) }
+        ensures cost { steps.new ≤ steps.old }
+        ensures same { guard.new ≡ guard.old }
+    {
+        if self.is_key_again(place, guard) {
+            return None;
+        }
+        self.pair_with(Kind::Case, place, guard, steps)
+    }
+
     /// The first datagram that was heard at the place of this one with which it shows a fault.
     fn earlier_here<V: Verifier, L: StepLedger>(
         &self,
@@ -73,7 +120,7 @@ impl<'a> Search<'a> {
         if let Some(heard) = self.pair_with(opening, place, guard, steps) {
             return Some(heard);
         }
-        if let Some(heard) = self.pair_with(Kind::Case, place, guard, steps) {
+        if let Some(heard) = self.case_here(place, guard, steps) {
             return Some(heard);
         }
         self.pair_with(Kind::Key, place, guard, steps)

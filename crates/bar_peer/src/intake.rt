@@ -15,6 +15,7 @@ ghost use Rattle.bar_rules.specs.Peer.Replies.{repeated};
 ghost use Rattle.bar_rules.specs.Peer.Rules.{IsObedient};
 ghost use Rattle.bar_rules.specs.Peer.Run.{answered_to, take_datagram, with_evidence};
 ghost use Rattle.bar_rules.specs.Values.{datagram_of};
+ghost use Rattle.bar_laws.specs.Evidence.{CatchesBadKeys};
 ghost use Rattle.bar_laws.specs.Ignoring.{is_unread, tells_nothing};
 ghost use Rattle.bar_peer.specs.Ignoring.{IgnoresInput, LeavesMemory};
 ghost use Rattle.bar_peer.specs.Arrivals.{IsReadBy, datagram_by};
@@ -65,7 +66,8 @@ impl Memory {
         requires guard { IsGuardOf self.old.who.session guard.old }
         requires signed { is_peer_kind (plain arrival.now.view.body) ≡ true }
         ensures kept { (log : Log) → let me : Member = member_of self.old.who in let d : Datagram = datagram_by self.old.who arrival.now in
-            IsObedient me (with_evidence me log d.message.from (new_evidence me (known me log) d)) → IsObedient me log → Represents log self.old
+            CatchesBadKeys me log → IsObedient me (with_evidence me log d.message.from (new_evidence me (known me log) d))
+            → IsObedient me log → Represents log self.old
             → is_tried me (known me log) d ≡ true
             → (result ≡ is_some (new_evidence me (known me log) d))
             × Represents (with_evidence me log d.message.from (new_evidence me (known me log) d)) self.new }
@@ -92,8 +94,14 @@ impl Memory {
     }
 }
 
-/// Keeps what a datagram tells where it is admitted, and answers it; a repeat is answered again.
-fn answer(memory: &mut Memory, orders: &mut Orders<Order>, arrival: &Arrival<'_>, is_admitted: bool)
+/// Keeps what a datagram tells where it is admitted, and answers it; a repeat is answered again. It answers whether the memory stayed as it
+/// was.
+fn answer(
+    memory: &mut Memory,
+    orders: &mut Orders<Order>,
+    arrival: &Arrival<'_>,
+    is_admitted: bool,
+) -> bool
     requires view { IsReadBy memory.old.who arrival.now }
     ensures stands { (log : Log)
         → IsObedient (member_of memory.old.who)
@@ -106,6 +114,7 @@ fn answer(memory: &mut Memory, orders: &mut Orders<Order>, arrival: &Arrival<'_>
     ensures idle { (log : Log) → IsObedient (member_of memory.old.who) log → Represents log memory.old → is_admitted ≡ false
         → repeated (member_of memory.old.who) (known (member_of memory.old.who) log) (datagram_by memory.old.who arrival.now) ≡ None
         → memory.new ≡ memory.old }
+    ensures same { result ≡ true → memory.new ≡ memory.old }
     ensures length { orders.old.list.items ≡ [] → length orders.new.list.items ≤ 2 }
     ensures room { HasSameRoom orders.old orders.new }
     ensures party { IsSameParty memory.old memory.new }
@@ -116,14 +125,17 @@ fn answer(memory: &mut Memory, orders: &mut Orders<Order>, arrival: &Arrival<'_>
         memory.hear(arrival);
         let says = says_to(memory, arrival, true);
         reply(memory, orders, says);
+        false
     } else if memory.is_repeat(arrival) {
         let says = says_to(memory, arrival, false);
-        reply(memory, orders, says);
+        reply(memory, orders, says)
+    } else {
+        true
     }
 }
 
 /// Looks for evidence at a datagram with an accepted signature and keeps it, then answers the datagram, and reports the evidence. It counts
-/// the steps along the seeds.
+/// the steps along the seeds, and answers whether the memory stayed as it was.
 fn answer_tried<V: Verifier, L: StepLedger>(
     memory: &mut Memory,
     orders: &mut Orders<Order>,
@@ -131,11 +143,11 @@ fn answer_tried<V: Verifier, L: StepLedger>(
     arrival: &Arrival<'_>,
     is_admitted: bool,
     steps: &mut Steps<L>,
-)
+) -> bool
     requires view { IsReadBy memory.old.who arrival.now }
     requires guard { IsGuardOf memory.old.who.session guard.old }
     requires signed { is_peer_kind (plain arrival.now.view.body) ≡ true }
-    ensures stands { (log : Log)
+    ensures stands { (log : Log) → CatchesBadKeys (member_of memory.old.who) log
         → IsObedient (member_of memory.old.who)
         (take_datagram (member_of memory.old.who) log (Some (datagram_by memory.old.who arrival.now))).state
         → Represents log memory.old
@@ -145,10 +157,12 @@ fn answer_tried<V: Verifier, L: StepLedger>(
         → orders.old.list.items ≡ [] → 3 ≤ orders.old.room
         → HasOutcome (take_datagram (member_of memory.old.who) log (Some (datagram_by memory.old.who arrival.now)))
         memory.new orders.new }
-    ensures idle { is_admitted ≡ false → (log : Log) → IsObedient (member_of memory.old.who) log → Represents log memory.old
+    ensures idle { is_admitted ≡ false → (log : Log) → CatchesBadKeys (member_of memory.old.who) log
+        → IsObedient (member_of memory.old.who) log → Represents log memory.old
         → is_tried (member_of memory.old.who) (known (member_of memory.old.who) log) (datagram_by memory.old.who arrival.now) ≡ true
         → tells_nothing (member_of memory.old.who) (known (member_of memory.old.who) log) (datagram_by memory.old.who arrival.now) ≡ true
         → memory.new ≡ memory.old }
+    ensures same { result ≡ true → memory.new ≡ memory.old }
     ensures room { HasSameRoom orders.old orders.new }
     ensures party { IsSameParty memory.old memory.new }
     ensures checks { ChecksSeed memory.old.who.session (shown_by memory.old.who arrival.now) guard.old guard.new steps.old steps.new }
@@ -156,30 +170,34 @@ fn answer_tried<V: Verifier, L: StepLedger>(
     knowledge_is_enough();
     logs_are_sound();
     let is_found = memory.keep_found(guard, arrival, steps);
-    answer(memory, orders, arrival, is_admitted);
+    let is_same = answer(memory, orders, arrival, is_admitted);
     if is_found {
         orders.push(Order::Report(arrival.view.from));
+        false
+    } else {
+        is_same
     }
 }
 
 /// Takes a datagram that is read: it looks for evidence and keeps it, then keeps what the datagram tells where it is admitted, answers it,
-/// and reports the evidence. At most one signature is verified. It counts each hash.
+/// and reports the evidence. At most one signature is verified. It counts each hash, and answers whether the memory stayed as it was.
 fn take_arrival<V: Verifier, L: StepLedger>(
     memory: &mut Memory,
     orders: &mut Orders<Order>,
     guard: &mut Guard<V>,
     arrival: &Arrival<'_>,
     steps: &mut Steps<L>,
-)
+) -> bool
     requires view { IsReadBy memory.old.who arrival.now }
     requires guard { IsGuardOf memory.old.who.session guard.old }
-    ensures stands { (log : Log)
+    ensures stands { (log : Log) → CatchesBadKeys (member_of memory.old.who) log
         → IsObedient (member_of memory.old.who)
         (take_datagram (member_of memory.old.who) log (Some (datagram_by memory.old.who arrival.now))).state
         → Represents log memory.old → orders.old.list.items ≡ [] → 3 ≤ orders.old.room
         → HasOutcome (take_datagram (member_of memory.old.who) log (Some (datagram_by memory.old.who arrival.now)))
         memory.new orders.new }
     ensures idle { LeavesMemory (datagram_by memory.old.who arrival.now) memory.old memory.new }
+    ensures same { result ≡ true → memory.new ≡ memory.old }
     ensures room { HasSameRoom orders.old orders.new }
     ensures party { IsSameParty memory.old memory.new }
     ensures checks { Checks memory.old.who.session (shown_by memory.old.who arrival.now) 2 guard.old guard.new steps.old steps.new }
@@ -190,13 +208,13 @@ fn take_arrival<V: Verifier, L: StepLedger>(
     logs_are_sound();
     let weighed = memory.weigh(guard, arrival, steps);
     if weighed.is_tried {
-        answer_tried(memory, orders, guard, arrival, weighed.is_admitted, steps);
+        answer_tried(memory, orders, guard, arrival, weighed.is_admitted, steps)
     } else {
-        answer(memory, orders, arrival, weighed.is_admitted);
+        answer(memory, orders, arrival, weighed.is_admitted)
     }
 }
 
-/// Takes a datagram. One that isn't read changes nothing. It counts each hash.
+/// Takes a datagram, and answers whether the memory stayed as it was. One that isn't read changes nothing. It counts each hash.
 #[tactic(auto, using(crate::proofs::Stepping::Guards::checks_none))]
 pub fn take_datagram<V: Verifier, L: StepLedger>(
     memory: &mut Memory,
@@ -204,10 +222,11 @@ pub fn take_datagram<V: Verifier, L: StepLedger>(
     guard: &mut Guard<V>,
     bytes: &[u8],
     steps: &mut Steps<L>,
-)
+) -> bool
     requires guard { IsGuardOf memory.old.who.session guard.old }
     ensures stands { TakesDatagram bytes.now memory.old orders.old memory.new orders.new }
     ensures ignored { IgnoresInput (event.Datagram bytes.now) memory.old memory.new }
+    ensures same { result ≡ true → memory.new ≡ memory.old }
     ensures unread { is_unread memory.old.who.session (event.Datagram bytes.now) ≡ true
         → (memory.new ≡ memory.old) × (orders.new ≡ orders.old) × (guard.new ≡ guard.old) }
     ensures room { HasSameRoom orders.old orders.new }
@@ -223,6 +242,8 @@ pub fn take_datagram<V: Verifier, L: StepLedger>(
     if let Ok(view) = decode(bytes, &shape) {
         let place = place_of(&view);
         let arrival = Arrival { bytes, view, place };
-        take_arrival(memory, orders, guard, &arrival, steps);
+        take_arrival(memory, orders, guard, &arrival, steps)
+    } else {
+        true
     }
 }

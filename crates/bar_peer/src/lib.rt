@@ -6,6 +6,7 @@ mod answers;
 mod arrival;
 mod as_core;
 mod briefcases;
+mod cases;
 mod credentials;
 mod evictions;
 mod evidence;

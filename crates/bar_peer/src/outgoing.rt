@@ -1,24 +1,29 @@
 //! What a peer gives out.
-ghost use Rattle.std.specs.Prelude.{◌≡◌, ◌<◌, ◌≤◌, ℕ, List, [], Some, MatchOption, length, take, unwrap_or};
+ghost use Rattle.std.specs.Prelude.{◌≡◌, ◌<◌, ◌≤◌, ℕ, List, [], Some, IfSome, MatchOption, length, option_copied, take, unwrap_or};
 ghost use Rattle.bar_wire.specs.Datagram.{Datagram};
 ghost use Rattle.bar_wire.specs.Limits.{largest_datagram};
 ghost use Rattle.bar_ledger.specs.Lookups.{seat_of};
-ghost use Rattle.bar_rules.specs.Values.{message_bytes};
+ghost use Rattle.bar_wire.specs.declared.kind.Kind.TheVariants as kinds;
+ghost use Rattle.bar_rules.specs.Values.{datagram_bytes, message_bytes};
 ghost use Rattle.bar_rules.specs.Peer.Agreement.{IsRecent};
 ghost use Rattle.bar_rules.specs.Peer.Knowledge.{Knowledge};
 ghost use Rattle.bar_rules.specs.Peer.Signing.{leaf_for};
 ghost use Rattle.bar_rules.specs.Peer.Writing.{body_now};
 ghost use Rattle.bar_exchange.specs.Writing.{CanWrite, IsWritten, LeavesRest, largest_message};
+ghost use Rattle.bar_peer.specs.Cases.{AreCasesNow};
 ghost use Rattle.bar_peer.specs.Giving.{IsDue, IsOrderDue, IsSignedFor, receiver_of};
+ghost use Rattle.bar_peer.specs.declared.order.Order.TheVariants as orders;
 ghost use Rattle.bar_rules.specs.Giving.{IsGiven};
 ghost use Rattle.bar_peer.specs.Memory.{member_of, IsMemoryOf};
 ghost use Rattle.bar_core.specs.Orders.{left_in};
 ghost use Rattle.bar_peer.specs.StandsFor.{Inputs, StandsFor, AreLeft};
 ghost use Rattle.bar_rules.specs.Giving.{GivesNext};
 
+use crate::cases::Cases;
 use crate::memory::Memory;
 use crate::order::Order;
 use crate::peer::Peer;
+use bar_bytes::put;
 use bar_exchange::{Say, Sources};
 use bar_laws::leaves::leaf_discipline;
 use bar_laws::memories::logs_are_sound;
@@ -28,7 +33,7 @@ use bar_laws::rooms::evidence_fits_its_room;
 use bar_ledger::Ledger;
 use bar_seal::{Scheme, leaf_for};
 use bar_window::{Exchange, Role, XKind};
-use bar_wire::{BROADCASTER, SEATS_A_ROUND};
+use bar_wire::{BROADCASTER, Kind, SEATS_A_ROUND};
 
 /// The responder's seat in an exchange, and 0 where it has none.
 fn seat_of(ledger: &Ledger, x: Exchange) -> u8
@@ -84,7 +89,51 @@ impl Memory {
     }
 }
 
+/// The exchange of an order that says a CASE.
+fn case_of(order: Order) -> Option<Exchange>
+    ensures { IfSome result (λ x. order ≡ orders.Say (record { kind = kinds.Case; x = x })) }
+{
+    match order {
+        Order::Say(
+            Say {
+                kind: Kind::Case,
+                x,
+            },
+        ) => Some(x),
+        _ => None,
+    }
+}
+
+/// Keeps the datagram of an order, of so many bytes at the front of a buffer, where it is a CASE.
+fn keep_case(memory: &Memory, cases: &mut Cases, order: Order, buf: &[u8], len: usize)
+    requires cases { AreCasesNow memory.now cases.old }
+    requires given { (k : Knowledge) (d : Datagram) → IsMemoryOf (member_of memory.now.who) k memory.now
+        → IsOrderDue (member_of memory.now.who) k order d → IsGiven memory.now.who.session d (Some len) buf.now }
+    ensures { AreCasesNow memory.now cases.new }
+{
+    let Some(x) = case_of(order) else {
+        return;
+    };
+    if len > buf.len() {
+        return;
+    }
+    let (datagram, _) = buf.split_at(len);
+    cases.keep(memory.room(x), x, datagram);
+}
+
 impl Memory {
+    /// The number of the room for the CASE of an exchange: another one for each exchange in which a leaf signs one.
+    fn room(&self, x: Exchange) -> usize {
+        let case = Say {
+            kind: Kind::Case,
+            x,
+        };
+        match self.leaf(case) {
+            Some(leaf) => leaf as usize / 3,
+            None => 0,
+        }
+    }
+
     /// The receiver of what an order sends.
     fn receiver(&self, order: Order) -> u16
         ensures { result ≡ receiver_of (member_of self.now.who) order }
@@ -128,8 +177,8 @@ impl<S: Scheme> Peer<S> {
         self.sign(say, len, buf)
     }
 
-    /// Writes the datagram of an order to the front of a buffer, and answers its length.
-    fn give(&self, order: Order, buf: &mut [u8]) -> Option<usize>
+    /// Writes the datagram of an order anew to the front of a buffer, and answers its length.
+    fn give_anew(&self, order: Order, buf: &mut [u8]) -> Option<usize>
         requires room { largest_datagram ≤ length buf.old }
         ensures { (k : Knowledge) (d : Datagram) → IsMemoryOf (member_of self.now.memory.who) k self.now.memory
             → IsOrderDue (member_of self.now.memory.who) k order d → IsGiven self.now.memory.who.session d result buf.new }
@@ -138,6 +187,30 @@ impl<S: Scheme> Peer<S> {
             Order::Say(say) => self.give_said(say, buf),
             Order::Report(party) => self.memory.write_report(party, buf),
         }
+    }
+
+    /// Writes the datagram of an order to the front of a buffer, and answers its length: a CASE as it is kept, where it is.
+    fn give(&self, order: Order, buf: &mut [u8]) -> Option<usize>
+        requires room { largest_datagram ≤ length buf.old }
+        ensures { (k : Knowledge) (d : Datagram) → IsMemoryOf (member_of self.now.memory.who) k self.now.memory
+            → IsOrderDue (member_of self.now.memory.who) k order d → IsGiven self.now.memory.who.session d result buf.new }
+    {
+        if let Some(case) = self.kept_case(order) {
+            if case.len() <= buf.len() {
+                return Some(put(buf, 0, case));
+            }
+        }
+        self.give_anew(order, buf)
+    }
+
+    /// The CASE that an order says, where it is kept.
+    fn kept_case(&self, order: Order) -> Option<&[u8]>
+        ensures { (case : List ℕ) → option_copied result ≡ Some case
+            → (k : Knowledge) (d : Datagram) → IsMemoryOf (member_of self.now.memory.who) k self.now.memory
+            → IsOrderDue (member_of self.now.memory.who) k order d → case ≡ datagram_bytes self.now.memory.who.session d }
+    {
+        let x = case_of(order)?;
+        self.cases.get(self.memory.room(x), x)
     }
 
     /// Writes the next datagram to the front of a buffer, and answers its receiver and its length, or `None` where none is left.
@@ -161,6 +234,7 @@ impl<S: Scheme> Peer<S> {
             self.orders.clear();
             return None;
         };
+        keep_case(&self.memory, &mut self.cases, order, buf, len);
         Some((self.memory.receiver(order), len))
     }
 }

@@ -1,9 +1,11 @@
 ghost use Rattle.std.specs.Prelude.{◌≡◌, ◌≤◌};
+ghost use Rattle.bar_peer.specs.Cases.{AreCasesNow};
 ghost use Rattle.bar_peer.specs.Checking.{IsGuardOf};
 ghost use Rattle.bar_peer.specs.Memory.{member_of};
 ghost use Rattle.bar_rules.specs.Signers.{IsSignerOf};
 ghost use Rattle.bar_peer.specs.Ticking.{most_orders};
 
+use crate::cases::Cases;
 use crate::guard::Guard;
 use crate::memory::Memory;
 use crate::order::Order;
@@ -19,9 +21,12 @@ pub struct Peer<S: Scheme> {
     pub(crate) guard: Guard<S>,
     pub(crate) orders: Orders<Order>,
     pub(crate) playing: Playing,
+    /// The CASEs that were sent since the memory changed last.
+    pub(crate) cases: Cases,
     pub ghost guards: { IsGuardOf memory.who.session guard },
     ghost signs: { IsSignerOf (member_of memory.who) (S.signed guard.checker.verifier) (S.leaf_count guard.checker.verifier)
         (S.Verifier.signature_len guard.checker.verifier) },
     pub ghost places: { guard.checker.memo.places ≡ 256 },
     ghost room: { most_orders memory.who.session ≤ orders.room },
+    ghost kept: { AreCasesNow memory cases },
 }

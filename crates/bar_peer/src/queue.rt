@@ -1,5 +1,5 @@
 //! How a peer says what is due, and puts it into the queue of orders.
-ghost use Rattle.std.specs.Prelude.{◌≡◌, ◌+◌, ◌≤◌, [], length};
+ghost use Rattle.std.specs.Prelude.{◌≡◌, ◌+◌, ◌≤◌, ◌&&◌, [], true, length};
 ghost use Rattle.std.specs.List.{AllByRecursion};
 ghost use Rattle.bar_rules.specs.Peer.Knowledge.{known};
 ghost use Rattle.bar_rules.specs.Peer.Rules.{IsObedient};
@@ -14,24 +14,36 @@ use crate::order::Order;
 use bar_core::Orders;
 use bar_exchange::{Say, Says};
 
-/// Carries out a reply.
-fn reply_once(memory: &mut Memory, orders: &mut Orders<Order>, say: Say)
+fn both(one: bool, two: bool) -> bool
+    ensures { result ≡ (one && two) }
+{
+    one && two
+}
+
+/// Carries out a reply, and answers whether the memory stayed as it was: so it is where what was said is said again.
+fn reply_once(memory: &mut Memory, orders: &mut Orders<Order>, say: Say) -> bool
     ensures stands { (out : Out)
         → IsObedient (member_of memory.old.who) (perform (member_of memory.old.who) out (order_by say.kind say.x)).state
         → HasOutcome out memory.old orders.old → MaySayNow (member_of memory.old.who) (known (member_of memory.old.who) out.state) say
         → length orders.old.list.items + 1 ≤ orders.old.room
         → HasOutcome (perform (member_of memory.old.who) out (order_by say.kind say.x)) memory.new orders.new }
+    ensures same { result ≡ true → memory.new ≡ memory.old }
     ensures length { length orders.new.list.items ≤ length orders.old.list.items + 1 }
     ensures room { HasSameRoom orders.old orders.new }
     ensures party { IsSameParty memory.old memory.new }
 {
+    if memory.may_repeat(say) {
+        orders.push(Order::Say(say));
+        return true;
+    }
     if memory.say(say) {
         orders.push(Order::Say(say));
     }
+    false
 }
 
-/// Carries out replies, in order.
-pub fn reply(memory: &mut Memory, orders: &mut Orders<Order>, says: Says)
+/// Carries out replies, in order, and answers whether the memory stayed as it was.
+pub fn reply(memory: &mut Memory, orders: &mut Orders<Order>, says: Says) -> bool
     ensures stands { (out : Out)
         → IsObedient (member_of memory.old.who) (perform_all (member_of memory.old.who) out (orders_of_reply says)).state
         → HasOutcome out memory.old orders.old
@@ -39,16 +51,18 @@ pub fn reply(memory: &mut Memory, orders: &mut Orders<Order>, says: Says)
         → length orders.old.list.items + 2 ≤ orders.old.room
         → HasOutcome (perform_all (member_of memory.old.who) out (orders_of_reply says)) memory.new orders.new }
     ensures nothing { orders_of_reply says ≡ [] → memory.new ≡ memory.old }
+    ensures same { result ≡ true → memory.new ≡ memory.old }
     ensures length { length orders.new.list.items ≤ length orders.old.list.items + 2 }
     ensures room { HasSameRoom orders.old orders.new }
     ensures party { IsSameParty memory.old memory.new }
 {
     match says {
-        Says::Nothing => {}
+        Says::Nothing => true,
         Says::One(say) => reply_once(memory, orders, say),
         Says::Two(first, second) => {
-            reply_once(memory, orders, first);
-            reply_once(memory, orders, second);
+            let one = reply_once(memory, orders, first);
+            let two = reply_once(memory, orders, second);
+            both(one, two)
         }
     }
 }

@@ -1,5 +1,5 @@
 //! What a peer says.
-ghost use Rattle.std.specs.Prelude.{◌≡◌, is_some};
+ghost use Rattle.std.specs.Prelude.{◌≡◌, false, is_some};
 ghost use Rattle.bar_window.specs.declared.exchange.Role.TheVariants.{Initiator};
 ghost use Rattle.bar_rules.specs.Peer.Agreement.{IsRecent};
 ghost use Rattle.bar_rules.specs.Peer.Exchanges.{role_of, request_kind};
@@ -54,18 +54,16 @@ impl Memory {
         }
     }
 
-    /// Says a reply, for the first time or again, and answers whether there is one to send.
+    /// Says a reply for the first time, where there is none to send again, and answers whether there is one to send.
     pub fn say(&mut self, say: Say) -> bool
         ensures carried_out { (out : Out)
             → IsObedient (member_of self.old.who) (perform (member_of self.old.who) out (order_by say.kind say.x)).state
             → Represents out.state self.old → MaySayNow (member_of self.old.who) (known (member_of self.old.who) out.state) say
+            → is_some (send_now (member_of self.old.who) (known (member_of self.old.who) out.state) say) ≡ false
             → IsCarriedOut (member_of self.old.who) say out
             (perform (member_of self.old.who) out (order_by say.kind say.x)) result self.new }
         ensures party { IsSameParty self.old self.new }
     {
-        if self.may_repeat(say) {
-            return true;
-        }
         knowledge_is_enough();
         match say.kind {
             Kind::Response => {

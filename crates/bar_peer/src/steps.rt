@@ -25,6 +25,7 @@ use crate::peer::Peer;
 use crate::playing::Playing;
 use bar_bytes::Steps;
 use bar_core::Orders;
+use bar_laws::evidence::bad_keys_leave_evidence;
 use bar_laws::ignoring::ignored_datagrams_change_nothing;
 use bar_laws::knowing::knowledge_is_enough;
 use bar_laws::obedience::signed_by_rule;
@@ -52,7 +53,7 @@ fn is_tick(input: &Input<'_>) -> bool
     }
 }
 
-/// Takes an input that comes before the last tick is taken. It counts each hash.
+/// Takes an input that comes before the last tick is taken, and answers whether the memory stayed as it was. It counts each hash.
 #[tactic(auto, using(crate::proofs::Stepping::Guards::checks_none))]
 fn take_input<V: Verifier, L: StepLedger>(
     memory: &mut Memory,
@@ -60,11 +61,12 @@ fn take_input<V: Verifier, L: StepLedger>(
     guard: &mut Guard<V>,
     input: Input<'_>,
     steps: &mut Steps<L>,
-)
+) -> bool
     requires before { nat_le (last_tick memory.old.who.session) memory.old.ticks ≡ false }
     requires guard { IsGuardOf memory.old.who.session guard.old }
     ensures stands { TakesInput (plain_input input.entry) memory.old orders.old memory.new orders.new }
     ensures ignored { IgnoresInput (plain_input input.entry) memory.old memory.new }
+    ensures same { result ≡ true → memory.new ≡ memory.old }
     ensures unread { is_unread memory.old.who.session (plain_input input.entry) ≡ true
         → (memory.new ≡ memory.old) × (orders.new ≡ orders.old) × (guard.new ≡ guard.old) }
     ensures room { HasSameRoom orders.old orders.new }
@@ -76,7 +78,10 @@ fn take_input<V: Verifier, L: StepLedger>(
     ensures tick { is_tick (plain_input input.entry) ≡ true → (guard.new ≡ guard.old) × (steps.new ≡ steps.old) }
 {
     match input {
-        Input::Tick => take_tick(memory, orders),
+        Input::Tick => {
+            take_tick(memory, orders);
+            false
+        }
         Input::Datagram(bytes) => take_datagram(memory, orders, guard, bytes, steps),
     }
 }
@@ -145,19 +150,21 @@ impl<S: Scheme> Peer<S> {
     {
         knowledge_is_enough();
         signed_by_rule();
+        bad_keys_leave_evidence();
         ignored_datagrams_change_nothing();
         if self.memory.is_over() {
             return;
         }
         self.orders.clear();
         let is_tick = is_tick(&input);
-        take_input(
+        let is_same = take_input(
             &mut self.memory,
             &mut self.orders,
             &mut self.guard,
             input,
             steps,
         );
+        self.cases.keep_while(is_same);
         self.playing = if is_tick {
             self.memory.played_now()
         } else {

@@ -1,7 +1,14 @@
 -- The rows of datagrams of exchanges, and what a met row tells.
-use Rattle.std.proofs.Common.{◌≡◌, ◌≤◌, ℕ, ◌∙◌, true, ◌&&◌, is_some, List, Option, sym, ap, refl, arith}
+use Rattle.std.proofs.Common.{◌≡◌, ◌≤◌, ◌<◌, ◌+◌, ℕ, ◌∙◌, Bool, true, false, ◌&&◌, not, is_some, List, Option, sym, ap, refl, arith}
 use Rattle.std.specs.Borrow.{Bor}
 use Rattle.std.proofs.lemmas.Bool.Decides.{nat_tests}
+use Rattle.std.proofs.lemmas.Bool.{ltb-true}
+use Rattle.bar_window.specs.declared.update.UpdateId.{UpdateId}
+use Rattle.bar_terms.specs.Table.{digest_of}
+use Rattle.bar_store.specs.Held.{block_in}
+use Rattle.bar_store.specs.Holds.{Holds}
+use Rattle.bar_store.specs.declared.store.Store.{Store}
+use Rattle.bar_store.proofs.Learns.{and_false}
 use Rattle.bar_window.specs.declared.exchange.Role.{Role}
 use Rattle.bar_window.specs.declared.exchange.Role.TheVariants.{Initiator, Responder}
 use Rattle.bar_window.specs.declared.exchange.XKind.{XKind}
@@ -15,11 +22,11 @@ use Rattle.bar_wire.specs.declared.place.Place.{Place}
 use Rattle.bar_wire.specs.declared.view.View.{View}
 use Rattle.bar_wire.specs.declared.view.Body.{Body as RawBody}
 use Rattle.bar_wire.specs.declared.view.Body.TheVariants as raw
-use Rattle.bar_rules.specs.Member.{Member}
-use Rattle.bar_rules.specs.Peer.Admission.{is_row_met, may_ask}
+use Rattle.bar_rules.specs.Member.{Member, is_alive}
+use Rattle.bar_rules.specs.Peer.Admission.{has_digest, is_row_met, may_ask}
 use Rattle.bar_rules.specs.Peer.Agreement.{IsRecent}
 use Rattle.bar_rules.specs.Peer.Exchanges.{request_kind}
-use Rattle.bar_rules.specs.Peer.Knowledge.{Knowledge, is_in_time, deadline}
+use Rattle.bar_rules.specs.Peer.Knowledge.{Knowledge, is_in_time, deadline, holds, table_of, this_round}
 use Rattle.bar_exchange.specs.Placing.{StandsAt}
 use Rattle.bar_peer.specs.Repeats.{IsInTime, is_of_exchange}
 use Rattle.bar_bytes.proofs.Options.{some-mapped}
@@ -82,3 +89,21 @@ in_time me k from to (Key g) life h =
     in_round me k g.round g.kind g.role from to (by_deadline me k kinds.Key g.round (omega arith) (and-second _ _ h))
 in_time me k from to (Evidence ds) life h = tt
 in_time me k from to (Evict r ps) life h = tt
+
+-- ---- what is held
+
+-- a block that is held isn't admitted
+pub held_refused : (me : Member) (k : Knowledge) (s : Store) (from to : ℕ) (u : UpdateId) (block : List ℕ) → Holds me k s
+    → is_some (block_in s u) ≡ true → false ≡ is_row_met me k from to (Block u block)
+held_refused me k s from to u block h held = go (is_alive me.session u.round (this_round k)) refl
+  where
+    known : Bool
+    known = has_digest (digest_of (table_of k) u) block
+
+    go : (alive : Bool) → is_alive me.session u.round (this_round k) ≡ alive → false ≡ (known && not (holds k u) && is_alive me.session u.round (this_round k))
+    go true e =
+        let near : this_round k < u.round + me.session.shape.life = ltb-true _ _ e in
+        let same : holds k u ≡ true = ap is_some (h.blocks u (omega (arith, near))) ∙ held in
+        (λ i. and_false known i && is_alive me.session u.round (this_round k))
+        ∙ (λ i. known && not (sym same i) && is_alive me.session u.round (this_round k))
+    go false e = and_false (known && not (holds k u)) ∙ (λ i. known && not (holds k u) && sym e i)

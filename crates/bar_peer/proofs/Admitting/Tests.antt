@@ -42,11 +42,27 @@ refused_by_row me k d is =
     and_false (is_for me d.message && not (is_named k d) && not (is_again k d))
     ∙ (λ i. is_for me d.message && not (is_named k d) && not (is_again k d) && sym is i)
 
--- what was admitted under its name decides, where all else is met
-pub admitted_if_new : (me : Member) (k : Knowledge) (d : Datagram) → is_for me d.message ≡ true → is_named k d ≡ false
-    → is_met me k d ≡ true → not (is_again k d) ≡ may_admit me k d
-admitted_if_new me k d ours free met =
-    and_true (not (is_again k d)) ∙ (λ i. sym ours i && not (sym free i) && not (is_again k d) && sym met i)
+-- What was admitted under its name is told where the row is met. It refuses it, or the row decides.
+pub refused_again : (me : Member) (k : Knowledge) (d : Datagram) (again : Bool) → again ≡ true → (is_met me k d ≡ true → again ≡ is_again k d)
+    → false ≡ may_admit me k d
+refused_again me k d again is told = go (is_met me k d) refl
+  where
+    before : Bool
+    before = is_for me d.message && not (is_named k d)
+
+    go : (met : Bool) → is_met me k d ≡ met → false ≡ may_admit me k d
+    go false e = refused_by_row me k d e
+    go true e =
+        (λ i. and_false before i && is_met me k d)
+        ∙ (λ i. before && not ((sym is ∙ told e) i) && is_met me k d)
+
+pub admitted_by_row : (me : Member) (k : Knowledge) (d : Datagram) (again : Bool) → is_for me d.message ≡ true → is_named k d ≡ false
+    → again ≡ false → (is_met me k d ≡ true → again ≡ is_again k d) → is_met me k d ≡ may_admit me k d
+admitted_by_row me k d again ours free is told = go (is_met me k d) refl
+  where
+    go : (met : Bool) → is_met me k d ≡ met → is_met me k d ≡ may_admit me k d
+    go false e = e ∙ refused_by_row me k d e
+    go true e = (λ i. sym ours i && not (sym free i) && not ((sym is ∙ told e) i) && is_met me k d)
 
 -- a datagram of a kind that peers sign is of an exchange, of its round
 pub peer_placed : (m : Message) → is_peer_kind m.body ≡ true → place_of m ≡ None → ⊥

@@ -49,7 +49,7 @@ ends named len leaf message sig long =
     let at : length message ≡ length (message ++ sig) - len = omega (arith, total, long) in
     (λ i. enough i && (named (drop_at message sig (length (message ++ sig) - len) at i) == leaf))
 
-leaf_is : (s : Session) (named : List ℕ → ℕ) (len leaf : ℕ) (d e : Datagram) → NamesLeavesOf s named len → leaf ≡ leaf_named s d
+pub leaf_is : (s : Session) (named : List ℕ → ℕ) (len leaf : ℕ) (d e : Datagram) → NamesLeavesOf s named len → leaf ≡ leaf_named s d
     → IsDatagram s.shape e → is_signed_kind (kind_of e.message.body) ≡ true
     → names named len leaf (datagram_bytes s e) ≡ (leaf_named s e == leaf_named s d)
 leaf_is s named len leaf d e law is fits signed =

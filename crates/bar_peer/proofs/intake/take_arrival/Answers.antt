@@ -15,20 +15,20 @@ use Rattle.bar_peer.proofs.Stepping.Datagrams.{AreObedient, obeyed, none-new}
 use Rattle.bar_peer.proofs.intake.take_arrival.Goals as goal
 
 pub returns-then-weighed-clause-stands : goal.returns-then-weighed-clause-stands
-returns-then-weighed-clause-stands g c log obeys tells empty room =
+returns-then-weighed-clause-stands g c log catches obeys tells empty room =
     let me : Member = member_of c.args.memory.now.who in
     let d : Datagram = datagram c.args.memory.now.who.session.shape c.args.arrival.now.view in
     let k : Knowledge = known me log in
     let ev : Option (List (List ℕ)) = new_evidence me k d in
     let all : AreObedient me log d c.args.arrival.now.view.from ev = obeyed me log d c.args.arrival.now.view.from ev obeys in
     let sound : IsSound me k = c.logs_are_sound.ensures me log all.first in
-    c.answer_tried.ensures.stands log obeys tells (sym (c.weigh-weighed.ensures.tried k tells sound) ∙ c.if-weighed.true)
+    c.answer_tried.ensures.stands log catches obeys tells (sym (c.weigh-weighed.ensures.tried k tells sound) ∙ c.if-weighed.true)
     (c.weigh-weighed.ensures.admitted k tells sound)
     empty
     room
 
 pub returns-else-weighed-clause-stands : goal.returns-else-weighed-clause-stands
-returns-else-weighed-clause-stands g c log obeys tells empty room =
+returns-else-weighed-clause-stands g c log catches obeys tells empty room =
     let me : Member = member_of c.args.memory.now.who in
     let d : Datagram = datagram c.args.memory.now.who.session.shape c.args.arrival.now.view in
     let q : ℕ = c.args.arrival.now.view.from in
@@ -46,17 +46,17 @@ returns-else-weighed-clause-stands g c log obeys tells empty room =
     (c.answer.ensures.stands log answered tells (c.weigh-weighed.ensures.admitted k tells sound) empty (omega (arith, room)))
 
 pub returns-then-weighed-clause-idle : goal.returns-then-weighed-clause-idle
-returns-then-weighed-clause-idle g c log obeys tells idle =
+returns-then-weighed-clause-idle g c log catches obeys tells idle =
     let me : Member = member_of c.args.memory.now.who in
     let d : Datagram = datagram c.args.memory.now.who.session.shape c.args.arrival.now.view in
     let k : Knowledge = known me log in
     let sound : IsSound me k = c.logs_are_sound.ensures me log obeys in
     let none : TellsNothing me k d = nothing-told me k d idle in
-    c.answer_tried.ensures.idle (c.weigh-weighed.ensures.admitted k tells sound ∙ none.refused) log obeys tells
+    c.answer_tried.ensures.idle (c.weigh-weighed.ensures.admitted k tells sound ∙ none.refused) log catches obeys tells
     (sym (c.weigh-weighed.ensures.tried k tells sound) ∙ c.if-weighed.true) idle
 
 pub returns-else-weighed-clause-idle : goal.returns-else-weighed-clause-idle
-returns-else-weighed-clause-idle g c log obeys tells idle =
+returns-else-weighed-clause-idle g c log catches obeys tells idle =
     let me : Member = member_of c.args.memory.now.who in
     let d : Datagram = datagram c.args.memory.now.who.session.shape c.args.arrival.now.view in
     let k : Knowledge = known me log in

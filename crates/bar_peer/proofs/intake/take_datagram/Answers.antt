@@ -25,17 +25,17 @@ read : (g : Over) (c : In-Ok g)
 read g c = c.in-Ok.ensures.told ∙ ap (λ (shape : Shape). places.datagram_of shape c.args.bytes.now) c.shape-shape.ensures.value
 
 pub returns-in-Ok-clause-stands : goal.returns-in-Ok-clause-stands
-returns-in-Ok-clause-stands g c log obeys tells empty room =
+returns-in-Ok-clause-stands g c log catches obeys tells empty room =
     let me : Member = member_of c.args.memory.now.who in
     let is = read g (goal.at.returns-in-Ok-clause-stands g c).In-Ok in
     subst (λ (o : Option Datagram). HasOutcome (take_datagram me log o) c.take_arrival.new.memory c.take_arrival.new.orders) is
-    (c.take_arrival.ensures.stands log (subst (λ (o : Option Datagram). IsObedient me (take_datagram me log o).state) (sym is) obeys) tells empty room)
+    (c.take_arrival.ensures.stands log catches (subst (λ (o : Option Datagram). IsObedient me (take_datagram me log o).state) (sym is) obeys) tells empty room)
 
 pub returns-in-Ok-clause-ignored : goal.returns-in-Ok-clause-ignored
-returns-in-Ok-clause-ignored g c log obeys tells ignored =
+returns-in-Ok-clause-ignored g c log catches obeys tells ignored =
     let me : Member = member_of c.args.memory.now.who in
     let is = read g (goal.at.returns-in-Ok-clause-ignored g c).In-Ok in
-    c.take_arrival.ensures.idle log obeys tells (ap (λ (o : Option Datagram). option_map_or (tells_nothing me (known me log)) o true) is ∙ ignored)
+    c.take_arrival.ensures.idle log catches obeys tells (ap (λ (o : Option Datagram). option_map_or (tells_nothing me (known me log)) o true) is ∙ ignored)
 
 pub returns-in-Ok-clause-unread : goal.returns-in-Ok-clause-unread
 returns-in-Ok-clause-unread g c unread =

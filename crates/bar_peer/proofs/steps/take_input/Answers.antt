@@ -13,7 +13,7 @@ use Rattle.bar_laws.specs.Ignoring.{is_ignored, is_unread}
 use Rattle.bar_peer.proofs.steps.take_input.Goals as goal
 
 pub returns-in-Tick-clause-stands : goal.returns-in-Tick-clause-stands
-returns-in-Tick-clause-stands g c log obeys tells empty room =
+returns-in-Tick-clause-stands g c log catches obeys tells empty room =
     let me : Member = member_of c.args.memory.now.who in
     let is : plain_input c.args.input ≡ event.Tick = ap plain_input c.in-Tick.is in
     let stands =
@@ -23,7 +23,7 @@ returns-in-Tick-clause-stands g c log obeys tells empty room =
     (record { tells = stands.tells; orders = stands.orders })
 
 pub returns-in-Tick-clause-ignored : goal.returns-in-Tick-clause-ignored
-returns-in-Tick-clause-ignored g c log obeys tells ignored =
+returns-in-Tick-clause-ignored g c log catches obeys tells ignored =
     let me : Member = member_of c.args.memory.now.who in
     let is : plain_input c.args.input ≡ event.Tick = ap plain_input c.in-Tick.is in
     absurd (false≢true (ap (is_ignored me (known me log)) (sym is) ∙ ignored))

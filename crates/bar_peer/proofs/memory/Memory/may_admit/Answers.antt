@@ -1,12 +1,10 @@
-use Rattle.std.proofs.Common.{◌≡◌, ◌≤◌, ◌∙◌, sym, ap, not, true}
+use Rattle.std.proofs.Common.{◌≤◌, ◌∙◌, sym}
 use Rattle.bar_wire.specs.Datagram.{Datagram}
 use Rattle.bar_wire.specs.Views.{datagram, plain}
 use Rattle.bar_rules.specs.Member.{Member}
-use Rattle.bar_rules.specs.Peer.Admission.{is_row_met}
 use Rattle.bar_peer.specs.Memory.{member_of}
-use Rattle.bar_peer.specs.Repeats.{IsInTime}
 use Rattle.bar_peer.proofs.Admitting.Rows.{in_time}
-use Rattle.bar_peer.proofs.Admitting.Tests.{refused_elsewhere, refused_evicted, refused_by_row, admitted_if_new}
+use Rattle.bar_peer.proofs.Admitting.Tests.{refused_elsewhere, refused_evicted, refused_again, admitted_by_row}
 use Rattle.bar_peer.proofs.memory.Memory.may_admit.Goals as goal
 
 pub returns-then-not-is_receiver-clause-exact : goal.returns-then-not-is_receiver-clause-exact
@@ -20,24 +18,23 @@ returns-then-is_named-clause-exact g c k h spelled =
     refused_evicted me k (datagram me.session.shape c.args.arrival.now.view)
     (h.announced c.args.arrival.now.view.from ∙ sym c.is_named.ensures ∙ c.if-is_named.true)
 
-pub returns-then-not-meets_row-clause-exact : goal.returns-then-not-meets_row-clause-exact
-returns-then-not-meets_row-clause-exact g c k h spelled =
+pub returns-then-is_heard_again-clause-exact : goal.returns-then-is_heard_again-clause-exact
+returns-then-is_heard_again-clause-exact g c k h spelled =
     let me : Member = member_of c.args.self.now.who in
-    refused_by_row me k (datagram me.session.shape c.args.arrival.now.view)
-    (sym (c.meets_row.ensures.row k c.args.arrival.now.bytes.now h spelled c.requires.view) ∙ search)
+    let v = c.args.arrival.now.view in
+    let d : Datagram = datagram me.session.shape v in
+    let life : 2 ≤ me.session.shape.life = c.args.self.now.who.is_member.session.shape.life_low in
+    refused_again me k d c.is_heard_again.result c.if-is_heard_again.true
+    (λ met. c.is_heard_again.ensures k c.args.arrival.now.bytes.now h c.requires.view (in_time me k v.from v.to (plain v.body) life met))
 
 pub returns-clause-exact : goal.returns-clause-exact
 returns-clause-exact g c k h spelled =
     let me : Member = member_of c.args.self.now.who in
     let v = c.args.arrival.now.view in
     let d : Datagram = datagram me.session.shape v in
-    let met : is_row_met me k v.from v.to (plain v.body) ≡ true =
-    sym (c.meets_row.ensures.row k c.args.arrival.now.bytes.now h spelled c.requires.view) ∙ search
-    in
     let life : 2 ≤ me.session.shape.life = c.args.self.now.who.is_member.session.shape.life_low in
-    let timely : IsInTime me k d.message = in_time me k v.from v.to (plain v.body) life met in
-    ap not (c.is_heard_again.ensures k c.args.arrival.now.bytes.now h c.requires.view timely)
-    ∙ admitted_if_new me k d
-    (sym c.is_receiver.ensures ∙ search)
+    c.meets_row.ensures.row k c.args.arrival.now.bytes.now h spelled c.requires.view
+    ∙ admitted_by_row me k d c.is_heard_again.result (sym c.is_receiver.ensures ∙ search)
     (h.announced v.from ∙ sym c.is_named.ensures ∙ c.if-is_named.false)
-    met
+    c.if-is_heard_again.false
+    (λ met. c.is_heard_again.ensures k c.args.arrival.now.bytes.now h c.requires.view (in_time me k v.from v.to (plain v.body) life met))

@@ -17,15 +17,15 @@ returns-in-Some-clause-exact g c k goes =
     let from : Kind → Option (List (List ℕ)) = behind k c.args.self.now c.args.place in
     ap (λ o. option_or o (option_or (from kinds.Case) (from kinds.Key))) (c.in-Some.ensures.exact k goes ∙ ap from c.opening_kind-opening.ensures)
 
-pub returns-in-Some-pair_with-clause-exact : goal.returns-in-Some-pair_with-clause-exact
-returns-in-Some-pair_with-clause-exact g c k goes =
+pub returns-in-Some-case_here-clause-exact : goal.returns-in-Some-case_here-clause-exact
+returns-in-Some-case_here-clause-exact g c k goes =
     let from : Kind → Option (List (List ℕ)) = behind k c.args.self.now c.args.place in
-    ap (λ o. option_or o (from kinds.Key)) (c.in-Some-pair_with.ensures.exact k goes)
+    ap (λ o. option_or o (from kinds.Key)) (c.in-Some-case_here.ensures.exact k goes)
     ∙ ap (λ o. option_or o (option_or (from kinds.Case) (from kinds.Key))) (c.in_default.ensures.exact k goes ∙ ap from c.opening_kind-opening.ensures)
 
 pub returns-clause-exact : goal.returns-clause-exact
 returns-clause-exact g c k goes =
     let from : Kind → Option (List (List ℕ)) = behind k c.args.self.now c.args.place in
-    c.pair_with-3.ensures.exact k goes
-    ∙ ap (λ o. option_or o (from kinds.Key)) (c.in_default-pair_with.ensures.exact k goes)
+    c.pair_with-2.ensures.exact k goes
+    ∙ ap (λ o. option_or o (from kinds.Key)) (c.in_default-case_here.ensures.exact k goes)
     ∙ ap (λ o. option_or o (option_or (from kinds.Case) (from kinds.Key))) (c.in_default.ensures.exact k goes ∙ ap from c.opening_kind-opening.ensures)

@@ -1,0 +1,43 @@
+//! Why the program ends before all is tried.
+
+use std::alloc::{AllocError, AllocFailed};
+use std::{fmt, io};
+
+/// Why the program ends before all is tried.
+#[derive(Debug, Drop)]
+pub enum Stop {
+    /// There is no memory left.
+    NoMemory,
+    /// A file or standard output failed.
+    Failed(io::Error),
+    /// What was tried went wrong, or can't be tried.
+    Found(&'static str),
+}
+
+impl From<AllocError> for Stop {
+    fn from(_: AllocError) -> Stop {
+        Stop::NoMemory
+    }
+}
+
+impl<T: Drop> From<AllocFailed<T>> for Stop {
+    fn from(_: AllocFailed<T>) -> Stop {
+        Stop::NoMemory
+    }
+}
+
+impl From<io::Error> for Stop {
+    fn from(error: io::Error) -> Stop {
+        Stop::Failed(error)
+    }
+}
+
+impl fmt::Display for Stop {
+    fn fmt<W: fmt::Write>(&self, f: &mut fmt::Formatter<W>) -> fmt::Result {
+        match self {
+            Stop::NoMemory => f.write_str("no memory"),
+            Stop::Failed(error) => write!(f, "{error}"),
+            Stop::Found(told) => f.write_str(told),
+        }
+    }
+}

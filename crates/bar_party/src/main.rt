@@ -1,0 +1,108 @@
+//! Commands of `bar` over another link, or with lies in what a peer sends: `bar_party LINK LIE WORDS ..`. WORDS are those of a command, LINK is
+//! `udp` for the loopback network or `pipe` for a link over the standard streams, and LIE is `none` or the name of a lie. `bar` doesn't use it;
+//! tools/run-session and tools/simulate-session run it.
+#![tactic(auto)]
+
+mod lies;
+mod pipe;
+
+use bar_cli::bar_run;
+use bar_hss::PartyKey;
+use bar_outside::{Link, Sink};
+use bar_roster::Session;
+use bar_start::{hold_streams, read_file, words_of};
+use bar_system::{RealFiles, RealLink, RealSink, RealSpawner, Standard};
+use lies::{Liar, Lie, Lying};
+use pipe::PipeLink;
+use std::io::{BufReader, ErrorKind};
+use std::process::ExitCode;
+use std::{io, rt};
+
+/// The exit status if the words aren't those of this program, or if it can't begin.
+const WORDS: u8 = 2;
+
+/// The word after an option.
+fn value_of<'a>(words: &'a [String], option: &str) -> io::Result<&'a str> {
+    let mut is_next = false;
+    for word in words {
+        if is_next {
+            return Ok(word.as_str());
+        }
+        is_next = word.as_str() == option;
+    }
+    Err(io::Error::from(ErrorKind::InvalidInput))
+}
+
+/// The liar of a peer's words, who signs with its key.
+fn liar_of<R: rt::Files + AllocGlobal>(rt: &R, lie: Lie, words: &[String]) -> io::Result<Liar> {
+    let alloc = rt.alloc();
+    let text = read_file(rt, value_of(words, "--session")?)?;
+    let Ok(session) = Session::read(alloc, &text) else {
+        return Err(io::Error::from(ErrorKind::InvalidData));
+    };
+    let text = read_file(rt, value_of(words, "--key")?)?;
+    let Ok(key) = PartyKey::read(alloc, &text, &session, false, true) else {
+        return Err(io::Error::from(ErrorKind::InvalidData));
+    };
+    Ok(Liar {
+        lie,
+        party: key.secrets.party,
+        peers: session.shape().peers,
+        scheme: key.scheme,
+    })
+}
+
+/// Runs a command over a link, and answers its exit status.
+fn run_over<L: Link + Drop>(rt: &HostRuntime, words: &[String], link: L, liar: Option<Liar>) -> u8 {
+    let mut files = RealFiles::new(rt);
+    let mut spawn = RealSpawner::new(rt);
+    let mut out = RealSink::new(Standard::Out(rt.stdout()));
+    let mut err = RealSink::new(Standard::Err(rt.stderr()));
+    let mut link = Lying::new(rt.alloc(), link, liar);
+    bar_run(
+        rt.alloc(),
+        words,
+        &mut files,
+        &mut link,
+        &mut out,
+        &mut err,
+        &mut spawn,
+    )
+}
+
+/// Does what the words say.
+fn run_words(rt: &HostRuntime, words: &[String]) -> io::Result<u8> {
+    let [link, lie, words @ ..] = words else {
+        return Err(io::Error::from(ErrorKind::InvalidInput));
+    };
+    let liar = match lie.as_str() {
+        "none" => None,
+        named => match Lie::named(named) {
+            Some(lie) => Some(liar_of(rt, lie, words)?),
+            None => return Err(io::Error::from(ErrorKind::InvalidInput)),
+        },
+    };
+    match link.as_str() {
+        "udp" => Ok(run_over(rt, words, RealLink::new(rt), liar)),
+        "pipe" => {
+            let input = BufReader::new(rt.alloc(), rt.stdin())?;
+            let link = PipeLink::new(input, rt.stdout());
+            Ok(run_over(rt, words, link, liar))
+        }
+        _ => Err(io::Error::from(ErrorKind::InvalidInput)),
+    }
+}
+
+fn main(rt: HostRuntime) -> ExitCode {
+    let held = hold_streams(&rt);
+    let status = match words_of(&rt) {
+        Ok(words) => run_words(&rt, &words),
+        Err(error) => Err(error),
+    };
+    if let (Ok(status), Ok(_)) = (&status, &held) {
+        return ExitCode::from(*status);
+    }
+    let mut err = RealSink::new(Standard::Err(rt.stderr()));
+    let _ = err.write(b"bar_party: the words, the session or the key are refused\n");
+    ExitCode::from(WORDS)
+}

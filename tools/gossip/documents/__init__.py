@@ -1,0 +1,1 @@
+"""What the documents of the repository name, and whether it's there."""

@@ -1,0 +1,1 @@
+"""A run, drawn as a picture and as a page."""

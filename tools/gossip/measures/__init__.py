@@ -1,0 +1,1 @@
+"""Experiments and their picture, and what datagrams cost."""

@@ -1,0 +1,1 @@
+"""How the program `bar` and the programs of the tools are built and run."""

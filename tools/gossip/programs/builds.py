@@ -1,0 +1,29 @@
+"""The programs beside `bar` that tools run: each is a crate of this repository."""
+import dataclasses
+import pathlib
+
+from gossip.programs.bar import ROOT, build_crate
+from gossip.scripts.console import progress
+
+
+@dataclasses.dataclass(frozen=True)
+class Beside:
+    """A program beside `bar`, by the name of its crate."""
+
+    crate: str
+
+    @property
+    def path(self) -> pathlib.Path:
+        return ROOT / "crates" / self.crate / "out" / self.crate
+
+
+# a party over a link of the tools, or one that lies; one over a link in memory; and what changes datagrams for a core and for readers
+PARTY, IN_MEMORY, FUZZ = Beside("bar_party"), Beside("bar_in_memory"), Beside("bar_fuzz")
+
+
+def built(program: Beside) -> pathlib.Path:
+    """The path of a program, which is built if it isn't there."""
+    if not program.path.exists():
+        progress(f"the program of crates/{program.crate} isn't built: `rt ci` proves and builds it, which takes a while")
+        build_crate(program.crate)
+    return program.path

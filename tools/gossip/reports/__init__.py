@@ -1,0 +1,1 @@
+"""What a run was, by the files that it left."""

@@ -1,0 +1,1 @@
+"""How a session is run: live, disturbed, over hosts or simulated."""

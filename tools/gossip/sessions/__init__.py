@@ -1,0 +1,1 @@
+"""The folder of a session, and how one is made."""

@@ -1,0 +1,1 @@
+"""The program where the system fails it: disks, limits, signals, clocks, memory and streams."""

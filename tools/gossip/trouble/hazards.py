@@ -1,0 +1,73 @@
+"""Trouble that a process is started in: small, full and read-only folders, and limits of the system.
+
+What a machine doesn't allow is skipped. Each is told as words that stand before those of the process. The folders are mounted in a
+namespace of the process alone, so that nothing is mounted behind it.
+"""
+import functools
+import os
+import pathlib
+import shutil
+import subprocess
+import tempfile
+
+MOUNT = 'place=$0; kept=$1; shift; mount -t tmpfs -o size=%s tmpfs "$place" || exit 125; %s'
+KEEP = '"$@"; ended=$?; cp -R "$place/." "$kept"; exit $ended'
+FILL = 'cat /dev/zero > "$place/filler" 2> "$kept/filled"; '
+READ_ONLY = 'mount --bind "$0" "$0" && mount -o remount,bind,ro "$0" || exit 125; exec "$@"'
+
+# the status of a shell that couldn't mount
+UNMOUNTED = 125
+
+
+class Skipped(Exception):
+    """What this machine doesn't allow, for this reason."""
+
+
+def found(tool: str) -> str:
+    """The path of a tool of the system."""
+    path = shutil.which(tool)
+    if not path:
+        raise Skipped(f"there is no `{tool}`")
+    return path
+
+
+@functools.cache
+def namespace() -> list[str]:
+    """The words that give a process mounts of its own."""
+    rights = [] if os.geteuid() == 0 else ["--user", "--map-root-user"]
+    words = [found("unshare"), *rights, "--mount"]
+    with tempfile.TemporaryDirectory() as place:
+        probe = subprocess.run([*words, "mount", "-t", "tmpfs", "tmpfs", place], capture_output=True, text=True, stdin=subprocess.DEVNULL)
+    if probe.returncode:
+        raise Skipped(f"nothing can be mounted: {' '.join(probe.stderr.split())}")
+    return words
+
+
+def on_small_disk(place: pathlib.Path, kept: pathlib.Path, size: str, is_full: bool = False) -> list[str]:
+    """Mounts a disk of this size over a folder, which may be full, and copies what stands there in the end to another."""
+    return [*namespace(), "sh", "-c", MOUNT % (size, FILL if is_full else "") + KEEP, str(place), str(kept)]
+
+
+def on_read_only(place: pathlib.Path) -> list[str]:
+    """Has a folder take nothing."""
+    return [*namespace(), "sh", "-c", READ_ONLY, str(place)]
+
+
+def without_network() -> list[str]:
+    """Takes the network away, the loopback address too."""
+    rights = [] if os.geteuid() == 0 else ["--user", "--map-root-user"]
+    words = [found("unshare"), *rights, "--net"]
+    probe = subprocess.run([*words, "true"], capture_output=True, text=True, stdin=subprocess.DEVNULL)
+    if probe.returncode:
+        raise Skipped(f"the network can't be taken away: {' '.join(probe.stderr.split())}")
+    return words
+
+
+def limited(name: str, value: int) -> list[str]:
+    """Sets a limit of the system: `nofile` of open files, `as` of bytes of memory, `fsize` of a file's bytes."""
+    return [found("prlimit"), f"--{name}={value}:{value}"]
+
+
+def without_signal(name: str) -> list[str]:
+    """Has a signal ignored."""
+    return ["sh", "-c", f'trap "" {name}; exec "$0" "$@"']
